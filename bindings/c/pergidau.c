@@ -110,7 +110,7 @@ const char *pergidau_message(enum pergidau_code code)
     case PERGIDAU_REFUSED:
         return "the bytes are not what is read";
     case PERGIDAU_INCOMPLETE:
-        return "the bytes are not yet what is read, and with more behind them they may be";
+        return "the bytes are not yet what is read, and with more after them they may be";
     case PERGIDAU_NO_MEMORY:
         return "a request for memory was refused";
     case PERGIDAU_NO_TEXT:

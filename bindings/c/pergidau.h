@@ -58,7 +58,7 @@ enum pergidau_code {
     PERGIDAU_DONE = 0,
     /* The bytes are not what is read. Where the function says so, the place is written. */
     PERGIDAU_REFUSED = 1,
-    /* The bytes are not yet what is read, and with more behind them they may be. */
+    /* The bytes are not yet what is read, and with more after them they may be. */
     PERGIDAU_INCOMPLETE = 2,
     /* A request for memory was refused. */
     PERGIDAU_NO_MEMORY = 3,
@@ -124,7 +124,7 @@ enum pergidau_resp_kind {
     PERGIDAU_RESP_NULL_ARRAY = 6,
 };
 
-/* A place in the caller's bytes: so many of them, from one on. */
+/* A place in the caller's bytes: that many of them, from one on. */
 struct pergidau_span {
     /* How many bytes stand before it. */
     size_t offset;
@@ -169,11 +169,11 @@ struct pergidau_head {
     struct pergidau_span target;
     /* How many fields there are. */
     size_t fields;
-    /* How many bytes the head has, the empty line behind the fields among them. */
+    /* How many bytes the head has, the empty line after the fields among them. */
     size_t length;
     /* The number before the point of the version, below 10. */
     uint8_t major;
-    /* The number behind the point of the version, below 10. */
+    /* The number after the point of the version, below 10. */
     uint8_t minor;
 };
 
@@ -229,7 +229,7 @@ struct pergidau_reply {
     size_t elements;
     /*
      * The bytes of a string or of an error, or those of the elements of an array, which are
-     * replies, one behind the other. Else nothing.
+     * replies, one after the other. Else nothing.
      */
     struct pergidau_span place;
     /* How many bytes the reply has. */
@@ -246,7 +246,7 @@ struct pergidau_resp_extent {
     size_t due;
     /* How many bytes were passed. */
     size_t passed;
-    /* How many of the bytes behind the next one have no part of a line end. */
+    /* How many of the bytes after the next one have no part of a line end. */
     size_t sought;
     /* How many bytes the string has. */
     size_t bulk;
@@ -267,11 +267,10 @@ struct pergidau_position {
 /*
  * The value of a formula of whole numbers, as -2 * 3! ^ 2.
  *
- * White space may stand before the formula and behind each number and operator. Operators are,
- * the strongest first: ! behind a number, its factorial; + and - before one; ^, a power,
- * joined from the right; *, / and %, and then + and -, joined from the left; and =, which is 1
- * where both sides are equal and else 0. / cuts towards 0, and % has the sign of its left
- * side.
+ * White space may stand before the formula and after each number and operator. Operators are,
+ * the strongest first: ! after a number, its factorial; + and - before one; ^, a power, joined
+ * from the right; *, / and %, and then + and -, joined from the left; and =, which is 1 where
+ * both sides are equal and else 0. / cuts towards 0, and % has the sign of its left side.
  *
  * PERGIDAU_DONE: the value is written. PERGIDAU_REFUSED: the text is no formula, or a number
  * or a result in it does not fit 64 bits with a sign, a divisor is 0, an exponent is negative,
@@ -292,16 +291,16 @@ enum pergidau_code pergidau_calc_value(
 
 /*
  * The record of comma separated values (RFC 4180) with which the bytes begin. A line end
- * stands behind it, or the end of the bytes: a carriage return and a line feed where
- * line_feeds is 0, and else a line feed alone. A field in quotes may have any bytes, and each
- * quote in it is doubled; one without has no quote, comma, carriage return or line feed. No
- * bytes begin with no record, and a line end alone is a record of one empty field.
+ * stands after it, or the end of the bytes: a carriage return and a line feed where line_feeds
+ * is 0, and else a line feed alone. A field in quotes may have any bytes, and each quote in it
+ * is doubled; one without has no quote, comma, carriage return or line feed. No bytes begin
+ * with no record, and a line end alone is a record of one empty field.
  *
  * PERGIDAU_DONE: the bytes of the fields, without the quotes round them and with each quote
- * once, are written into text, one field behind the other, and so many places there, in order.
- * PERGIDAU_REFUSED: the bytes begin with no record. PERGIDAU_TOO_SMALL: they begin with one
- * that wants more entries or more bytes than the buffers have; how many of both is written,
- * and the buffers are left as they were. PERGIDAU_NO_MEMORY.
+ * once, are written into text, one field after the other, and that many places there, in
+ * order. PERGIDAU_REFUSED: the bytes begin with no record. PERGIDAU_TOO_SMALL: they begin with
+ * one that wants more entries or more bytes than the buffers have; how many of both is
+ * written, and the buffers are left as they were. PERGIDAU_NO_MEMORY.
  *
  * While it runs it holds up to 80 bytes of memory for each byte of the record, also where it
  * then answers PERGIDAU_REFUSED or PERGIDAU_TOO_SMALL.
@@ -326,7 +325,7 @@ enum pergidau_code pergidau_csv_record(
  *
  * PERGIDAU_DONE, PERGIDAU_TOO_SMALL, PERGIDAU_NO_MEMORY: as for a record that is whole.
  * PERGIDAU_INCOMPLETE: no record with its line end is there, and with three bytes more at most
- * they can begin with one. PERGIDAU_REFUSED: whatever comes behind the bytes, they begin with
+ * they can begin with one. PERGIDAU_REFUSED: whatever comes after the bytes, they begin with
  * no record, and that is answered as soon as the byte is there at which none goes on: so of
  * x". More than 2^61 bytes are refused too. A field in quotes that are not closed goes on for
  * ever, so the caller bounds how many bytes are held. The last record may have no line end:
@@ -350,9 +349,9 @@ enum pergidau_code pergidau_csv_record_in_pieces(
 
 /*
  * The head of a request of HTTP/1.1 (RFC 9112) with which the bytes begin: a request line,
- * field lines one behind the other, and an empty line. What stands behind it is not looked at.
+ * field lines one after the other, and an empty line. What stands after it is not looked at.
  *
- * PERGIDAU_DONE: the places of its parts are written, and of so many fields, in order.
+ * PERGIDAU_DONE: the places of its parts are written, and of that many fields, in order.
  * PERGIDAU_REFUSED: the bytes begin with no head. PERGIDAU_TOO_SMALL: they begin with one that
  * has more fields than the buffer has entries; how many it has is written, and the buffer is
  * left as it was. PERGIDAU_NO_MEMORY.
@@ -377,8 +376,8 @@ enum pergidau_code pergidau_http_head(
  * The same head where the bytes come in pieces: it answers as soon as the empty line is there.
  *
  * PERGIDAU_DONE, PERGIDAU_TOO_SMALL, PERGIDAU_NO_MEMORY: as for a head that is whole.
- * PERGIDAU_INCOMPLETE: the bytes begin with no head, and with more behind them they can.
- * PERGIDAU_REFUSED: whatever comes behind the bytes, they begin with no head.
+ * PERGIDAU_INCOMPLETE: the bytes begin with no head, and with more after them they can.
+ * PERGIDAU_REFUSED: whatever comes after the bytes, they begin with no head.
  *
  * Each call reads from the first byte on, and holds as much memory as that for a whole head.
  *
@@ -411,12 +410,12 @@ enum pergidau_code pergidau_ini_pair(
 /*
  * A document of sections: each a name in brackets, and pairs, a key of ASCII letters or
  * digits, = with spaces and tabs round it, and a value that ends before ; and the end of its
- * line, without the white space behind it. White space, and comments from ; to the end of a
- * line, stand before, between and behind them. Names and values are UTF-8, and no pair stands
+ * line, without the white space after it. White space, and comments from ; to the end of a
+ * line, stand before, between and after them. Names and values are UTF-8, and no pair stands
  * before the first section.
  *
  * PERGIDAU_DONE: the bytes of its entries are written into text, those of the key before those
- * of the value and one entry behind the other, and so many places there, in order: of each
+ * of the value and one entry after the other, and that many places there, in order: of each
  * section its head, and then its pairs. PERGIDAU_REFUSED: the bytes are no document; written
  * is the length of their longest beginning that is made of such parts, each of which is one
  * where it stands in all of the bytes: a pair ends where its line does, so of [a], a line
@@ -477,17 +476,17 @@ enum pergidau_code pergidau_json_value(
 
 /*
  * The next value of JSON (RFC 8259), for a walk through a text that was checked: the longest
- * value that stands behind white space, a comma or a colon at most, and white space, in which
+ * value that stands after white space, a comma or a colon at most, and white space, in which
  * no more than levels arrays and objects stand in one another.
  *
  * From the start of the text it reads the text's value. What an array has in it is read from
- * behind its first byte on: a value at each call, of the bytes behind the place of the last
- * one. What an object has in it are names and values in turn. Their levels are one less than
- * those of the value that they stand in. So a walk through all levels reads each byte once for
- * each level that it stands in. Of bytes that were not checked as a text, more than JSON
- * allows is passed, as a comma before the first value.
+ * after its first byte on: a value at each call, of the bytes after the place of the last one.
+ * What an object has in it are names and values in turn. Their levels are one less than those
+ * of the value that they stand in. So a walk through all levels reads each byte once for each
+ * level that it stands in. Of bytes that were not checked as a text, more than JSON allows is
+ * passed, as a comma before the first value.
  *
- * PERGIDAU_DONE: what it is and its place are written. PERGIDAU_END: behind white space stands
+ * PERGIDAU_DONE: what it is and its place are written. PERGIDAU_END: after white space stands
  * a closing bracket, or nothing. PERGIDAU_REFUSED: neither stands there. PERGIDAU_TOO_DEEP:
  * more than 512 levels are asked for. With these three all that is written is 0.
  *
@@ -503,7 +502,7 @@ enum pergidau_code pergidau_json_next(
 /*
  * The reply of Redis (RESP2, the second version of its protocol) with which the bytes begin,
  * in which no more than levels arrays stand in one another. The elements of an array are read
- * by further calls, of the bytes at its place and of those behind each element.
+ * by further calls, of the bytes at its place and of those after each element.
  *
  * A number has no leading zero, and 0 has no sign; a size may have a plus sign before it.
  *
@@ -529,7 +528,7 @@ enum pergidau_code pergidau_resp_reply(
  *
  * PERGIDAU_DONE, PERGIDAU_TOO_DEEP, PERGIDAU_NO_MEMORY: as for a reply that is whole.
  * PERGIDAU_INCOMPLETE: more bytes may be needed; that no more are asked for once the reply is
- * there is tested, not proved. PERGIDAU_REFUSED: whatever comes behind the bytes, they begin
+ * there is tested, not proved. PERGIDAU_REFUSED: whatever comes after the bytes, they begin
  * with no reply. With these two all that is written is 0 too.
  *
  * Each call reads from the first byte on, and holds as much memory as that for a whole reply.
@@ -550,13 +549,12 @@ enum pergidau_code pergidau_resp_reply_in_pieces(
  * which also says whether it has more levels than are asked for: here they are not counted.
  *
  * For the first call the numbers of state are zeros. Each further call for the same reply has
- * the state that the last one left, and all of the bytes of the last one with more behind
- * them.
+ * the state that the last one left, and all of the bytes of the last one with more after them.
  *
- * PERGIDAU_DONE: so many of the first bytes are a reply, and whatever follows, no other reply
- * stands first. For the next one, zeros are put into the state. PERGIDAU_INCOMPLETE: the bytes
- * begin with none as yet: its last line is not ended, or bytes of a string are wanting.
- * PERGIDAU_REFUSED: whatever comes behind the bytes, they begin with none; a line that is none
+ * PERGIDAU_DONE: that many of the first bytes are a reply, and whatever follows, no other
+ * reply stands first. For the next one, zeros are put into the state. PERGIDAU_INCOMPLETE: the
+ * bytes begin with none as yet: its last line is not ended, or bytes of a string are wanting.
+ * PERGIDAU_REFUSED: whatever comes after the bytes, they begin with none; a line that is none
  * of a reply is refused where it ends. With these two 0 is written.
  *
  * Of a state that calls left for other bytes, or that is changed, what is told may be wrong;
@@ -573,10 +571,10 @@ enum pergidau_code pergidau_resp_extent(
     size_t *out);
 
 /*
- * The line and the column of the place behind the first offset bytes. That they are is proved
+ * The line and the column of the place after the first offset bytes. That they are is proved
  * of UTF-8 and a place at an end of it or between two of its characters, and elsewhere tested
  * alone: bytes that are no text count as the characters do that stand for them where they are
- * printed, and a place behind the end is the end.
+ * printed, and a place after the end is the end.
  *
  * The caller owes bytes_length bytes at bytes that can be read and that nothing changes while
  * the call runs, room for one position at out, apart from them, and 16 KiB of stack.

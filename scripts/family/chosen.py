@@ -132,7 +132,7 @@ use Rattle.winnow_integers.specs.Integer.{{IntegerRuns}}
 use Rattle.winnow_integers.specs.declared.binary.endianness.Endianness.{{Endianness}}
 {uses}
 
--- A run of the parser of an integer of so many bytes, each list of which has a value in each order;
+-- A run of the parser of an integer of that many bytes, each list of which has a value in each order;
 -- the order that is chosen stays.
 abbrev pub ChosenRuns : {{S O : Type 0}} → ℕ → (Endianness → List ℕ → O) → Reading ℕ S → ErrorForm
     → Runs Endianness ℕ O

@@ -17,7 +17,7 @@ const MOST: usize = 1 << 16;
 
 type Values = HashMap<Vec<u8>, Vec<u8>>;
 
-/// What is done behind an answer.
+/// What is done after an answer.
 #[derive(PartialEq)]
 enum Next {
     Read,

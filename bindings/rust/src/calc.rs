@@ -10,7 +10,7 @@ use crate::{exports, Error, Place, NOTHING};
 
 /// The value of a formula of whole numbers.
 ///
-/// Operators are, the strongest first: `!` behind a number, `+` and `-` before one, `^`, then `*`,
+/// Operators are, the strongest first: `!` after a number, `+` and `-` before one, `^`, then `*`,
 /// `/` and `%`, then `+` and `-`, and `=`, which is 1 or 0. An error has the place where the formula
 /// is refused, or where it has no value that fits; `%` has none where the quotient does not fit, as
 /// in `-2 ^ 63 % -1`. While it runs it holds up to 100 bytes of memory for each byte of the text.

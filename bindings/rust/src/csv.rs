@@ -41,7 +41,7 @@ impl<'i, 'b> Record<'i, 'b> {
         self.places.get(number).map(|place| at(self.text, *place))
     }
 
-    /// What stands behind the record and its line end.
+    /// What stands after the record and its line end.
     pub fn rest(&self) -> &'i [u8] {
         self.rest
     }
@@ -85,7 +85,7 @@ fn read<'i, 'b>(
 }
 
 /// The record of comma separated values (RFC 4180) with which the bytes begin; a line end, or the
-/// end of the bytes, stands behind it. The bytes of its fields are written into `text`, and their
+/// end of the bytes, stands after it. The bytes of its fields are written into `text`, and their
 /// places into `fields`; where one of them is too small, the error says how much is wanted. No bytes
 /// begin with no record. While it runs it holds up to 80 bytes of memory for each byte of the record.
 ///
@@ -110,7 +110,7 @@ pub fn record<'i, 'b>(
 
 /// The same record where the bytes come in pieces: [`Error::Incomplete`] says that no record with its
 /// line end is there, and that with three bytes more at most they can begin with one;
-/// [`Error::Refused`], that they begin with none, whatever comes behind them. A field in quotes that
+/// [`Error::Refused`], that they begin with none, whatever comes after them. A field in quotes that
 /// are not closed goes on for ever, so a caller bounds how many bytes are held. Where no more bytes
 /// come, [`record`] reads a last record that has no line end.
 ///

@@ -14,7 +14,7 @@ pub struct Place {
 }
 
 impl Place {
-    /// The place behind the first `offset` bytes.
+    /// The place after the first `offset` bytes.
     pub fn of(bytes: &[u8], offset: usize) -> Place {
         let mut found = exports::Position::default();
         // SAFETY: the pointers are those of live borrows, and the bytes are only read. The call takes up to
@@ -38,7 +38,7 @@ impl fmt::Display for Place {
 pub enum Error {
     /// The bytes are not what is read, and where, if the reader says so.
     Refused(Option<Place>),
-    /// The bytes are not yet what is read; whether more behind them can be is said at the function.
+    /// The bytes are not yet what is read; whether more after them can be is said at the function.
     Incomplete,
     /// A request for memory was refused.
     NoMemory,

@@ -9,7 +9,7 @@ pub const DONE: u32 = 0;
 /// The bytes are not what is read. Where the function says so, the place is written.
 pub const REFUSED: u32 = 1;
 
-/// The bytes are not yet what is read, and with more behind them they may be.
+/// The bytes are not yet what is read, and with more after them they may be.
 pub const INCOMPLETE: u32 = 2;
 
 /// A request for memory was refused.
@@ -74,7 +74,7 @@ pub const RESP_ARRAY: usize = 5;
 /// The null array.
 pub const RESP_NULL_ARRAY: usize = 6;
 
-/// A place in the caller's bytes: so many of them, from one on.
+/// A place in the caller's bytes: that many of them, from one on.
 #[repr(C)]
 #[derive(Clone, Copy, Debug, Default, PartialEq, Eq)]
 pub struct Span {
@@ -127,11 +127,11 @@ pub struct Head {
     pub target: Span,
     /// How many fields there are.
     pub fields: usize,
-    /// How many bytes the head has, the empty line behind the fields among them.
+    /// How many bytes the head has, the empty line after the fields among them.
     pub length: usize,
     /// The number before the point of the version, below 10.
     pub major: u8,
-    /// The number behind the point of the version, below 10.
+    /// The number after the point of the version, below 10.
     pub minor: u8,
 }
 
@@ -190,7 +190,7 @@ pub struct Reply {
     /// How many elements an array has. Else 0.
     pub elements: usize,
     /// The bytes of a string or of an error, or those of the elements of an array, which are
-    /// replies, one behind the other. Else nothing.
+    /// replies, one after the other. Else nothing.
     pub place: Span,
     /// How many bytes the reply has.
     pub length: usize,
@@ -206,7 +206,7 @@ pub struct RespExtent {
     pub due: usize,
     /// How many bytes were passed.
     pub passed: usize,
-    /// How many of the bytes behind the next one have no part of a line end.
+    /// How many of the bytes after the next one have no part of a line end.
     pub sought: usize,
     /// How many bytes the string has.
     pub bulk: usize,
@@ -239,8 +239,8 @@ extern "C" {
 
     /// The value of a formula of whole numbers, as `-2 * 3! ^ 2`.
     ///
-    /// White space may stand before the formula and behind each number and operator. Operators are, the
-    /// strongest first: `!` behind a number, its factorial; `+` and `-` before one; `^`, a power,
+    /// White space may stand before the formula and after each number and operator. Operators are, the
+    /// strongest first: `!` after a number, its factorial; `+` and `-` before one; `^`, a power,
     /// joined from the right; `*`, `/` and `%`, and then `+` and `-`, joined from the left; and `=`,
     /// which is 1 where both sides are equal and else 0. `/` cuts towards 0, and `%` has the sign of
     /// its left side.
@@ -262,13 +262,13 @@ extern "C" {
     ) -> u32;
 
     /// The record of comma separated values (RFC 4180) with which the bytes begin. A line end stands
-    /// behind it, or the end of the bytes: a carriage return and a line feed where `line_feeds` is 0,
+    /// after it, or the end of the bytes: a carriage return and a line feed where `line_feeds` is 0,
     /// and else a line feed alone. A field in quotes may have any bytes, and each quote in it is
     /// doubled; one without has no quote, comma, carriage return or line feed. No bytes begin with no
     /// record, and a line end alone is a record of one empty field.
     ///
     /// `DONE`: the bytes of the fields, without the quotes round them and with each quote once, are
-    /// written into `text`, one field behind the other, and so many places there, in order. `REFUSED`:
+    /// written into `text`, one field after the other, and that many places there, in order. `REFUSED`:
     /// the bytes begin with no record. `TOO_SMALL`: they begin with one that wants more entries or more
     /// bytes than the buffers have; how many of both is written, and the buffers are left as they were.
     /// `NO_MEMORY`.
@@ -295,7 +295,7 @@ extern "C" {
     ///
     /// `DONE`, `TOO_SMALL`, `NO_MEMORY`: as for a record that is whole. `INCOMPLETE`: no record with
     /// its line end is there, and with three bytes more at most they can begin with one. `REFUSED`:
-    /// whatever comes behind the bytes, they begin with no record, and that is answered as soon as the
+    /// whatever comes after the bytes, they begin with no record, and that is answered as soon as the
     /// byte is there at which none goes on: so of `x"`. More than 2^61 bytes are refused too. A field
     /// in quotes that are not closed goes on for ever, so the caller bounds how many bytes are held.
     /// The last record may have no line end: where no more bytes come, the call for whole ones reads
@@ -318,9 +318,9 @@ extern "C" {
     ) -> u32;
 
     /// The head of a request of HTTP/1.1 (RFC 9112) with which the bytes begin: a request line, field
-    /// lines one behind the other, and an empty line. What stands behind it is not looked at.
+    /// lines one after the other, and an empty line. What stands after it is not looked at.
     ///
-    /// `DONE`: the places of its parts are written, and of so many fields, in order. `REFUSED`: the
+    /// `DONE`: the places of its parts are written, and of that many fields, in order. `REFUSED`: the
     /// bytes begin with no head. `TOO_SMALL`: they begin with one that has more fields than the buffer
     /// has entries; how many it has is written, and the buffer is left as it was. `NO_MEMORY`.
     ///
@@ -342,7 +342,7 @@ extern "C" {
     /// The same head where the bytes come in pieces: it answers as soon as the empty line is there.
     ///
     /// `DONE`, `TOO_SMALL`, `NO_MEMORY`: as for a head that is whole. `INCOMPLETE`: the bytes begin
-    /// with no head, and with more behind them they can. `REFUSED`: whatever comes behind the bytes,
+    /// with no head, and with more after them they can. `REFUSED`: whatever comes after the bytes,
     /// they begin with no head.
     ///
     /// Each call reads from the first byte on, and holds as much memory as that for a whole head.
@@ -374,12 +374,12 @@ extern "C" {
 
     /// A document of sections: each a name in brackets, and pairs, a key of ASCII letters or digits,
     /// `=` with spaces and tabs round it, and a value that ends before `;` and the end of its line,
-    /// without the white space behind it. White space, and comments from `;` to the end of a line,
-    /// stand before, between and behind them. Names and values are UTF-8, and no pair stands before the
+    /// without the white space after it. White space, and comments from `;` to the end of a line,
+    /// stand before, between and after them. Names and values are UTF-8, and no pair stands before the
     /// first section.
     ///
     /// `DONE`: the bytes of its entries are written into `text`, those of the key before those of the
-    /// value and one entry behind the other, and so many places there, in order: of each section its
+    /// value and one entry after the other, and that many places there, in order: of each section its
     /// head, and then its pairs. `REFUSED`: the bytes are no document; written is the length of their
     /// longest beginning that is made of such parts, each of which is one where it stands in all of the
     /// bytes: a pair ends where its line does, so of `[a]`, a line feed, and `x=` before a byte that is
@@ -436,17 +436,17 @@ extern "C" {
     ) -> u32;
 
     /// The next value of JSON (RFC 8259), for a walk through a text that was checked: the longest value
-    /// that stands behind white space, a comma or a colon at most, and white space, in which no more
+    /// that stands after white space, a comma or a colon at most, and white space, in which no more
     /// than `levels` arrays and objects stand in one another.
     ///
     /// From the start of the text it reads the text's value. What an array has in it is read from
-    /// behind its first byte on: a value at each call, of the bytes behind the place of the last one.
+    /// after its first byte on: a value at each call, of the bytes after the place of the last one.
     /// What an object has in it are names and values in turn. Their levels are one less than those of
     /// the value that they stand in. So a walk through all levels reads each byte once for each level
     /// that it stands in. Of bytes that were not checked as a text, more than JSON allows is passed, as
     /// a comma before the first value.
     ///
-    /// `DONE`: what it is and its place are written. `END`: behind white space stands a closing
+    /// `DONE`: what it is and its place are written. `END`: after white space stands a closing
     /// bracket, or nothing. `REFUSED`: neither stands there. `TOO_DEEP`: more than 512 levels are asked
     /// for. With these three all that is written is 0.
     ///
@@ -461,7 +461,7 @@ extern "C" {
 
     /// The reply of Redis (RESP2, the second version of its protocol) with which the bytes begin, in
     /// which no more than `levels` arrays stand in one another. The elements of an array are read by
-    /// further calls, of the bytes at its place and of those behind each element.
+    /// further calls, of the bytes at its place and of those after each element.
     ///
     /// A number has no leading zero, and 0 has no sign; a size may have a plus sign before it.
     ///
@@ -484,7 +484,7 @@ extern "C" {
     ///
     /// `DONE`, `TOO_DEEP`, `NO_MEMORY`: as for a reply that is whole. `INCOMPLETE`: more bytes may be
     /// needed; that no more are asked for once the reply is there is tested, not proved. `REFUSED`:
-    /// whatever comes behind the bytes, they begin with no reply. With these two all that is written is
+    /// whatever comes after the bytes, they begin with no reply. With these two all that is written is
     /// 0 too.
     ///
     /// Each call reads from the first byte on, and holds as much memory as that for a whole reply.
@@ -504,12 +504,12 @@ extern "C" {
     /// whether it has more levels than are asked for: here they are not counted.
     ///
     /// For the first call the numbers of `state` are zeros. Each further call for the same reply has
-    /// the state that the last one left, and all of the bytes of the last one with more behind them.
+    /// the state that the last one left, and all of the bytes of the last one with more after them.
     ///
-    /// `DONE`: so many of the first bytes are a reply, and whatever follows, no other reply stands
+    /// `DONE`: that many of the first bytes are a reply, and whatever follows, no other reply stands
     /// first. For the next one, zeros are put into the state. `INCOMPLETE`: the bytes begin with none
     /// as yet: its last line is not ended, or bytes of a string are wanting. `REFUSED`: whatever comes
-    /// behind the bytes, they begin with none; a line that is none of a reply is refused where it ends.
+    /// after the bytes, they begin with none; a line that is none of a reply is refused where it ends.
     /// With these two 0 is written.
     ///
     /// Of a state that calls left for other bytes, or that is changed, what is told may be wrong;
@@ -525,10 +525,10 @@ extern "C" {
         out: *mut usize,
     ) -> u32;
 
-    /// The line and the column of the place behind the first `offset` bytes. That they are is proved of
+    /// The line and the column of the place after the first `offset` bytes. That they are is proved of
     /// UTF-8 and a place at an end of it or between two of its characters, and elsewhere tested alone:
     /// bytes that are no text count as the characters do that stand for them where they are printed,
-    /// and a place behind the end is the end.
+    /// and a place after the end is the end.
     ///
     /// The caller owes `bytes_length` bytes at `bytes` that can be read and that nothing changes while
     /// the call runs, room for one position at `out`, apart from them, and 16 KiB of stack.

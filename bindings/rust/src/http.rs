@@ -49,7 +49,7 @@ impl<'i, 'f> Head<'i, 'f> {
         self.fields.iter().map(move |it| (at(bytes, it.name), at(bytes, it.value)))
     }
 
-    /// What stands behind the head.
+    /// What stands after the head.
     pub fn rest(&self) -> &'i [u8] {
         &self.bytes[self.places.length..]
     }
@@ -90,7 +90,7 @@ pub fn head<'i, 'f>(bytes: &'i [u8], fields: &'f mut [Field]) -> Result<Head<'i,
 }
 
 /// The same head where the bytes come in pieces: [`Error::Incomplete`] says that with more bytes
-/// behind them they can begin with one, and [`Error::Refused`] that they cannot.
+/// after them they can begin with one, and [`Error::Refused`] that they cannot.
 ///
 /// ```
 /// let head = pergidau::http::head_in_pieces(b"GET / HTT", &mut []);

@@ -63,7 +63,7 @@ impl<'i> Value<'i> {
     }
 }
 
-/// What stands behind an opening bracket or behind a value, and how many levels it may have.
+/// What stands after an opening bracket or after a value, and how many levels it may have.
 #[derive(Clone, Copy, Debug)]
 struct Inside<'i> {
     left: &'i str,
@@ -167,7 +167,7 @@ pub fn check(text: &[u8], levels: usize) -> Result<(), Error> {
     }
 }
 
-/// The longest value of JSON (RFC 8259) with which the bytes begin, and what stands behind it. White
+/// The longest value of JSON (RFC 8259) with which the bytes begin, and what stands after it. White
 /// space before it is not passed, and bytes of 128 and above are not looked at.
 ///
 /// ```

@@ -31,7 +31,7 @@ pub enum Reply<'i> {
 }
 
 /// The elements of an array, each read when it is asked for. They were read once already, so the one
-/// error that comes is [`Error::NoMemory`], behind which there are no more.
+/// error that comes is [`Error::NoMemory`], after which there are no more.
 #[derive(Clone, Copy, Debug, PartialEq, Eq)]
 pub struct Elements<'i> {
     left: &'i [u8],
@@ -88,7 +88,7 @@ fn read(export: Export, bytes: &[u8], levels: usize) -> Result<(Reply<'_>, &[u8]
 }
 
 /// The reply of Redis (RESP2) with which the bytes begin, in which no more than `levels` arrays stand
-/// in one another, and what stands behind it. While it runs it holds up to 32 bytes of memory for each
+/// in one another, and what stands after it. While it runs it holds up to 32 bytes of memory for each
 /// byte of the reply, and 2 KiB for each level of arrays that has begun.
 ///
 /// ```
@@ -106,7 +106,7 @@ pub fn reply(bytes: &[u8], levels: usize) -> Result<(Reply<'_>, &[u8]), Error> {
 }
 
 /// The same reply where the bytes come in pieces: [`Error::Incomplete`] says that more of them may
-/// be needed, and [`Error::Refused`] that they begin with none, whatever comes behind them. Each call
+/// be needed, and [`Error::Refused`] that they begin with none, whatever comes after them. Each call
 /// reads from the first byte on: of a long reply in many pieces an [`Extent`] finds the end.
 ///
 /// ```
@@ -153,7 +153,7 @@ impl Extent {
     /// How many bytes the reply has with which the bytes begin, if it is there. They are all of those of
     /// the call before, and a piece more. `None` says that the reply's last line is not ended, or that
     /// bytes of a string are wanting; [`Error::Refused`], that they begin with no reply, whatever comes
-    /// behind them. What is told of other bytes than those of the call before may be wrong.
+    /// after them. What is told of other bytes than those of the call before may be wrong.
     ///
     /// How deep arrays stand in one another is not asked here: [`reply`] does, of the bytes of the reply.
     pub fn advance(&mut self, bytes: &[u8]) -> Result<Option<usize>, Error> {
@@ -175,7 +175,7 @@ impl Extent {
 mod tests {
     use super::*;
 
-    /// An iterator ends behind an error, and says so before it is asked.
+    /// An iterator ends after an error, and says so before it is asked.
     #[test]
     fn elements_end_behind_an_error() {
         let mut elements = Elements { left: b":1\r\nx:2\r\n", count: 3 };

@@ -156,7 +156,7 @@ fn ini_document_of_sections() {
     }
 }
 
-/// The request of RFC 9110, section 3.9, and what a client sends behind it.
+/// The request of RFC 9110, section 3.9, and what a client sends after it.
 const HELLO: &[u8] = b"GET /hello.txt HTTP/1.1\r\nUser-Agent: curl/7.64.1\r\n\
 Host: www.example.com\r\nAccept-Language: en, mi\r\n\r\nGET";
 

@@ -78,7 +78,7 @@ pub none_above : (word bit : ℕ) → bit < 64
 none_above word bit within unseen i above =
     bit_at_set_other w64 word bit within i (λ same. omega arith) ∙ unseen i (omega arith)
 
--- the bits of a word where the byte behind those seen is no member
+-- the bits of a word where the byte after those seen is no member
 pub without_member : (P : ℕ → Bool → Type 0) (word bit : ℕ) → bit_at word bit ≡ 0 → P bit false
     → ((i : ℕ) → i < bit → P i (bit_at word i == 1))
     → (i : ℕ) → i < bit + 1 → P i (bit_at word i == 1)

@@ -24,7 +24,7 @@ operand_at b = if nat_eq b 116 then Some true else (if nat_eq b 102 then Some fa
 abbrev pub prefix_at : ℕ → Option (Prefix Not)
 prefix_at b = if nat_eq b 33 then Some (pos 7, Not.Not) else None
 
--- `'` behind an operand, of power 9
+-- `'` after an operand, of power 9
 abbrev pub postfix_at : ℕ → Option (Postfix Not)
 postfix_at b = if nat_eq b 39 then Some (pos 9, Not.Not) else None
 

@@ -32,7 +32,7 @@ impl Likeness<bool> for Equal {
     ghost alike = { λ v w. v ≡ w };
 }
 
-/// The operator `!` before an operand, and `'` behind one.
+/// The operator `!` before an operand, and `'` after one.
 #[derive(Clone, Copy, Drop)]
 enum Not {
     Not,
@@ -237,7 +237,7 @@ impl<'i> Parser<&'i [u8], Infix<Logic>, EmptyError> for Part {
 /// `=` of power 1, which is not joined with another one.
 ///
 /// The answer is the value of the one tree over these bytes that keeps the powers, and what is
-/// behind it is left. It fails where there is none, and for want of memory: else at a place where
+/// after it is left. It fails where there is none, and for want of memory: else at a place where
 /// an
 /// operand is due and there is none, nor a prefix, and the input is left there.
 ///

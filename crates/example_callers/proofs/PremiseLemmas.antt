@@ -24,7 +24,7 @@ use Rattle.winnow.specs.Text.{text_reading}
 pub one_alike : IsAlike (λ x. x) One
 one_alike = token_alike (λ x. x) (λ x y e. e)
 
--- so many bytes are the same bytes
+-- that many bytes are the same bytes
 pub counted_alike : (n : ℕ)
     → IsAlike (λ (slice : Bor (List ℕ)). slice.now) (Counted counted_reading n)
 unfolding Counted
@@ -33,7 +33,7 @@ counted_alike n = record {
       shown ∙ (same_beginnings f g rest other (many ∙ sym so_many) (sym e ∙ d)).0 ∙ sym shows;
 }
 
--- so many characters are the same text
+-- that many characters are the same text
 pub text_alike : (n : ℕ) → IsAlike (λ (slice : Bor (List ℕ)). slice.now) (Counted text_reading n)
 unfolding Counted
 text_alike n = record {

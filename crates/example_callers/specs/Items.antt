@@ -10,7 +10,7 @@ abbrev pub IsLastOf : {O : Type 0} → List O → Option O → Type 0
 IsLastOf {O} outputs last =
     MatchOption last (outputs ≡ []) (λ o. (before : List O) × (outputs ≡ before ++ o ∷ []))
 
--- The outputs are those of a chain of runs that consume, behind which one backtracks: the input is
+-- The outputs are those of a chain of runs that consume, after which one backtracks: the input is
 -- left where that one began.
 pub record EndsBehind {S T O : Type 0} (run : Runs S T O) (s : S) (i : Input T)
     (outputs : List O) (j : Input T) : Type 0 where
@@ -22,7 +22,7 @@ pub record EndsBehind {S T O : Type 0} (run : Runs S T O) (s : S) (i : Input T)
   pub backtracks : run state input (Err backtrack) last tried
   pub back : j ≡ back_at input.left tried
 
--- The outputs are those of such a chain, and the run behind it fails by this kind, or consumes
+-- The outputs are those of such a chain, and the run after it fails by this kind, or consumes
 -- nothing, which is the assert error; the input is left where that one left it.
 pub record FailsBehind {S T O : Type 0} (run : Runs S T O) (assert_kind : Kind) (s : S)
     (i : Input T) (outputs : List O) (k : Kind) (j : Input T) : Type 0 where

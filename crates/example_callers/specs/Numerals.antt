@@ -5,7 +5,7 @@ use Rattle.winnow.specs.Grammar.{Grammar}
 use Rattle.winnow.specs.Numeral.Grammar.Known.{Written}
 use Rattle.winnow.specs.Numeral.Grammar.Signed.{SignedWritten}
 
--- what `{}` writes of a number below 2 ^ 16, and no digit behind it, but behind that of 0
+-- what `{}` writes of a number below 2 ^ 16, and no digit after it, but after that of 0
 abbrev pub IsPortNumber : Grammar ℕ ℕ
 IsPortNumber = Written (λ n. n) (2 ^ 16)
 

@@ -22,7 +22,7 @@ use Rattle.winnow.specs.Text.{text_reading}
 abbrev pub One : Grammar ℕ ℕ
 One = Token (λ x. x)
 
--- a token behind the space
+-- a token after the space
 abbrev pub Dark : Grammar ℕ ℕ
 Dark = Meaning (λ o u. (32 < o) × (u ≡ o)) One
 
@@ -71,10 +71,10 @@ UpToMark mark tokens both rest =
 abbrev pub Octet : Grammar ℕ ℕ
 Octet = Integer 1 (unsigned_value Big)
 
--- a byte, and as many behind it as it says, which begin with letters: these
+-- a byte, and as many after it as it says, which begin with letters: these
 abbrev pub SizedLetters : Grammar ℕ (Bor (List ℕ))
 SizedLetters = Sized (λ n. n) (Inside Word) Octet
 
--- a byte, and as many behind it as it says
+-- a byte, and as many after it as it says
 abbrev pub SizedBytes : {A : Type 0} → Grammar ℕ (Vec ℕ A)
 SizedBytes = Sized (λ n. n) (Times (λ list os. list.items ≡ os) One) Octet

@@ -1,4 +1,4 @@
-//! Choices in use: what the owner of borrowed branches knows behind a choice, and what one reads.
+//! Choices in use: what the owner of borrowed branches knows after a choice, and what one reads.
 #![tactic(auto)]
 
 ghost use Rattle.std.specs.Prelude.{◌≡◌, [], map};

@@ -10,7 +10,7 @@ use winnow::ascii::impls::{LineEnding, TillLineEnding};
 use winnow::combinator::terminated;
 use winnow::error::{EmptyError, HasKind};
 
-/// The first line of bytes, without its end, which is read too: a line feed, or one behind a
+/// The first line of bytes, without its end, which is read too: a line feed, or one after a
 /// carriage return. It fails, by a backtrack, where no line end is there, or a carriage return
 /// stands before it alone.
 ///

@@ -1,4 +1,4 @@
-//! Iterators in use: what is known of the items of a loop, and of the input behind it.
+//! Iterators in use: what is known of the items of a loop, and of the input after it.
 #![tactic(auto)]
 
 ghost use Rattle.std.specs.Prelude.{◌≡◌, false, List, [], IfErr, IfOk};
@@ -44,7 +44,7 @@ pub fn last_item<P: Parser<I, O, E> + Drop, I: Stream, O: Drop, E: ParserError<I
     }
 }
 
-/// The last item of an input that items are all of; else the fault of what stands behind them.
+/// The last item of an input that items are all of; else the fault of what stands after them.
 pub fn last_of_all<P: Parser<I, O, E>, I: StreamIsPartial, O: Drop, E: ParserError<I>>(
     parser: &mut P,
     input: I,

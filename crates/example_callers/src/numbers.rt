@@ -14,7 +14,7 @@ use winnow::combinator::impls::{Repeat, Terminated};
 use winnow::error::ParserError;
 use winnow::stream::{AsChar, Compare, Partial, Stream, StreamIsPartial};
 
-/// Numbers, each with a separator of one byte behind it.
+/// Numbers, each with a separator of one byte after it.
 pub type Numbers<I, E, A> = Repeat<
     Terminated<Digit1, u8, I, <I as Stream>::Slice, u8, E>,
     I,

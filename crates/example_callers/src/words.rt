@@ -48,7 +48,7 @@ pub fn assignment<'i>(input: &mut &'i [u8]) -> Result<(&'i [u8], u8, &'i [u8]), 
     (Alpha1, b'=', Alpha1).read(input)
 }
 
-/// A word behind a mark: `=` and the word, which is answered. It fails, by a backtrack, where these
+/// A word after a mark: `=` and the word, which is answered. It fails, by a backtrack, where these
 /// do not stand first.
 pub fn marked_word<'i>(input: &mut &'i [u8]) -> Result<&'i [u8], EmptyError>
     ensures reads { Reads bytes_reading ⟦<EmptyError as HasKind>⟧.kind MarkedWord

@@ -25,7 +25,7 @@ use winnow::laws::{
 };
 use winnow::stream::Stream;
 
-/// A unit behind a size.
+/// A unit after a size.
 #[derive(Clone, Copy, Debug, PartialEq, Eq)]
 pub enum Scale {
     /// `k`, 1024 bytes.
@@ -127,11 +127,11 @@ fn signs<'i>() -> Marks<&'i [u8], Infix<Sign>>
     ))
 }
 
-/// The size that the bytes begin with: a number, `k` and `m` behind a size, of power 5, and between
+/// The size that the bytes begin with: a number, `k` and `m` after a size, of power 5, and between
 /// two `*`, of power 3, and `+`, of power 1, joined from the left.
 ///
 /// The answer is the value of the one tree over what the parts read that keeps the powers, and what
-/// is behind it is left. It fails where there is none, where a number does not fit in 32 bits, and
+/// is after it is left. It fails where there is none, where a number does not fit in 32 bits, and
 /// for want of memory.
 ///
 /// ```

@@ -1,4 +1,4 @@
-//! Lines of settings and flags, as `width=12` and `debug`: behind an equals sign a value is due, so
+//! Lines of settings and flags, as `width=12` and `debug`: after an equals sign a value is due, so
 //! that a line lacks it is told for good, where the value is due.
 ghost use Rattle.std.specs.Prelude.{◌≡◌, [], ⊤, false};
 ghost use Rattle.examples.specs.Assignments.Assignments.{IsTold};
@@ -16,7 +16,7 @@ use winnow::error::{EmptyError, ErrMode, ModalError, ParseFault, ParserError};
 use winnow::exact::Fails;
 use winnow::stream::{AsChar, Compare, Range, StreamIsPartial};
 
-/// Lines that `line` reads, one behind the other, up to the end of the input.
+/// Lines that `line` reads, one after the other, up to the end of the input.
 fn lines_of<I, E, A, P>(alloc: A, line: P, input: I) -> Result<(), ParseFault<I, E::Inner>>
 where
     I: StreamIsPartial,
@@ -68,7 +68,7 @@ where
 
 /// Whether a text is lines of settings and flags: a setting is a name of letters, an equals sign
 /// and a value of digits, a flag is a name, and a line feed ends each. A fault says at which byte a
-/// value lacks, right behind its equals sign; or at which byte what is no line begins. Memory is
+/// value lacks, right after its equals sign; or at which byte what is no line begins. Memory is
 /// not asked for.
 ///
 /// ```

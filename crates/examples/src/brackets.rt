@@ -92,7 +92,7 @@ impl<'i, A: Allocator> Rule<Partial<&'i [u8]>, Brackets<A>> for AnyBrackets<A> {
     ghost takes = { λ r _. brackets_take r.1 };
 }
 
-/// Brackets, of which no more than so many stand in one another.
+/// Brackets, of which no more than that many stand in one another.
 ///
 /// What it answers on a cut input, it answers whatever follows; else it asks for more, or wants
 /// memory. A backtrack says that no such brackets stand first.

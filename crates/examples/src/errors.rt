@@ -76,7 +76,7 @@ pub fn read_letter<'i, A: Allocator + Copy>(
     }
 }
 
-/// Reads the colon behind a level, or says that it is missing, and leaves the input as it was; it
+/// Reads the colon after a level, or says that it is missing, and leaves the input as it was; it
 /// wants no memory.
 ///
 /// ```
@@ -101,9 +101,9 @@ pub fn read_colon<'i, A: Allocator + Copy>(
     }
 }
 
-/// Reads the level of a line and the colon behind it.
+/// Reads the level of a line and the colon after it.
 ///
-/// Where the level is missing the input stays; where the colon is, it is left behind the letter. It
+/// Where the level is missing the input stays; where the colon is, it is left after the letter. It
 /// wants no memory.
 ///
 /// ```

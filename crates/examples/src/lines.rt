@@ -53,7 +53,7 @@ impl<'i> Rule<&'i [u8], u8> for Line {
     ghost takes = { λ _ _. line_takes };
 }
 
-/// Lines, as many as stand one behind the other: their letters, in order.
+/// Lines, as many as stand one after the other: their letters, in order.
 ///
 /// ```
 /// use examples::lines::read_lines;

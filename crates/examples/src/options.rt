@@ -64,10 +64,10 @@ where
     in_brackets(alloc, (Alpha1, opt(preceded(b'=', Alphanumeric1))), input)
 }
 
-/// Options in brackets: names of letters, each with a value of letters and digits behind an equals
-/// sign, or without one, and commas between them. What stands first is read, and what is behind the
+/// Options in brackets: names of letters, each with a value of letters and digits after an equals
+/// sign, or without one, and commas between them. What stands first is read, and what is after the
 /// bracket that closes is left. An error leaves an end of the input, and backtracks: no options
-/// stand first. Else it wants memory.
+/// stand first. Else it is out of memory.
 ///
 /// ```
 /// use examples::options::read_options;

@@ -54,7 +54,7 @@ pair_long p behind rest n less =
       length-append p.value (p.trail ++ p.remark),
     )
 
--- the pairs before the next section, and all sections behind them, are no longer than their bytes
+-- the pairs before the next section, and all sections after them, are no longer than their bytes
 parts_long : (parts : List Part) (input rest : List ℕ) → BeginsWith parts input rest
     → length (text_of (pairs_of parts)) + length (text_of (entries_of (sections_of parts)))
     ≤ length input
@@ -106,7 +106,7 @@ pub within_map : (found : List Found) (i : ℕ) → i < length found
     → i < length (map pair_text found)
 within_map found i within = omega (arith, within, length-map found pair_text)
 
--- what stands before an entry, and behind it
+-- what stands before an entry, and after it
 text_splits : (found : List Found) (i : ℕ) (x : Found) → i < length found
     → x ≡ slice_index_or found i nothing
     → text_of (map pair_text found) ≡ text_of (take i (map pair_text found))

@@ -48,7 +48,7 @@ passed_bare bytes rest it bare = record {
 never_white : IsWhite 13 → ⊥
 never_white h = omega (arith, h)
 
--- behind all white space stands the line end
+-- after all white space stands the line end
 gap_end : (white rest behind tail : List ℕ) → All IsWhite white → All IsWhite behind
     → BeginsBare rest → white ++ rest ≡ behind ++ 13 ∷ tail → rest ≡ 13 ∷ tail
 gap_end [] rest [] tail p q bare e = e
@@ -62,13 +62,13 @@ gap_end (w ∷ white) rest (b ∷ behind) tail p q bare e =
     gap_end white rest behind tail (All-tail IsWhite w white p) (All-tail IsWhite b behind q) bare
     (same_others w b (white ++ rest) (behind ++ 13 ∷ tail) e)
 
--- A value and white space behind it, and then a carriage return and the tail.
+-- A value and white space after it, and then a carriage return and the tail.
 pub record BeginsValue (value rest tail : List ℕ) : Type 0 where
   pub behind : List ℕ
   pub splits : rest ≡ value ++ (behind ++ 13 ∷ tail)
   pub is_white : All IsWhite behind
 
--- behind the white space before it stands the value
+-- after the white space before it stands the value
 gap_value : (white rest before value behind tail : List ℕ) → All IsWhite white
     → All IsWhite before → All IsWhite behind → BeginsBare rest → BeginsBare value
     → white ++ rest ≡ before ++ (value ++ (behind ++ 13 ∷ tail)) → BeginsValue value rest tail
@@ -91,12 +91,12 @@ gap_value (w ∷ white) rest (b ∷ before) value behind tail p q r bare begins 
     (All-tail IsWhite b before q) r bare begins
     (same_others w b (white ++ rest) (before ++ (value ++ (behind ++ 13 ∷ tail))) e)
 
--- What stands in a field line, and behind it, as it is found from the name on.
+-- What stands in a field line, and after it, as it is found from the name on.
 pub record IsFound (name value line behind rest end : List ℕ) : Type 0 where
   pub begins : BeginsValue value rest (10 ∷ behind)
   pub ends : end ≡ 13 ∷ (10 ∷ behind)
 
--- what stands behind the name and the colon
+-- what stands after the name and the colon
 behind_name : (name value line behind : List ℕ) → (is : IsFieldLine name value line behind)
     → drop (length name + 1) line
     ≡ is.before ++ (value ++ (is.behind ++ 13 ∷ (10 ∷ behind)))
@@ -134,14 +134,14 @@ line_long name value line behind is =
 
 -- ---- where they stand
 
--- no white space is behind a place at which all of it was passed
+-- no white space is after a place at which all of it was passed
 none_behind : (rest white tail : List ℕ) → BeginsBare rest → All IsWhite white
     → rest ≡ white ++ tail → white ≡ []
 none_behind rest [] tail bare all e = refl
 none_behind rest (w ∷ white) tail bare all e =
     absurd (bare w (white ++ tail) e (All-head IsWhite w white all))
 
--- a line whose name stands first, and whose value stands behind all white space
+-- a line whose name stands first, and whose value stands after all white space
 pub field_shown : (input name value line behind left rest : List ℕ) (place : Field)
     → IsFieldLine name value line behind → left ≡ drop (length name + 1) line
     → IsBehindGap rest left

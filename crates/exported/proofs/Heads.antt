@@ -1,4 +1,4 @@
--- What stands behind a head, and how long it is.
+-- What stands after a head, and how long it is.
 use denote.RawPtr.{null_ptr}
 use Rattle.std.proofs.Common.{◌≡◌, ◌∙◌, ◌+◌, ◌<◌, ◌≤◌, ◌^◌, ◌++◌, ◌∷◌, [], ℕ, List, ap, arith}
 use Rattle.std.proofs.Common.{length, length-append, map, refl, suc, subst, sym, take}
@@ -44,7 +44,7 @@ request_within method target bytes rest major minor is =
       length-append target (version_on major minor rest),
     )
 
--- no more is behind a head than there is, and each of its fields takes a byte
+-- no more is after a head than there is, and each of its fields takes a byte
 pub head_within : (line : Request) (fields : List Pair) (bytes rest : List ℕ)
     → IsHead line fields bytes rest → length fields + length rest ≤ length bytes
 head_within line fields bytes rest is =
@@ -65,7 +65,7 @@ shown_count input lines (p ∷ places) [] rest never = absurd never
 shown_count input lines (p ∷ places) (f ∷ fields) rest (behind, shows, others) =
     ap (λ n. suc n) (shown_count input behind places fields rest others)
 
--- what is shown in the first entries, and what stands behind these
+-- what is shown in the first entries, and what stands after these
 shown_first : (input lines : List ℕ) (places others all : List Field) (fields : List Pair)
     (rest : List ℕ) (n : ℕ) → AreShown input lines places fields rest → length fields ≡ n
     → all ≡ places ++ others → AreShown input lines (take n all) fields rest
@@ -76,7 +76,7 @@ shown_first input lines places others all fields rest n are count e =
     ∙ sym (ap (λ k. take k (places ++ others)) long) ∙ take-append_seam places others in
     subst P (sym cut) are
 
--- the fields of a head, from behind its request line on
+-- the fields of a head, from after its request line on
 pub head_shown : (input lines : List ℕ) (places others all : List Field)
     (shown items : List Found) (n : ℕ) (line : Request) (rest : List ℕ)
     → (is : IsHead line (map pair items) input rest) → lines ≡ is.behind → shown ≡ items

@@ -19,7 +19,7 @@ next_line found i d line end within are =
     let P : List Found → Type 0 = λ l. AreFieldLines (map pair l) line end in
     subst P (drop_more found i d within) are
 
--- one field more is shown behind the others
+-- one field more is shown after the others
 shown_behind : (input lines : List ℕ) (places : List Field) (fields : List Pair)
     (line rest : List ℕ) (p : Field) (f : Pair) → AreShown input lines places fields line
     → ShowsField input p f line rest

@@ -95,7 +95,7 @@ record_text_long : (fields : Fields) (xs : List ℕ) → RecordText fields xs
 unfolding InList
 record_text_long fields xs is = joined_long fields.items xs is.0
 
--- the fields of a record and what is left behind it have no more bytes than there are
+-- the fields of a record and what is left after it have no more bytes than there are
 pub record_long : (ends : LineEnd) (bytes : List ℕ) (fields : Fields) (rest : List ℕ)
     → IsRecord ends bytes fields rest
     → length (text_of fields.items) + length rest ≤ length bytes

@@ -28,9 +28,9 @@ reply_stands level input reply rest none good =
     let Q : List ℕ → Type 0 = λ l. IsReply level input reply l in
     subst Q (append-nil rest) (subst P (append-nil input) (good [] none))
 
--- ---- what stands behind the first line feed
+-- ---- what stands after the first line feed
 
--- behind some bytes that are none
+-- after some bytes that are none
 pub feed_more : (line rest behind more : List ℕ) (b : ℕ) → (b ≡ 10 → ⊥) → NoFeed line
     → rest ≡ b ∷ more → rest ≡ line ++ 10 ∷ behind
     → (left : List ℕ) × NoFeed left × (more ≡ left ++ 10 ∷ behind)
@@ -59,7 +59,7 @@ feed_ends input behind left (line, none, e) is = record {
   splits = e ∙ ap (λ l. line ++ 10 ∷ l) (sym is) ∙ sym (append_assoc line (10 ∷ []) left);
 }
 
--- a line behind its first byte
+-- a line after its first byte
 pub line_shown : (input text rest : List ℕ) (place : Span) → IsLine input text rest
     → place.offset ≡ 1 → place.length ≡ length text
     → StandsAt input place text (line_end ++ rest)

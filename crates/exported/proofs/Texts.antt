@@ -1,4 +1,4 @@
--- The bytes of fields, one behind the other.
+-- The bytes of fields, one after the other.
 use Rattle.std.proofs.Common.{◌≡◌, ◌∙◌, ◌+◌, ◌<◌, ◌≤◌, ◌++◌, [], ℕ, List, ap}
 use Rattle.std.proofs.Common.{Global, arith, drop, inl, inr, length, length-append}
 use Rattle.std.proofs.Common.{slice_index_or, slice_set, subst, sym, take}
@@ -33,7 +33,7 @@ length_more fields i d within =
     ap length (text_more fields i d within)
     ∙ length-append (text_of (take i fields)) (slice_index_or fields i d).items
 
--- what stands before a field, and behind it
+-- what stands before a field, and after it
 pub text_splits : (fields : List (Vec ℕ Global)) (i : ℕ) (d : Vec ℕ Global) → i < length fields
     → text_of fields ≡ text_of (take i fields)
     ++ ((slice_index_or fields i d).items ++ text_of (drop (i + 1) fields))
@@ -54,7 +54,7 @@ front_long fields i d within =
       length-append (slice_index_or fields i d).items (text_of (drop (i + 1) fields)),
     )
 
--- a field stands behind those before it
+-- a field stands after those before it
 field_at : (fields : List (Vec ℕ Global)) (i : ℕ) (d : Vec ℕ Global) (place : Span)
     → i < length fields → place.offset ≡ length (text_of (take i fields))
     → place.length ≡ length (slice_index_or fields i d).items

@@ -20,7 +20,7 @@ abbrev pub ends_of : ℕ → LineEnd
 ends_of zero = CrLf
 ends_of (suc n) = Lf
 
--- Whatever comes behind the bytes, they begin with this record.
+-- Whatever comes after the bytes, they begin with this record.
 abbrev pub IsRecordForGood : LineEnd → List ℕ → Fields → List ℕ → Type 0
 IsRecordForGood ends input fields rest =
     (more : List ℕ) → MayFollow input more → IsRecord ends (input ++ more) fields (rest ++ more)
@@ -29,7 +29,7 @@ IsRecordForGood ends input fields rest =
 abbrev pub NoRecord : LineEnd → List ℕ → Type 0
 NoRecord ends input = (fields : Fields) (rest : List ℕ) → IsRecord ends input fields rest → ⊥
 
--- Whatever comes behind them, they begin with none.
+-- Whatever comes after them, they begin with none.
 abbrev pub NoRecordForGood : LineEnd → List ℕ → Type 0
 NoRecordForGood ends input = (more : List ℕ) → MayFollow input more → NoRecord ends (input ++ more)
 
@@ -37,7 +37,7 @@ NoRecordForGood ends input = (more : List ℕ) → MayFollow input more → NoRe
 abbrev pub NoLine : LineEnd → List ℕ → Type 0
 NoLine ends input = (fields : Fields) (rest : List ℕ) → IsLine ends input fields rest → ⊥
 
--- The input begins with a record, which has so many fields, bytes of these, and bytes.
+-- The input begins with a record, which has that many fields, bytes of these, and bytes.
 pub record CountsRecord (begins : List ℕ → Fields → List ℕ → Type 0) (input : List ℕ)
     (found : Record) (fields : Fields) : Type 0 where
   pub rest : List ℕ

@@ -23,7 +23,7 @@ extent_due (suc (suc n)) s = record {
   replies = s.low + 18446744073709551616 * s.high;
 }
 
--- What a state says: how much is passed, and what is due behind that.
+-- What a state says: how much is passed, and what is due after that.
 abbrev pub extent_of : RespExtent → Extent
 extent_of s = extent_due s.due s
 
@@ -31,10 +31,10 @@ extent_of s = extent_due s.due s
 abbrev pub nothing : RespExtent
 nothing = record { due = 0; passed = 0; sought = 0; bulk = 0; low = 0; high = 0 }
 
--- What a call says of its bytes, by its code: a reply is so many of the first of them, whatever
+-- What a call says of its bytes, by its code: a reply is that many of the first of them, whatever
 -- follows; or none stands first as yet, and a line of it is not ended or bytes of a string are
 -- wanting; or none does, whatever follows. The state that it leaves, where it does not refuse, is
--- one of these bytes, whatever comes behind them.
+-- one of these bytes, whatever comes after them.
 pub record TellsEnd (bytes : List ℕ) (code count : ℕ) (state : RespExtent) : Type 0 where
   pub ends : code ≡ done → IsTold bytes (Ok (Some count))
   pub wants : code ≡ incomplete
@@ -45,7 +45,7 @@ pub record TellsEnd (bytes : List ℕ) (code count : ℕ) (state : RespExtent) :
 
 -- ---- calls in turn
 
--- the bytes of pieces, one behind the other
+-- the bytes of pieces, one after the other
 abbrev pub all_of : List (List ℕ) → List ℕ
 all_of pieces = flat_map (λ piece. piece) pieces
 

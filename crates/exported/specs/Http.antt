@@ -9,14 +9,14 @@ use Rattle.exported.specs.Span.{StandsAt}
 use Rattle.exported.specs.declared.http.Field.{Field}
 use Rattle.exported.specs.declared.http.Head.{Head}
 
--- The rest is what stands behind the spaces and tabs that come first.
+-- The rest is what stands after the spaces and tabs that come first.
 pub record IsBehindGap (rest bytes : List ℕ) : Type 0 where
   pub white : List ℕ
   pub splits : bytes ≡ white ++ rest
   pub is_white : All IsWhite white
   pub bare : BeginsBare rest
 
--- what stands in a request line behind the target, and then comes the rest
+-- what stands in a request line after the target, and then comes the rest
 abbrev pub version_on : ℕ → ℕ → List ℕ → List ℕ
 version_on major minor rest = protocol ++ (digits major minor ++ (line_end ++ rest))
 
@@ -30,7 +30,7 @@ pub record ShowsField (input : List ℕ) (place : Field) (field : Pair) (line re
   pub value : StandsAt input place.value field.1 (is_line.behind ++ (line_end ++ rest))
   pub at_end : field.1 ≡ [] → is_line.behind ≡ []
 
--- The lines are those of these fields, one behind the other, and then comes the rest. Each field
+-- The lines are those of these fields, one after the other, and then comes the rest. Each field
 -- stands in its own line, at the places of its number.
 abbrev pub AreShown : List ℕ → List ℕ → List Field → List Pair → List ℕ → Type 0
 AreShown input lines [] [] rest = lines ≡ rest
@@ -41,7 +41,7 @@ AreShown input lines (p ∷ places) (f ∷ fields) rest =
     × AreShown input behind places fields rest
 
 -- The input begins with a head, whose parts stand at these places: the method before a space and
--- the target, the target before the version, and each field in its own line, behind these.
+-- the target, the target before the version, and each field in its own line, after these.
 pub record ShowsHead (input : List ℕ) (head : Head) (places : List Field) : Type 0 where
   pub line : Request
   pub fields : List Pair
@@ -57,7 +57,7 @@ pub record ShowsHead (input : List ℕ) (head : Head) (places : List Field) : Ty
   pub are_shown : AreShown input is_head.behind places fields (line_end ++ rest)
   pub ends : head.length + length rest ≡ length input
 
--- The input begins with a head of so many fields.
+-- The input begins with a head of that many fields.
 pub record IsWanted (input : List ℕ) (count : ℕ) : Type 0 where
   pub line : Request
   pub fields : List Pair

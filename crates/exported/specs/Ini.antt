@@ -22,11 +22,11 @@ pub record ShowsPair (line : List ℕ) (places : Pair) : Type 0 where
 abbrev pub EntryText : Type 0
 EntryText = List ℕ × List ℕ
 
--- the head of each section, and its pairs behind it
+-- the head of each section, and its pairs after it
 abbrev pub entries_of : List SectionText → List EntryText
 entries_of sections = flat_map (λ s. ([], s.0) ∷ s.1) sections
 
--- the bytes of entries, one behind the other
+-- the bytes of entries, one after the other
 abbrev pub text_of : List EntryText → List ℕ
 text_of entries = flat_map (λ e. e.0 ++ e.1) entries
 
@@ -47,7 +47,7 @@ pub record AreEntries (text : List ℕ) (places : List Entry) (entries : List En
         → ShowsEntry text (slice_index_or places k p) (slice_index_or entries k e)
         (drop (k + 1) entries)
 
--- The input is a document with these sections, which has so many entries and bytes of these.
+-- The input is a document with these sections, which has that many entries and bytes of these.
 pub record CountsDocument (input : List ℕ) (found : Document) (sections : List SectionText) : Type 0
   where
     pub has : HasSections input sections

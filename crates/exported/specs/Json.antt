@@ -20,7 +20,7 @@ number_of kinds.Object = 6
 abbrev pub no_item : JsonItem
 no_item = record { kind = number_of kinds.Null; place = nowhere }
 
--- Behind what may stand before it the input has a value, the longest there, of this kind and at
+-- After what may stand before it the input has a value, the longest there, of this kind and at
 -- this place, and then comes the rest.
 pub record ShowsItem (level : ℕ) (input : List ℕ) (it : JsonItem) : Type 0 where
   pub text : List ℕ

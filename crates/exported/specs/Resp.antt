@@ -16,11 +16,11 @@ use Rattle.exported.specs.declared.resp.Reply.{Reply}
 abbrev pub Found : Type 0
 Found = Replies Global
 
--- The bytes begin with this reply, in which no more than so many arrays stand in one another.
+-- The bytes begin with this reply, in which no more than that many arrays stand in one another.
 abbrev pub IsReply : ℕ → List ℕ → Found → List ℕ → Type 0
 IsReply level input reply rest = First (ReplyText level) input reply rest
 
--- Whatever comes behind the bytes, they begin with it.
+-- Whatever comes after the bytes, they begin with it.
 abbrev pub IsReplyForGood : ℕ → List ℕ → Found → List ℕ → Type 0
 IsReplyForGood level input reply rest =
     (more : List ℕ) → MayFollow input more → IsReply level (input ++ more) reply (rest ++ more)
@@ -29,7 +29,7 @@ IsReplyForGood level input reply rest =
 abbrev pub NoReply : ℕ → List ℕ → Type 0
 NoReply level input = (reply : Found) (rest : List ℕ) → IsReply level input reply rest → ⊥
 
--- Whatever comes behind them, they begin with none.
+-- Whatever comes after them, they begin with none.
 abbrev pub NoReplyForGood : ℕ → List ℕ → Type 0
 NoReplyForGood level input =
     (more : List ℕ) → MayFollow input more → NoReply level (input ++ more)
@@ -38,7 +38,7 @@ NoReplyForGood level input =
 abbrev pub no_reply : Reply
 no_reply = record { kind = 0; number = pos 0; elements = 0; place = nowhere; length = 0 }
 
--- The place of an array is that of the texts of its elements: they stand behind its first line, and
+-- The place of an array is that of the texts of its elements: they stand after its first line, and
 -- then comes the rest.
 pub record AreElements (level : ℕ) (input rest : List ℕ) (elements : List Found) (it : Reply)
     : Type 0 where
@@ -60,7 +60,7 @@ abbrev pub TellsText : ℕ → List ℕ → List ℕ → List ℕ → Reply → 
 TellsText kind input rest text it =
     Tells it kind (pos 0) 0 × StandsAt input it.place text (line_end ++ rest)
 
--- What is told of a reply of the input, behind which the rest comes, by what it is.
+-- What is told of a reply of the input, after which the rest comes, by what it is.
 abbrev pub IsShownBy : ℕ → List ℕ → List ℕ → Opened Global → Reply → Type 0
 IsShownBy level input rest (Reply-F.Simple text) it = TellsText 0 input rest text.now it
 IsShownBy level input rest (Reply-F.Error text) it = TellsText 1 input rest text.now it

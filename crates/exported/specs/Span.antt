@@ -3,7 +3,7 @@ use Rattle.std.specs.Prelude.{◌≡◌, ℕ, List, ◌++◌, length}
 use Rattle.exported.specs.declared.span.Span.{Span}
 
 -- These bytes stand at this place of the input, and then comes the rest: so of bytes that stand
--- there more than once it is the place behind which the rest is left.
+-- there more than once it is the place after which the rest is left.
 pub record StandsAt (input : List ℕ) (place : Span) (bytes rest : List ℕ) : Type 0 where
   pub before : List ℕ
   pub splits : input ≡ before ++ (bytes ++ rest)

@@ -50,8 +50,8 @@ fn read(alloc: Global, text: &str, out: &mut Number) -> u32
 
 /// The value of a formula of whole numbers, as `-2 * 3! ^ 2`.
 ///
-/// White space may stand before the formula and behind each number and operator. Operators are, the
-/// strongest first: `!` behind a number, its factorial; `+` and `-` before one; `^`, a power,
+/// White space may stand before the formula and after each number and operator. Operators are, the
+/// strongest first: `!` after a number, its factorial; `+` and `-` before one; `^`, a power,
 /// joined from the right; `*`, `/` and `%`, and then `+` and `-`, joined from the left; and `=`,
 /// which is 1 where both sides are equal and else 0. `/` cuts towards 0, and `%` has the sign of
 /// its left side.

@@ -6,7 +6,7 @@ pub const DONE: u32 = 0;
 /// The bytes are not what is read. Where the function says so, the place is written.
 pub const REFUSED: u32 = 1;
 
-/// The bytes are not yet what is read, and with more behind them they may be.
+/// The bytes are not yet what is read, and with more after them they may be.
 pub const INCOMPLETE: u32 = 2;
 
 /// A request for memory was refused.

@@ -48,7 +48,7 @@ fn line_end(line_feeds: u32) -> LineEnd
     }
 }
 
-/// Writes the fields of a record, behind which so many bytes are left, where there is room.
+/// Writes the fields of a record, after which that many bytes are left, where there is room.
 fn write_record(
     bytes: &[u8],
     found: &[Vec<u8>],
@@ -83,13 +83,13 @@ fn write_record(
 }
 
 /// The record of comma separated values (RFC 4180) with which the bytes begin. A line end stands
-/// behind it, or the end of the bytes: a carriage return and a line feed where `line_feeds` is 0,
+/// after it, or the end of the bytes: a carriage return and a line feed where `line_feeds` is 0,
 /// and else a line feed alone. A field in quotes may have any bytes, and each quote in it is
 /// doubled; one without has no quote, comma, carriage return or line feed. No bytes begin with no
 /// record, and a line end alone is a record of one empty field.
 ///
 /// `DONE`: the bytes of the fields, without the quotes round them and with each quote once, are
-/// written into `text`, one field behind the other, and so many places there, in order. `REFUSED`:
+/// written into `text`, one field after the other, and that many places there, in order. `REFUSED`:
 /// the bytes begin with no record. `TOO_SMALL`: they begin with one that wants more entries or more
 /// bytes than the buffers have; how many of both is written, and the buffers are left as they were.
 /// `NO_MEMORY`.
@@ -138,7 +138,7 @@ pub extern "C" fn exported_csv_record(
 ///
 /// `DONE`, `TOO_SMALL`, `NO_MEMORY`: as for a record that is whole. `INCOMPLETE`: no record with
 /// its line end is there, and with three bytes more at most they can begin with one. `REFUSED`:
-/// whatever comes behind the bytes, they begin with no record, and that is answered as soon as the
+/// whatever comes after the bytes, they begin with no record, and that is answered as soon as the
 /// byte is there at which none goes on: so of `x"`. More than 2^61 bytes are refused too. A field
 /// in quotes that are not closed goes on for ever, so the caller bounds how many bytes are held.
 /// The last record may have no line end: where no more bytes come, the call for whole ones reads

@@ -39,11 +39,11 @@ pub struct Head {
     pub target: Span,
     /// How many fields there are.
     pub fields: usize,
-    /// How many bytes the head has, the empty line behind the fields among them.
+    /// How many bytes the head has, the empty line after the fields among them.
     pub length: usize,
     /// The number before the point of the version, below 10.
     pub major: u8,
-    /// The number behind the point of the version, below 10.
+    /// The number after the point of the version, below 10.
     pub minor: u8,
 }
 
@@ -57,7 +57,7 @@ const NONE: Head = Head {
     minor: 0,
 };
 
-/// Writes the places of a head, behind which so many bytes are left, where there is room for them.
+/// Writes the places of a head, after which that many bytes are left, where there is room for them.
 fn write_head(
     bytes: &[u8],
     found: &head::Head<'_, Global>,
@@ -91,9 +91,9 @@ fn write_head(
 }
 
 /// The head of a request of HTTP/1.1 (RFC 9112) with which the bytes begin: a request line, field
-/// lines one behind the other, and an empty line. What stands behind it is not looked at.
+/// lines one after the other, and an empty line. What stands after it is not looked at.
 ///
-/// `DONE`: the places of its parts are written, and of so many fields, in order. `REFUSED`: the
+/// `DONE`: the places of its parts are written, and of that many fields, in order. `REFUSED`: the
 /// bytes begin with no head. `TOO_SMALL`: they begin with one that has more fields than the buffer
 /// has entries; how many it has is written, and the buffer is left as it was. `NO_MEMORY`.
 ///
@@ -136,7 +136,7 @@ pub extern "C" fn exported_http_head(
 /// The same head where the bytes come in pieces: it answers as soon as the empty line is there.
 ///
 /// `DONE`, `TOO_SMALL`, `NO_MEMORY`: as for a head that is whole. `INCOMPLETE`: the bytes begin
-/// with no head, and with more behind them they can. `REFUSED`: whatever comes behind the bytes,
+/// with no head, and with more after them they can. `REFUSED`: whatever comes after the bytes,
 /// they begin with no head.
 ///
 /// Each call reads from the first byte on, and holds as much memory as that for a whole head.

@@ -134,12 +134,12 @@ fn write_entries(
 
 /// A document of sections: each a name in brackets, and pairs, a key of ASCII letters or digits,
 /// `=` with spaces and tabs round it, and a value that ends before `;` and the end of its line,
-/// without the white space behind it. White space, and comments from `;` to the end of a line,
-/// stand before, between and behind them. Names and values are UTF-8, and no pair stands before the
+/// without the white space after it. White space, and comments from `;` to the end of a line,
+/// stand before, between and after them. Names and values are UTF-8, and no pair stands before the
 /// first section.
 ///
 /// `DONE`: the bytes of its entries are written into `text`, those of the key before those of the
-/// value and one entry behind the other, and so many places there, in order: of each section its
+/// value and one entry after the other, and that many places there, in order: of each section its
 /// head, and then its pairs. `REFUSED`: the bytes are no document; written is the length of their
 /// longest beginning that is made of such parts, each of which is one where it stands in all of the
 /// bytes: a pair ends where its line does, so of `[a]`, a line feed, and `x=` before a byte that is

@@ -144,17 +144,17 @@ pub extern "C" fn exported_json_value(bytes: &[u8], levels: usize, out: &mut usi
 }
 
 /// The next value of JSON (RFC 8259), for a walk through a text that was checked: the longest value
-/// that stands behind white space, a comma or a colon at most, and white space, in which no more
+/// that stands after white space, a comma or a colon at most, and white space, in which no more
 /// than `levels` arrays and objects stand in one another.
 ///
 /// From the start of the text it reads the text's value. What an array has in it is read from
-/// behind its first byte on: a value at each call, of the bytes behind the place of the last one.
+/// after its first byte on: a value at each call, of the bytes after the place of the last one.
 /// What an object has in it are names and values in turn. Their levels are one less than those of
 /// the value that they stand in. So a walk through all levels reads each byte once for each level
 /// that it stands in. Of bytes that were not checked as a text, more than JSON allows is passed, as
 /// a comma before the first value.
 ///
-/// `DONE`: what it is and its place are written. `END`: behind white space stands a closing
+/// `DONE`: what it is and its place are written. `END`: after white space stands a closing
 /// bracket, or nothing. `REFUSED`: neither stands there. `TOO_DEEP`: more than 512 levels are asked
 /// for. With these three all that is written is 0.
 ///

@@ -55,7 +55,7 @@ pub struct Reply {
     /// How many elements an array has. Else 0.
     pub elements: usize,
     /// The bytes of a string or of an error, or those of the elements of an array, which are
-    /// replies, one behind the other. Else nothing.
+    /// replies, one after the other. Else nothing.
     pub place: Span,
     /// How many bytes the reply has.
     pub length: usize,
@@ -71,7 +71,7 @@ pub struct RespExtent {
     pub due: usize,
     /// How many bytes were passed.
     pub passed: usize,
-    /// How many of the bytes behind the next one have no part of a line end.
+    /// How many of the bytes after the next one have no part of a line end.
     pub sought: usize,
     /// How many bytes the string has.
     pub bulk: usize,
@@ -92,7 +92,7 @@ pub(crate) const NONE: Reply = Reply {
 
 /// The reply of Redis (RESP2, the second version of its protocol) with which the bytes begin, in
 /// which no more than `levels` arrays stand in one another. The elements of an array are read by
-/// further calls, of the bytes at its place and of those behind each element.
+/// further calls, of the bytes at its place and of those after each element.
 ///
 /// A number has no leading zero, and 0 has no sign; a size may have a plus sign before it.
 ///
@@ -143,7 +143,7 @@ pub extern "C" fn exported_resp_reply(
 ///
 /// `DONE`, `TOO_DEEP`, `NO_MEMORY`: as for a reply that is whole. `INCOMPLETE`: more bytes may be
 /// needed; that no more are asked for once the reply is there is tested, not proved. `REFUSED`:
-/// whatever comes behind the bytes, they begin with no reply. With these two all that is written is
+/// whatever comes after the bytes, they begin with no reply. With these two all that is written is
 /// 0 too.
 ///
 /// Each call reads from the first byte on, and holds as much memory as that for a whole reply.
@@ -195,12 +195,12 @@ pub extern "C" fn exported_resp_reply_in_pieces(
 /// whether it has more levels than are asked for: here they are not counted.
 ///
 /// For the first call the numbers of `state` are zeros. Each further call for the same reply has
-/// the state that the last one left, and all of the bytes of the last one with more behind them.
+/// the state that the last one left, and all of the bytes of the last one with more after them.
 ///
-/// `DONE`: so many of the first bytes are a reply, and whatever follows, no other reply stands
+/// `DONE`: that many of the first bytes are a reply, and whatever follows, no other reply stands
 /// first. For the next one, zeros are put into the state. `INCOMPLETE`: the bytes begin with none
 /// as yet: its last line is not ended, or bytes of a string are wanting. `REFUSED`: whatever comes
-/// behind the bytes, they begin with none; a line that is none of a reply is refused where it ends.
+/// after the bytes, they begin with none; a line that is none of a reply is refused where it ends.
 /// With these two 0 is written.
 ///
 /// Of a state that calls left for other bytes, or that is changed, what is told may be wrong;

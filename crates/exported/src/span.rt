@@ -3,7 +3,7 @@
 ghost use Rattle.std.specs.Prelude.{◌≡◌, ◌≤◌, ◌++◌, List, length, ℕ};
 ghost use Rattle.exported.specs.Span.{EndsWith, StandsAt};
 
-/// A place in the caller's bytes: so many of them, from one on.
+/// A place in the caller's bytes: that many of them, from one on.
 #[repr(C)]
 #[derive(Clone, Copy, Drop)]
 pub struct Span {

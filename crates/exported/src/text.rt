@@ -18,10 +18,10 @@ pub struct Position {
     pub column: usize,
 }
 
-/// The line and the column of the place behind the first `offset` bytes. That they are is proved of
+/// The line and the column of the place after the first `offset` bytes. That they are is proved of
 /// UTF-8 and a place at an end of it or between two of its characters, and elsewhere tested alone:
 /// bytes that are no text count as the characters do that stand for them where they are printed,
-/// and a place behind the end is the end.
+/// and a place after the end is the end.
 ///
 /// The caller owes `bytes_length` bytes at `bytes` that can be read and that nothing changes while
 /// the call runs, room for one position at `out`, apart from them, and 16 KiB of stack.

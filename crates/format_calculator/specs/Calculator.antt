@@ -40,17 +40,17 @@ abbrev pub is_white : ℕ → Bool
 is_white c = if nat_eq c 32 then true
     else (if nat_eq c 9 then true else (if nat_eq c 10 then true else nat_eq c 13))
 
--- the characters behind those of a kind that come first
+-- the characters after those of a kind that come first
 abbrev pub behind : (ℕ → Bool) → List ℕ → List ℕ
 behind test [] = []
 behind test (c ∷ cs) = if test c then behind test cs else c ∷ cs
 
--- the number that the digits which come first stand for, behind a number already read
+-- the number that the digits which come first stand for, after a number already read
 abbrev pub number_from : ℕ → List ℕ → ℕ
 number_from n [] = n
 number_from n (c ∷ cs) = if is_digit c then number_from (10 * n + (c - 48)) cs else n
 
--- The first character is one of a kind, and these are behind it.
+-- The first character is one of a kind, and these are after it.
 abbrev pub TakesOne : (ℕ → Bool) → List ℕ → List ℕ → Type 0
 TakesOne test tokens rest = (c : ℕ) × (tokens ≡ c ∷ rest) × (test c ≡ true)
 
@@ -59,13 +59,13 @@ abbrev pub StopsAt : (ℕ → Bool) → List ℕ → Type 0
 StopsAt test [] = Unit {0}
 StopsAt test (c ∷ cs) = test c ≡ false
 
--- A number: one or more digits, and white space behind them. It fits 64 bits.
+-- A number: one or more digits, and white space after them. It fits 64 bits.
 abbrev pub NumberItem : Items ℕ ℤ
 NumberItem tokens v rest =
     ((more : List ℕ) × TakesOne is_digit tokens more) × (v ≡ pos (number_from 0 tokens))
     × FitsSigned w64 v × (rest ≡ behind is_white (behind is_digit tokens))
 
--- An operator of one character, and white space behind it.
+-- An operator of one character, and white space after it.
 abbrev pub CharItem : {O : Type 0} → (ℕ → Option O) → Items ℕ O
 CharItem meant tokens o rest =
     (c : ℕ) × (more : List ℕ) × (tokens ≡ c ∷ more) × (meant c ≡ Some o)
@@ -81,7 +81,7 @@ abbrev pub sign_at : ℕ → Option (Prefix Sign)
 sign_at c = if nat_eq c 43 then Some (pos 12, Positive)
     else (if nat_eq c 45 then Some (pos 12, Negative) else None)
 
--- `!` behind an operand, of power 13
+-- `!` after an operand, of power 13
 abbrev pub mark_at : ℕ → Option (Postfix Mark)
 mark_at c = if nat_eq c 33 then Some (pos 13, Factorial) else None
 

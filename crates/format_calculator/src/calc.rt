@@ -63,7 +63,7 @@ fn formula<'i, A: Allocator + Copy>(alloc: A, input: &mut &'i str) -> Result<i64
 /// The value of a text that is a formula of whole numbers.
 ///
 /// White space (spaces, tabs, line feeds and carriage returns) may stand before the formula and
-/// behind each number and operator. Operators are, the strongest first: `!` behind a number, its
+/// after each number and operator. Operators are, the strongest first: `!` after a number, its
 /// factorial, of power 13; `+` and `-` before one, of power 12; `^`, a power, of 9, joined from the
 /// right; `*`, `/` and `%` of 7 and `+` and `-` of 5, joined from the left; and `=` of 3, which is
 /// 1 where both sides are equal and else 0, and is not joined with another one. `/` cuts towards 0,
@@ -71,7 +71,7 @@ fn formula<'i, A: Allocator + Copy>(alloc: A, input: &mut &'i str) -> Result<i64
 ///
 /// Other texts are refused, and so is a number or a result outside `i64`, a divisor of 0, a
 /// negative exponent and the factorial of a negative number. The place of a refusal is in bytes
-/// from the start, never inside a character; where an operator refuses, it is behind what was read.
+/// from the start, never inside a character; where an operator refuses, it is after what was read.
 /// A formula with an operator before an operand or between two asks for memory; a refused request
 /// is the fault `NoMemory`.
 ///

@@ -45,6 +45,6 @@ module _ {A : Type 0} (ends : LineEnd) where
       (0 < length bytes) × (text : List ℕ) × RecordText fields text
       × ((bytes ≡ text ++ (line_end ends ++ rest)) ⊎ ((bytes ≡ text) × (rest ≡ [])))
 
-  -- records, as many as stand one behind the other
+  -- records, as many as stand one after the other
   abbrev pub AreRecords : Grammar ℕ (Vec (Vec (Vec ℕ A) A) A)
   AreRecords = Listed IsRecord 0

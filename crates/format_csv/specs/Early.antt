@@ -15,7 +15,7 @@ pub record GoesOn (d : Dialect) (bytes : List ℕ) : Type 0 where
   pub rest : List ℕ
   pub begins : (after : List ℕ) → IsRecord d ((bytes ++ more) ++ after) fields (rest ++ after)
 
--- Whatever is behind them, they begin with none.
+-- Whatever is after them, they begin with none.
 abbrev pub BeginsNone : Dialect → List ℕ → Type 0
 BeginsNone d bytes = (more : List ℕ) (fields : List (List ℕ)) (rest : List ℕ)
     → IsRecord d (bytes ++ more) fields rest → ⊥

@@ -141,7 +141,7 @@ module _ {A : Type 0} (ends : LineEnd) where
   abbrev pub bytes_of : List (Vec ℕ A) → List (List ℕ)
   bytes_of fields = map (λ (v : Vec ℕ A). v.items) fields
 
-  -- ---- fields behind a comma
+  -- ---- fields after a comma
 
   others_there : (field : Vec ℕ A) (fields : List (Vec ℕ A)) (front text behind rest : List ℕ)
       → FieldText field front → EachText (BothText (λ _ o. o) (Itself 44) FieldText) fields text

@@ -82,7 +82,7 @@ module _ {A : Type 0} where
       (λ o tokens x. tt) tt)
 
 module _ {A : Type 0} (ends : LineEnd) where
-  -- what stands behind the text of a record
+  -- what stands after the text of a record
   behind_text : (bytes : List ℕ) (list : Vec (Vec ℕ A) A) (rest : List ℕ)
       → IsRecord ends bytes list rest → (text : List ℕ) × (behind : List ℕ)
       × RecordText list text × (bytes ≡ text ++ behind) × MayBegin IsBreak behind

@@ -62,7 +62,7 @@ pub in_quotes_unique : IsUnique InQuotesRead
 in_quotes_unique = either_unique (both_unique (λ _ b. b) (byte_unique 34) (byte_unique 34))
     (token_of_unique (λ b. b) (Others Tells) 34)
 
--- a closing quote, behind which no other one stands
+-- a closing quote, after which no other one stands
 abbrev pub IsClosed : List ℕ → Type 0
 IsClosed bytes = (rest : List ℕ) × (bytes ≡ 34 ∷ rest) × NotFirst (λ b. b ≡ 34) rest
 
@@ -273,7 +273,7 @@ module _ {A : Type 0} (ends : LineEnd) where
         ],
       )
 
-  -- behind the fields
+  -- after the fields
   behind : (bytes text mid rest : List ℕ) (list : Vec (Vec ℕ A) A) → 0 < length bytes
       → RecordText list text → bytes ≡ text ++ mid → MayBegin IsBreak mid
       → EndRead ends mid tt rest → RecordRead ends bytes list rest
@@ -295,7 +295,7 @@ module _ {A : Type 0} (ends : LineEnd) where
   pub same_record : Same (RecordRead {A = A} ends) (IsRecord ends)
   same_record = record { there = there; back = back }
 
-  -- what is left behind a record is one
+  -- what is left after a record is one
   pub record_unique : IsUnique (IsRecord {A = A} ends)
   record_unique = unique_as same_record (both_unique (λ fields _. fields)
       (both_unique (λ _ fields. fields) (ahead_unique (Token (λ b. b))) fields_unique)

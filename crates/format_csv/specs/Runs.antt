@@ -171,7 +171,7 @@ run_read start mid rest bytes next slice each (front, all, split, shown, ends) i
     subst P (sym (is ∙ ap (λ l. bytes ++ l) shown)) (each_behind InQuotesRead (λ b. b ≡ 34 → ⊥)
     unquoted_one bytes front start mid rest each all split)
 
--- and a quote behind it
+-- and a quote after it
 pub quote_read : (start mid rest bytes next : List ℕ)
     → Each InQuotesRead start bytes mid → TwoQuotes mid tt rest → next ≡ bytes ++ 34 ∷ []
     → Each InQuotesRead start next rest
@@ -181,7 +181,7 @@ quote_read start mid rest bytes next each two is =
     subst P (sym is) (each_one InQuotesRead bytes 34 start mid rest each
     (subst Q (sym two) (quotes_one rest)))
 
--- a run and two quotes behind it take bytes
+-- a run and two quotes after it take bytes
 pub fewer_left : (start mid rest : List ℕ) (slice : Bor (List ℕ))
     → UnquotedRun start slice mid → TwoQuotes mid tt rest → length rest < length start
 fewer_left start mid rest slice run two =
@@ -198,7 +198,7 @@ none_more bytes ends none b more (inr (_, (told, e))) =
     let P : List ℕ → Type 0 = λ l. MayBegin (λ b. b ≡ 34) l in
     true_is_false (sym (told.1 (subst P e ends)))
 
--- where no two quotes stand behind a run, these are all
+-- where no two quotes stand after a run, these are all
 pub all_read : {A E : Type 0} {kind : E → Kind} {e : E} (slice : Bor (List ℕ))
     (start mid here now : List ℕ) (list : Vec ℕ A) → Each InQuotesRead start list.items here
     → IsEndOf counted_reading (counted_input here) (counted_input start)

@@ -33,11 +33,11 @@ pub record IsFirst {X : Type 0} (such those : X → Type 0) (xs : List X) (place
   pub all_such : All such before
   pub is_one : those found
 
--- A record of so many fields.
+-- A record of that many fields.
 abbrev pub HasWidth : {A : Type 0} → ℕ → Vec (Vec ℕ A) A → Type 0
 HasWidth width fields = length fields.items ≡ width
 
--- A record of so many fields, which are not as many as are wanted.
+-- A record of that many fields, which are not as many as are wanted.
 abbrev pub IsOdd : {A : Type 0} → ℕ → ℕ → Vec (Vec ℕ A) A → Type 0
 IsOdd wants has fields = HasWidth has fields × (has ≡ wants → ⊥)
 
@@ -47,7 +47,7 @@ IsFirstOdd width records ragged = (ragged.wants ≡ width) × (place : ℕ)
     × (ragged.number ≡ place + 1)
     × IsFirst (HasWidth width) (IsOdd width ragged.has) records place
 
--- Behind the header, this record is the first that has not as many fields.
+-- After the header, this record is the first that has not as many fields.
 abbrev pub IsRagged : {A : Type 0} → List (Vec (Vec ℕ A) A) → Ragged → Type 0
 IsRagged [] ragged = ⊥
 IsRagged (header ∷ records) ragged = IsFirstOdd (length header.items) records ragged

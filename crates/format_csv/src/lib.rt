@@ -1,6 +1,6 @@
 //! Comma separated values (RFC 4180, section 2), by what is written for them.
 //!
-//! A document is records with a line end behind each, which the last may lack where it has bytes.
+//! A document is records with a line end after each, which the last may lack where it has bytes.
 //! So no bytes are a document of no record, and a line end alone is a record of one empty field.
 //!
 //! Where this differs from the standard: a field without quotes may have any bytes but quotes,
@@ -289,8 +289,8 @@ impl<'i, A: Allocator> Rule<&'i [u8], Record<A>> for Line<A> {
     ghost takes = { λ r _. record_takes r.1 };
 }
 
-/// The record that the bytes begin with, which a line end or the end of the bytes stands behind.
-/// What is left is behind that line end. No bytes begin with no record.
+/// The record that the bytes begin with, which a line end or the end of the bytes stands after.
+/// What is left is after that line end. No bytes begin with no record.
 ///
 /// ```
 /// use format_csv::{LineEnd, read_record};
@@ -314,7 +314,7 @@ pub fn read_record<'i, A: Allocator + Copy>(
 }
 
 /// The records of a document, where all of the bytes are one. Else a fault: it says that they are
-/// none, and where the records ended, which is tested and not proved; or it wants memory.
+/// none, and where the records ended, which is tested and not proved; or it is out of memory.
 ///
 /// All records are held at once, each field in a list of its own: 10 megabytes of line feeds want
 /// 1.3

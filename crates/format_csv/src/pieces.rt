@@ -22,7 +22,7 @@ use winnow::exact::Rule;
 use winnow::stream::{Partial, Stream, StreamIsPartial};
 use winnow::token::literal;
 
-/// Fields with a line end behind them.
+/// Fields with a line end after them.
 fn read_line<'i, A: Allocator + Copy>(
     alloc: A,
     end: LineEnd,

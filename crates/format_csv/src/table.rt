@@ -7,7 +7,7 @@ use crate::{LineEnd, Record, parse_document};
 use std::alloc::Allocator;
 use winnow::error::{EmptyError, ErrMode, ParseFault, ParserError};
 
-/// A header, and the records behind it. As [`parse_table`] makes it, each of them has as many
+/// A header, and the records after it. As [`parse_table`] makes it, each of them has as many
 /// fields as the header.
 ///
 /// ```
@@ -26,7 +26,7 @@ use winnow::error::{EmptyError, ErrMode, ParseFault, ParserError};
 pub struct Table<A: Allocator> {
     /// The names of the columns, in order. Two columns may have one name.
     pub header: Record<A>,
-    /// The records behind the header, in order.
+    /// The records after the header, in order.
     pub records: Vec<Record<A>, A>,
 }
 
@@ -40,7 +40,7 @@ pub struct Table<A: Allocator> {
 /// ```
 #[derive(Clone, Copy, Debug, PartialEq, Eq)]
 pub struct Ragged {
-    /// Which one it is, counted from 1 behind the header.
+    /// Which one it is, counted from 1 after the header.
     pub number: usize,
     /// How many fields it has.
     pub has: usize,
@@ -72,7 +72,7 @@ pub enum TableFault<F> {
     Width(Ragged),
 }
 
-/// The first record that has not so many fields, if there is one.
+/// The first record that has not that many fields, if there is one.
 fn first_odd<A: Allocator>(wants: usize, records: &[Record<A>]) -> Option<Ragged>
     ensures { FirstOdd wants records.now result }
 {
@@ -103,7 +103,7 @@ fn table_of<F, A: Allocator>(records: Vec<Record<A>, A>) -> Result<Table<A>, Tab
 
 /// The table that all of the bytes are: a document ([`parse_document`]) whose first record is the
 /// header, and whose other records have as many fields as that. A header alone is a table of no
-/// records. A line end alone, behind the header, is a record of one field.
+/// records. A line end alone, after the header, is a record of one field.
 ///
 /// Else `Width` says which record is the first that has more fields or fewer; `Empty` that there
 /// are no bytes; and `Document` that the bytes are no document, and where its records ended, or

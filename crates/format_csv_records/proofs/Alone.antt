@@ -1,4 +1,4 @@
--- No bytes begin with two fields, and how a record goes on behind fields that are read.
+-- No bytes begin with two fields, and how a record goes on after fields that are read.
 use Rattle.std.specs.Prelude.{◌≡◌, ◌⊎◌, ℕ, List, [], ◌∷◌, ◌++◌}
 use Rattle.std.specs.List.{All}
 use Rattle.std.proofs.Common.{refl, sym, ap, subst, inl, inr, ◌∙◌, append_assoc, eq-eqb}
@@ -26,7 +26,7 @@ is_or_not b c = elim (eqb_tells b c) [
 
 -- ---- runs
 
--- bytes of one kind, and behind them none
+-- bytes of one kind, and after them none
 pub runs_apart : (these : ℕ → Type 0) (xs ys zs ws : List ℕ) → All these xs → NotFirst these ys
     → All these zs → NotFirst these ws → xs ++ ys ≡ zs ++ ws → (xs ≡ zs) × (ys ≡ ws)
 runs_apart these [] ys [] ws a b c d e = (refl, e)
@@ -142,7 +142,7 @@ unclosed_apart quote (x ∷ done) run (z ∷ field) rest all not e =
     unclosed_apart quote done run field rest all not
     (byte_apart quote x z done field run (quote ∷ rest) e).1
 
--- what is written for bytes, and for bytes behind them
+-- what is written for bytes, and for bytes after them
 pub doubled_append : (quote : ℕ) (xs ys : List ℕ)
     → doubled quote (xs ++ ys) ≡ doubled quote xs ++ doubled quote ys
 doubled_append quote [] ys = ap (λ l. l ++ doubled quote ys) (sym (doubled_none quote))
@@ -161,7 +161,7 @@ doubled_run quote (x ∷ run) all = doubled_other quote x run (All-head (IsOther
 
 -- ---- fields
 
--- what may stand behind a field
+-- what may stand after a field
 abbrev pub IsStop : Dialect → ℕ → Type 0
 IsStop d b = (b ≡ d.delimiter) ⊎ IsBreak b
 
@@ -179,7 +179,7 @@ stops_not_plain d (b ∷ rest) (inl is) = λ plain. plain.1.0 is
 stops_not_plain d (b ∷ rest) (inr (inl is)) = λ plain. plain.1.1.0 is
 stops_not_plain d (b ∷ rest) (inr (inr is)) = λ plain. plain.1.1.1 is
 
--- a text in quotes, with what is behind it
+-- a text in quotes, with what is after it
 pub quoted_behind : (quote : ℕ) (field rest : List ℕ)
     → (quote ∷ (doubled quote field ++ quote ∷ [])) ++ rest
     ≡ quote ∷ (doubled quote field ++ (quote ∷ rest))

@@ -39,7 +39,7 @@ unfolding cut
 cut_length start [] bytes = refl
 cut_length start (end ∷ ends) bytes = ap suc (cut_length end ends bytes)
 
--- bytes behind the last field change none
+-- bytes after the last field change none
 pub cut_more : (start : ℕ) (ends bytes more : List ℕ) → Rises start ends (length bytes)
     → cut start ends (bytes ++ more) ≡ cut start ends bytes
 unfolding cut Rises
@@ -56,7 +56,7 @@ cut_more start (end ∷ ends) bytes more h =
     (take-append-le (end - start) (drop start bytes) more fits) in
     rw (head, cut_more end ends bytes more h.1) refl
 
--- an end more ends the bytes behind the last field
+-- an end more ends the bytes after the last field
 pub cut_end : (start : ℕ) (ends bytes : List ℕ) → Rises start ends (length bytes)
     → cut start (ends ++ (length bytes ∷ [])) bytes
     ≡ cut start ends bytes ++ (drop (last_of start ends) bytes ∷ [])
@@ -111,7 +111,7 @@ field_within start [] size i h lt = absurd (omega arith)
 field_within start (e ∷ es) size zero h lt = (h.0, rises_first e es size h.1)
 field_within start (e ∷ es) size (suc i) h lt = field_within e es size i h.1 (omega arith)
 
--- what is added is behind what is begun
+-- what is added is after what is begun
 pub begun_more : {E : Type 0} (r : Result (Unit {0}) E) (new old more : List ℕ) (k : ℕ)
     → new ≡ (if is_ok r then old ++ more else old) → k ≤ length old
     → OnOk r (drop k new ≡ drop k old ++ more)

@@ -43,7 +43,7 @@ ends_apart d apart (b ∷ bytes) rest more it e = elim (ends_break d.ends b byte
   | inr is ↦ apart.delimiter_stays.1 (sym (same_first e) ∙ is)
 ]
 
--- nothing ends at a carriage return with no line feed behind it
+-- nothing ends at a carriage return with no line feed after it
 pub lone_return : (ends : LineEnds) (tail rest : List ℕ) → NotFirst (λ b. b ≡ 10) tail
     → EndsHere ends (13 ∷ tail) rest → ⊥
 lone_return ends tail rest not (inr (e, left)) = cc

@@ -12,7 +12,7 @@ use Rattle.format_csv_records.specs.declared.read.RecordFault.{RecordFault}
 use Rattle.format_csv_records.proofs.Alone.{field_apart, same_first, same_others, text_first}
 use Rattle.format_csv_records.proofs.Ending.{ends_apart, ends_stop}
 
--- behind one line end this is left
+-- after one line end this is left
 line_end_one : (ends : LineEnds) (end other rest left : List ℕ) → IsLineEnd ends end
     → IsLineEnd ends other → end ++ rest ≡ other ++ left → rest ≡ left
 line_end_one CrLf end other rest left is too e =

@@ -43,7 +43,7 @@ run_quote quote rest n (within, all, not) some =
       | inr other ↦ absurd (at other)
     ]
 
--- a run behind bytes that are read
+-- a run after bytes that are read
 pub doubled_behind : (quote : ℕ) (done run : List ℕ) → All (IsOther quote) run
     → doubled quote (done ++ run) ≡ doubled quote done ++ run
 doubled_behind quote done run all = doubled_append quote done run

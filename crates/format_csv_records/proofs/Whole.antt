@@ -64,7 +64,7 @@ first_text d bytes field left (inr (e, all, stop, not)) = record {
       );
 }
 
--- ---- fields behind fields
+-- ---- fields after fields
 
 fields_more : (d : Dialect) (field text here : List ℕ) (fields : List (List ℕ)) (rest : List ℕ)
     → IsFieldText d field text → AreFields d here fields rest
@@ -73,7 +73,7 @@ unfolding AreFields
 fields_more d field text here [] rest t it = absurd it
 fields_more d field text here (next ∷ fields) rest t it = (text, here, t, refl, it)
 
--- behind fields with their delimiters
+-- after fields with their delimiters
 pub done_fields : (d : Dialect) (done : List (List ℕ)) (before here : List ℕ)
     (fields : List (List ℕ)) (rest : List ℕ) → Done d done before → AreFields d here fields rest
     → AreFields d (before ++ here) (done ++ fields) rest
@@ -110,7 +110,7 @@ last_field d field text behind rest t ends = (text, behind, t, refl, ends)
 
 -- ---- nothing else stands
 
--- what stands behind the first field of a record
+-- what stands after the first field of a record
 pub record Behind (d : Dialect) (bytes : List ℕ) (fields : List (List ℕ)) (rest : List ℕ)
     : Type 0 where
   pub field : List ℕ
@@ -137,7 +137,7 @@ behind_first d apart bytes (field ∷ (next ∷ fields)) rest (text, more, t, e,
   way = inr (more, next ∷ fields, refl, it);
 }
 
--- behind fields with their delimiters stand the others
+-- after fields with their delimiters stand the others
 done_apart : (d : Dialect) → IsApart d.delimiter d.quote → (done : List (List ℕ))
     (before here : List ℕ) (fields : List (List ℕ)) (rest : List ℕ) → Done d done before
     → AreFields d (before ++ here) fields rest
@@ -159,7 +159,7 @@ done_apart d apart (field ∷ done) before here fields rest (text, more, t, e, o
           (subst P (sym (same_others (left ∙ is))) them)
     ]
 
--- none stands where a field is read, and the record neither goes on nor ends behind it
+-- none stands where a field is read, and the record neither goes on nor ends after it
 none_behind : (d : Dialect) → IsApart d.delimiter d.quote → (bytes field left : List ℕ)
     (fields : List (List ℕ)) (rest : List ℕ) → FieldFirst d bytes field left
     → NotFirst (λ b. b ≡ d.delimiter) left → (EndsHere d.ends left rest → ⊥)
@@ -230,7 +230,7 @@ so_far_none d bytes fields e =
 module _ (d : Dialect) (apart : IsApart d.delimiter d.quote) (bytes rest : List ℕ)
     (fields : List (List ℕ)) (it : SoFar d bytes rest fields) where
   module _ (field left : List ℕ) (f : FieldFirst d rest field left) where
-    -- a delimiter behind the field
+    -- a delimiter after the field
     pub so_far_more : (next : List ℕ) (new : List (List ℕ)) → new ≡ fields ++ field ∷ []
         → left ≡ d.delimiter ∷ drop 1 left → next ≡ drop 1 left → SoFar d bytes next new
     so_far_more next new e goes is =
@@ -246,7 +246,7 @@ module _ (d : Dialect) (apart : IsApart d.delimiter d.quote) (bytes rest : List 
           texts = subst P (sym e) (done_more d fields it.before field t.text it.texts t.is_text);
         }
 
-    -- with what ends it behind the field
+    -- with what ends it after the field
     ended : (behind end : List ℕ) → EndsHere d.ends behind end
         → AreFields d (it.before ++ ((first_text d rest field left f).text ++ behind))
         (fields ++ field ∷ []) end
@@ -255,7 +255,7 @@ module _ (d : Dialect) (apart : IsApart d.delimiter d.quote) (bytes rest : List 
         done_fields d fields it.before (t.text ++ behind) (field ∷ []) end it.texts
         (last_field d field t.text behind end t.is_text ends)
 
-    -- the end behind the field
+    -- the end after the field
     pub so_far_ends : (end : List ℕ) (new : List (List ℕ)) → new ≡ fields ++ field ∷ []
         → EndsHere d.ends left end → AreFields d bytes new end
     so_far_ends end new e ends =
@@ -265,7 +265,7 @@ module _ (d : Dialect) (apart : IsApart d.delimiter d.quote) (bytes rest : List 
         subst P (sym e) (subst Q (sym (it.whole ∙ ap (λ l. it.before ++ l) t.split))
         (ended left end ends))
 
-    -- a record with this behind its last field
+    -- a record with this after its last field
     closes : (before more : List ℕ) → before ≡ it.before ++ (first_text d rest field left f).text
         → EndsHere d.ends more [] → 0 < length more
         → IsRecord d (before ++ more) (fields ++ field ∷ []) []
@@ -291,7 +291,7 @@ module _ (d : Dialect) (apart : IsApart d.delimiter d.quote) (bytes rest : List 
         none_behind d apart (t.text ++ (b ∷ after)) field (b ∷ after) fs end
         (t.again b bs after is) not (ends end) o
 
-    -- no record goes on behind a carriage return that lacks a line feed
+    -- no record goes on after a carriage return that lacks a line feed
     none_return : (bs : List ℕ) → left ≡ 13 ∷ bs → NotFirst (λ c. c ≡ 10) bs → (before : List ℕ)
         → before ≡ it.before ++ (first_text d rest field left f).text
         → NoneWith d (before ++ (13 ∷ [])) bs

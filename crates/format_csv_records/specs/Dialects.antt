@@ -28,13 +28,13 @@ IsLineEnd CrLf end = end ≡ 13 ∷ 10 ∷ []
 IsLineEnd Lf end = end ≡ 10 ∷ []
 IsLineEnd Either end = (end ≡ 13 ∷ 10 ∷ []) ⊎ (end ≡ 10 ∷ [])
 
--- A record ends here: by a line end, behind which this is left, or where there are no more bytes.
+-- A record ends here: by a line end, after which this is left, or where there are no more bytes.
 abbrev pub EndsHere : LineEnds → List ℕ → List ℕ → Type 0
 EndsHere ends bytes rest = ((end : List ℕ) × IsLineEnd ends end × (bytes ≡ end ++ rest))
     ⊎ ((bytes ≡ []) × (rest ≡ []))
 
 -- The bytes begin with these fields, one or more, with delimiters between them, and the record ends
--- behind the last.
+-- after the last.
 unfoldable pub AreFields : Dialect → List ℕ → List (List ℕ) → List ℕ → Type 0
 AreFields d bytes [] rest = ⊥
 AreFields d bytes (field ∷ []) rest = (text : List ℕ) × (behind : List ℕ) × IsFieldText d field text
@@ -43,6 +43,6 @@ AreFields d bytes (field ∷ (next ∷ fields)) rest = (text : List ℕ) × (beh
     × IsFieldText d field text × (bytes ≡ text ++ (d.delimiter ∷ behind))
     × AreFields d behind (next ∷ fields) rest
 
--- There are bytes, and they begin with a record of these fields, behind which this is left.
+-- There are bytes, and they begin with a record of these fields, after which this is left.
 abbrev pub IsRecord : Dialect → List ℕ → List (List ℕ) → List ℕ → Type 0
 IsRecord d bytes fields rest = (0 < length bytes) × AreFields d bytes fields rest

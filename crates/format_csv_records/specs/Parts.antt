@@ -25,7 +25,7 @@ abbrev pub Begins : (ℕ → Type 0) → List ℕ → Type 0
 Begins these [] = ⊥
 Begins these (b ∷ bs) = these b
 
--- so many of these stand first, and no more
+-- that many of these stand first, and no more
 abbrev pub SoMany : (ℕ → Type 0) → List ℕ → ℕ → Type 0
 SoMany these bytes n = (n ≤ length bytes) × All these (take n bytes) × NotFirst these (drop n bytes)
 
@@ -54,13 +54,13 @@ FieldFirst d bytes field rest =
 abbrev pub OpenFirst : Dialect → List ℕ → Type 0
 OpenFirst d bytes = (here : List ℕ) × (bytes ≡ d.quote ∷ here) × Unclosed d.quote here
 
--- fields, with a delimiter behind each
+-- fields, with a delimiter after each
 unfoldable pub Done : Dialect → List (List ℕ) → List ℕ → Type 0
 Done d [] before = before ≡ []
 Done d (field ∷ fields) before = (text : List ℕ) × (more : List ℕ) × IsFieldText d field text
     × (before ≡ text ++ (d.delimiter ∷ more)) × Done d fields more
 
--- no record ends here: so many bytes of a line end stand here, and no byte more of one
+-- no record ends here: that many bytes of a line end stand here, and no byte more of one
 abbrev pub EndsNowhere : LineEnds → List ℕ → ℕ → Type 0
 EndsNowhere ends [] begun = ⊥
 EndsNowhere ends (b ∷ bs) begun =

@@ -30,7 +30,7 @@ row_of it = record { bytes = it.bytes.items; ends = it.ends.items }
 abbrev pub fields_of : Row → List (List ℕ)
 fields_of row = cut 0 row.ends row.bytes
 
--- The bytes behind the last field: what is there of the next one.
+-- The bytes after the last field: what is there of the next one.
 abbrev pub begun_of : Row → List ℕ
 begun_of row = drop (last_of 0 row.ends) row.bytes
 

@@ -21,8 +21,8 @@ Lacks d OpenQuote more back = (more ≡ d.quote ∷ []) × (back ≡ [])
 Lacks d WrongLineEnd more back =
     (IsLineEnd d.ends more × Begins IsBreak back) ⊎ (more ≡ 10 ∷ [])
 
--- No record begins with the bytes before and the byte that stands behind them, whatever follows; or
--- none stands behind them, and they begin with no record.
+-- No record begins with the bytes before and the byte that stands after them, whatever follows; or
+-- none stands after them, and they begin with no record.
 abbrev pub NoneWith : Dialect → List ℕ → List ℕ → Type 0
 NoneWith d before [] = (fields : List (List ℕ)) (rest : List ℕ) → IsRecord d before fields rest → ⊥
 NoneWith d before (b ∷ bs) = (after : List ℕ) (fields : List (List ℕ)) (rest : List ℕ)

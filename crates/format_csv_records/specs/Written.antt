@@ -13,19 +13,19 @@ abbrev pub IsWritten : Dialect → List ℕ → List ℕ → Type 0
 IsWritten d field text = ((text ≡ field) × All (IsPlain d) field)
     ⊎ ((text ≡ d.quote ∷ (doubled d.quote field ++ d.quote ∷ [])) × (All (IsPlain d) field → ⊥))
 
--- What is written for fields, with a delimiter behind each.
+-- What is written for fields, with a delimiter after each.
 unfoldable pub Wrote : Dialect → List (List ℕ) → List ℕ → Type 0
 Wrote d [] before = before ≡ []
 Wrote d (field ∷ fields) before = (text : List ℕ) × (more : List ℕ) × IsWritten d field text
     × (before ≡ text ++ (d.delimiter ∷ more)) × Wrote d fields more
 
--- What is written for the last field, behind others: two quotes, where it is empty and alone.
+-- What is written for the last field, after others: two quotes, where it is empty and alone.
 abbrev pub IsLast : Dialect → List (List ℕ) → List ℕ → List ℕ → Type 0
 IsLast d others last text =
     ((others ≡ []) × (last ≡ []) × (text ≡ d.quote ∷ d.quote ∷ []))
     ⊎ (((others ≡ []) × (last ≡ []) → ⊥) × IsWritten d last text)
 
--- A record is written behind what was there: its fields with delimiters between, and a line end.
+-- A record is written after what was there: its fields with delimiters between, and a line end.
 pub record Writes (d : Dialect) (fields : List (List ℕ)) (old new : List ℕ) : Type 0 where
   pub others : List (List ℕ)
   pub last : List ℕ

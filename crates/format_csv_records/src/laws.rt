@@ -7,7 +7,7 @@ ghost use Rattle.format_csv_records.specs.declared.read.RecordFault.{RecordFault
 
 use crate::dialect::Dialect;
 
-/// Bytes begin with one record at most: its fields and what is left behind it are determined. So
+/// Bytes begin with one record at most: its fields and what is left after it are determined. So
 /// the record that is read is the one that stands there.
 pub fn bytes_begin_with_one_record(dialect: Dialect)
     ensures { (bytes : List ℕ) (fields others : List (List ℕ)) (rest left : List ℕ)

@@ -38,13 +38,13 @@ use std::alloc::{AllocError, Allocator};
 /// ```
 #[derive(Clone, Copy, Debug, PartialEq, Eq)]
 pub enum Refusal {
-    /// A quote stands behind bytes of a field without quotes.
+    /// A quote stands after bytes of a field without quotes.
     QuoteInField,
-    /// A byte of a field without quotes stands behind a closing quote.
+    /// A byte of a field without quotes stands after a closing quote.
     ByteBehindQuote,
     /// The bytes end within quotes.
     OpenQuote,
-    /// A carriage return or a line feed is no line end of the dialect, or a line feed lacks behind
+    /// A carriage return or a line feed is no line end of the dialect, or a line feed lacks after
     /// a carriage return.
     WrongLineEnd,
 }
@@ -103,7 +103,7 @@ pub(crate) fn front(bytes: &[u8], size: usize) -> &[u8]
     &bytes[..size]
 }
 
-// The bytes behind these.
+// The bytes after these.
 pub(crate) fn behind(bytes: &[u8], size: usize) -> &[u8]
     requires { size ≤ length bytes.now }
     ensures { result.now ≡ drop size bytes.now }
@@ -238,7 +238,7 @@ fn by_both(ends: LineEnds) -> bool
     }
 }
 
-// What is left behind a line end that stands first, or where there are no more bytes. Else how many
+// What is left after a line end that stands first, or where there are no more bytes. Else how many
 // bytes of one stand there.
 fn read_end<'i>(ends: LineEnds, rest: &'i [u8]) -> Result<&'i [u8], usize>
     ensures { MatchResult result (λ left. EndsHere ends rest.now left.now)
@@ -277,7 +277,7 @@ fn why_not(quote: u8, bytes: &[u8]) -> Refusal
     }
 }
 
-// The fields of the record that stands first, and what is left behind it.
+// The fields of the record that stands first, and what is left after it.
 fn read_fields<'i, A: Allocator>(
     dialect: Dialect,
     fields: &mut ByteRecord<A>,
@@ -312,7 +312,7 @@ fn read_fields<'i, A: Allocator>(
     }
 }
 
-/// Reads the record that the bytes begin with, and leaves what is behind its line end. `true` says
+/// Reads the record that the bytes begin with, and leaves what is after its line end. `true` says
 /// that one was read; `false` that there are no bytes. What was in the record before does not
 /// matter. At an error it has no fields, and the bytes stay as they are.
 ///

@@ -8,7 +8,7 @@ ghost use Rattle.format_csv_records.specs.Records.{begun_of, field_at, fields_of
 use std::alloc::{AllocError, Allocator};
 use std::marker::Model;
 
-/// The fields of a record: the bytes of all of them, one behind the other, and where each ends. It
+/// The fields of a record: the bytes of all of them, one after the other, and where each ends. It
 /// is made once and read into again and again, so that memory is wanted for the longest record.
 ///
 /// ```

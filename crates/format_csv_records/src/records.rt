@@ -1,4 +1,4 @@
-//! Documents: records one behind the other, a header, and a byte order mark.
+//! Documents: records one after the other, a header, and a byte order mark.
 //!
 //! One record is held at a time, so memory is wanted for the longest record, and not for the
 //! document: 10 megabytes of line feeds take that of one empty record.
@@ -52,7 +52,7 @@ impl<'i> Records<'i> {
         }
     }
 
-    /// Reads the next record. `true` says that one was read; `false` that none is left. Behind an
+    /// Reads the next record. `true` says that one was read; `false` that none is left. After an
     /// error no record is read: the next call answers it again, out of memory aside. The offset of
     /// a
     /// fault counts from where the record begins, which [`offset`](Records::offset) tells.
@@ -77,7 +77,7 @@ impl<'i> Records<'i> {
     }
 }
 
-/// What is behind a byte order mark of UTF-8 (the bytes EF BB BF) that stands first; `None` where
+/// What is after a byte order mark of UTF-8 (the bytes EF BB BF) that stands first; `None` where
 /// none does. The first field of a document that is read with its mark begins with it.
 ///
 /// ```

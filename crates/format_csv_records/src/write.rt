@@ -29,7 +29,7 @@ fn line_end(ends: LineEnds) -> &'static [u8]
     }
 }
 
-// One byte behind the others.
+// One byte after the others.
 fn put<A: Allocator>(byte: u8, out: &mut Vec<u8, A>) -> Result<(), AllocError>
     ensures { OnOk result (out.new.items ≡ out.old.items ++ byte ∷ []) }
 {
@@ -76,7 +76,7 @@ fn write_field<A: Allocator>(
     write_doubled(dialect.quote, field, out)
 }
 
-// Fields, with a delimiter behind each.
+// Fields, with a delimiter after each.
 fn write_others<A: Allocator>(
     dialect: Dialect,
     fields: &[&[u8]],
@@ -116,7 +116,7 @@ fn none_of(others: &[&[u8]]) -> bool
     others.is_empty()
 }
 
-// Fields behind others, one or more, and a line end.
+// Fields after others, one or more, and a line end.
 fn write_parts<A: Allocator>(
     dialect: Dialect,
     others: &[&[u8]],
@@ -131,11 +131,11 @@ fn write_parts<A: Allocator>(
     out.extend_from_slice(line_end(dialect.ends))
 }
 
-/// Writes a record behind what is there: the fields, with delimiters between them, and a line end,
+/// Writes a record after what is there: the fields, with delimiters between them, and a line end,
 /// which is a carriage return and a line feed where the dialect takes either. A field with a quote,
 /// a delimiter, a carriage return or a line feed is written in quotes, each quote there twice, and
 /// so is an empty field that is alone; any other as it is. What is written reads back as these
-/// fields, whatever stands behind it.
+/// fields, whatever stands after it.
 ///
 /// `NoFields` says that there are none; `OutOfMemory` that a request for memory was refused, and
 /// then nothing was added, which is tested and not proved.

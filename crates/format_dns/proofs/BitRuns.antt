@@ -33,14 +33,14 @@ use Rattle.winnow.specs.Needs.{need_in_bytes, with_need}
 use Rattle.winnow.specs.Short.{ShortKind}
 use Rattle.format_dns.specs.Header.{HasTooMany, LacksPart}
 
--- ---- parsers of so many bits
+-- ---- parsers of that many bits
 
--- Bits are left that can be read, and there are so many.
+-- Bits are left that can be read, and there are that many.
 pub record CanRead (count : ℕ) (i : Input Bool) : Type 0 where
   pub possible : i.left.possible ≡ true
   pub enough : count ≤ length i.left.tokens
 
--- The parser reads so many bits, whose number its output gives, and answers where they are left.
+-- The parser reads that many bits, whose number its output gives, and answers where they are left.
 -- Where none is left it lacks `need` of them.
 pub record ReadsBits {S O L : Type 0} (reading : Reading Bool L) (need count : ℕ)
     (run : Runs S Bool O) (s : S) (number : O → ℕ) (Fits : O → Type 0) : Type 0 where
@@ -114,7 +114,7 @@ bool_reads reading s = record {
   lacks = λ i k t j can none ran. bool_lacks reading i k j can ran.0;
 }
 
--- a take of so many bits
+-- a take of that many bits
 take_must : {L : Type 0} (reading : Reading Bool L) (form : ErrorForm) (n count : ℕ)
     (i : Input Bool) (k : Kind) (j : Input Bool) → n ≡ count → count ≤ 8 → CanRead count i
     → BitTakeRuns (λ x. x) 8 reading form n i (Err k) j → ⊥

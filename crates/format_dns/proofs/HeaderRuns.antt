@@ -177,7 +177,7 @@ number_fails reading i k j (inr (l, few, kind, e, same)) =
       short = short_of (2 - length i.left.tokens) i e kind;
     })
 
--- ---- what fails behind bytes that were passed
+-- ---- what fails after bytes that were passed
 
 pub lacks_after : {i m j : Input ℕ} {k : Kind} {size : ℕ} (passed more total : ℕ)
     → total ≡ passed + more → length i.left.tokens ≡ passed + length m.left.tokens

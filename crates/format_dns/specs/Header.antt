@@ -14,7 +14,7 @@ pub record IsNumber (n : ℕ) (bytes rest : List ℕ) : Type 0 where
   pub splits : bytes ≡ bytes_high_first 2 n ++ rest
   pub fits : n < 65536
 
--- The first byte has these flags from its highest bit on, with the opcode in four bits behind the
+-- The first byte has these flags from its highest bit on, with the opcode in four bits after the
 -- first flag.
 pub record IsHighByte (response : Bool) (opcode : ℕ) (authoritative truncated desired : Bool)
     (bytes rest : List ℕ) : Type 0 where
@@ -51,20 +51,20 @@ pub record IsHeader (h : Header) (bytes rest : List ℕ) : Type 0 where
   pub counts : AreCounts h.question_count h.answer_count h.authority_count h.additional_count
       behind_low rest
 
--- Behind so many bytes of i a part of `size` bytes begins at j, which is not there: a whole input
+-- After that many bytes of i a part of `size` bytes begins at j, which is not there: a whole input
 -- backtracks, and a cut one asks for the bytes that the part lacks.
 pub record LacksPart (passed size : ℕ) (i : Input ℕ) (kind : Kind) (j : Input ℕ) : Type 0 where
   pub passes : length i.left.tokens ≡ passed + length j.left.tokens
   pub few : length j.left.tokens < size
   pub short : ShortKind modal (Some (size - length j.left.tokens)) j kind
 
--- Behind so many bytes of i are more than the bits can be counted of.
+-- After that many bytes of i are more than the bits can be counted of.
 pub record HasTooMany (passed : ℕ) (i : Input ℕ) (kind : Kind) (j : Input ℕ) : Type 0 where
   pub passes : length i.left.tokens ≡ passed + length j.left.tokens
   pub many : most_bytes < length j.left.tokens
   pub cuts : kind ≡ cut
 
--- a header has a part of so many bytes behind so many
+-- a header has a part of that many bytes after that many
 abbrev pub HasPart : ℕ → ℕ → Type 0
 HasPart passed size =
     ((size ≡ 1) × ((passed ≡ 2) ⊎ (passed ≡ 3)))

@@ -23,7 +23,7 @@ use Rattle.format_dns.specs.declared.name.Ending.TheVariants.{Pointer, Root}
 
 -- ---- labels
 
--- bytes behind a byte that a set of 1 to 63 has are labels
+-- bytes after a byte that a set of 1 to 63 has are labels
 pub same_label : {X : Type 0} (tells : X → ℕ → Bool → Type 0) (set : X)
     → ((n : ℕ) → tells set n true ↔ ((1 ≤ n) × (n ≤ 63)))
     → Same (Sized (λ n. n) (Counted counted_reading) (TokenOf (λ b. b) tells set)) IsLabel
@@ -67,7 +67,7 @@ label_unique = record {
       (same_beginnings label.now other.now rest more (same_first same) (same_others same)).1;
 }
 
--- where none is the bytes behind its length are too few
+-- where none is the bytes after its length are too few
 pub label_cut : (n : ℕ) (bytes : List ℕ) → 1 ≤ n → n ≤ 63 → NoneStands IsLabel (n ∷ bytes)
     → n ≤ length bytes → ⊥
 label_cut n bytes least most none enough =
@@ -80,12 +80,12 @@ label_cut n bytes least most none enough =
           ∙ ap (λ m. m ∷ (label.now ++ drop n bytes)) (sym same),
     )
 
--- labels that are read, no more than so many, in a list
+-- labels that are read, no more than that many, in a list
 abbrev pub LabelsRead : {A : Type 0} → ℕ → Grammar ℕ (Vec Label A)
 LabelsRead {A} most = Gathered (λ (list : Vec Label A) labels. list.items ≡ labels)
     (Many IsLabel (from_to 0 (Some most)))
 
--- ---- what is behind labels
+-- ---- what is after labels
 
 -- a length, and too few bytes for a label
 pub ending_cut : {tokens bytes : List ℕ} {b : ℕ} (place : ℕ) → tokens ≡ b ∷ bytes → 1 ≤ b → b ≤ 63
@@ -139,7 +139,7 @@ ending_pointer (inl (is, cut)) p =
 ending_pointer (inr (is, (b, rest, e, least, most))) p =
     omega (arith, most, same_first (sym e ∙ p.splits))
 
--- what fails behind labels is nothing that a name has there, if that holds of others
+-- what fails after labels is nothing that a name has there, if that holds of others
 pub goes_one : {others : ℕ → List Label → Type 0} {faults : ℕ → ℕ → Fault → Type 0}
     → ((end to : ℕ) (fault : Fault) (more : List Label) → faults end to fault
     → others to more → ⊥) → (start end : ℕ) (rest : List ℕ) (fault : Fault)
@@ -169,7 +169,7 @@ pub told_pointer : {tokens : List ℕ} (place : ℕ) {to : ℕ} (e : Ending) →
 told_pointer {tokens} place e is told =
     let P : Ending → Type 0 = λ x. EndingTold tokens place (Ok x) in subst P is told
 
--- what was put behind others
+-- what was put after others
 pub put_behind : {X E : Type 0} {all : List X} (front more : List X) (r : Result (Unit {0}) E)
     → all ≡ (if is_ok r then front ++ more else front) → is_err r ≡ false → all ≡ front ++ more
 put_behind front more (Ok x) e is = e

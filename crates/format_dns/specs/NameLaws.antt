@@ -31,7 +31,7 @@ module _ (message : List ℕ) where
   one_place {place} {tokens} {others} (front, size, e) (other, size2, f) =
       (same_beginnings front other tokens others (size ∙ sym size2) (sym e ∙ f)).1
 
-  -- what is behind the labels that stand at a place
+  -- what is after the labels that stand at a place
   one_rest : {start end end2 : ℕ} {here here2 : List Label} {rest rest2 : List ℕ}
       → AreLabels message start here end rest → AreLabels message start here2 end2 rest2
       → rest ≡ rest2
@@ -76,7 +76,7 @@ module _ (message : List ℕ) where
       (here2, end2, rest2, b, inr (to2, p2, prior2, (y, o2, out2, is2))) =
       omega (arith, is, is2, one_end a b)
 
-  -- one place is behind a name
+  -- one place is after a name
   pub one_behind : (level start : ℕ) (labels more : List Label) (behind other : ℕ)
       → IsName message level start labels behind → IsName message level start more other
       → behind ≡ other
@@ -92,7 +92,7 @@ module _ (message : List ℕ) where
       let (front, size, e) = a.starts in
       omega (arith, past, size, ap (λ l. length l) e, length-append front a.tokens)
 
-  -- what a name has behind labels, and its octets
+  -- what a name has after labels, and its octets
   within : {others : ℕ → List Label → Type 0} (room few start : ℕ) (here : List Label) (end : ℕ)
       (rest : List ℕ) (labels : List Label) (behind : ℕ) → few ≤ octets here
       → octets labels ≤ room → GoesOn others start here end rest labels behind
@@ -297,7 +297,7 @@ module _ (message : List ℕ) where
           inr (to, p, prior, (more, (behind, subst P (omega (arith, is)) name), out, refl)),
         )
 
-    -- behind labels stand as many bytes as they have octets
+    -- after labels stand as many bytes as they have octets
     pub octets_at : end ≡ start + octets here
     octets_at =
         let (front, size, e) = a.starts in

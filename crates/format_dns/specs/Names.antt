@@ -15,7 +15,7 @@ use Rattle.format_dns.specs.declared.name.Ending.TheVariants.{Pointer, Root}
 abbrev pub Label : Type 0
 Label = Bor (List ℕ)
 
--- A label: its length, from 1 to 63, in a byte, and so many bytes.
+-- A label: its length, from 1 to 63, in a byte, and that many bytes.
 abbrev pub IsLabel : Grammar ℕ Label
 IsLabel tokens label rest =
     (1 ≤ length label.now) × (length label.now ≤ 63)
@@ -48,7 +48,7 @@ abbrev pub IsReserved : List ℕ → Type 0
 IsReserved tokens =
     (b : ℕ) × (rest : List ℕ) × (tokens ≡ b ∷ rest) × (64 ≤ b) × (b < 192)
 
--- Why labels, a pointer or the root do not go on behind labels, at a place.
+-- Why labels, a pointer or the root do not go on after labels, at a place.
 abbrev pub NoEnding : List ℕ → ℕ → Fault → Type 0
 NoEnding tokens place fault =
     ((fault ≡ Ends place) × IsCut tokens) ⊎ ((fault ≡ Reserved place) × IsReserved tokens)
@@ -59,7 +59,7 @@ EndingTold tokens place (Ok Root) = IsRoot tokens
 EndingTold tokens place (Ok (Pointer to)) = IsPointer tokens to
 EndingTold tokens place (Err fault) = NoEnding tokens place fault
 
--- Behind labels stands the root, which ends a name; or a pointer to an earlier place than that of
+-- After labels stands the root, which ends a name; or a pointer to an earlier place than that of
 -- the labels, at which others stand, and the name is both.
 abbrev pub GoesOn : (ℕ → List Label → Type 0) → ℕ → List Label → ℕ → List ℕ → List Label
     → ℕ → Type 0
@@ -68,7 +68,7 @@ GoesOn others start here end rest labels behind =
     ⊎ ((to : ℕ) × IsPointer rest to × (to < start)
     × ((more : List Label) × others to more × (labels ≡ here ++ more) × (behind ≡ end + 2)))
 
--- Behind labels is no ending, or a pointer to no earlier place, or one to where no name begins.
+-- After labels is no ending, or a pointer to no earlier place, or one to where no name begins.
 abbrev pub GoesNot : (ℕ → ℕ → Fault → Type 0) → ℕ → ℕ → List ℕ → Fault → Type 0
 GoesNot faults start end rest fault =
     NoEnding rest end fault
@@ -76,11 +76,11 @@ GoesNot faults start end rest fault =
     × (((fault ≡ NotPrior end) × (start ≤ to)) ⊎ ((to < start) × faults end to fault)))
 
 module _ (message : List ℕ) where
-  -- So many bytes of the message stand before these.
+  -- That many bytes of the message stand before these.
   abbrev pub At : ℕ → List ℕ → Type 0
   At place tokens = (front : List ℕ) × (length front ≡ place) × (message ≡ front ++ tokens)
 
-  -- From a place on labels stand, one behind the other. Behind them, at `end`, are these bytes,
+  -- From a place on labels stand, one after the other. After them, at `end`, are these bytes,
   -- which begin with none.
   pub record AreLabels (start : ℕ) (labels : List Label) (end : ℕ) (behind : List ℕ) : Type 0 where
     pub tokens : List ℕ
@@ -88,14 +88,14 @@ module _ (message : List ℕ) where
     pub each : Many IsLabel (from_to 0 None) tokens labels behind
     pub ends : At end behind
 
-  -- labels, and what a name has behind them
+  -- labels, and what a name has after them
   abbrev pub NameBy : (ℕ → List Label → Type 0) → ℕ → List Label → ℕ → Type 0
   NameBy others start labels behind =
       (here : List Label) × (end : ℕ) × (rest : List ℕ) × AreLabels start here end rest
       × GoesOn others start here end rest labels behind
 
-  -- The labels of the name that begins at a place, by no more than so many pointers, one after the
-  -- other; and the place behind what is written for it there.
+  -- The labels of the name that begins at a place, by no more than that many pointers, one after
+  -- the other; and the place after what is written for it there.
   abbrev pub IsName : ℕ → ℕ → List Label → ℕ → Type 0
   IsName zero = NameBy (λ to more. ⊥)
   IsName (suc level) = NameBy (λ to more. (behind : ℕ) × IsName level to more behind)
@@ -107,7 +107,7 @@ module _ (message : List ℕ) where
       × Each IsLabel tokens here rest × (room < octets here)
 
   -- the place is past the end, or the labels at it have more octets than there is room for, or
-  -- behind them is nothing that a name has there
+  -- after them is nothing that a name has there
   abbrev pub FaultBy : (ℕ → ℕ → ℕ → Fault → Type 0) → ℕ → ℕ → Fault → Type 0
   FaultBy faults room start fault =
       ((fault ≡ Ends start) × (length message < start))
@@ -115,15 +115,15 @@ module _ (message : List ℕ) where
       ⊎ ((here : List Label) × (end : ℕ) × (rest : List ℕ) × AreLabels start here end rest
       × (octets here ≤ room) × GoesNot (faults (room - octets here)) start end rest fault))
 
-  -- Why no name begins at a place, by no more than so many pointers, whose labels have no more than
-  -- so many octets.
+  -- Why no name begins at a place, by no more than that many pointers, whose labels have no more
+  -- than that many octets.
   abbrev pub HasNoName : ℕ → ℕ → ℕ → Fault → Type 0
   HasNoName zero = FaultBy (λ room end to fault. fault ≡ TooMany end)
   HasNoName (suc level) = FaultBy (λ room end to fault. HasNoName level room to fault)
 
-  -- What is told of the name that begins at a place, by no more than so many pointers, whose labels
-  -- have no more than so many octets: it is that; or why there is none, and there is none; or
-  -- memory is wanting.
+  -- What is told of the name that begins at a place, by no more than that many pointers, whose
+  -- labels have no more than that many octets: it is that; or why there is none, and there is none;
+  -- or memory is wanting.
   abbrev pub NameWithin : {A : Type 0} → ℕ → ℕ → ℕ → Result (Name A) Fault → Type 0
   NameWithin level room start (Ok name) =
       IsName level start name.labels.items name.behind × (octets name.labels.items ≤ room)

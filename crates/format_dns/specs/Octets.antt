@@ -54,7 +54,7 @@ module _ {message : List ℕ} {start end : ℕ} {here : List Label} {rest : List
   unfolding Many
   each_here = a.each.0
 
-  -- behind all labels is none
+  -- after all labels is none
   pub none_here : NoneStands IsLabel rest
   unfolding Many
   none_here =

@@ -26,7 +26,7 @@ part_err Is Fails (Err y) is (inr (fails, none)) = inr (subst Fails (sym is) fai
 -- ---- lists
 
 module _ {X : Type 0} (Is : ℕ → X → Type 0) (behind : X → ℕ) where
-  -- one more behind some
+  -- one more after some
   pub rows_push : (parts : List X) (start place : ℕ) (part : X) → Rows Is behind start parts place
       → Is place part → Rows Is behind start (parts ++ part ∷ []) (behind part)
   rows_push [] start place part e is =

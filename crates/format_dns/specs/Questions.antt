@@ -1,4 +1,4 @@
--- Questions in a message (RFC 1035, section 4.1.2), and lists of what stands one behind the other.
+-- Questions in a message (RFC 1035, section 4.1.2), and lists of what stands one after the other.
 use Rattle.std.specs.Prelude.{◌≡◌, ◌⊎◌, ◌≤◌, ◌<◌, ◌+◌, ℕ, List, [], ◌∷◌, length, Result, Ok, Err}
 use Rattle.format_dns.specs.Fields.{AreAsked}
 use Rattle.format_dns.specs.Names.{At, HasNoName, IsName, Label, octets}
@@ -15,20 +15,20 @@ PartTold Is Fails (Ok part) = Is part
 PartTold {X} Is Fails (Err fault) =
     (fault ≡ NoMemory) ⊎ (Fails fault × ((part : X) → Is part → ⊥))
 
--- Parts stand one behind the other from a place to another. Each says which is behind it.
+-- Parts stand one after the other from a place to another. Each says which is after it.
 abbrev pub Rows : {X : Type 0} → (ℕ → X → Type 0) → (X → ℕ) → ℕ → List X → ℕ → Type 0
 Rows Is behind start [] end = end ≡ start
 Rows Is behind start (part ∷ parts) end = Is start part × Rows Is behind (behind part) parts end
 
--- Fewer than so many stand, and behind them the next fails.
+-- Fewer than that many stand, and after them the next fails.
 abbrev pub RowsFail : {X : Type 0} → (ℕ → X → Type 0) → (X → ℕ) → (ℕ → Fault → Type 0) → ℕ → ℕ
     → Fault → Type 0
 RowsFail {X} Is behind Fails start count fault =
     (parts : List X) × (place : ℕ) × Rows Is behind start parts place × (length parts < count)
     × Fails place fault
 
--- What is told of fields at a place, of so many bytes together: they are these; or the message ends
--- within them.
+-- What is told of fields at a place, of that many bytes together: they are these; or the message
+-- ends within them.
 abbrev pub FieldsTold : {X : Type 0} → List ℕ → ℕ → (X → List ℕ → List ℕ → Type 0) → ℕ
     → Result X Fault → Type 0
 FieldsTold message size Are place (Ok fields) =
@@ -45,7 +45,7 @@ module _ (message : List ℕ) (level : ℕ) where
   abbrev pub HasName : {A : Type 0} → ℕ → Name A → Type 0
   HasName start name = IsShort start name.labels.items name.behind
 
-  -- At a place stands a name, and behind it a type and a class.
+  -- At a place stands a name, and after it a type and a class.
   pub record IsQuestion {A : Type 0} (start : ℕ) (question : Question A) : Type 0 where
     pub name : HasName start question.name
     pub tokens : List ℕ
@@ -54,27 +54,27 @@ module _ (message : List ℕ) (level : ℕ) where
     pub fields : AreAsked question.kind question.class tokens rest
     pub behind : question.behind ≡ question.name.behind + 4
 
-  -- Why no question is at a place: there is no name, or the message ends within what is behind it.
+  -- Why no question is at a place: there is no name, or the message ends within what is after it.
   abbrev pub HasNoQuestion : ℕ → Fault → Type 0
   HasNoQuestion start fault =
       HasNoName message level 254 start fault
       ⊎ ((labels : List Label) × (behind : ℕ) × IsShort start labels behind
       × (fault ≡ Ends behind) × (length message < behind + 4))
 
-  -- So many questions stand one behind the other from a place on.
+  -- That many questions stand one after the other from a place on.
   abbrev pub AreQuestions : {A : Type 0} → ℕ → ℕ → Questions A → Type 0
   AreQuestions {A} start count questions =
       Rows (λ place (question : Question A). IsQuestion place question)
       (λ question. question.behind) start questions.list.items questions.behind
       × (length questions.list.items ≡ count)
 
-  -- Why not so many do: fewer do, and behind them is no question, for this reason.
+  -- Why not that many do: fewer do, and after them is no question, for this reason.
   abbrev pub HaveNoQuestions : Type 0 → ℕ → ℕ → Fault → Type 0
   HaveNoQuestions A =
       RowsFail (λ place (question : Question A). IsQuestion place question)
       (λ question. question.behind) HasNoQuestion
 
-  -- what is told of so many questions
+  -- what is told of that many questions
   abbrev pub QuestionsTold : {A : Type 0} → ℕ → ℕ → Result (Questions A) Fault → Type 0
   QuestionsTold {A} start count =
       PartTold (AreQuestions start count) (HaveNoQuestions A start count)

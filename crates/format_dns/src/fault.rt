@@ -15,7 +15,7 @@ pub enum Fault {
     /// The byte here has one alone of its two highest bits: such labels are reserved (RFC 1035,
     /// section 4.1.4).
     Reserved(usize),
-    /// The pointer here leads to no place before the labels that it stands behind.
+    /// The pointer here leads to no place before the labels that it stands after.
     NotPrior(usize),
     /// The pointer here is one more than are followed.
     TooMany(usize),

@@ -1,4 +1,4 @@
-//! Labels, one behind the other.
+//! Labels, one after the other.
 ghost use Rattle.format_dns.specs.Names.{IsLabel};
 ghost use Rattle.std.specs.Prelude.{◌≡◌, Some};
 ghost use Rattle.winnow.specs.Range.{from_to};
@@ -15,7 +15,7 @@ use winnow::error::{EmptyError, ErrMode, HasKind, ParserError};
 use winnow::stream::{Range, StreamIsPartial, ToUsize};
 use winnow::token::one_of;
 
-/// Tokens behind their number, as often as they stand one behind the other, up to `most` times.
+/// Tokens after their number, as often as they stand one after the other, up to `most` times.
 fn read_sized<I, E, N, P, A>(
     alloc: A,
     most: usize,
@@ -39,7 +39,7 @@ where
     repeat(alloc, Range::from(..=most), length_take(count)).read(input)
 }
 
-/// The labels that the bytes begin with, each behind its length from 1 to 63: as many as stand, up
+/// The labels that the bytes begin with, each after its length from 1 to 63: as many as stand, up
 /// to `most`.
 pub fn read_labels<'i, A: Allocator + Copy>(
     alloc: A,

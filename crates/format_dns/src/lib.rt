@@ -10,7 +10,7 @@
 //!   pointers never lead in a circle; and no more of them are followed than the caller says. It may
 //!   be any such place, in the header too, or in the middle of a label.
 //! - The bytes of a label are any: section 2.3.1 only prefers letters, digits and hyphens.
-//! - Of a name that is too long, that is what is said, whatever is behind its first 255 octets. So
+//! - Of a name that is too long, that is what is said, whatever is after its first 255 octets. So
 //!   of a name no more than 128 labels are looked at, whatever the message.
 //! - The name of a mailbox or a host is a name as any other, and so is that of a question. No type
 //!   and no class of a question is refused.

@@ -11,11 +11,11 @@ use std::alloc::Allocator;
 pub struct Name<'m, A: Allocator> {
     /// Its labels, from the first to that of the highest domain.
     pub labels: Vec<&'m [u8], A>,
-    /// The place in the message, in bytes, behind what is written for it where it begins.
+    /// The place in the message, in bytes, after what is written for it where it begins.
     pub behind: usize,
 }
 
-/// What stands behind labels.
+/// What stands after labels.
 enum Ending {
     /// The root, which ends the name.
     Root,
@@ -23,7 +23,7 @@ enum Ending {
     Pointer(usize),
 }
 
-/// What stands behind labels, at this place, where no label does.
+/// What stands after labels, at this place, where no label does.
 fn read_ending(rest: &[u8], place: usize) -> Result<Ending, Fault>
     requires { NoneStands IsLabel rest.now }
     ensures { EndingTold rest.now place result }

@@ -20,11 +20,11 @@ pub struct Question<'m, A: Allocator> {
     pub kind: u16,
     /// The number of their class; 1 is the Internet, 255 is any.
     pub class: u16,
-    /// The place in the message, in bytes, behind the question.
+    /// The place in the message, in bytes, after the question.
     pub behind: usize,
 }
 
-/// What a question has behind its name.
+/// What a question has after its name.
 #[derive(Clone, Copy)]
 struct Asked {
     kind: u16,
@@ -89,17 +89,17 @@ pub fn read_question<'m, A: Allocator + Copy>(
     })
 }
 
-/// Questions of a message `'m`, one behind the other.
+/// Questions of a message `'m`, one after the other.
 #[derive(Drop)]
 pub struct Questions<'m, A: Allocator> {
     /// The questions, in the order in which they stand.
     pub list: Vec<Question<'m, A>, A>,
-    /// The place in the message, in bytes, behind the last.
+    /// The place in the message, in bytes, after the last.
     pub behind: usize,
 }
 
-/// So many questions from a place of a message on, in bytes from its start, as [`read_question`]
-/// reads each: of a whole message from place 12 on, behind its header, which says how many.
+/// That many questions from a place of a message on, in bytes from its start, as [`read_question`]
+/// reads each: of a whole message from place 12 on, after its header, which says how many.
 ///
 /// An error says why the first that is not there is not, and where; or that memory is wanting.
 /// Memory is asked for as questions are read, whatever the count is.

@@ -51,7 +51,7 @@ fn write_byte<W: fmt::Write>(f: &mut Formatter<W>, byte: u8) -> fmt::Result {
     }
 }
 
-/// A name as in master files (RFC 1035, section 5.1): a dot behind each label, and the root is a
+/// A name as in master files (RFC 1035, section 5.1): a dot after each label, and the root is a
 /// dot. A byte that means something else there has a backslash before it, and one that is no
 /// visible character of ASCII is a backslash and its number in three digits.
 ///

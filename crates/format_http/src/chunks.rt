@@ -5,7 +5,7 @@
 //! Where this differs from the standard: the value of an extension is given as it stands, with the
 //! quotes and backslashes of a quoted string; the line end is a carriage return and a line feed,
 //! and no line feed alone; the data of a chunk, which is as many bytes as the size says, and its
-//! line end, are for the caller to take, and so is the trailer section behind the last chunk
+//! line end, are for the caller to take, and so is the trailer section after the last chunk
 //! (section 7.1.2).
 pub(crate) mod framing;
 mod lines;

@@ -3,7 +3,7 @@
 //!
 //! Where this differs from the standard: a target is visible bytes of ASCII, of which the grammar
 //! of URIs takes some; an empty line before the request line is no part of a head, nor is a line
-//! that goes on behind white space.
+//! that goes on after white space.
 pub mod field_line;
 pub mod head;
 pub mod laws;

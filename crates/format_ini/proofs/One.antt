@@ -200,7 +200,7 @@ step_of_one d s line kept said other next left (inr (inr (busy, alone, it)))
     (inr (inr (too, single, at))) =
     own_one d s (indent_of line) (trimmed kept) said other next left it at
 
--- a line says one thing in a state, and there is one state behind it
+-- a line says one thing in a state, and there is one state after it
 pub step_one : (d : Dialect) (s : State) (line : List ℕ) (said other : List Said)
     (next left : State) → Step d s line said next → Step d s line other left
     → (said ≡ other) × (next ≡ left)

@@ -1,4 +1,4 @@
--- Runs of bytes, and comments behind them.
+-- Runs of bytes, and comments after them.
 use Rattle.std.specs.Prelude.{◌≡◌, ◌⊎◌, ◌<◌, ◌+◌, ℕ, List, [], ◌∷◌, ◌++◌, length, take, drop}
 use Rattle.std.specs.Prelude.{Bool, true, false, slice_index}
 use Rattle.std.specs.Char.{is_ascii_whitespace}
@@ -16,14 +16,14 @@ pub around_is : (xs : List ℕ) (n : ℕ) → n < length xs
 around_is xs n less = sym (take-append-drop n xs)
     ∙ ap (λ l. take n xs ++ l) (drop_more xs n 0 less)
 
--- what is left behind a line is less
+-- what is left after a line is less
 pub line_less : (text line rest : List ℕ) → FirstLine text line rest → length rest < length text
 line_less text line rest (others, inl e) =
     let h = ap (λ l. length l) e ∙ length-append line (10 ∷ rest) in omega (arith, h)
 line_less text line rest (others, inr (e, none, some)) =
     let h = ap (λ l. length l) e in let k = ap (λ l. length l) none in omega (arith, h, k)
 
--- where a byte stands in bytes with one more behind them
+-- where a byte stands in bytes with one more after them
 pushed_parts : (xs : List ℕ) (x : ℕ) (before : List ℕ) (m : ℕ) (rest : List ℕ)
     → xs ++ x ∷ [] ≡ before ++ (m ∷ rest)
     → ((before ≡ xs) × (m ≡ x)) ⊎ ((r : List ℕ) × (xs ≡ before ++ (m ∷ r)))
@@ -37,7 +37,7 @@ pushed_parts (y ∷ ys) x (b ∷ bs) m rest e =
       | inr p ↦ inr (p.0, cc)
     ]
 
--- a comment begins in bytes with one more behind them only if it did, or there
+-- a comment begins in bytes with one more after them only if it did, or there
 pub no_comment_more : (marks : Marks) (xs : List ℕ) (x : ℕ) → NoComment marks xs
     → (MayOpen xs → IsMark marks x → ⊥) → NoComment marks (xs ++ x ∷ [])
 no_comment_more marks xs x none not before m rest e is opens =

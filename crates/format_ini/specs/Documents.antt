@@ -19,7 +19,7 @@ NoMark text = (rest : List ℕ) → text ≡ 239 ∷ 187 ∷ 191 ∷ rest → �
 abbrev pub BehindMark : List ℕ → List ℕ → Type 0
 BehindMark text rest = (text ≡ 239 ∷ 187 ∷ 191 ∷ rest) ⊎ ((rest ≡ text) × NoMark text)
 
--- A text begins with these lines, behind which this is left.
+-- A text begins with these lines, after which this is left.
 unfoldable pub AreLines : List ℕ → List (List ℕ) → List ℕ → Type 0
 AreLines text [] rest = text ≡ rest
 AreLines text (line ∷ lines) rest =
@@ -31,7 +31,7 @@ LinesSay d s [] said next = (said ≡ []) × (next ≡ s)
 LinesSay d s (line ∷ lines) said next = (one : List Said) × (others : List Said) × (mid : State)
     × Step d s line one mid × (said ≡ one ++ others) × LinesSay d mid lines others next
 
--- A text begins with lines that say this, behind which that is left.
+-- A text begins with lines that say this, after which that is left.
 abbrev pub ReadsLines : Dialect → State → List ℕ → List Said → State → List ℕ → Type 0
 ReadsLines d s text said next rest =
     (lines : List (List ℕ)) × AreLines text lines rest × LinesSay d s lines said next
@@ -51,7 +51,7 @@ abbrev pub StopsBy : Dialect → State → List ℕ → List Said → State → 
 StopsBy d s text said next rest why = ReadsLines d s text said next rest
     × ((line : List ℕ) × (behind : List ℕ) × FirstLine rest line behind × Lacks d next line why)
 
--- The first line that says nothing of this dialect begins so many bytes behind the text's start.
+-- The first line that says nothing of this dialect begins that many bytes after the text's start.
 abbrev pub IsRefused : Dialect → List ℕ → Fault → Type 0
 IsRefused d text fault = (lines : List ℕ) × (said : List Said) × (next : State) × (rest : List ℕ)
     × BehindMark text lines × StopsBy d start lines said next rest fault.why

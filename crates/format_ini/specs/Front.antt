@@ -1,4 +1,4 @@
--- What stands first in a text: lines, runs of bytes, blanks, comments behind them.
+-- What stands first in a text: lines, runs of bytes, blanks, comments after them.
 use Rattle.std.specs.Prelude.{◌≡◌, ◌⊎◌, ◌≤◌, ◌<◌, ◌-◌, ℕ, List, [], ◌∷◌, ◌++◌, length, take, drop}
 use Rattle.std.specs.Prelude.{⊤, slice_index}
 use Rattle.std.specs.Char.{is_ascii_whitespace}
@@ -32,17 +32,17 @@ IsStop LineFeed b = b ≡ 10
 IsStop Bracket b = b ≡ 93
 IsStop (Delimiter delimiters) b = IsDelimiter delimiters b
 
--- so many bytes stand before the first of these, or in all
+-- that many bytes stand before the first of these, or in all
 abbrev pub StopsAt : Stop → List ℕ → ℕ → Type 0
 StopsAt stop bytes n = (n ≤ length bytes) × All (λ b. IsStop stop b → ⊥) (take n bytes)
     × (n < length bytes → IsStop stop (slice_index bytes n))
 
--- this stands before the first of these, and that behind it
+-- this stands before the first of these, and that after it
 abbrev pub CutAt : Stop → List ℕ → List ℕ → List ℕ → Type 0
 CutAt stop text before behind = (mark : ℕ) × (text ≡ before ++ (mark ∷ behind))
     × IsStop stop mark × All (λ b. IsStop stop b → ⊥) before
 
--- A text begins with this line, behind which this is left: a line feed ends it, or the text ends.
+-- A text begins with this line, after which this is left: a line feed ends it, or the text ends.
 abbrev pub FirstLine : List ℕ → List ℕ → List ℕ → Type 0
 FirstLine text line rest = All (IsOther 10) line
     × ((text ≡ line ++ (10 ∷ rest)) ⊎ ((text ≡ line) × (rest ≡ []) × (0 < length line)))
@@ -59,7 +59,7 @@ trimmed_end text = take (length text - suffix_len is_ascii_whitespace text) text
 unfoldable pub trimmed : List ℕ → List ℕ
 trimmed text = trimmed_end (drop (prefix_len is_ascii_whitespace text) text)
 
--- A comment may begin behind these bytes of a line: there are none, or the last is a blank.
+-- A comment may begin after these bytes of a line: there are none, or the last is a blank.
 abbrev pub MayOpen : List ℕ → Type 0
 MayOpen before = (before ≡ [])
     ⊎ ((front : List ℕ) × (b : ℕ) × (before ≡ front ++ b ∷ []) × IsBlank b)
@@ -75,7 +75,7 @@ abbrev pub IsKept : Marks → List ℕ → List ℕ → Type 0
 IsKept marks line kept = NoComment marks kept × ((line ≡ kept) ⊎ ((mark : ℕ) × (rest : List ℕ)
     × (line ≡ kept ++ (mark ∷ rest)) × IsMark marks mark × MayOpen kept))
 
--- so many bytes are kept of a line
+-- that many bytes are kept of a line
 abbrev pub KeepsSoMany : Marks → List ℕ → ℕ → Type 0
 KeepsSoMany marks line n = (n ≤ length line) × NoComment marks (take n line)
     × (n < length line → IsMark marks (slice_index line n) × MayOpen (take n line))

@@ -39,8 +39,8 @@ said_of (Some entry) = said_in entry ∷ []
 abbrev pub IsSection : List ℕ → List ℕ → Type 0
 IsSection text name = (text ≡ 91 ∷ (name ++ 93 ∷ [])) × All (IsOther 93) name × (0 < length name)
 
--- The text is a pair: what stands before its first delimiter, without blanks behind it, is the key,
--- and what stands behind, without blanks at both ends, the value. Without a delimiter the text is
+-- The text is a pair: what stands before its first delimiter, without blanks after it, is the key,
+-- and what stands after, without blanks at both ends, the value. Without a delimiter the text is
 -- the key, where the dialect lets keys be without values. A text begins with no blank, so no key is
 -- empty.
 abbrev pub IsPair : Dialect → List ℕ → List ℕ → Option (List ℕ) → Type 0
@@ -79,11 +79,11 @@ pair_at UntilEmpty indent (Some v) = Some indent
 pair_at PastEmpty indent None = None
 pair_at PastEmpty indent (Some v) = Some indent
 
--- Pairs may stand here: behind a section, or where the dialect lets them be before the first.
+-- Pairs may stand here: after a section, or where the dialect lets them be before the first.
 abbrev pub MayPair : Dialect → State → Type 0
 MayPair d s = (s.section ≡ true) ⊎ (d.before_sections ≡ true)
 
--- What a line of its own says, and the state behind it: `[` begins a section, anything else a pair.
+-- What a line of its own says, and the state after it: `[` begins a section, anything else a pair.
 abbrev pub OwnSays : Dialect → State → ℕ → List ℕ → List Said → State → Type 0
 OwnSays d s indent text said next =
     ((name : List ℕ) × IsSection text name × (said ≡ section name ∷ [])
@@ -99,7 +99,7 @@ LacksOwn d s text reason =
     ⊎ (NotFirst (λ b. b ≡ 91) text × (((reason ≡ why.NoSection) × (MayPair d s → ⊥))
     ⊎ (MayPair d s × NoPair d text reason)))
 
--- What a line says that is empty or a comment, and the state behind it: nothing, but for an empty
+-- What a line says that is empty or a comment, and the state after it: nothing, but for an empty
 -- line within a value, where the dialect has such.
 abbrev pub IdleSays : Continued → State → Bool → List Said → State → Type 0
 IdleSays Never s empty said next = (said ≡ []) × (next ≡ s)
@@ -138,7 +138,7 @@ StepOf d s line kept said next =
     ⊎ ((IsIdle d (trimmed kept) → ⊥) × (GoesOn s (indent_of line) → ⊥)
     × OwnSays d s (indent_of line) (trimmed kept) said next))
 
--- What a line says behind the lines before it, and the state behind it.
+-- What a line says after the lines before it, and the state after it.
 abbrev pub Step : Dialect → State → List ℕ → List Said → State → Type 0
 Step d s line said next = (kept : List ℕ) × IsKept d.inline_comments line kept
     × StepOf d s line kept said next

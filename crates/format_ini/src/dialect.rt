@@ -54,9 +54,9 @@ pub enum Continued {
 pub struct Dialect {
     /// What ends a key.
     pub delimiters: Delimiters,
-    /// What begins a comment where it is the first of a line, behind white space.
+    /// What begins a comment where it is the first of a line, after white space.
     pub comments: Marks,
-    /// What begins a comment at the start of a line, or behind white space in it.
+    /// What begins a comment at the start of a line, or after white space in it.
     pub inline_comments: Marks,
     /// What a line means that is indented deeper than the pair before it.
     pub continued: Continued,
@@ -114,7 +114,7 @@ impl Dialect {
         }
     }
 
-    /// The dialect that reads most: `=` and `:`, comments behind white space too, keys without
+    /// The dialect that reads most: `=` and `:`, comments after white space too, keys without
     /// values, pairs before the first section, a line for each pair.
     ///
     /// ```

@@ -9,7 +9,7 @@ ghost use Rattle.format_ini.specs.Marks.{IsMark};
 
 use crate::dialect::{Delimiters, Marks, is_delimiter, is_mark};
 
-// What stands before a byte of ASCII, and what behind it.
+// What stands before a byte of ASCII, and what after it.
 pub(crate) fn around(text: &str, place: usize) -> (&str, &str)
     requires within { place < length text.now }
     requires ascii { slice_index text.now place < 128 }
@@ -52,7 +52,7 @@ fn run_len(stop: Stop, bytes: &[u8]) -> usize
     bytes.len()
 }
 
-// What stands before the first of these, and what behind it; `None` where there is none.
+// What stands before the first of these, and what after it; `None` where there is none.
 pub(crate) fn cut(stop: Stop, text: &str) -> Option<(&str, &str)>
     ensures { MatchOption result (All (λ b. IsStop stop b → ⊥) text.now)
         (λ it. CutAt stop text.now it.0.now it.1.now) }
@@ -87,7 +87,7 @@ pub(crate) fn is_comment(marks: Marks, text: &str) -> bool
     }
 }
 
-// The first line, and what is left behind it; `None` where there is no text.
+// The first line, and what is left after it; `None` where there is no text.
 pub(crate) fn first_line(text: &str) -> Option<(&str, &str)>
     ensures { MatchOption result (text.now ≡ [])
         (λ it. FirstLine text.now it.0.now it.1.now) }

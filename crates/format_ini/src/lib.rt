@@ -16,7 +16,7 @@
 //! | Text | Here | In Python |
 //! |---|---|---|
 //! | `[a] b`, `[a]b]` | refused | the sections `a` and `a]b` |
-//! | `[a = b`, `[] = c` | refused | pairs, behind a section |
+//! | `[a = b`, `[] = c` | refused | pairs, after a section |
 //! | white space that is none here: 11, 28 to 31, past ASCII | characters | white space |
 //! | a line that goes on a key without a value | a line of its own | an exception |
 //! | two marks of inline comments in a line | the first counts | at times a later one |

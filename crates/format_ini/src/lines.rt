@@ -29,11 +29,11 @@ pub enum Entry<'i> {
 /// Why a line is none of the dialect.
 #[derive(Clone, Copy, Debug, PartialEq, Eq)]
 pub enum Refusal {
-    /// No `]` stands behind the `[` that begins the line.
+    /// No `]` stands after the `[` that begins the line.
     OpenSection,
     /// Nothing stands between `[` and `]`.
     EmptySection,
-    /// Something stands behind the `]`.
+    /// Something stands after the `]`.
     TextBehindSection,
     /// No section stands before the pair.
     NoSection,
@@ -52,7 +52,7 @@ pub struct State {
     pub pair: Option<usize>,
 }
 
-// What a line says, and the state behind it.
+// What a line says, and the state after it.
 #[derive(Clone, Copy)]
 pub(crate) struct Line<'i> {
     pub(crate) entry: Option<Entry<'i>>,
@@ -87,7 +87,7 @@ fn read_pair(dialect: Dialect, text: &str) -> Result<(&str, Option<&str>), Refus
     }
 }
 
-// How deep the pair is indented that the next line may go on, behind a pair.
+// How deep the pair is indented that the next line may go on, after a pair.
 fn behind_pair(continued: Continued, indent: usize, value: Option<&str>) -> Option<usize>
     ensures { result ≡ pair_at continued indent (value_of value.entry) }
 {

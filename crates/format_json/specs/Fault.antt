@@ -14,7 +14,7 @@ use Rattle.format_json_writer.specs.declared.error.WriteError.{WriteError}
 use Rattle.format_json_writer.specs.declared.error.WriteError.TheVariants as errors
 use Rattle.winnow.specs.Position.{IsPosition}
 
--- The place is this byte, with the line and the column behind the text before it.
+-- The place is this byte, with the line and the column after the text before it.
 abbrev pub IsLocation : List ℕ → ℕ → Location → Type 0
 IsLocation bytes offset at =
     (at.offset ≡ offset) × (IsUtf8 bytes → IsCharBoundary bytes offset

@@ -15,11 +15,11 @@ pub enum Gap {
     None,
     /// One space.
     Space,
-    /// A line feed, and so many spaces.
+    /// A line feed, and that many spaces.
     Line(usize),
 }
 
-/// How far a text is indented: by so many spaces now, and so many more a level.
+/// How far a text is indented: by that many spaces now, and that many more a level.
 #[derive(Clone, Copy, Drop)]
 pub struct Indent {
     /// The spaces of this level.
@@ -36,7 +36,7 @@ fn deeper(indent: Indent) -> Indent {
     }
 }
 
-/// Puts white space behind what is there.
+/// Puts white space after what is there.
 fn put_gap<B: Allocator>(gap: Gap, into: &mut String<B>) -> Result<(), AllocError>
     ensures { OnOk result (string_bytes into.new ≡ string_bytes into.old ++ gap_bytes gap) }
 {
@@ -53,13 +53,13 @@ fn put_gap<B: Allocator>(gap: Gap, into: &mut String<B>) -> Result<(), AllocErro
     }
 }
 
-/// Puts a structural character and white space behind what is there.
+/// Puts a structural character and white space after what is there.
 fn put_mark<B: Allocator>(mark: char, gap: Gap, into: &mut String<B>) -> Result<(), AllocError> {
     into.push(mark)?;
     put_gap(gap, into)
 }
 
-/// Puts a value and white space behind what is there.
+/// Puts a value and white space after what is there.
 #[cycle(lay)]
 fn lay_spaced<A: Allocator, B: Allocator>(
     level: usize,
@@ -73,7 +73,7 @@ fn lay_spaced<A: Allocator, B: Allocator>(
     Ok(())
 }
 
-/// Puts values behind what is there, with commas between them, and white space behind the last.
+/// Puts values after what is there, with commas between them, and white space after the last.
 #[cycle(lay)]
 fn lay_items<A: Allocator, B: Allocator>(
     level: usize,
@@ -94,7 +94,7 @@ fn lay_items<A: Allocator, B: Allocator>(
     Ok(())
 }
 
-/// Puts an array behind what is there.
+/// Puts an array after what is there.
 #[cycle(lay)]
 fn lay_array<A: Allocator, B: Allocator>(
     level: usize,
@@ -123,7 +123,7 @@ fn lay_array<A: Allocator, B: Allocator>(
     Ok(())
 }
 
-/// Puts a name, a colon, a value and white space behind what is there.
+/// Puts a name, a colon, a value and white space after what is there.
 #[cycle(lay)]
 fn lay_member<A: Allocator, B: Allocator>(
     level: usize,
@@ -138,7 +138,7 @@ fn lay_member<A: Allocator, B: Allocator>(
     lay_spaced(level, indent, value, gap, into)
 }
 
-/// Puts members behind what is there, with commas between them, and white space behind the last.
+/// Puts members after what is there, with commas between them, and white space after the last.
 #[cycle(lay)]
 fn lay_members<A: Allocator, B: Allocator>(
     level: usize,
@@ -159,7 +159,7 @@ fn lay_members<A: Allocator, B: Allocator>(
     Ok(())
 }
 
-/// Puts an object behind what is there.
+/// Puts an object after what is there.
 #[cycle(lay)]
 fn lay_object<A: Allocator, B: Allocator>(
     level: usize,
@@ -188,7 +188,7 @@ fn lay_object<A: Allocator, B: Allocator>(
     Ok(())
 }
 
-/// Puts a value behind what is there, laid out over lines.
+/// Puts a value after what is there, laid out over lines.
 #[cycle(lay)]
 pub fn lay<A: Allocator, B: Allocator>(
     level: usize,

@@ -22,9 +22,9 @@
 //!
 //! What the standard leaves open is chosen so:
 //!
-//! - A text is read, and a value written, to a level, which the caller gives: no more than so many
-//!   arrays and objects stand in one another (section 9). Reading and writing call themselves once
-//!   a level; up to [`SAFE_LEVEL`] a stack of two megabytes suffices.
+//! - A text is read, and a value written, to a level, which the caller gives: no more than that
+//!   many arrays and objects stand in one another (section 9). Reading and writing call themselves
+//!   once a level; up to [`SAFE_LEVEL`] a stack of two megabytes suffices.
 //! - A number is kept as it is written, of any range and precision (section 6).
 //! - An object keeps its members in order, also those that have one name (section 4);
 //!   [`get`](Value::get) answers the last.

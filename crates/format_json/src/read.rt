@@ -37,8 +37,8 @@ fn bytes_want_memory<'i>(fault: &ParseFault<&'i [u8], EmptyError>) -> bool
     }
 }
 
-/// The value of a text of JSON: a value, in which no more than so many arrays and objects stand in
-/// one another, with white space round it. Each level takes some of the stack: up to
+/// The value of a text of JSON: a value, in which no more than that many arrays and objects stand
+/// in one another, with white space round it. Each level takes some of the stack: up to
 /// [`SAFE_LEVEL`](crate::SAFE_LEVEL) two megabytes suffice.
 ///
 /// Else the [`Fault`] says at which place the text is no beginning of JSON, and what may stand

@@ -15,8 +15,8 @@ use format_json_texts::value::Value;
 use format_json_writer::value as writer;
 use std::alloc::Allocator;
 
-/// The text of a value, in which no more than so many arrays and objects stand in one another, with
-/// no white space. It is read as the value again, at the same level.
+/// The text of a value, in which no more than that many arrays and objects stand in one another,
+/// with no white space. It is read as the value again, at the same level.
 ///
 /// An error says that a number in it has a text that is none of JSON, that it is nested deeper than
 /// the level, or that a request for memory was refused. Each level takes some of the stack, as of
@@ -51,7 +51,7 @@ pub fn to_text<A: Allocator, B: Allocator>(
 }
 
 /// As [`to_text`], laid out over lines: each element and each member stands on a line of its own,
-/// indented by so many spaces for each array and object round it, with a space after each colon.
+/// indented by that many spaces for each array and object round it, with a space after each colon.
 /// An array or an object with nothing in it is `[]` or `{}`. That its text is one of the value, and
 /// read as it again, is tested, and not proved.
 ///

@@ -36,7 +36,7 @@ front_to to f = record {
   is = to f.first f.is;
 }
 
--- the characters are these bytes and what those behind them stand for
+-- the characters are these bytes and what those after them stand for
 front_more : {P : List ℕ → Type 0} (b : ℕ) (cs es rest : List ℕ) → cs ≡ b ∷ es
     → Front (λ text. P (b ∷ text)) es rest → Front P cs rest
 front_more b cs es rest e f = record {

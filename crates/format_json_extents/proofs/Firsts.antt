@@ -102,9 +102,9 @@ pub closing_is : (keyed : Bool) (b : ℕ) → b ≡ closing keyed → (b ≡ 93)
 closing_is false b e = inl e
 closing_is true b e = inr e
 
--- ---- what may stand behind an item
+-- ---- what may stand after an item
 
--- A byte with which an item may go on behind a shorter one.
+-- A byte with which an item may go on after a shorter one.
 abbrev pub IsItemByte : ℕ → Type 0
 IsItemByte = Or IsNumberByte IsSpace
 

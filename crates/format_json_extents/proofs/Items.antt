@@ -50,7 +50,7 @@ list_before I bytes mid rest it more = record {
 abbrev pub Ended : (I : List ℕ → Type 0) (c : ℕ) → List ℕ → Type 0
 Ended I c = Then (List_of I) (IsByte (λ b. b ≡ c))
 
--- the first text ends the list, or a comma stands behind it
+-- the first text ends the list, or a comma stands after it
 ended_split : (I : List ℕ → Type 0) (c : ℕ) (bytes rest : List ℕ) → Stands (Ended I c) bytes rest
     → Stands I bytes (c ∷ rest)
     ⊎ ((mid : List ℕ) × Stands I bytes (44 ∷ mid) × Stands (Ended I c) mid rest)
@@ -65,7 +65,7 @@ ended_split I c bytes rest it =
           inr (mid, one, then_stands (List_of I) (IsByte (λ b. b ≡ c)) mid at rest more end)
     ]
 
--- the closing byte stands behind a text
+-- the closing byte stands after a text
 pub ends : (I : List ℕ → Type 0) (S : ℕ → Type 0) (c : ℕ) (bytes ahead rest : List ℕ)
     → Leaves I S bytes ahead → ahead ≡ c ∷ rest → (S c → ⊥) → (S 44 → ⊥) → (44 ≡ c → ⊥)
     → Leaves (Ended I c) Never bytes rest
@@ -83,7 +83,7 @@ ends I S c bytes ahead rest it e not comma apart = record {
   ];
 }
 
--- a comma stands behind a text
+-- a comma stands after a text
 pub goes : (I : List ℕ → Type 0) (S : ℕ → Type 0) (c : ℕ) (bytes ahead next : List ℕ)
     → Leaves I S bytes ahead → ahead ≡ 44 ∷ next → (S c → ⊥) → (S 44 → ⊥) → (44 ≡ c → ⊥)
     → Leads (Ended I c) bytes next
@@ -102,7 +102,7 @@ goes I S c bytes ahead next it e not comma apart = record {
       (list_before I bytes next at (subst (λ l. Stands I bytes l) e it.stands) list) end;
 }
 
--- neither stands behind a text
+-- neither stands after a text
 pub stops : (I : List ℕ → Type 0) (S : ℕ → Type 0) (c : ℕ) (bytes ahead : List ℕ)
     → Leaves I S bytes ahead → ((more : List ℕ) → ahead ≡ c ∷ more → ⊥)
     → ((more : List ℕ) → ahead ≡ 44 ∷ more → ⊥) → (S c → ⊥) → (S 44 → ⊥)

@@ -98,7 +98,7 @@ whole_start =
 
 -- ---- the fraction
 
--- behind the point
+-- after the point
 pub fraction_is : (bytes digits rest : List ℕ) → bytes ≡ 46 ∷ digits
     → Leaves IsDigits IsDigit digits rest → Leaves IsFraction IsDigit bytes rest
 fraction_is bytes digits rest e all =

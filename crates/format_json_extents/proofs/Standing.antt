@@ -1,4 +1,4 @@
--- How texts stand one behind the other.
+-- How texts stand one after the other.
 use Rattle.std.proofs.Common.{◌≡◌, ◌∙◌, ◌⊎◌, ◌++◌, ◌<◌, ◌≤◌, ℕ, [], ◌∷◌, List, ap, append_assoc}
 use Rattle.std.proofs.Common.{arith, inl, inr, length, length-append, refl, subst, sym}
 use Rattle.std.specs.List.{All}

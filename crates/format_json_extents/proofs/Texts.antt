@@ -23,7 +23,7 @@ use Rattle.format_json_extents.specs.Texts.{nothing, one_more}
 
 -- ---- bytes of a set
 
--- behind all bytes of P stands none
+-- after all bytes of P stands none
 pub all_stops : (P : ℕ → Type 0) (bytes rest : List ℕ) → Leaves (All P) P bytes rest → (b : ℕ)
     (more : List ℕ) → rest ≡ b ∷ more → P b → ⊥
 all_stops P bytes rest it b more e is =
@@ -145,7 +145,7 @@ piece_none bytes escape e none =
     (then_none (IsByte IsBackslash) IsEscape Never bytes escape (never_bars IsEscape)
     (byte_leaves IsBackslash bytes 92 escape e refl) none)
 
--- behind all bytes that stand for themselves, where no backslash does
+-- after all bytes that stand for themselves, where no backslash does
 pub piece_other : (start bytes : List ℕ) → Leaves (All IsUnescaped) IsUnescaped start bytes
     → ((more : List ℕ) → bytes ≡ 92 ∷ more → ⊥) → NoneStands IsPiece bytes
 piece_other start bytes run not =
@@ -171,7 +171,7 @@ quote_no_piece bytes rest mid it e =
     let (b, more, begins, f) = piece_starts bytes mid it in
     no_quote b f (same_byte _ _ _ _ (sym begins ∙ e)).0
 
--- ---- what stands behind the first quote
+-- ---- what stands after the first quote
 
 pub tail_ends : (bytes rest : List ℕ) → bytes ≡ 34 ∷ rest → Leaves IsStringTail Never bytes rest
 tail_ends bytes rest e = record {
@@ -228,7 +228,7 @@ tail_run (b ∷ text) bytes next all e =
     (piece_byte bytes b (text ++ next) e (All-head IsUnescaped b text all)))
     (tail_run text (text ++ next) next (All-tail IsUnescaped b text all) refl)
 
--- behind one more run
+-- after one more run
 pub tail_ahead : (start now ahead : List ℕ) → Leads IsStringTail start now
     → Leaves (All IsUnescaped) IsUnescaped now ahead → Leads IsStringTail start ahead
 tail_ahead start now ahead leads run =
@@ -275,7 +275,7 @@ in_quotes bytes inside rest e it =
       splits = e ∙ ap (λ l. 34 ∷ l) (all ∙ ap (λ l. l ++ 34 ∷ rest) (sym same));
     }
 
--- behind one more escape
+-- after one more escape
 pub escape_leads : (start now ahead escape next : List ℕ) → Leads IsStringTail start now
     → Leaves (All IsUnescaped) IsUnescaped now ahead → ahead ≡ 92 ∷ escape
     → Leaves IsEscape Never escape next → Leads IsStringTail start next

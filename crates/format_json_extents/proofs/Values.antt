@@ -282,7 +282,7 @@ opening_none keyed V bytes inside e none =
     (never_bars (IsNestedTail keyed V))
     (byte_leaves (This (opening keyed)) bytes (opening keyed) inside e refl) none
 
--- behind the other bracket
+-- after the other bracket
 other_opening : (keyed : Bool) (V : List ℕ → Type 0) (bytes : List ℕ) (b : ℕ) (inside : List ℕ)
     → bytes ≡ b ∷ inside → (b ≡ opening keyed → ⊥) → NoneStands (Inside keyed V) bytes
 other_opening keyed V bytes b inside e not =

@@ -9,7 +9,7 @@ use Rattle.winnow.specs.Accumulator.Holds.{HasCharacters}
 abbrev pub AnyValue : Type 0
 AnyValue = Value (Unit {0})
 
--- Bytes that are UTF-8, of characters that are the text of a value, of which no more than so many
+-- Bytes that are UTF-8, of characters that are the text of a value, of which no more than that many
 -- arrays and objects stand in one another.
 abbrev pub IsValueByStandard : ℕ → List ℕ → Type 0
 IsValueByStandard level bytes =

@@ -16,7 +16,7 @@ IsBackslash b = b ≡ 92
 abbrev pub IsUnescaped : ℕ → Type 0
 IsUnescaped b = (32 ≤ b) × (b ≡ 34 → ⊥) × (b ≡ 92 → ⊥)
 
--- The byte behind a backslash: a quote, a backslash, a slash, or one of the letters b, f, n, r, t.
+-- The byte after a backslash: a quote, a backslash, a slash, or one of the letters b, f, n, r, t.
 abbrev pub IsEscaped : ℕ → Type 0
 IsEscaped b = (b ≡ 34) ⊎ ((b ≡ 92) ⊎ ((b ≡ 47) ⊎ ((b ≡ 98) ⊎ ((b ≡ 102) ⊎ ((b ≡ 110)
     ⊎ ((b ≡ 114) ⊎ (b ≡ 116)))))))
@@ -60,7 +60,7 @@ BeginUnit units.Low = BeginLow
 abbrev pub IsUnit : (ℕ → ℕ → Type 0) → List ℕ → Type 0
 IsUnit P = Then (AreTwo P) IsTwoDigits
 
--- A high surrogate, and a low one behind a backslash and u.
+-- A high surrogate, and a low one after a backslash and u.
 abbrev pub IsPair : List ℕ → Type 0
 IsPair =
     Then (IsUnit BeginHigh)
@@ -70,7 +70,7 @@ IsPair =
 abbrev pub IsCharacter : List ℕ → Type 0
 IsCharacter = Either (IsUnit BeginOnly) IsPair
 
--- What stands behind a backslash: one byte, or u and the digits of a character.
+-- What stands after a backslash: one byte, or u and the digits of a character.
 abbrev pub IsEscape : List ℕ → Type 0
 IsEscape = Either (IsByte IsEscaped) (Then (IsByte IsU) IsCharacter)
 
@@ -78,7 +78,7 @@ IsEscape = Either (IsByte IsEscaped) (Then (IsByte IsU) IsCharacter)
 abbrev pub IsPiece : List ℕ → Type 0
 IsPiece = Either (IsByte IsUnescaped) (Then (IsByte IsBackslash) IsEscape)
 
--- What stands behind the first quote: pieces, and the last quote.
+-- What stands after the first quote: pieces, and the last quote.
 abbrev pub IsStringTail : List ℕ → Type 0
 IsStringTail = Then (Many IsPiece) (IsByte IsQuote)
 

@@ -32,7 +32,7 @@ Either P Q text = P text ⊎ Q text
 abbrev pub Maybe : (List ℕ → Type 0) → List ℕ → Type 0
 Maybe P text = (text ≡ []) ⊎ P text
 
--- Texts of P, one behind the other, or nothing.
+-- Texts of P, one after the other, or nothing.
 pub data Many (P : List ℕ → Type 0) : List ℕ → Type 0 where
   nothing : (text : List ℕ) → text ≡ [] → Many P text
   one_more : (first others text : List ℕ) → P first → Many P others → text ≡ first ++ others

@@ -58,7 +58,7 @@ abbrev pub opening : Bool → ℕ
 opening true = 123
 opening false = 91
 
--- the bracket behind it
+-- the bracket after it
 abbrev pub closing : Bool → ℕ
 closing true = 125
 closing false = 93
@@ -75,7 +75,7 @@ IsEmptyTail keyed = Then IsGap (IsByte (IsClosing keyed))
 abbrev pub IsItemsTail : Bool → (List ℕ → Type 0) → List ℕ → Type 0
 IsItemsTail keyed V = Then (List_of (IsItem keyed V)) (IsByte (IsClosing keyed))
 
--- What stands behind the opening bracket.
+-- What stands after the opening bracket.
 abbrev pub IsNestedTail : Bool → (List ℕ → Type 0) → List ℕ → Type 0
 IsNestedTail keyed V = Either (IsEmptyTail keyed) (IsItemsTail keyed V)
 
@@ -85,7 +85,7 @@ IsNested V =
     Either (Then (IsByte (λ b. b ≡ opening false)) (IsNestedTail false V))
     (Then (IsByte (λ b. b ≡ opening true)) (IsNestedTail true V))
 
--- A value, of which no more than so many arrays and objects stand in one another.
+-- A value, of which no more than that many arrays and objects stand in one another.
 abbrev pub IsValue : ℕ → List ℕ → Type 0
 IsValue zero text = IsScalar text
 IsValue (suc level) text = Either IsScalar (IsNested (IsValue level)) text

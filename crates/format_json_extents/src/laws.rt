@@ -10,7 +10,7 @@ ghost use Rattle.winnow.specs.Accumulator.Holds.{HasCharacters};
 use std::alloc::Allocator;
 
 /// Bytes that are UTF-8 are a value of this crate exactly where their characters are the text of
-/// one by RFC 8259, as `format_json_texts` has it; both have no more than so many arrays and
+/// one by RFC 8259, as `format_json_texts` has it; both have no more than that many arrays and
 /// objects in one another. So what is found is what `format_json_values` and `format_json_pieces`
 /// read.
 ///

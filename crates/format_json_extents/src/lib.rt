@@ -5,7 +5,7 @@
 //!
 //! Where this differs from the standard, or chooses what it leaves open:
 //!
-//! - A value is found to a level, which the caller gives: no more than so many arrays and objects
+//! - A value is found to a level, which the caller gives: no more than that many arrays and objects
 //!   stand in one another (section 9).
 //! - Bytes of 128 and above are not looked at: that the bytes are UTF-8 is for the caller to know
 //!   (section 8.1).

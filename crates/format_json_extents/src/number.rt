@@ -10,7 +10,7 @@ ghost use Rattle.format_json_extents.specs.Texts.{NoneStands, Or};
 
 use crate::tokens::{behind, behind_digits};
 
-/// What stands behind one digit or several.
+/// What stands after one digit or several.
 fn behind_some_digits<'i>(bytes: &'i [u8]) -> Option<&'i [u8]>
     ensures { MatchOption result (NoneStands IsDigits bytes.now)
         (λ rest. Leaves IsDigits IsDigit bytes.now rest.now) }
@@ -23,7 +23,7 @@ fn behind_some_digits<'i>(bytes: &'i [u8]) -> Option<&'i [u8]>
     }
 }
 
-/// What stands behind a minus, if one stands first.
+/// What stands after a minus, if one stands first.
 fn behind_minus<'i>(bytes: &'i [u8]) -> &'i [u8]
     ensures { Leaves (Maybe (IsByte IsMinus)) (Or Never IsMinus) bytes.now result.now }
 {
@@ -33,7 +33,7 @@ fn behind_minus<'i>(bytes: &'i [u8]) -> &'i [u8]
     }
 }
 
-/// What stands behind a sign, if one stands first.
+/// What stands after a sign, if one stands first.
 fn behind_sign<'i>(bytes: &'i [u8]) -> &'i [u8]
     ensures { Leaves (Maybe (IsByte IsSign)) (Or Never IsSign) bytes.now result.now }
 {
@@ -49,7 +49,7 @@ fn behind_sign<'i>(bytes: &'i [u8]) -> &'i [u8]
     }
 }
 
-/// What stands behind the whole part of a number.
+/// What stands after the whole part of a number.
 fn behind_whole<'i>(bytes: &'i [u8]) -> Option<&'i [u8]>
     ensures { MatchOption result (NoneStands IsWhole bytes.now)
         (λ rest. Leaves IsWhole IsDigit bytes.now rest.now) }
@@ -65,7 +65,7 @@ fn behind_whole<'i>(bytes: &'i [u8]) -> Option<&'i [u8]>
     }
 }
 
-/// What stands behind a point and digits.
+/// What stands after a point and digits.
 fn behind_fraction<'i>(bytes: &'i [u8]) -> Option<&'i [u8]>
     ensures { MatchOption result (NoneStands IsFraction bytes.now)
         (λ rest. Leaves IsFraction IsDigit bytes.now rest.now) }
@@ -74,7 +74,7 @@ fn behind_fraction<'i>(bytes: &'i [u8]) -> Option<&'i [u8]>
     behind_some_digits(digits)
 }
 
-/// What stands behind an exponent.
+/// What stands after an exponent.
 fn behind_exponent<'i>(bytes: &'i [u8]) -> Option<&'i [u8]>
     ensures { MatchOption result (NoneStands IsExponent bytes.now)
         (λ rest. Leaves IsExponent IsDigit bytes.now rest.now) }
@@ -87,7 +87,7 @@ fn behind_exponent<'i>(bytes: &'i [u8]) -> Option<&'i [u8]>
     }
 }
 
-/// What stands behind a fraction, if one stands first.
+/// What stands after a fraction, if one stands first.
 fn behind_any_fraction<'i>(bytes: &'i [u8]) -> &'i [u8]
     ensures { Leaves (Maybe IsFraction) (Or IsDigit IsPoint) bytes.now result.now }
 {
@@ -97,7 +97,7 @@ fn behind_any_fraction<'i>(bytes: &'i [u8]) -> &'i [u8]
     }
 }
 
-/// What stands behind an exponent, if one stands first.
+/// What stands after an exponent, if one stands first.
 fn behind_any_exponent<'i>(bytes: &'i [u8]) -> &'i [u8]
     ensures { Leaves (Maybe IsExponent) (Or IsDigit IsE) bytes.now result.now }
 {
@@ -107,7 +107,7 @@ fn behind_any_exponent<'i>(bytes: &'i [u8]) -> &'i [u8]
     }
 }
 
-/// What stands behind the longest number.
+/// What stands after the longest number.
 pub fn behind_number<'i>(bytes: &'i [u8]) -> Option<&'i [u8]>
     ensures { MatchOption result (NoneStands IsNumber bytes.now)
         (λ rest. Leaves IsNumber IsNumberByte bytes.now rest.now) }
@@ -117,7 +117,7 @@ pub fn behind_number<'i>(bytes: &'i [u8]) -> Option<&'i [u8]>
 }
 
 /// The longest number that the bytes begin with, which may be a shorter one than the writer meant:
-/// of `1.x` it is `1`, and of `01` it is `0`. The input then stands behind it.
+/// of `1.x` it is `1`, and of `01` it is `0`. The input then stands after it.
 ///
 /// `None` exactly where they begin with no number; then nothing is read.
 ///

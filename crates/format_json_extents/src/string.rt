@@ -17,7 +17,7 @@ fn is_hex_digit(byte: u8) -> bool
         || (byte >= b'a' && byte <= b'f')
 }
 
-/// Whether a byte stands behind a backslash by itself.
+/// Whether a byte stands after a backslash by itself.
 fn is_escaped(byte: u8) -> bool
     ensures { IsTrue result ↔ IsEscaped byte }
 {
@@ -58,7 +58,7 @@ fn begins(unit: Unit, first: u8, second: u8) -> bool
     }
 }
 
-/// What stands behind a hexadecimal digit.
+/// What stands after a hexadecimal digit.
 fn behind_digit<'i>(bytes: &'i [u8]) -> Option<&'i [u8]>
     ensures { MatchOption result (NoneStands (IsByte IsHexDigit) bytes.now)
         (λ rest. Leaves (IsByte IsHexDigit) Never bytes.now rest.now) }
@@ -71,7 +71,7 @@ fn behind_digit<'i>(bytes: &'i [u8]) -> Option<&'i [u8]>
     }
 }
 
-/// What stands behind two hexadecimal digits.
+/// What stands after two hexadecimal digits.
 fn behind_two_digits<'i>(bytes: &'i [u8]) -> Option<&'i [u8]>
     ensures { MatchOption result (NoneStands IsTwoDigits bytes.now)
         (λ rest. Leaves IsTwoDigits Never bytes.now rest.now) }
@@ -80,7 +80,7 @@ fn behind_two_digits<'i>(bytes: &'i [u8]) -> Option<&'i [u8]>
     behind_digit(one)
 }
 
-/// What stands behind the four digits of such a unit.
+/// What stands after the four digits of such a unit.
 fn behind_unit<'i>(unit: Unit, bytes: &'i [u8]) -> Option<&'i [u8]>
     ensures { MatchOption result (NoneStands (IsUnit (BeginUnit unit)) bytes.now)
         (λ rest. Leaves (IsUnit (BeginUnit unit)) Never bytes.now rest.now) }
@@ -94,7 +94,7 @@ fn behind_unit<'i>(unit: Unit, bytes: &'i [u8]) -> Option<&'i [u8]>
     }
 }
 
-/// What stands behind a high surrogate and the low one that is escaped behind it.
+/// What stands after a high surrogate and the low one that is escaped after it.
 fn behind_pair<'i>(bytes: &'i [u8]) -> Option<&'i [u8]>
     ensures { MatchOption result (NoneStands IsPair bytes.now)
         (λ rest. Leaves IsPair Never bytes.now rest.now) }
@@ -105,7 +105,7 @@ fn behind_pair<'i>(bytes: &'i [u8]) -> Option<&'i [u8]>
     behind_unit(Unit::Low, low)
 }
 
-/// What stands behind the digits of a character: those of one unit, or of a pair.
+/// What stands after the digits of a character: those of one unit, or of a pair.
 fn behind_character<'i>(bytes: &'i [u8]) -> Option<&'i [u8]>
     ensures { MatchOption result (NoneStands IsCharacter bytes.now)
         (λ rest. Leaves IsCharacter Never bytes.now rest.now) }
@@ -116,7 +116,7 @@ fn behind_character<'i>(bytes: &'i [u8]) -> Option<&'i [u8]>
     }
 }
 
-/// What stands behind that which a backslash escapes.
+/// What stands after that which a backslash escapes.
 fn behind_escape<'i>(bytes: &'i [u8]) -> Option<&'i [u8]>
     ensures { MatchOption result (NoneStands IsEscape bytes.now)
         (λ rest. Leaves IsEscape Never bytes.now rest.now) }
@@ -131,7 +131,7 @@ fn behind_escape<'i>(bytes: &'i [u8]) -> Option<&'i [u8]>
     }
 }
 
-/// What stands behind the last quote of a string, from behind its first.
+/// What stands after the last quote of a string, from after its first.
 fn behind_string_tail<'i>(bytes: &'i [u8]) -> Option<&'i [u8]>
     ensures { MatchOption result (NoneStands IsStringTail bytes.now)
         (λ rest. Leaves IsStringTail Never bytes.now rest.now) }
@@ -149,7 +149,7 @@ fn behind_string_tail<'i>(bytes: &'i [u8]) -> Option<&'i [u8]>
     }
 }
 
-/// What stands behind a string.
+/// What stands after a string.
 pub fn behind_string<'i>(bytes: &'i [u8]) -> Option<&'i [u8]>
     ensures { MatchOption result (NoneStands IsString bytes.now)
         (λ rest. Leaves IsString Never bytes.now rest.now) }
@@ -159,7 +159,7 @@ pub fn behind_string<'i>(bytes: &'i [u8]) -> Option<&'i [u8]>
 }
 
 /// The text between the quotes of the string that the bytes begin with, with its escapes as they
-/// stand. The input then stands behind the last quote.
+/// stand. The input then stands after the last quote.
 ///
 /// Between quotes stand bytes of 32 and above but for quote and backslash, and a backslash with one
 /// of `"`, `\`, `/`, `b`, `f`, `n`, `r`, `t`, or with `u` and four hexadecimal digits. A surrogate

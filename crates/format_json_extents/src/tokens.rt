@@ -70,7 +70,7 @@ fn all_of<S: ContainsToken<u8> + Drop, I: StreamIsPartial<Token = u8>, E: Parser
     take_while(Range::from(0..), set)
 }
 
-/// What stands behind all digits.
+/// What stands after all digits.
 pub fn behind_digits<'i>(bytes: &'i [u8]) -> &'i [u8]
     ensures { Leaves (All IsDigit) IsDigit bytes.now result.now }
 {
@@ -83,7 +83,7 @@ pub fn behind_digits<'i>(bytes: &'i [u8]) -> &'i [u8]
     }
 }
 
-/// What stands behind all white space.
+/// What stands after all white space.
 pub fn behind_gap<'i>(bytes: &'i [u8]) -> &'i [u8]
     ensures { Leaves (All IsSpace) IsSpace bytes.now result.now }
 {
@@ -95,7 +95,7 @@ pub fn behind_gap<'i>(bytes: &'i [u8]) -> &'i [u8]
     }
 }
 
-/// What stands behind all bytes that stand for themselves in a string.
+/// What stands after all bytes that stand for themselves in a string.
 pub fn behind_unescaped<'i>(bytes: &'i [u8]) -> &'i [u8]
     ensures { Leaves (All IsUnescaped) IsUnescaped bytes.now result.now }
 {
@@ -107,7 +107,7 @@ pub fn behind_unescaped<'i>(bytes: &'i [u8]) -> &'i [u8]
     }
 }
 
-/// What stands behind a byte.
+/// What stands after a byte.
 pub fn behind<'i>(byte: u8, bytes: &'i [u8]) -> Option<&'i [u8]>
     ensures { MatchOption result ((more : List ℕ) → bytes.now ≡ byte ∷ more → ⊥)
         (λ rest. bytes.now ≡ byte ∷ rest.now) }

@@ -14,7 +14,7 @@ use crate::scalar::behind_scalar;
 use crate::string::behind_string;
 use crate::tokens::{behind, behind_gap};
 
-/// What stands behind an opening bracket, and whether names stand behind it.
+/// What stands after an opening bracket, and whether names stand after it.
 fn behind_opening<'i>(bytes: &'i [u8]) -> Option<(bool, &'i [u8])>
     ensures { MatchOption result
         ((keyed : Bool) (more : List ℕ) → bytes.now ≡ opening keyed ∷ more → ⊥)
@@ -28,7 +28,7 @@ fn behind_opening<'i>(bytes: &'i [u8]) -> Option<(bool, &'i [u8])>
     }
 }
 
-/// What stands behind the closing bracket.
+/// What stands after the closing bracket.
 fn behind_closing<'i>(keyed: bool, bytes: &'i [u8]) -> Option<&'i [u8]>
     ensures { MatchOption result ((more : List ℕ) → bytes.now ≡ closing keyed ∷ more → ⊥)
         (λ rest. bytes.now ≡ closing keyed ∷ rest.now) }
@@ -40,7 +40,7 @@ fn behind_closing<'i>(keyed: bool, bytes: &'i [u8]) -> Option<&'i [u8]>
     }
 }
 
-/// What stands behind the closing bracket of what has nothing in it.
+/// What stands after the closing bracket of what has nothing in it.
 fn behind_empty<'i>(keyed: bool, bytes: &'i [u8]) -> Option<&'i [u8]>
     ensures { MatchOption result (NoneStands (IsEmptyTail keyed) bytes.now)
         (λ rest. Leaves (IsEmptyTail keyed) Never bytes.now rest.now) }
@@ -48,7 +48,7 @@ fn behind_empty<'i>(keyed: bool, bytes: &'i [u8]) -> Option<&'i [u8]>
     behind_closing(keyed, behind_gap(bytes))
 }
 
-/// What stands behind a name and its colon, where names stand.
+/// What stands after a name and its colon, where names stand.
 fn behind_name<'i>(keyed: bool, bytes: &'i [u8]) -> Option<&'i [u8]>
     ensures { MatchOption result (NoneStands (IsName keyed) bytes.now)
         (λ rest. Leaves (IsName keyed) Never bytes.now rest.now) }
@@ -61,7 +61,7 @@ fn behind_name<'i>(keyed: bool, bytes: &'i [u8]) -> Option<&'i [u8]>
     }
 }
 
-/// What stands behind the closing bracket, from before the first item.
+/// What stands after the closing bracket, from before the first item.
 #[cycle(nesting)]
 fn behind_items<'i>(keyed: bool, level: usize, bytes: &'i [u8]) -> Option<&'i [u8]>
     ensures { MatchOption result (NoneStands (IsItemsTail keyed (IsValue level)) bytes.now)
@@ -79,7 +79,7 @@ fn behind_items<'i>(keyed: bool, level: usize, bytes: &'i [u8]) -> Option<&'i [u
     }
 }
 
-/// What stands behind the longest value.
+/// What stands after the longest value.
 #[cycle(nesting)]
 fn behind_value<'i>(level: usize, bytes: &'i [u8]) -> Option<&'i [u8]>
     ensures { MatchOption result (NoneStands (IsValue level) bytes.now)
@@ -102,7 +102,7 @@ fn behind_value<'i>(level: usize, bytes: &'i [u8]) -> Option<&'i [u8]>
 
 /// The longest value that the bytes begin with in which no more than `level` arrays and objects
 /// stand in one another: at level 0 there are none, and `[1, {}]` has two levels. The input then
-/// stands behind the value. White space before it is not passed.
+/// stands after the value. White space before it is not passed.
 ///
 /// A number may be a shorter one than the writer meant, as `read_number` says. Each level takes
 /// frames of the stack, so `level` is to be no more than there is a stack for. Bytes of 128 and

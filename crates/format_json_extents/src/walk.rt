@@ -65,7 +65,7 @@ fn is_closing(byte: u8) -> bool
     byte == b']' || byte == b'}'
 }
 
-/// What stands behind white space, a comma or a colon at most, and the white space behind that.
+/// What stands after white space, a comma or a colon at most, and the white space after that.
 fn behind_lead<'i>(bytes: &'i [u8]) -> &'i [u8]
     ensures { Leaves IsLead IsLeadByte bytes.now result.now }
 {
@@ -82,9 +82,9 @@ fn behind_lead<'i>(bytes: &'i [u8]) -> &'i [u8]
     }
 }
 
-/// The next value: the longest that stands behind white space, a comma or a colon at most, and
+/// The next value: the longest that stands after white space, a comma or a colon at most, and
 /// white space, in which no more than `level` arrays and objects stand in one another. The input
-/// then stands behind the value. So what an array has in it is read from behind its opening bracket
+/// then stands after the value. So what an array has in it is read from after its opening bracket
 /// on, a value at each call, and what an object has in it, a name and a value in turn.
 ///
 /// `None` exactly where no such value stands there; then nothing is read.

@@ -60,7 +60,7 @@ module _ (X : Type 0) (level : ℕ) (held : List Bracket) (more : List ℕ) wher
       let top = found ∙ ap (λ l. slice_get l (length l - 1)) same ∙ kept_last held in
       subst (λ t. Next t) (sym (is ∙ ap (λ x. next_step mode x b) top)) (subst Q e w)
 
--- behind a value in no bracket, and in one
+-- after a value in no bracket, and in one
 module _ (X : Type 0) (level : ℕ) (held : List Bracket) (more : List ℕ)
     (w : IsBehind (λ m o. IsBegun level m o more) held ↔ X) where
   pub behind_none : length (kept held) ≡ 0 → X

@@ -36,7 +36,7 @@ place_as {level} {bytes} {n} {m} {e} {f} same is x =
     let P : ℕ → Expected → Type 0 = λ k g. IsPlace level bytes k g in
     subst (λ k. P k f) (sym same) (subst (λ g. P n g) (sym is) x)
 
--- What a walk has come to: bytes that are passed, what is to come behind them, in these brackets.
+-- What a walk has come to: bytes that are passed, what is to come after them, in these brackets.
 pub record Walked (level : ℕ) (bytes left : List ℕ) (mode : Mode) (items : List Bracket) : Type 0
   where
     pub held : List Bracket

@@ -34,7 +34,7 @@ module _ {bytes left more : List ℕ} {b : ℕ} (w : InString bytes left) (first
 
 -- ---- in brackets
 
--- Where so many are open, they are closed as the one is that was open before all bytes.
+-- Where that many are open, they are closed as the one is that was open before all bytes.
 abbrev pub InBrackets : ℕ → List ℕ → List ℕ → Type 0
 InBrackets n bytes left = (rest : List ℕ) → Closes n left rest ↔ Closes 1 bytes rest
 

@@ -1,4 +1,4 @@
--- Bytes with which the text of a value may begin: what comes of each, behind those before it.
+-- Bytes with which the text of a value may begin: what comes of each, after those before it.
 use Rattle.std.specs.Prelude.{◌≡◌, ◌⊎◌, ◌==◌, ◌&&◌, ◌||◌, ◌<◌, if◌then◌else◌, ℕ, Bool}
 use Rattle.std.specs.Prelude.{not, suc, List}
 use Rattle.std.specs.Prelude.{[], ◌∷◌, Option, Some, None, nat_le, length, ⊤}
@@ -29,7 +29,7 @@ use Rattle.format_json_pieces.specs.declared.inside.Part.TheVariants.{Plain}
 abbrev pub is_gap : ℕ → Bool
 is_gap b = b == 32 || (b == 9 || (b == 10 || b == 13))
 
--- where a value is to come, perhaps behind white space
+-- where a value is to come, perhaps after white space
 abbrev pub value_step : Mode → ℕ → Step
 value_step mode b =
     if is_gap b then Goes mode else if b == 34 then Goes (Text Plain) else
@@ -56,7 +56,7 @@ item_ends Array b = if b == 44 then Goes Item else if b == 93 then Closes else R
 item_ends Object b = if b == 44 then Goes Item else if b == 125 then Closes else Refused
 item_ends Whole b = Refused
 
--- behind an item
+-- after an item
 abbrev pub after_step : Bracket → ℕ → Step
 after_step held b = if is_gap b then Goes After else item_ends held b
 
@@ -124,7 +124,7 @@ abbrev pub others_open : List Bracket → List Bracket
 others_open [] = []
 others_open (bracket ∷ held) = held
 
--- behind a value: nothing more is asked of bytes in no bracket
+-- after a value: nothing more is asked of bytes in no bracket
 abbrev pub IsBehind : (Mode → List Bracket → Type 0) → List Bracket → Type 0
 IsBehind on [] = ⊤
 IsBehind on (bracket ∷ held) = on After (bracket ∷ held)

@@ -19,20 +19,20 @@ use Rattle.winnow.specs.Texts.{Begins, NotFirst}
 abbrev pub IsPlain : ℕ → Type 0
 IsPlain b = (b ≡ 34 → ⊥) × (b ≡ 92 → ⊥)
 
--- Behind the first quote of a string the bytes go on to its last, and the rest is behind that. A
--- backslash takes along the byte behind it.
+-- After the first quote of a string the bytes go on to its last, and the rest is after that. A
+-- backslash takes along the byte after it.
 pub data EndsString : List ℕ → List ℕ → Type 0 where
   quote : {rest : List ℕ} → EndsString (34 ∷ rest) rest
   escaped : {b : ℕ} {more rest : List ℕ} → EndsString more rest → EndsString (92 ∷ b ∷ more) rest
   plain : {b : ℕ} {more rest : List ℕ} → IsPlain b → EndsString more rest
       → EndsString (b ∷ more) rest
 
--- how many brackets are open behind a byte that is in no string, of so many before it
+-- how many brackets are open after a byte that is in no string, of that many before it
 abbrev pub open_behind : ℕ → ℕ → ℕ
 open_behind b n =
     if b == 91 || b == 123 then suc n else if b == 93 || b == 125 then pred n else n
 
--- So many brackets are open, the bytes close all of them, and the rest is behind the last.
+-- That many brackets are open, the bytes close all of them, and the rest is after the last.
 pub data Closes : ℕ → List ℕ → List ℕ → Type 0 where
   closed : {rest : List ℕ} → Closes zero rest rest
   string : {n : ℕ} {more behind rest : List ℕ} → EndsString more behind
@@ -54,7 +54,7 @@ word_of b =
     if b == 110 then 110 ∷ 117 ∷ 108 ∷ 108 ∷ [] else 116 ∷ 114 ∷ 117 ∷ 101 ∷ []
 
 -- The bytes begin with a string, with brackets and what they enclose, or with a word, and the rest
--- is behind it.
+-- is after it.
 abbrev pub IsClosed : List ℕ → List ℕ → Type 0
 IsClosed [] rest = ⊥
 IsClosed (b ∷ more) rest =
@@ -67,7 +67,7 @@ abbrev pub MayEnd : Grammar ℕ (List ℕ)
 MayEnd bytes text rest =
     (bytes ≡ text ++ rest) × (IsClosed bytes rest ⊎ (Begins IsNumeric text × All IsNumeral text))
 
--- And if it is a number, no byte of numbers is behind it, whatever comes.
+-- And if it is a number, no byte of numbers is after it, whatever comes.
 abbrev pub Ends : Bool → List ℕ → List ℕ → List ℕ → Type 0
 Ends cut bytes text left =
     MayEnd bytes text left × (Begins IsNumeric text → (more : List ℕ) → Allows cut more
@@ -104,7 +104,7 @@ string_one quote y = behind_quote y
 string_one (escaped x) y = string_one x (behind_escape y)
 string_one (plain p x) y = string_one x (behind_plain p y)
 
--- behind a string the same brackets are open
+-- after a string the same brackets are open
 pub behind_string : {n : ℕ} {more behind rest : List ℕ} → EndsString more behind
     → Closes (suc n) (34 ∷ more) rest → Closes (suc n) behind rest
 behind_string {n} {rest = rest} x (string y z) =
@@ -139,7 +139,7 @@ closed_one (b ∷ more) rest other (inr (inr (is, x))) (inr (inl (it, y))) =
 closed_one (b ∷ more) rest other (inr (inr (_, x))) (inr (inr (_, y))) =
     same_rest (word_of b) rest other (sym x ∙ y)
 
--- ---- and there too where more is behind
+-- ---- and there too where more is after
 
 string_stays : {bytes rest : List ℕ} (more : List ℕ) → EndsString bytes rest
     → EndsString (bytes ++ more) (rest ++ more)

@@ -27,7 +27,7 @@ widened {O} {text} {behind} {whole} {before} {all} fewer more front = record {
 digit_low : (c : ℕ) → IsDecDigit c → c < 128
 digit_low c is = omega (arith, is)
 
--- Bytes behind these of a number, and before it.
+-- Bytes after these of a number, and before it.
 pub record Counts (at : Figure → List ℕ → Type 0) (behind whole : List ℕ → Type 0) : Type 0 where
   pub goes : (f g : Figure) (b : ℕ) (l : List ℕ) → figure_behind f b ≡ Some g → at g l
       → at f (b ∷ l)
@@ -38,7 +38,7 @@ pub record Counts (at : Figure → List ℕ → Type 0) (behind whole : List ℕ
 
 module _ (rest : List ℕ) {at : Figure → List ℕ → Type 0} {behind whole : List ℕ → Type 0}
     (n : Counts at behind whole) where
-  -- what may stand behind an E and perhaps a sign; behind digits; behind the whole ones; and behind
+  -- what may stand after an E and perhaps a sign; after digits; after the whole ones; and after
   -- a minus, or none
   abbrev Signed : List ℕ → Type 0
   Signed l = at figures.Exponent l × at figures.Sign l

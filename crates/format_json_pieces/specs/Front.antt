@@ -61,7 +61,7 @@ number_front {tokens} adds =
 -- ---- strings
 
 module _ (rest : List ℕ) (behind : List ℕ → Type 0) where
-  -- the bytes of a string behind its first quote, and such bytes behind it
+  -- the bytes of a string after its first quote, and such bytes after it
   abbrev pub Inside : List ℕ → Type 0
   Inside bytes = (left : List ℕ) × EndsString bytes left × behind left
 
@@ -145,7 +145,7 @@ calm : (b n : ℕ) → IsCalm b → open_behind b n ≡ n
 calm b n (q, x, y, z, w) = rw (ne_eqb b 91 x, ne_eqb b 123 y, ne_eqb b 93 z, ne_eqb b 125 w) refl
 
 module _ (rest : List ℕ) where
-  -- so many brackets and one are open, and closed before the rest
+  -- that many brackets and one are open, and closed before the rest
   abbrev pub Within : ℕ → List ℕ → Type 0
   Within n bytes = Closes (suc n) bytes rest
 
@@ -154,7 +154,7 @@ module _ (rest : List ℕ) where
   count n m b bytes not is x =
       let P : ℕ → Type 0 = λ k. Closes k bytes rest in byte not (subst P (sym is) x)
 
-  -- Where a value stands: in so many brackets, in front of bytes that make others with it, or in
+  -- Where a value stands: in that many brackets, in front of bytes that make others with it, or in
   -- none.
   pub record Place (n : ℕ) (behind whole : List ℕ → Type 0) : Type 0 where
     pub quoted : (bytes : List ℕ) → Inside rest behind bytes → whole (34 ∷ bytes)

@@ -16,7 +16,7 @@ use Rattle.winnow.specs.Utf8.{four_bytes, three_bytes, two_bytes}
 
 -- ---- lists
 
--- what is left of a text behind another that begins the same bytes
+-- what is left of a text after another that begins the same bytes
 abbrev pub Behind : List ℕ → List ℕ → List ℕ → List ℕ → Type 0
 Behind t rest u other = (more : List ℕ) × (u ≡ t ++ more) × (rest ≡ more ++ other)
 
@@ -31,12 +31,12 @@ split_two (x ∷ t) rest (y ∷ u) other e = elim (split_two t rest u other (sam
   | inr (more, f, g) ↦ inr (more, ap (λ c. c ∷ t) (same_first e) ∙ ap (λ l. y ∷ l) f, g)
 ]
 
--- what holds of all holds of those behind
+-- what holds of all holds of those after
 pub all_behind : (P : ℕ → Type 0) (front rest : List ℕ) → All P (front ++ rest) → All P rest
 all_behind P [] rest all = all
 all_behind P (x ∷ front) rest all = all_behind P front rest (All-tail P x (front ++ rest) all)
 
--- a text of a class is not longer than one behind which none of the class is first
+-- a text of a class is not longer than one after which none of the class is first
 pub none_left : (P : ℕ → Type 0) (t rest u other : List ℕ) → Behind t rest u other → All P u
     → NotFirst P rest → (t ≡ u) × (rest ≡ other)
 none_left P t rest u other (more, splits, rests) all not = by more splits rests

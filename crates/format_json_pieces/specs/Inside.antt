@@ -151,7 +151,7 @@ expected Alse = 97
 expected Lse = 108
 expected Se = 115
 
--- those behind it
+-- those after it
 abbrev pub letters_behind : Letters → Option Letters
 letters_behind Ull = Some Ll
 letters_behind Ll = Some L

@@ -94,11 +94,11 @@ module _ (level : ℕ) (rest : List ℕ) where
         white_by (λ b. next_step modes.Item (Some Object) b ≡ steps.Goes modes.Item) refl refl
         refl refl
 
-    -- what is closed in a bracket, first or behind an item
+    -- what is closed in a bracket, first or after an item
     abbrev Closed : Bracket → List ℕ → Type 0
     Closed k l = At level modes.First (k ∷ held) l × At level modes.After (k ∷ held) l
 
-    -- the first item, or one behind a comma
+    -- the first item, or one after a comma
     abbrev Items : Bracket → List ℕ → Type 0
     Items k l = At level modes.First (k ∷ held) l × At level modes.Item (k ∷ held) l
 
@@ -304,7 +304,7 @@ asks_begun level bytes kind (inr (inl (_, begun))) asks = begun
 asks_begun level bytes kind (inr (inr (backtracks, not))) (need, asks) =
     absurd (true_is_false (ap is_asking (sym asks ∙ backtracks)))
 
--- behind white space too
+-- after white space too
 pub asks_next : (level : ℕ) (bytes gap left : List ℕ) → bytes ≡ gap ++ left
     → All IsMultispace gap → IsBegun level modes.Value [] left
     → IsBegun level modes.Value [] bytes

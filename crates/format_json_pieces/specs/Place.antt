@@ -69,12 +69,12 @@ wanted (Word letters) held = what.Letter (expected letters)
 
 -- ---- the place
 
--- The bytes may begin a text, and with the byte behind them they may not; or none is behind them.
+-- The bytes may begin a text, and with the byte after them they may not; or none is after them.
 abbrev pub IsStopped : ℕ → List ℕ → List ℕ → Type 0
 IsStopped level front [] = ⊤
 IsStopped level front (b ∷ rest) = MayBegin level (front ++ b ∷ []) → ⊥
 
--- Behind these bytes this is to come in these brackets: whatever may stand there may stand behind
+-- After these bytes this is to come in these brackets: whatever may stand there may stand after
 -- the bytes.
 abbrev pub LeadsTo : ℕ → List ℕ → Mode → List Bracket → Type 0
 LeadsTo level front mode held =

@@ -31,12 +31,12 @@ use Rattle.winnow.specs.Texts.Fronts.{begins_never, not_first}
 
 -- ---- what stands in the bytes stands in the text
 
--- what does not go on with more behind it does not
+-- what does not go on with more after it does not
 pub not_on : (behind left : List ℕ) → NotFirst GoesOn (behind ++ left) → NotFirst GoesOn behind
 not_on [] left not = tt
 not_on (x ∷ behind) left not = not
 
--- What is left of the text behind one that stands.
+-- What is left of the text after one that stands.
 record Within (text t rest : List ℕ) : Type 0 where
   pub behind : List ℕ
   pub splits : text ≡ t ++ behind
@@ -116,7 +116,7 @@ ended_there cut bytes text left more t rest ((e, inr (b, all)), ends) allowed wh
         let same = chars-IsAscii (x ∷ rest) (numerals_ascii (x ∷ rest) each) in
         let it : NotFirst GoesOn (x ∷ rest) = subst P same stops in it
 
--- what is behind some characters of a text is so in its bytes
+-- what is after some characters of a text is so in its bytes
 pub splits_there : (text rest front : List ℕ) → IsUtf8 text → IsUtf8 rest
     → chars text ≡ front ++ chars rest → text ≡ encode_utf8_all front ++ rest
 splits_there text rest front utf8 ends e =
@@ -226,7 +226,7 @@ module _ {A : Type 0} (level : ℕ) (cut : Bool) (bytes text left : List ℕ)
               (ended_there cut bytes text left more t rest found allowed whole not),
         )
 
--- ---- the next value, behind white space
+-- ---- the next value, after white space
 
 -- a value begins with none
 value_first : {A : Type 0} (level : ℕ) (bytes : List ℕ) (v : Value A) (rest : List ℕ)
@@ -289,7 +289,7 @@ module _ {A : Type 0} (level : ℕ) (cut : Bool) (bytes gap start : List ℕ)
   next_fails some kind (inr (inr (backs, none))) =
       inr (inr (backs, λ more allowed. next_none some more (none more allowed)))
 
--- and where more is asked for behind white space, a value stands only in bytes of numbers
+-- and where more is asked for after white space, a value stands only in bytes of numbers
 pub next_numerals : {A : Type 0} (level : ℕ) (bytes gap left : List ℕ)
     → (bytes ≡ gap ++ left) × All IsMultispace gap × NotFirst IsMultispace left
     → ((v : Value A) (rest : List ℕ) → IsValueIn level left v rest → All IsNumeral left)
@@ -301,7 +301,7 @@ next_numerals level bytes gap left passed all v rest (g, s, each, e, x) =
     let P : List ℕ → Type 0 = λ l. IsValueIn level l v rest in
     (gap, left, passed.1, passed.0, all v rest (subst P same x))
 
--- and where nothing is behind the white space, none comes
+-- and where nothing is after the white space, none comes
 pub none_next : (A : Type 0) (level : ℕ) (cut : Bool) (bytes gap left : List ℕ)
     → (bytes ≡ gap ++ left) × All IsMultispace gap × NotFirst IsMultispace left
     → length left ≡ 0 → cut ≡ false → Stands (IsNext {A = A} level) cut bytes None left

@@ -89,7 +89,7 @@ module _ (rest : List ℕ) where
           ascii_spells behind behind c (xs ++ cs) (low c is) (λ l. adds c l is)
           (each xs cs (All-tail class c xs all) x)
 
--- what may stand behind a text that may be left out may stand where it stands
+-- what may stand after a text that may be left out may stand where it stands
 pub left_out : {O : Type 0} {text : Text ℕ O} {behind whole : List ℕ → Type 0}
     → ((l : List ℕ) → behind l → whole l) → InFront text behind whole
     → InFront (OptionalText text) behind whole
@@ -102,7 +102,7 @@ left_out {O} {text} {behind} {whole} more front = record { makes = makes }
         let P : List ℕ → Type 0 = λ l. whole (l ++ rest) in subst P (sym e) (more rest b)
     makes (Some o) xs rest x b = front.makes o xs rest x b
 
--- items with something between them, where the first may stand, or what is behind them
+-- items with something between them, where the first may stand, or what is after them
 pub items_front : {O D : Type 0} {separator : Text ℕ D} {text : Text ℕ O}
     {item after last whole : List ℕ → Type 0} → InFront separator item after
     → InFront text after item → ((l : List ℕ) → last l → after l)

@@ -56,7 +56,7 @@ final_stops figures.Exponent b e not = absurd (true_is_false (sym e))
 final_stops figures.Sign b e not = absurd (true_is_false (sym e))
 final_stops figures.Power b e not = grind (arith, nat_tests, not)
 
--- behind an item no number goes on
+-- after an item no number goes on
 after_refuses : (k : Bracket) (b : ℕ) → goes_on b ≡ true → after_step k b ≡ steps.Refused
 after_refuses Array b goes = grind (arith, nat_tests, goes)
 after_refuses Object b goes = grind (arith, nat_tests, goes)
@@ -129,7 +129,7 @@ module _ (level : ℕ) where
       abbrev Word : Letters → List ℕ → Type 0
       Word l = At (modes.Word l) held
 
-      -- a letter, in front of those to come behind it
+      -- a letter, in front of those to come after it
       letter : (behind whole : List ℕ → Type 0) (c : ℕ) (cs : List ℕ) → c < 128
           → ((l : List ℕ) → behind l → whole (c ∷ l)) → Spells rest behind cs
           → Spells rest whole (c ∷ cs)
@@ -173,7 +173,7 @@ module _ (level : ℕ) where
           (either_front (spelled_front (116 ∷ 114 ∷ 117 ∷ 101 ∷ []) (Some true) rue)
           (spelled_front (102 ∷ 97 ∷ 108 ∷ 115 ∷ 101 ∷ []) (Some false) alse))
 
-      -- a number in brackets, or in none with bytes behind it with which it does not go on
+      -- a number in brackets, or in none with bytes after it with which it does not go on
       starts_number : (c : ℕ) (l : List ℕ) → IsLeading c
           → At (modes.Number figures.Whole) held l → Started held (c ∷ l)
       starts_number c l is x mode =
@@ -246,7 +246,7 @@ module _ (level : ℕ) where
       numbers = number_spells rest (inner_counts k held);
     }
 
-    -- in none: a number is not to go on behind it
+    -- in none: a number is not to go on after it
     abbrev pub Stops : List ℕ → Type 0
     Stops cs = Begins IsNumeric cs → NotFirst GoesOn rest
 

@@ -16,7 +16,7 @@ use Rattle.winnow.specs.Grammar.{Grammar, NoneStands}
 use Rattle.winnow.specs.Texts.{Text}
 use Rattle.winnow.specs.Told.{IsTextOf}
 
--- more may come behind the bytes only where they are cut
+-- more may come after the bytes only where they are cut
 abbrev pub Allows : Bool → List ℕ → Type 0
 Allows cut more = cut ≡ false → more ≡ []
 
@@ -25,7 +25,7 @@ module _ {O : Type 0} (grammar : Grammar ℕ O) (cut : Bool) (bytes : List ℕ) 
   abbrev pub Stands : O → List ℕ → Type 0
   Stands o left = (more : List ℕ) → Allows cut more → grammar (bytes ++ more) o (left ++ more)
 
-  -- An error wants memory, or asks for more where more may come, or none stands whatever comes.
+  -- An error is out of memory, or asks for more where more may come, or none stands whatever comes.
   abbrev pub Fails : Kind → Type 0
   Fails kind =
       (kind ≡ memory) ⊎ ((Asks kind × (cut ≡ true)) ⊎ ((kind ≡ backtrack)

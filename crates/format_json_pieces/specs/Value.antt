@@ -23,7 +23,7 @@ InUtf8 text o bytes = IsUtf8 bytes × text o (chars bytes)
 abbrev pub IsNumeric : ℕ → Type 0
 IsNumeric b = (b ≡ 45) ⊎ IsDecDigit b
 
--- Where a text begins as a number does, none of the bytes stands behind it with which a number may
+-- Where a text begins as a number does, none of the bytes stands after it with which a number may
 -- go on: a digit, a point or an E.
 abbrev pub IsEnded : List ℕ → List ℕ → Type 0
 IsEnded text rest = Begins IsNumeric text → NotFirst GoesOn rest
@@ -40,7 +40,7 @@ AreNumerals bytes =
     × All IsNumeral left
 
 module _ {A : Type 0} (level : ℕ) where
-  -- The bytes begin with a text of the value, of which no more than so many arrays and objects
+  -- The bytes begin with a text of the value, of which no more than that many arrays and objects
   -- stand
   -- in one another, and the text ends there.
   unfoldable pub IsValueIn : Grammar ℕ (Value A)
@@ -48,7 +48,7 @@ module _ {A : Type 0} (level : ℕ) where
       (text : List ℕ) × InUtf8 (ValueText HasCharacters level) v text × (bytes ≡ text ++ rest)
       × IsEnded text rest
 
-  -- White space, and behind it such a value; or white space alone, and none.
+  -- White space, and after it such a value; or white space alone, and none.
   unfoldable pub IsNext : Grammar ℕ (Option (Value A))
   IsNext bytes None rest = All IsMultispace bytes × (rest ≡ [])
   IsNext bytes (Some v) rest =
@@ -67,7 +67,7 @@ HasInner inner (Incomplete needed) = ⊥
 
 -- ---- what stands so is what is written
 
--- A text of a value stands wherever no byte is behind it with which a number may go on.
+-- A text of a value stands wherever no byte is after it with which a number may go on.
 pub value_written : {A : Type 0} (level : ℕ)
     → IsGrammarOf (IsValueIn {A = A} level) (InUtf8 (ValueText HasCharacters level))
     (NotFirst GoesOn)
@@ -77,7 +77,7 @@ value_written level = record {
   back = λ v front rest written not. (front, written, refl, λ begins. not);
 }
 
--- ---- what is behind is an end of the bytes
+-- ---- what is after is an end of the bytes
 
 module _ {A : Type 0} (level : ℕ) where
   pub value_ends : (bytes : List ℕ) (v : Value A) (rest : List ℕ) → IsValueIn level bytes v rest

@@ -44,7 +44,7 @@ pub enum Mode {
     Name(Part),
     /// The rest of a string that is a value.
     Text(Part),
-    /// The rest of a number, behind this.
+    /// The rest of a number, after this.
     Number(Figure),
     /// The rest of a word.
     Word(Letters),
@@ -74,7 +74,7 @@ fn is_gap(byte: u8) -> bool
     byte == b' ' || byte == b'\t' || byte == b'\n' || byte == b'\r'
 }
 
-/// Where a value is to come, perhaps behind white space.
+/// Where a value is to come, perhaps after white space.
 fn value_step(mode: Mode, byte: u8) -> Step
     ensures { result ≡ value_step mode byte }
 {
@@ -126,7 +126,7 @@ fn item_step(mode: Mode, held: Option<Bracket>, byte: u8) -> Step
     }
 }
 
-/// Behind an item.
+/// After an item.
 fn after_step(held: Bracket, byte: u8) -> Step
     ensures { result ≡ after_step held byte }
 {
@@ -219,7 +219,7 @@ pub fn next_step(mode: Mode, held: Option<Bracket>, byte: u8) -> Step
     }
 }
 
-/// Whether the bytes may go on to the text of a value, in which no more than so many arrays and
+/// Whether the bytes may go on to the text of a value, in which no more than that many arrays and
 /// objects stand in one another, or have one already.
 pub fn is_begun<A: Allocator>(alloc: A, level: usize, bytes: &[u8]) -> Result<bool, AllocError>
     ensures { IfOk result (λ begun. IsTrue begun ↔ IsBegun level modes.Value [] bytes.now) }
@@ -258,7 +258,7 @@ pub fn is_begun<A: Allocator>(alloc: A, level: usize, bytes: &[u8]) -> Result<bo
     Ok(true)
 }
 
-/// The error where the text of a value lacks bytes behind these, to which more may come: it asks
+/// The error where the text of a value lacks bytes after these, to which more may come: it asks
 /// for them where the bytes may go on to such a text, and else backtracks; or memory is wanting.
 pub fn lacking<A: Allocator>(alloc: A, level: usize, bytes: &[u8]) -> ErrMode<EmptyError>
     ensures { IsLacking level bytes.now (⟦<ErrMode<EmptyError> as HasKind>⟧.kind result) }

@@ -55,7 +55,7 @@ pub enum Expected {
     DigitOrSign,
     /// This letter of `null`, `true` or `false`.
     Letter(u8),
-    /// No bracket or brace that opens: so many are open as the level lets.
+    /// No bracket or brace that opens: that many are open as the level lets.
     NoDeeper,
 }
 

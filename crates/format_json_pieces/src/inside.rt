@@ -30,7 +30,7 @@ pub enum Part {
     HighOne,
     /// The backslash before the second surrogate.
     Backslash,
-    /// The u behind it.
+    /// The u after it.
     LetterU,
     /// The first digit of it, a D.
     LowD,
@@ -100,7 +100,7 @@ fn is_short(byte: u8) -> bool
         || byte == b't'
 }
 
-/// What is to come behind the first byte of a character above ASCII.
+/// What is to come after the first byte of a character above ASCII.
 fn lead_behind(byte: u8) -> Inner
     ensures { result ≡ lead_behind byte }
 {
@@ -153,7 +153,7 @@ fn plain_behind(byte: u8) -> Inner
     }
 }
 
-/// What comes of a byte behind a backslash.
+/// What comes of a byte after a backslash.
 fn escape_behind(byte: u8) -> Inner
     ensures { result ≡ escape_behind byte }
 {
@@ -215,7 +215,7 @@ pub enum Figure {
     Whole,
     /// A point.
     Point,
-    /// Digits behind the point.
+    /// Digits after the point.
     Fraction,
     /// An E.
     Exponent,
@@ -264,19 +264,19 @@ pub fn figure_behind(figure: Figure, byte: u8) -> Option<Figure>
 /// Which letters of a word are to come.
 #[derive(Clone, Copy, Drop)]
 pub enum Letters {
-    /// Those of `null` behind the first.
+    /// Those of `null` after the first.
     Ull,
     /// The last two of it.
     Ll,
     /// The last.
     L,
-    /// Those of `true` behind the first.
+    /// Those of `true` after the first.
     Rue,
     /// The last two of it.
     Ue,
     /// The last, of `false` too.
     E,
-    /// Those of `false` behind the first.
+    /// Those of `false` after the first.
     Alse,
     /// The last three of it.
     Lse,
@@ -298,7 +298,7 @@ pub fn expected(letters: Letters) -> u8
     }
 }
 
-/// The letters behind the first of these.
+/// The letters after the first of these.
 pub fn letters_behind(letters: Letters) -> Option<Letters>
     ensures { result ≡ letters_behind letters }
 {

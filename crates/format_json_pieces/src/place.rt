@@ -30,7 +30,7 @@ pub struct Place {
 }
 
 /// The first place at which the bytes are no beginning of a text of JSON, of a value in which no
-/// more than so many arrays and objects stand in one another: those before the place may go on to
+/// more than that many arrays and objects stand in one another: those before the place may go on to
 /// such a text, and with the byte there they may not, whatever comes after it. Where all of the
 /// bytes may go on to a text, or are one, the place is their end.
 ///

@@ -40,7 +40,7 @@ fn goes_on(text: &str) -> bool
     }
 }
 
-/// The value that the bytes begin with, and what is behind it. Behind cut bytes more may come.
+/// The value that the bytes begin with, and what is after it. After cut bytes more may come.
 fn value_in<'i, A: Allocator + Copy>(
     alloc: A,
     level: usize,
@@ -82,7 +82,7 @@ fn is_space(byte: u8) -> bool
     matches!(byte, b' ' | b'\t' | b'\n' | b'\r')
 }
 
-/// What is behind white space.
+/// What is after white space.
 fn behind_gap<'i>(bytes: &'i [u8]) -> &'i [u8]
     ensures { (gap : List ℕ) × (bytes.now ≡ gap ++ result.now) × All IsMultispace gap
         × NotFirst IsMultispace result.now }
@@ -96,7 +96,7 @@ fn behind_gap<'i>(bytes: &'i [u8]) -> &'i [u8]
     }
 }
 
-/// As [`value_in`], behind white space; none where white space is all there is.
+/// As [`value_in`], after white space; none where white space is all there is.
 fn next_in<'i, A: Allocator + Copy>(
     alloc: A,
     level: usize,
@@ -129,20 +129,20 @@ fn next_in<'i, A: Allocator + Copy>(
 /// The value that the bytes begin with, in which no more than `level` arrays and objects stand in
 /// one another, from an input to which more may come. It is answered once it is that of every
 /// longer input: an array, an object, a string or a word with its last byte, a number with the byte
-/// behind it. The input is then left behind the value. White space before it is not passed.
+/// after it. The input is then left after the value. White space before it is not passed.
 ///
-/// The bytes of the value are to be UTF-8; what is behind them is not looked at. A number ends
-/// where neither a digit, a point nor an `e` or `E` is behind it, else no value stands there.
+/// The bytes of the value are to be UTF-8; what is after them is not looked at. A number ends
+/// where neither a digit, a point nor an `e` or `E` is after it, else no value stands there.
 ///
 /// `Incomplete` where the bytes, or none, begin the text of a value of the level that may go on
-/// behind them, and more may come: then none of the level stands in them, or they are the bytes of
+/// after them, and more may come: then none of the level stands in them, or they are the bytes of
 /// a number. Each byte is one that such a text may have there, by a walk over the bytes with the
 /// brackets that are open (clause `begun`, by `IsBegun`): so of `[x`, `[1,,` or `01` no more is
 /// asked for. (That bytes which go on so always are those of some value is tested, and not proved.)
 /// A caller bounds how many bytes it holds: of text that never closes more is asked for again and
 /// again, and what is there is read anew each time. Another error backtracks: no value of the level
-/// stands first, whatever comes behind the bytes; or it wants memory, where a request was refused.
-/// All of them leave the input as it was. Each level takes some of the stack: up to
+/// stands first, whatever comes after the bytes; or it is out of memory, where a request was
+/// refused. All of them leave the input as it was. Each level takes some of the stack: up to
 /// [`SAFE_LEVEL`](format_json_values::value::SAFE_LEVEL) two megabytes suffice.
 ///
 /// ```
@@ -192,10 +192,10 @@ pub fn read_value_in_pieces<'i, A: Allocator + Copy>(
 }
 
 /// The next of values with white space between them, as a stream of JSON texts has them: as
-/// [`read_value_in_pieces`], behind white space. `None` where an input to which no more comes has
+/// [`read_value_in_pieces`], after white space. `None` where an input to which no more comes has
 /// white space at most; then nothing is left of it.
 ///
-/// A value may stand right behind another, as in `[1][2]`; a number behind a number only where it
+/// A value may stand right after another, as in `[1][2]`; a number after a number only where it
 /// has a minus, as in `1-2`.
 ///
 /// The level and errors are those of [`read_value_in_pieces`]; errors leave the input as it was,
@@ -280,7 +280,7 @@ fn in_bytes<'i>(
 /// no more than `level` arrays and objects stand in one another, with white space round it. Each
 /// level takes some of the stack, as of [`read_value_in_pieces`].
 ///
-/// Else a fault, at a byte: behind the longest front that is UTF-8 where not all is, else where
+/// Else a fault, at a byte: after the longest front that is UTF-8 where not all is, else where
 /// `format_json_values::value::parse_value` stops. Or it says that a request for memory was
 /// refused.
 ///
@@ -321,7 +321,7 @@ pub fn parse_value_of_bytes<'i, A: Allocator + Copy>(
 
 /// What stands first as a value is, in bytes, a text of the value by RFC 8259, of the level, and
 /// UTF-8; and each such text stands so wherever neither a digit, nor a point, nor an `e` or `E` is
-/// behind it.
+/// after it.
 ///
 /// ```
 /// use format_json_pieces::value::values_are_those_of_the_standard;
@@ -336,7 +336,7 @@ pub fn values_are_those_of_the_standard<A: Allocator>()
         (InUtf8 (ValueText HasCharacters level)) (NotFirst GoesOn) }
 {}
 
-/// A value that bytes begin with ends at one place: what is behind it is one end of the bytes,
+/// A value that bytes begin with ends at one place: what is after it is one end of the bytes,
 /// whichever value it is.
 ///
 /// ```

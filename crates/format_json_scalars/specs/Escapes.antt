@@ -23,7 +23,7 @@ use Rattle.format_parts.specs.Hexadecimal.{unit_unique}
 
 -- ---- units
 
--- two units, the second behind another backslash and u
+-- two units, the second after another backslash and u
 abbrev pub Units : Grammar ℕ (ℕ × ℕ)
 Units = Both pair CodeUnit (Both latter (Both pair (Char 92) (Char 117)) CodeUnit)
 

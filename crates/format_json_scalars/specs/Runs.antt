@@ -42,7 +42,7 @@ Characters = Gathered HasCharacters (Many Character (from_to 0 None))
 abbrev pub PlainRun : Grammar ℕ (Bor (List ℕ))
 PlainRun = RunOf text_reading IsUnescaped (λ c. IsUnescaped c → ⊥)
 
--- behind a run stands none that stands for itself
+-- after a run stands none that stands for itself
 pub run_ends : {tokens rest : List ℕ} (slice : Bor (List ℕ)) → PlainRun tokens slice rest
     → NotFirst IsUnescaped rest
 run_ends slice (front, all, split, shown, ends) = ends
@@ -157,7 +157,7 @@ module _ {A : Type 0} {start : List ℕ} where
     held = more_held text next has.characters front slice.now has.held shown e;
   }
 
-  -- an escape behind a run
+  -- an escape after a run
   pub escape_read : {text next : String A} {mid rest : List ℕ} (c : ℕ) → HasRead start text mid
       → NotFirst IsUnescaped mid → Escape mid c rest
       → string_bytes next ≡ string_bytes text ++ encode_utf8 c → HasRead start next rest
@@ -170,7 +170,7 @@ module _ {A : Type 0} {start : List ℕ} where
         (sym (append-nil (encode_utf8 c))) e;
   }
 
--- a run and an escape behind it take characters
+-- a run and an escape after it take characters
 pub fewer_left : (start mid rest : List ℕ) (slice : Bor (List ℕ)) (c : ℕ)
     → PlainRun start slice mid → Escape mid c rest → length rest < length start
 fewer_left start mid rest slice c run x =

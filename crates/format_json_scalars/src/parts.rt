@@ -29,7 +29,7 @@ where
     alt((first, second)).read(input)
 }
 
-/// Reads a backslash, and behind it what is short, or a letter and a unit.
+/// Reads a backslash, and after it what is short, or a letter and a unit.
 pub fn read_escape_of<I, O1, O2, O3, E, P, Q, R, S>(
     backslash: P,
     short: Q,
@@ -68,7 +68,7 @@ where
     preceded(backslash, alt((short, preceded(letter, unicode)))).read(input)
 }
 
-/// Reads a unit, a backslash and a letter behind it, and another unit.
+/// Reads a unit, a backslash and a letter after it, and another unit.
 pub fn read_units_of<I, O1, O2, O3, O4, E, P, Q, R, S>(
     first: P,
     backslash: Q,

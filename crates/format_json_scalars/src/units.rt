@@ -9,7 +9,7 @@ use format_parts::hexadecimal::{Unit, read_unit};
 use winnow::error::{EmptyError, ErrMode, HasKind};
 use winnow::exact::Rule;
 
-/// The name of two units, the second behind another backslash and u.
+/// The name of two units, the second after another backslash and u.
 #[derive(Clone, Copy, Drop)]
 pub struct TwoUnits;
 
@@ -25,7 +25,7 @@ impl<'i> Rule<&'i str, (u32, u32)> for TwoUnits {
     ghost takes = { λ _ _. units_takes };
 }
 
-/// Two units, the second behind another backslash and u.
+/// Two units, the second after another backslash and u.
 pub fn read_units<'i>(input: &mut &'i str) -> Result<(u32, u32), ErrMode<EmptyError>>
     ensures { Reads text_reading ⟦<ErrMode<EmptyError> as HasKind>⟧.kind Units
         (text_input input.old.now) result (text_input input.new.now) }

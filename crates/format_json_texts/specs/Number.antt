@@ -54,13 +54,13 @@ NumberText =
 
 -- ---- what is read
 
--- a zero, or a digit from 1 on and as many as stand behind it
+-- a zero, or a digit from 1 on and as many as stand after it
 abbrev pub Integer : Grammar ℕ Slice
 Integer =
     Either (Taken text_reading (Char 48))
     (Taken text_reading (Both pair (OneIn IsLeading) (RunOf IsDecDigit 0)))
 
--- a point, and as many digits as stand behind it, one at least
+-- a point, and as many digits as stand after it, one at least
 abbrev pub Fraction : Grammar ℕ Slice
 Fraction = Both latter (Char 46) (RunOf IsDecDigit 1)
 

@@ -23,13 +23,13 @@ abbrev pub IsUnescaped : ℕ → Type 0
 IsUnescaped c =
     ((32 ≤ c) × (c ≤ 33)) ⊎ (((35 ≤ c) × (c ≤ 91)) ⊎ ((93 ≤ c) × (c ≤ 1114111)))
 
--- a surrogate and one behind it, and the character that they are
+-- a surrogate and one after it, and the character that they are
 abbrev pub ArePair : ℕ × ℕ → ℕ → Type 0
 ArePair p c =
     (55296 ≤ p.0) × (p.0 < 56320) × (56320 ≤ p.1) × (p.1 < 57344)
     × (c ≡ 65536 + (p.0 - 55296) * 1024 + (p.1 - 56320))
 
--- the character behind a backslash, and that for which both stand: of ", \ and / it is the same, of
+-- the character after a backslash, and that for which both stand: of ", \ and / it is the same, of
 -- b a backspace, of f a form feed, of n a line feed, of r a carriage return and of t a tab
 abbrev pub StandsFor : ℕ → ℕ → Type 0
 StandsFor c k =
@@ -39,7 +39,7 @@ StandsFor c k =
 
 -- ---- what is written
 
--- a unit alone, or two of them, the second behind another backslash and u
+-- a unit alone, or two of them, the second after another backslash and u
 abbrev pub UnicodeText : Text ℕ ℕ
 UnicodeText =
     EitherText (For IsAlone UnitText)

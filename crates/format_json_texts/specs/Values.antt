@@ -45,11 +45,11 @@ IsObject members v = v ≡ values.Object members
 abbrev pub GapText : Text ℕ Slice
 GapText = Run IsMultispace 0
 
--- a text, and white space behind it
+-- a text, and white space after it
 abbrev pub Spaced : {O : Type 0} → Text ℕ O → Text ℕ O
 Spaced text = BothText former text GapText
 
--- a structural character, and white space behind it
+-- a structural character, and white space after it
 abbrev pub Mark : ℕ → Text ℕ (ℕ × Slice)
 Mark c = BothText pair (One c) GapText
 
@@ -80,7 +80,7 @@ module _ {A : Type 0} (holds : String A → List ℕ → Type 0) where
   abbrev pub ObjectText : Text ℕ (Value A) → Text ℕ (Vec (String A × Value A) A)
   ObjectText value = Between (Mark 123) (InList (PartedText (Mark 44) (MemberText value))) (One 125)
 
-  -- a value, of which no more than so many arrays and objects stand in one another
+  -- a value, of which no more than that many arrays and objects stand in one another
   unfoldable pub ValueText : ℕ → Text ℕ (Value A)
   ValueText zero = ScalarText
   ValueText (suc level) =

@@ -11,7 +11,7 @@ ghost use Rattle.winnow.specs.Texts.{Anything, IsGrammarOf, NotFirst};
 use std::alloc::Allocator;
 
 /// What stands by the grammar of numbers is a number of RFC 8259 (section 6); and such a number
-/// stands by it wherever neither a digit, nor a point, nor an `e` or `E` is behind it.
+/// stands by it wherever neither a digit, nor a point, nor an `e` or `E` is after it.
 ///
 /// ```
 /// use format_json_texts::laws::numbers_are_those_of_the_standard;
@@ -23,7 +23,7 @@ pub fn numbers_are_those_of_the_standard()
 {}
 
 /// What stands by the grammar of strings is a string of RFC 8259 (section 7), for what holds its
-/// characters with their escapes undone; and such a string stands by it, whatever is behind it. An
+/// characters with their escapes undone; and such a string stands by it, whatever is after it. An
 /// escaped surrogate stands for no character unless it is one of a pair, so what has one alone is
 /// the text of no string, though the grammar of the standard has it (section 8.2).
 ///
@@ -40,8 +40,8 @@ pub fn strings_are_those_of_the_standard<A: Allocator>()
 {}
 
 /// What stands by the grammar of texts of JSON is such a text of RFC 8259 (section 2), of a value
-/// in which no more than so many arrays and objects are nested; and such a text stands by it
-/// wherever neither white space is behind it, nor what a number may go on with.
+/// in which no more than that many arrays and objects are nested; and such a text stands by it
+/// wherever neither white space is after it, nor what a number may go on with.
 ///
 /// ```
 /// use format_json_texts::laws::nested_values_are_those_of_the_standard;

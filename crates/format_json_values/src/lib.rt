@@ -2,7 +2,7 @@
 //!
 //! Where this differs from the standard, or chooses what it leaves open:
 //!
-//! - A text is read to a level, which the caller gives: no more than so many arrays and objects
+//! - A text is read to a level, which the caller gives: no more than that many arrays and objects
 //!   stand in one another (section 9 lets a parser set such a limit). A text of a deeper level is
 //!   none.
 //! - A number is kept as it is written, of any range and precision (section 6).

@@ -18,7 +18,7 @@ use winnow::error::{ParseFault, ParserError};
 use winnow::exact::Rule;
 use winnow::stream::{Stream, StreamIsPartial};
 
-/// Reads members between marks, each a name, a mark and a value, with white space behind each of
+/// Reads members between marks, each a name, a mark and a value, with white space after each of
 /// them. A function reads a name by a rule, and another a value.
 pub fn read_object_of<I, E, K, O, M, W, A, S, H, R, F, B, G>(
     alloc: A,
@@ -78,7 +78,7 @@ where
     )
 }
 
-/// Reads all of an input as a value, with white space before it and behind it.
+/// Reads all of an input as a value, with white space before it and after it.
 pub fn parse_spaced<I, E, O, W, R, F, G>(
     rule: R,
     value: F,

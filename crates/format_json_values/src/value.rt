@@ -90,13 +90,13 @@ impl<'i, A: Allocator> Rule<&'i str, Value<A>> for Nested<A> {
     ghost takes = { λ r _. value_takes r.1 };
 }
 
-/// The value that stands first, in which no more than so many arrays and objects stand in one
+/// The value that stands first, in which no more than that many arrays and objects stand in one
 /// another.
 ///
-/// White space inside of arrays and objects is read, and none before or behind the value. Each
+/// White space inside of arrays and objects is read, and none before or after the value. Each
 /// level takes some of the stack: up to [`SAFE_LEVEL`] two megabytes suffice. The input is left
-/// behind the value. An error backtracks where no value of the level stands first, and wants memory
-/// where a request was refused; what of the input is left then is an end of it.
+/// after the value. An error backtracks where no value of the level stands first, and is out of
+/// memory where a request was refused; what of the input is left then is an end of it.
 ///
 /// ```
 /// use format_json_texts::value::Value;
@@ -158,11 +158,11 @@ pub fn read_value<'i, A: Allocator + Copy>(
 }
 
 /// The value of a text of JSON, where all of the text is one: a value, in which no more than so
-/// many arrays and objects stand in one another, with white space before it and behind it. Each
+/// many arrays and objects stand in one another, with white space before it and after it. Each
 /// level takes some of the stack, as of [`read_value`].
 ///
 /// Else a fault: it says that the text is none, and at which byte reading stopped; or that a
-/// request for memory was refused. In an array or an object reading stops behind the last item that
+/// request for memory was refused. In an array or an object reading stops after the last item that
 /// is whole. Where it stopped is tested, and not proved.
 ///
 /// ```

@@ -22,7 +22,7 @@ ArePairwise alike [] (p ∷ ps) = ⊥
 ArePairwise alike (o ∷ os) [] = ⊥
 ArePairwise alike (o ∷ os) (p ∷ ps) = alike o p × ArePairwise alike os ps
 
--- beginnings of the same tokens behind which the same is left
+-- beginnings of the same tokens after which the same is left
 pub one_beginning : {tokens : List ℕ} (f g rest more : List ℕ) → tokens ≡ f ++ rest
     → tokens ≡ g ++ more → rest ≡ more → f ≡ g
 one_beginning {tokens} f g rest more a b e =

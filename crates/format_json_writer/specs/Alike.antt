@@ -69,7 +69,7 @@ module _ {A : Type 0} where
 
 -- ---- characters
 
--- what a character stands for behind a backslash
+-- what a character stands for after a backslash
 abbrev escaped : ℕ → ℕ
 escaped c =
     if c == 98 then 8 else if c == 102 then 12 else if c == 110 then 10 else if c == 114 then 13

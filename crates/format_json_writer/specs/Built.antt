@@ -1,4 +1,4 @@
--- What is put behind a text for a value, part by part.
+-- What is put after a text for a value, part by part.
 use Rattle.std.specs.Prelude.{◌≡◌, ◌≤◌, ◌<◌, ◌+◌, ℕ, suc, List, [], ◌∷◌, ◌++◌, Bool, true, false}
 use Rattle.std.specs.Prelude.{Option, Some, None, drop, length, slice_index_or}
 use Rattle.std.specs.Prelude.{encode_utf8_all, string_bytes}
@@ -159,7 +159,7 @@ joined_none {O} comma text os bytes none =
     subst P (sym (nil_from_length os none))
     (record { tokens = []; is = refl; behind = sym (append-nil bytes) })
 
--- each behind a comma
+-- each after a comma
 abbrev pub Behind : {O : Type 0} → Text ℕ O → Text ℕ (List O)
 Behind text = EachText (BothText (λ d o. o) (One 44) text)
 
@@ -237,7 +237,7 @@ member_put member same utf8 name colon value =
     adds_then pair (string_put member.0 same utf8 name)
     (adds_then latter (one_added 58 colon) value)
 
--- what is put behind nothing is all that there is
+-- what is put after nothing is all that there is
 pub added_alone : {O : Type 0} {text : Text ℕ O} {o : O} {before after shown : List ℕ}
     → shown ≡ after → IsUtf8 shown → before ≡ [] → Adds text o before after → text o (chars after)
 added_alone {text = text} {o} {after = after} same utf8 nothing added =

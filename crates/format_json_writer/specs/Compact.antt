@@ -43,7 +43,7 @@ module _ {A : Type 0} where
   CompactObject value =
       Between (One 123) (InList (PartedText (One 44) (CompactMember value))) (One 125)
 
-  -- a value, of which no more than so many arrays and objects stand in one another
+  -- a value, of which no more than that many arrays and objects stand in one another
   unfoldable pub CompactValue : ℕ → Text ℕ (Value A)
   CompactValue zero = CompactScalar
   CompactValue (suc level) =

@@ -37,7 +37,7 @@ if_error {T} {E} P result e is p =
 at : {O : Type 0} (P : O → Type 0) (os : List O) (o : O) → All P os → Contains os o → P o
 at P os o all (k, below, is) = subst P is (all k o below)
 
--- the first is among all, and so is each behind it
+-- the first is among all, and so is each after it
 pub first_among : {O : Type 0} {os rest : List O} (o : O) → os ≡ o ∷ rest → Contains os o
 first_among {O} {os} {rest} o e =
     let P : List O → Type 0 = λ l. Contains l o in subst P (sym e) (0, omega arith, refl)
@@ -49,7 +49,7 @@ later_among {O} {os} {rest} {first} k o e below is =
     subst P (sym e) (suc k, omega (arith, below), sym is)
 
 module _ {A : Type 0} where
-  -- no more than so many arrays and objects stand in one another in the value
+  -- no more than that many arrays and objects stand in one another in the value
   unfoldable pub Nests : ℕ → Value A → Type 0
   Nests zero v =
       ((items : Vec (Value A) A) → v ≡ values.Array items → ⊥)

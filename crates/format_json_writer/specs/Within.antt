@@ -86,7 +86,7 @@ empty_gap : GapText no_gap []
 unfolding Run
 empty_gap = ((λ k d below. absurd (omega (arith, below))), omega arith, refl)
 
--- a mark with no white space behind it
+-- a mark with no white space after it
 pub within_mark : {O : Type 0} (c : ℕ) {inner outer : Text ℕ O} → IsWithin inner outer
     → IsWithin (BothText latter (One c) inner) (BothText latter (Mark c) outer)
 unfolding BothText

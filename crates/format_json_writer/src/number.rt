@@ -42,7 +42,7 @@ fn check_number(text: &str) -> Result<(), WriteError>
     }
 }
 
-/// Puts a number behind what is there, as it is written.
+/// Puts a number after what is there, as it is written.
 pub fn write_number<B: Allocator>(text: &str, into: &mut String<B>) -> Result<(), WriteError>
     ensures written { OnOk result (PutsNumber text.now (string_bytes into.old)
         (string_bytes into.new)) }

@@ -11,7 +11,7 @@ ghost use Rattle.winnow.specs.Accumulator.Holds.{HasCharacters};
 
 use std::alloc::{AllocError, Allocator};
 
-/// The character that escapes this one behind a backslash, where one does.
+/// The character that escapes this one after a backslash, where one does.
 fn escape_of(c: char) -> Option<char>
     ensures { MatchOption result ((k : ℕ) → Escapes k c → ⊥) (λ k. Escapes k c) }
 {
@@ -67,16 +67,16 @@ fn write_character<A: Allocator>(c: char, into: &mut String<A>) -> Result<(), Al
     into.push(c)
 }
 
-/// Puts a string of JSON behind what is there: quotes, and between them the characters of a text,
+/// Puts a string of JSON after what is there: quotes, and between them the characters of a text,
 /// of which those are escaped that must be.
 ///
 /// Of the texts that RFC 8259 has for a string it is the one of RFC 8785 (section 3.2.2.2). A quote
-/// and a backslash stand behind a backslash. Of control characters a backspace is `\b`, a tab `\t`,
+/// and a backslash stand after a backslash. Of control characters a backspace is `\b`, a tab `\t`,
 /// a line feed `\n`, a form feed `\f` and a carriage return `\r`; each other is `\u` and four
 /// hexadecimal digits, small letters among them. All else stands as it is.
 ///
 /// An error says that a request for memory was refused. What was there then stands there still, and
-/// something may be behind it.
+/// something may be after it.
 ///
 /// ```
 /// use format_json_writer::string::write_string;

@@ -17,8 +17,8 @@ use format_json_values::value::parse_value;
 use std::alloc::Allocator;
 use winnow::error::{EmptyError, ErrMode, ParseFault, ParserError};
 
-/// Puts a value behind what is there, in which no more than so many arrays and objects stand in one
-/// another: the level is 0 for a value with no others in it, and 1 for an array of such values.
+/// Puts a value after what is there, in which no more than that many arrays and objects stand in
+/// one another: the level is 0 for a value with no others in it, and 1 for an array of such values.
 ///
 /// There is no white space in its text. A string is written as by
 /// [`write_string`](crate::string::write_string), a number as it stands in the value, and the
@@ -29,7 +29,7 @@ use winnow::error::{EmptyError, ErrMode, ParseFault, ParserError};
 /// An error says why the value is not written: a number in it has a text that is none by RFC 8259
 /// (section 6), as `01` or `NaN`; it is nested deeper than the level; or a request for memory was
 /// refused. Where several are so it may be any of them. What was there then stands there still, and
-/// something may be behind it.
+/// something may be after it.
 ///
 /// ```
 /// use format_json_values::value::parse_value;
@@ -59,7 +59,7 @@ pub fn write_value<A: Allocator, B: Allocator>(
     write_nested(level, value, into)
 }
 
-/// The text of a value, in which no more than so many arrays and objects stand in one another: as
+/// The text of a value, in which no more than that many arrays and objects stand in one another: as
 /// [`write_value`] writes it, alone, and an error as of that.
 ///
 /// ```

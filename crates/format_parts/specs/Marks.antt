@@ -10,8 +10,8 @@ use Rattle.winnow.specs.Kind.{Kind}
 use Rattle.winnow.specs.Range.{from_to}
 
 module _ {T M W A : Type 0} where
-  -- items with a mark between each two of them, between two others; white space is behind the first
-  -- mark, and behind those between items
+  -- items with a mark between each two of them, between two others; white space is after the first
+  -- mark, and after those between items
   abbrev pub Items : {O : Type 0} → Grammar T O → Grammar T M → Grammar T M → Grammar T M
       → Grammar T W → Grammar T (Vec O A)
   Items {O} item opening comma closing gap =

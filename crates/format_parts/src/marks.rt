@@ -55,14 +55,14 @@ pub struct Marks<B, G> {
     pub opening: B,
     /// What stands between two items.
     pub comma: B,
-    /// What stands behind the items.
+    /// What stands after the items.
     pub closing: B,
-    /// What stands behind the other two, and behind each name and value.
+    /// What stands after the other two, and after each name and value.
     pub gap: G,
 }
 
-/// Reads items between two marks, with a third between each two items, and white space behind the
-/// first mark and behind each of those between items.
+/// Reads items between two marks, with a third between each two items, and white space after the
+/// first mark and after each of those between items.
 pub fn read_items<I, E, O, M, W, A, P, B, G>(
     alloc: A,
     item: P,
@@ -105,7 +105,7 @@ where
     delimited((marks.opening, marks.gap), items, marks.closing).read(input)
 }
 
-/// Reads values between marks. A function reads a value by a rule, and white space is behind it.
+/// Reads values between marks. A function reads a value by a rule, and white space is after it.
 pub fn read_array_of<I, E, O, M, W, A, R, F, B, G>(
     alloc: A,
     rule: R,

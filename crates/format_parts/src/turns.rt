@@ -9,7 +9,7 @@ use winnow::Parser;
 use winnow::error::ParserError;
 use winnow::stream::Stream;
 
-/// Reads two, one behind the other.
+/// Reads two, one after the other.
 pub fn read_two_of<I, O1, O2, E, P, Q>(first: P, second: Q, input: &mut I) -> Result<(O1, O2), E>
 where
     I: Stream,
@@ -28,7 +28,7 @@ where
     (first, second).read(input)
 }
 
-/// Reads four, one behind the other.
+/// Reads four, one after the other.
 pub fn read_four_of<I, O1, O2, O3, O4, E, P, Q, R, S>(
     first: P,
     second: Q,

@@ -20,7 +20,7 @@ use Rattle.format_resp.specs.declared.reply.Reply as made
 use Rattle.format_resp.specs.declared.reply.Reply.{out-Reply}
 use Rattle.format_resp.specs.declared.reply.Reply.TheOpen.{Reply-F}
 
--- a text that leads, and what is behind it
+-- a text that leads, and what is after it
 pub led_parts : {X O : Type 0} (first : Text ℕ X) (behind : X → Text ℕ O) (tokens : List ℕ) (o : O)
     (rest : List ℕ) → First (Led first behind) tokens o rest
     → (x : X) × (mid : List ℕ) × First first tokens x mid × First (behind x) mid o rest

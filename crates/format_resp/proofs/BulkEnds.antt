@@ -1,4 +1,4 @@
--- Where the bytes of a bulk string end, and the line end behind them.
+-- Where the bytes of a bulk string end, and the line end after them.
 use Rattle.std.specs.Prelude.{◌≡◌, ◌<◌, ◌≤◌, ◌-◌, ◌⊎◌, ℕ, List, [], ◌∷◌, ◌++◌, length, take, drop}
 use Rattle.std.specs.Prelude.{Err, None, Ok, Some, zero, suc}
 use Rattle.std.specs.Borrow.{Bor}
@@ -14,7 +14,7 @@ use Rattle.format_resp.specs.Extents.{IsDataEnd, IsLineEnd, IsPartOfData, PartFo
 use Rattle.format_resp.specs.Read.{data_unique}
 use Rattle.format_resp.specs.Resp.{DataText, Ended, line_end}
 
--- so many bytes
+-- that many bytes
 some_list : (n : ℕ) → (xs : List ℕ) × (length xs ≡ n)
 some_list zero = ([], refl)
 some_list (suc n) = let (xs, e) = some_list n in (0 ∷ xs, ap (λ k. suc k) e)
@@ -55,7 +55,7 @@ end_return tokens left first e is none =
     let empty = nil_from_length left none in
     let same : tokens ≡ 13 ∷ [] = cc in (10, [], ap (λ l. l ++ (10 ∷ [])) (sym same))
 
--- what stands behind so many bytes
+-- what stands after that many bytes
 behind_is : (size : ℕ) (tokens behind more xs rest : List ℕ) → size ≤ length tokens
     → tokens ≡ take size tokens ++ behind → length xs ≡ size
     → tokens ++ more ≡ (xs ++ line_end) ++ rest → behind ++ more ≡ line_end ++ rest

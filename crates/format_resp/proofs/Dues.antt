@@ -1,4 +1,4 @@
--- What is due behind what is passed of a reply.
+-- What is due after what is passed of a reply.
 use Rattle.std.specs.Prelude.{◌≡◌, ◌↔◌, ◌<◌, ◌≤◌, ◌+◌, ◌^◌, ⊤, ℕ, ℤ, zero, suc, List, [], ◌∷◌, ◌++◌}
 use Rattle.std.specs.Prelude.{length, Option, Some, None, pos, FitsSigned}
 use Rattle.std.specs.Borrow.{Bor}
@@ -51,7 +51,7 @@ module _ {A : Type 0} (these : Text ℕ (Replies A))
   spread [] xs e = e
   spread (o ∷ os) xs (ys, zs, t, row, e) = (ys, zs, is o ys t, spread os zs row, e)
 
--- ---- what is behind a first line
+-- ---- what is after a first line
 
 abbrev pub Behind : Head → List ℕ → Type 0
 Behind heads.Ends xs = xs ≡ []
@@ -213,7 +213,7 @@ pub stands_any : {A : Type 0} (level : ℕ) (reply : Replies A) (tokens rest : L
 unfolding First
 stands_any level reply tokens rest (front, t, e) = (front, reply_any level reply front t, e)
 
--- ---- so many replies, and so many more
+-- ---- that many replies, and that many more
 
 many_append : (k n : ℕ) (xs ys : List ℕ) → AreReplies k xs → AreReplies n ys
     → AreReplies (k + n) (xs ++ ys)
@@ -249,7 +249,7 @@ many_split (suc k) n zs all =
       e ∙ ap (λ l. us ++ l) d ∙ sym (append_assoc us xs ys),
     )
 
--- ---- what is due behind a first line
+-- ---- what is due after a first line
 
 due_of : (head : Head) (n : ℕ) (us vs : List ℕ) → Behind head us → AreReplies n vs
     → AreDue (data_after head) (count_after head n) (us ++ vs)

@@ -222,7 +222,7 @@ start_silent tokens text line left byte mark split is (all, e) none more head re
     let R : List ℕ → Type 0 = λ l. Says other head (l ++ line_end) in
     none head (subst Q (mark_one other mark byte are is) (subst R (sym same) says))
 
--- ---- what is sought behind the first byte
+-- ---- what is sought after the first byte
 
 text_is : (tokens text : List ℕ) (byte : ℕ) → tokens ≡ byte ∷ text → drop 1 tokens ≡ text
 text_is tokens text byte e = ap (λ l. drop 1 l) e

@@ -113,7 +113,7 @@ return_never c xs behind more line rest is a (b, e) =
     return_ends return_ends (sym (append_assoc xs (13 ∷ c ∷ behind) more) ∙ e) in
     is (let f : c ≡ 10 = cc in f)
 
--- ---- of what stands behind a line
+-- ---- of what stands after a line
 
 module _ (line behind left : List ℕ) (first : ℕ) (all : AllByRecursion InLine line)
     (split : behind ≡ first ∷ left) where
@@ -166,7 +166,7 @@ open_past xs n (inl less) all =
     subst P (take_all n xs (omega (arith, less))) all
 open_past xs n (inr less) all = absurd (omega (arith, less))
 
--- what is left is what is behind
+-- what is left is what is after
 pub unseen_rest : (xs unseen : List ℕ) (n : ℕ) → unseen ≡ take (length xs - n) (drop n xs)
     → unseen ≡ drop n xs
 unseen_rest xs unseen n e =

@@ -49,7 +49,7 @@ no_line n tokens none left (front, (xs, ys, reply, many, e), d) =
           ∙ append_assoc us (vs ++ ys) left,
     )
 
--- where no bulk string stands nothing that is behind it does
+-- where no bulk string stands nothing that is after it does
 no_data : (size n : ℕ) (tokens : List ℕ)
     → ((bulk : Bor (List ℕ)) (rest : List ℕ) → First (DataText size) tokens bulk rest → ⊥)
     → (left : List ℕ) → Stands (AreDue (Some size) n) tokens left → ⊥
@@ -257,7 +257,7 @@ module _ (e : Extent) (tokens rest : List ℕ) (p : Passed e tokens rest) where
           let Q : List ℕ → Type 0 = λ l. AllByRecursion InLine l in
           subst Q (sym (take-append-le e.sought xs more w)) a
 
-  -- what is left is behind so many bytes
+  -- what is left is after that many bytes
   pub left_is : (left : List ℕ) → left ≡ take (length tokens - e.passed) (drop e.passed tokens)
       → Passed e tokens left
   left_is left is =
@@ -267,7 +267,7 @@ module _ (e : Extent) (tokens rest : List ℕ) (p : Passed e tokens rest) where
       ∙ drop_at p.front rest e.passed p.count in
       subst P (sym same) p
 
-  -- so many bytes are there
+  -- that many bytes are there
   pub passed_within : (length tokens < e.passed) ⊎ (length tokens < length tokens) → ⊥
   passed_within (inl less) =
       omega (arith, less, p.count, ap (λ l. length l) p.split, length-append p.front rest)

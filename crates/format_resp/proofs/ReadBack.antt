@@ -43,7 +43,7 @@ module _ {A : Type 0} (level : ℕ) where
   written_back written read text more rest a b =
       one_reply written read (text ++ more) more rest (text, a, refl) b
 
-  -- what is put behind nothing, with more behind it
+  -- what is put after nothing, with more after it
   pub put_first : {reply : Replies A} {before between after bytes : List ℕ} (more : List ℕ)
       → before ≡ [] → Adds (ReplyText level) reply before between → after ≡ between ++ more
       → bytes ≡ after → First (ReplyText level) bytes reply more
@@ -138,7 +138,7 @@ command_text {A} parts list are small =
       ap (λ n. marked 42 (decimal n) ++ bulks_of parts) (sym many),
     )))))))
 
--- where a command was put behind nothing, an array stands first
+-- where a command was put after nothing, an array stands first
 pub command_first : {A : Type 0} (alloc : A) (parts : List (Bor (List ℕ)))
     {before between after bytes : List ℕ} (more : List ℕ) → before ≡ []
     → between ≡ before ++ command_of parts → length between < 2 ^ 63

@@ -1,4 +1,4 @@
--- What is put behind bytes, part by part.
+-- What is put after bytes, part by part.
 use Rattle.std.specs.Prelude.{◌≡◌, ◌≤◌, ◌<◌, ◌+◌, ◌/◌, ◌%◌, ◌^◌, ℕ, suc, List, [], ◌∷◌, ◌++◌}
 use Rattle.std.specs.Prelude.{length}
 use Rattle.std.specs.Prelude.{drop, take, slice_index_or, Contains}
@@ -42,7 +42,7 @@ if_error {T} {E} P result e is p =
 
 -- ---- replies
 
--- what was put is all that is there behind
+-- what was put is all that is there after
 adds : {O : Type 0} {text : Text ℕ O} {o : O} {before after : List ℕ} (tokens : List ℕ)
     → text o tokens → after ≡ before ++ tokens → Adds text o before after
 adds tokens is e = record { tokens = tokens; is = is; behind = e }
@@ -109,7 +109,7 @@ pub among : {O : Type 0} (os : List O) (k : ℕ) (o : O) → k < length os
     → o ≡ slice_index_or os k o → Contains os o
 among os k o below is = (k, below, sym is)
 
--- digits behind those of a tenth
+-- digits after those of a tenth
 pub digits_more : (n : ℕ) (before : List ℕ) {between after : List ℕ} → 10 ≤ n → n < 2 ^ 64
     → between ≡ before ++ decimal (n / 10) → after ≡ between ++ (48 + n % 10) ∷ []
     → after ≡ before ++ decimal n

@@ -29,7 +29,7 @@ module _ {A : Type 0} where
   AreAlikeBy alike v w =
       AreAlikeAs alike (out-Reply (Bor (List ℕ)) A v) (out-Reply (Bor (List ℕ)) A w)
 
-  -- in which no more than so many arrays stand in one another
+  -- in which no more than that many arrays stand in one another
   unfoldable pub AreAlike : ℕ → Replies A → Replies A → Type 0
   AreAlike zero v w = AreAlikeBy (λ v w. ⊥) v w
   AreAlike (suc level) v w = AreAlikeBy (AreAlike level) v w

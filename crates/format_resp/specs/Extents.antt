@@ -1,4 +1,4 @@
--- Where a reply ends: what of some bytes is passed, and what is due behind that.
+-- Where a reply ends: what of some bytes is passed, and what is due after that.
 use Rattle.std.specs.Prelude.{◌≡◌, ◌≤◌, ◌+◌, ◌*◌, ◌^◌, ◌<◌, ◌↔◌, ⊤, ℕ, zero, suc, List, []}
 use Rattle.std.specs.Prelude.{◌∷◌, ◌++◌, length, take, drop, Option, Some, None, Result, Ok, Err}
 use Rattle.std.specs.Borrow.{Bor}
@@ -16,25 +16,25 @@ use Rattle.format_resp.specs.declared.heads.Head.TheVariants as heads
 abbrev pub IsReply : List ℕ → Type 0
 IsReply tokens = (level : ℕ) × (reply : Replies ⊤) × ReplyText level reply tokens
 
--- Bytes that are so stand first, and the rest is behind them.
+-- Bytes that are so stand first, and the rest is after them.
 abbrev pub Stands : (List ℕ → Type 0) → List ℕ → List ℕ → Type 0
 Stands these tokens rest = (front : List ℕ) × these front × (tokens ≡ front ++ rest)
 
--- so many replies, one behind the other
+-- that many replies, one after the other
 abbrev pub AreReplies : ℕ → List ℕ → Type 0
 AreReplies zero tokens = tokens ≡ []
 AreReplies (suc n) tokens =
     (xs : List ℕ) × (ys : List ℕ) × IsReply xs × AreReplies n ys × (tokens ≡ xs ++ ys)
 
--- The data of a bulk string, where its size was passed, and so many replies behind it.
+-- The data of a bulk string, where its size was passed, and that many replies after it.
 abbrev pub AreDue : Option ℕ → ℕ → List ℕ → Type 0
 AreDue None n tokens = AreReplies n tokens
 AreDue (Some size) n tokens =
     (bulk : Bor (List ℕ)) × (xs : List ℕ) × (ys : List ℕ) × DataText size bulk xs
     × AreReplies n ys × (tokens ≡ xs ++ ys)
 
--- What of some tokens is passed, and what is left: whatever is behind what is passed, a reply
--- stands first in both exactly where what is due stands first behind it, and leaves the same.
+-- What of some tokens is passed, and what is left: whatever is after what is passed, a reply
+-- stands first in both exactly where what is due stands first after it, and leaves the same.
 pub record Passed (extent : Extent) (tokens rest : List ℕ) : Type 0 where
   pub front : List ℕ
   pub split : tokens ≡ front ++ rest
@@ -42,7 +42,7 @@ pub record Passed (extent : Extent) (tokens rest : List ℕ) : Type 0 where
   pub leads : (xs left : List ℕ)
       → Stands IsReply (front ++ xs) left ↔ Stands (AreDue extent.bulk extent.replies) xs left
   pub few : extent.replies ≤ 2 ^ 64 * extent.passed + 1
-  -- so many of the bytes behind the next one have no part of a line end
+  -- that many of the bytes after the next one have no part of a line end
   pub within : extent.sought ≤ length (drop 1 rest)
   pub plain : AllByRecursion InLine (take extent.sought (drop 1 rest))
 
@@ -50,7 +50,7 @@ pub record Passed (extent : Extent) (tokens rest : List ℕ) : Type 0 where
 abbrev pub IsOf : Extent → List ℕ → Type 0
 IsOf extent tokens = (rest : List ℕ) × Passed extent tokens rest
 
--- What is told of some bytes: that a reply is so many of the first of them, and whatever follows,
+-- What is told of some bytes: that a reply is that many of the first of them, and whatever follows,
 -- none that stands first leaves anything else; or that none stands first in them; or that none
 -- does, whatever follows.
 abbrev pub IsTold : List ℕ → Result (Option ℕ) Refused → Type 0
@@ -62,14 +62,14 @@ IsTold tokens (Ok None) = (left : List ℕ) → Stands IsReply tokens left → �
 IsTold tokens (Err refused) =
     (more left : List ℕ) → Stands IsReply (tokens ++ more) left → ⊥
 
--- Behind the bytes some more make them a bulk string of so many.
+-- After the bytes some more make them a bulk string of that many.
 pub record IsPartOfData (size : ℕ) (tokens : List ℕ) : Type 0 where
   pub bulk : Bor (List ℕ)
   pub more : List ℕ
   pub some : 0 < length more
   pub made : First (DataText size) (tokens ++ more) bulk []
 
--- What is wanting behind what is passed: the end of a line, or bytes of a bulk string.
+-- What is wanting after what is passed: the end of a line, or bytes of a bulk string.
 abbrev pub Wants : Option ℕ → List ℕ → Type 0
 Wants None rest = IsBegun rest
 Wants (Some size) rest = IsPartOfData size rest
@@ -83,7 +83,7 @@ IsWanting extent tokens (Some n) = ⊤
 
 -- ---- one step
 
--- what is due behind a first line, where so many other replies are
+-- what is due after a first line, where that many other replies are
 abbrev pub data_after : Head → Option ℕ
 data_after heads.Ends = None
 data_after (heads.Data k) = Some k
@@ -94,7 +94,7 @@ count_after heads.Ends n = n
 count_after (heads.Data k) n = n
 count_after (heads.Replies k) n = n + k
 
--- what is behind a part that stands first, if it does, or why none is
+-- what is after a part that stands first, if it does, or why none is
 abbrev pub PartFound : Type 0
 PartFound = Result (Option (Bor (List ℕ))) Refused
 
@@ -114,7 +114,7 @@ IsDataEnd size tokens (Err refused) =
     (more : List ℕ) (bulk : Bor (List ℕ)) (left : List ℕ)
     → First (DataText size) (tokens ++ more) bulk left → ⊥
 
--- What is behind a part is less than so many bytes.
+-- What is after a part is less than that many bytes.
 abbrev pub IsLessPart : ℕ → PartFound → Type 0
 IsLessPart n (Ok (Some left)) = length left.now < n
 IsLessPart n (Ok None) = ⊤

@@ -1,4 +1,4 @@
--- The first lines of replies, and what they say of the bytes behind them.
+-- The first lines of replies, and what they say of the bytes after them.
 use Rattle.std.specs.Prelude.{◌≡◌, ◌≤◌, ◌<◌, ⊤, ℕ, ℤ, List, ◌∷◌, ◌++◌, length, take, drop, Option}
 use Rattle.std.specs.Prelude.{Some, None}
 use Rattle.std.specs.Borrow.{Bor}
@@ -15,7 +15,7 @@ use Rattle.format_resp.specs.declared.heads.Start.TheVariants.{Never, Open, Whol
 use Rattle.format_resp.specs.declared.leaves.Mark.{Mark}
 use Rattle.format_resp.specs.declared.leaves.Mark.TheVariants.{Colon, Dollar, Minus, Plus, Star}
 
--- behind the size of a bulk string its bytes are, and behind that of an array its elements
+-- after the size of a bulk string its bytes are, and after that of an array its elements
 abbrev pub bulk_head : Option ℕ → Head
 bulk_head None = Ends
 bulk_head (Some n) = Data n
@@ -24,7 +24,7 @@ abbrev pub array_head : Option ℕ → Head
 array_head None = Ends
 array_head (Some n) = Replies n
 
--- the line behind the first byte of a reply, as what it says
+-- the line after the first byte of a reply, as what it says
 abbrev pub Says : Mark → Text ℕ Head
 Says Plus = For (λ (line : Bor (List ℕ)). Ends) LineText
 Says Minus = For (λ (line : Bor (List ℕ)). Ends) LineText
@@ -46,7 +46,7 @@ pub record IsBegun (tokens : List ℕ) : Type 0 where
       → (mark : Mark) × (byte ≡ byte_of mark)
   pub begun : IsOpen (drop 1 tokens)
 
--- What of a first line stands first: a line; or none yet, and so many bytes behind the first have
+-- What of a first line stands first: a line; or none yet, and that many bytes after the first have
 -- no part of a line end; or none, whatever follows.
 abbrev pub IsStart : List ℕ → Start → Type 0
 IsStart tokens (Whole head left) = First HeadText tokens head left.now
@@ -56,7 +56,7 @@ IsStart tokens (Open n) =
 IsStart tokens Never =
     (more : List ℕ) (head : Head) (rest : List ℕ) → First HeadText (tokens ++ more) head rest → ⊥
 
--- What is behind a first line is less than so many bytes.
+-- What is after a first line is less than that many bytes.
 abbrev pub IsLessStart : ℕ → Start → Type 0
 IsLessStart n (Whole head left) = length left.now < n
 IsLessStart n (Open m) = ⊤

@@ -41,7 +41,7 @@ use Rattle.format_resp.specs.declared.leaves.Mark.{Mark}
 abbrev pub EndRead : Grammar ℕ (Bor (List ℕ))
 EndRead = searches.Text bytes_reading (λ text xs. xs ≡ text.now) (13 ∷ 10 ∷ [])
 
--- what ends a line is behind a text
+-- what ends a line is after a text
 ended_of : {O : Type 0} {g : Grammar ℕ O} (text : Text ℕ O) {follow : List ℕ → Type 0}
     → IsGrammarOf g text follow → ((rest : List ℕ) → follow (line_end ++ rest))
     → Same (Both (λ o1 o2. o1) g EndRead) (First (Ended text))
@@ -84,7 +84,7 @@ same_line = ended_of _ (longest_of bytes_reading (λ b. b) (Others EndTells) (13
     (divides_either (divides_where (λ b. b ≡ 13)) (divides_where (λ b. b ≡ 10))))))
     (λ rest. inl refl)
 
--- ---- so many bytes
+-- ---- that many bytes
 
 pub same_data : (n : ℕ) → Same (Both (λ o1 o2. o1) (Counted bytes_reading n) EndRead)
     (First (DataText n))

@@ -27,11 +27,11 @@ NoFeed bytes = AllByRecursion (λ b. b ≡ 10 → ⊥) bytes
 abbrev pub Opened : Type 0 → Type 0
 Opened A = Reply-F (Bor (List ℕ)) A (Replies A)
 
--- Behind its first byte the input is a line.
+-- After its first byte the input is a line.
 abbrev pub IsLine : List ℕ → List ℕ → List ℕ → Type 0
 IsLine input text rest = (mark : ℕ) × (input ≡ mark ∷ (text ++ (line_end ++ rest)))
 
--- Behind its first line feed the input is this.
+-- After its first line feed the input is this.
 abbrev pub IsBehindFeed : List ℕ → List ℕ → Type 0
 IsBehindFeed input behind = (line : List ℕ) × NoFeed line × (input ≡ line ++ 10 ∷ behind)
 
@@ -61,7 +61,7 @@ plain_line mark xs other all = (other, without xs all)
     without [] all = ((λ e. omega (arith, e)), tt)
     without (x ∷ xs) all = (all.0.1, without xs all.1)
 
--- behind the first byte
+-- after the first byte
 lead : {mark : ℕ} {first front input : List ℕ} (others rest : List ℕ) → first ≡ mark ∷ []
     → front ≡ first ++ others → input ≡ front ++ rest → input ≡ mark ∷ (others ++ rest)
 lead others rest e f g =
@@ -71,7 +71,7 @@ ended : {tokens : List ℕ} (xs rest : List ℕ) → tokens ≡ xs ++ line_end
     → tokens ++ rest ≡ xs ++ (line_end ++ rest)
 ended xs rest e = ap (λ l. l ++ rest) e ∙ append_assoc xs line_end rest
 
--- what stands behind the line of a size
+-- what stands after the line of a size
 behind_size : {mark : ℕ} {input others size : List ℕ} (xs behind rest : List ℕ)
     → (mark ≡ 10 → ⊥) → AllByRecursion InLine xs → size ≡ xs ++ line_end
     → others ≡ size ++ behind → input ≡ mark ∷ (others ++ rest)

@@ -59,7 +59,7 @@ IsSize (Some size) n = FitsUnsignedBits 64 n × (size ≡ unsigned_abs n)
 unfoldable pub SizeText : Text ℕ (Option ℕ)
 SizeText size tokens = (n : ℤ) × IntegerText n tokens × IsSize size n
 
--- so many bytes, and a line end
+-- that many bytes, and a line end
 unfoldable pub DataText : ℕ → Text ℕ (Bor (List ℕ))
 DataText n = Ended (CountedText bytes_reading n)
 
@@ -72,19 +72,19 @@ abbrev pub Replies : Type 0 → Type 0
 Replies A = Reply (Bor (List ℕ)) A
 
 module _ {A : Type 0} where
-  -- behind the size of a bulk string: so many bytes
+  -- after the size of a bulk string: that many bytes
   abbrev pub BulkBehind : Option ℕ → Text ℕ (Replies A)
   BulkBehind None reply tokens = (reply ≡ made.NullBulk) × (tokens ≡ [])
   BulkBehind (Some n) reply tokens = For (λ bytes. made.Bulk bytes) (DataText n) reply tokens
 
-  -- behind the size of an array: so many elements
+  -- after the size of an array: that many elements
   abbrev pub ArrayBehind : Text ℕ (List (Replies A)) → Option ℕ → Text ℕ (Replies A)
   ArrayBehind elements None reply tokens = (reply ≡ made.NullArray) × (tokens ≡ [])
   ArrayBehind elements (Some n) reply tokens =
       For (λ list. made.Array list) (λ (list : Vec (Replies A) A) xs. (length list.items ≡ n)
       × elements list.items xs) reply tokens
 
-  -- behind the first byte
+  -- after the first byte
   abbrev pub Body : Text ℕ (List (Replies A)) → Mark → Text ℕ (Replies A)
   Body elements Plus = For (λ line. made.Simple line) LineText
   Body elements Minus = For (λ line. made.Error line) LineText
@@ -92,13 +92,13 @@ module _ {A : Type 0} where
   Body elements Dollar = Led SizeText BulkBehind
   Body elements Star = Led SizeText (ArrayBehind elements)
 
-  -- the elements of an array in which no more than so many arrays stand in one another, itself
+  -- the elements of an array in which no more than that many arrays stand in one another, itself
   -- one of them
   unfoldable pub Elements : ℕ → Text ℕ (List (Replies A))
   Elements zero replies tokens = ⊥
   Elements (suc level) replies tokens =
       EachText (Led MarkText (Body (Elements level))) replies tokens
 
-  -- a reply in which no more than so many arrays stand in one another
+  -- a reply in which no more than that many arrays stand in one another
   abbrev pub ReplyText : ℕ → Text ℕ (Replies A)
   ReplyText level = Led MarkText (Body (Elements level))

@@ -14,18 +14,18 @@ use Rattle.format_resp.specs.declared.write.WriteError.{WriteError}
 use Rattle.format_resp.specs.declared.write.WriteError.TheVariants.{Level, LineBreak, NoParts}
 use Rattle.format_resp.specs.declared.write.WriteError.TheVariants.{OutOfMemory}
 
--- What stood there stands there, and more may be behind it.
+-- What stood there stands there, and more may be after it.
 pub record Keeps (before after : List ℕ) : Type 0 where
   pub more : List ℕ
   pub behind : after ≡ before ++ more
 
--- What stood there stands there, and a text of the value is behind it.
+-- What stood there stands there, and a text of the value is after it.
 pub record Adds {O : Type 0} (text : Text ℕ O) (o : O) (before after : List ℕ) : Type 0 where
   pub tokens : List ℕ
   pub is : text o tokens
   pub behind : after ≡ before ++ tokens
 
--- a first byte, what stands behind it on its line, and the line end
+-- a first byte, what stands after it on its line, and the line end
 abbrev pub marked : ℕ → List ℕ → List ℕ
 marked mark text = mark ∷ (text ++ line_end)
 
@@ -33,7 +33,7 @@ marked mark text = mark ∷ (text ++ line_end)
 abbrev pub bulk_of : List ℕ → List ℕ
 bulk_of bytes = marked 36 (decimal (length bytes)) ++ (bytes ++ line_end)
 
--- bulk strings, one behind the other
+-- bulk strings, one after the other
 abbrev pub bulks_of : List (Bor (List ℕ)) → List ℕ
 bulks_of [] = []
 bulks_of (part ∷ parts) = bulk_of part.now ++ bulks_of parts
@@ -60,18 +60,18 @@ module _ {A : Type 0} where
       × elements list.items xs
       × (tokens ≡ marked 42 (decimal (length list.items)) ++ xs)))))))
 
-  -- for the elements of an array in which no more than so many arrays stand in one another, itself
-  -- one of them
+  -- for the elements of an array in which no more than that many arrays stand in one another,
+  -- itself one of them
   unfoldable pub WrittenElements : ℕ → Text ℕ (List (Replies A))
   WrittenElements zero replies tokens = ⊥
   WrittenElements (suc level) replies tokens =
       EachText (IsWritten (WrittenElements level)) replies tokens
 
-  -- for a reply in which no more than so many arrays stand in one another
+  -- for a reply in which no more than that many arrays stand in one another
   abbrev pub WrittenText : ℕ → Text ℕ (Replies A)
   WrittenText level = IsWritten (WrittenElements level)
 
-  -- no more than so many arrays stand in one another in the reply
+  -- no more than that many arrays stand in one another in the reply
   unfoldable pub Nests : ℕ → Replies A → Type 0
   Nests zero reply = (list : Vec (Replies A) A) → reply ≡ made.Array list → ⊥
   Nests (suc level) reply =

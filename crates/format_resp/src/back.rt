@@ -13,7 +13,7 @@ use std::alloc::Allocator;
 use winnow::error::ParserError;
 use winnow::stream::{Partial, StreamIsPartial};
 
-/// Reads a reply that is known to stand first in the bytes, and what is behind it.
+/// Reads a reply that is known to stand first in the bytes, and what is after it.
 fn read_whole<'i, A: Allocator + Copy>(
     alloc: A,
     level: usize,
@@ -37,8 +37,8 @@ fn read_whole<'i, A: Allocator + Copy>(
     }
 }
 
-/// What is read of the text that is written for a reply, with more behind it, and what is left: a
-/// reply that is alike, of the same kinds, bytes, numbers and elements, and what was put behind it.
+/// What is read of the text that is written for a reply, with more after it, and what is left: a
+/// reply that is alike, of the same kinds, bytes, numbers and elements, and what was put after it.
 /// What was in the buffer goes. An error says why the reply is not written, or that a request for
 /// memory was refused; there is no other.
 ///
@@ -69,8 +69,8 @@ pub fn reads_back<'i, A: Allocator + Copy, B: Allocator>(
     read_whole(alloc, level, into.as_slice())
 }
 
-/// What is read of a command that is written, with more behind it, and what is left: an array of
-/// bulk strings of the same bytes, and what was put behind it. What was in the buffer goes. An
+/// What is read of a command that is written, with more after it, and what is left: an array of
+/// bulk strings of the same bytes, and what was put after it. What was in the buffer goes. An
 /// error says that the command has no parts, or that a request for memory was refused.
 ///
 /// ```
@@ -99,8 +99,8 @@ pub fn command_reads_back<'i, A: Allocator + Copy, B: Allocator>(
     read_whole(alloc, 1, into.as_slice())
 }
 
-/// Whatever is read of the text of a reply, with anything behind it, is alike, and leaves what is
-/// behind it. That such a text is written says the clause `text` of
+/// Whatever is read of the text of a reply, with anything after it, is alike, and leaves what is
+/// after it. That such a text is written says the clause `text` of
 /// [`write_reply`](crate::write::write_reply), and that what is read stands first that of
 /// [`read_reply`](crate::read::read_reply); [`reads_back`] calls both.
 ///

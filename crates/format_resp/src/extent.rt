@@ -38,15 +38,15 @@ pub struct Refused;
 pub struct Extent {
     /// How many bytes were passed.
     pub passed: usize,
-    /// How many of the bytes behind the next one have no part of a line end.
+    /// How many of the bytes after the next one have no part of a line end.
     pub sought: usize,
     /// How many bytes a bulk string has that is due next, if one is whose size was passed.
     pub bulk: Option<usize>,
-    /// How many replies are due behind that.
+    /// How many replies are due after that.
     pub replies: u128,
 }
 
-/// What is behind the line end that the bytes begin with.
+/// What is after the line end that the bytes begin with.
 fn behind_end<'i>(bytes: &'i [u8]) -> Result<Option<&'i [u8]>, Refused>
     ensures told { IsLineEnd bytes.now result }
     ensures less { IsLessPart (length bytes.now) result }
@@ -71,7 +71,7 @@ fn behind_end<'i>(bytes: &'i [u8]) -> Result<Option<&'i [u8]>, Refused>
     }
 }
 
-/// What is behind the data of a bulk string of so many bytes, and its line end.
+/// What is after the data of a bulk string of that many bytes, and its line end.
 fn behind_data<'i>(size: usize, bytes: &'i [u8]) -> Result<Option<&'i [u8]>, Refused>
     ensures told { IsDataEnd size bytes.now result }
     ensures less { IsLessPart (length bytes.now) result }
@@ -82,7 +82,7 @@ fn behind_data<'i>(size: usize, bytes: &'i [u8]) -> Result<Option<&'i [u8]>, Ref
     }
 }
 
-/// What is due behind a line, where so many other replies are; none if it is more than fits.
+/// What is due after a line, where that many other replies are; none if it is more than fits.
 fn due_behind(head: Head, others: u128) -> Option<(Option<usize>, u128)>
     ensures some { IfSome result (λ due. due ≡ (data_after head, count_after head others)) }
     ensures none { result ≡ None → 2 ^ 128 ≤ count_after head others }
@@ -137,7 +137,7 @@ impl Extent {
         }
     }
 
-    /// Passes the first line of a reply that is due next, where so many others are.
+    /// Passes the first line of a reply that is due next, where that many others are.
     fn pass_line<'i>(
         &mut self,
         others: u128,

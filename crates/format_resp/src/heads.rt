@@ -1,4 +1,4 @@
-//! The first lines of replies, and what they say of the bytes behind them.
+//! The first lines of replies, and what they say of the bytes after them.
 ghost use Rattle.format_resp.specs.Heads.{HeadText, IsLessStart, IsSizeOf, IsStart, Says};
 ghost use Rattle.format_resp.specs.Resp.{DataText, InLine, SignedText, byte_of, line_end};
 ghost use Rattle.format_resp.specs.declared.heads.Head.{Head};
@@ -11,21 +11,21 @@ ghost use Rattle.winnow.specs.InTurn.{First};
 use crate::leaves::{Mark, read_signed};
 use crate::lines::{Line, line_of};
 
-/// What the first line of a reply says of what is behind it.
+/// What the first line of a reply says of what is after it.
 pub(crate) enum Head {
     /// That nothing of the reply is.
     Ends,
-    /// That so many bytes and a line end are.
+    /// That that many bytes and a line end are.
     Data(usize),
-    /// That so many replies are.
+    /// That that many replies are.
     Replies(usize),
 }
 
 /// What of the first line of a reply stands first in some bytes.
 pub(crate) enum Start<'i> {
-    /// A line, as what it says, and what is behind it.
+    /// A line, as what it says, and what is after it.
     Whole(Head, &'i [u8]),
-    /// None yet: so many of the bytes behind the first have no part of a line end.
+    /// None yet: that many of the bytes after the first have no part of a line end.
     Open(usize),
     /// None, whatever follows.
     Never,
@@ -73,7 +73,7 @@ fn size_of(line: &[u8]) -> Option<Option<usize>>
     }
 }
 
-/// What a line says behind a mark.
+/// What a line says after a mark.
 fn head_of(mark: Mark, line: &[u8]) -> Option<Head>
     ensures some { IfSome result (λ head. AllByRecursion InLine line.now
         → Says mark head (line.now ++ line_end)) }
@@ -99,7 +99,7 @@ fn head_of(mark: Mark, line: &[u8]) -> Option<Head>
     }
 }
 
-/// What of the first line of a reply the bytes begin with, where so many of those behind the first
+/// What of the first line of a reply the bytes begin with, where that many of those after the first
 /// have no part of a line end.
 pub(crate) fn start_of<'i>(bytes: &'i [u8], sought: usize) -> Start<'i>
     ensures told { AllByRecursion InLine (take sought (drop 1 bytes.now))

@@ -99,7 +99,7 @@ pub(crate) fn read_size<'i>(
     }
 }
 
-/// So many bytes and a line end.
+/// That many bytes and a line end.
 pub(crate) fn read_data<'i>(
     size: usize,
     input: &mut Partial<&'i [u8]>,

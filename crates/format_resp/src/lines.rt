@@ -9,15 +9,15 @@ use memchr::memchr2;
 
 /// What of a line stands first in some bytes.
 pub(crate) enum Line<'i> {
-    /// A line, and what is behind its end.
+    /// A line, and what is after its end.
     Whole(&'i [u8], &'i [u8]),
-    /// None yet: so many of the first bytes have no part of a line end.
+    /// None yet: that many of the first bytes have no part of a line end.
     Open(usize),
     /// None, whatever follows.
     Never,
 }
 
-/// What of a line stands first in a line and what is behind it, of which the first byte is of a
+/// What of a line stands first in a line and what is after it, of which the first byte is of a
 /// line end.
 fn ended<'i>(line: &'i [u8], behind: &'i [u8]) -> Line<'i>
     ensures told { AllByRecursion InLine line.now
@@ -43,7 +43,7 @@ fn ended<'i>(line: &'i [u8], behind: &'i [u8]) -> Line<'i>
     }
 }
 
-/// The line that the bytes begin with, where so many of them have no part of a line end.
+/// The line that the bytes begin with, where that many of them have no part of a line end.
 pub(crate) fn line_of<'i>(bytes: &'i [u8], sought: usize) -> Line<'i>
     ensures told { AllByRecursion InLine (take sought bytes.now) → IsLine bytes.now result }
     ensures less { IsLessLine (length bytes.now) result }

@@ -44,7 +44,7 @@ where
     terminated(take_till(Range::from(0..), (b'\r', b'\n')), Crlf).read_cut(input)
 }
 
-/// So many tokens, and a carriage return and a line feed behind them.
+/// That many tokens, and a carriage return and a line feed after them.
 pub(crate) fn tokens<I: StreamIsPartial + Compare<&'static str>, E: ParserError<I>>(
     count: usize,
     input: &mut I,

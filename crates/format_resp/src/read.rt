@@ -18,7 +18,7 @@ type Bytes = Partial<&'static [u8]>;
 
 type Error = ErrMode<EmptyError>;
 
-/// What stands behind the `:` of an integer.
+/// What stands after the `:` of an integer.
 fn read_number<'i, A: Allocator>(
     input: &mut Partial<&'i [u8]>,
 ) -> Result<Reply<&'i [u8], A>, ErrMode<EmptyError>>
@@ -30,7 +30,7 @@ fn read_number<'i, A: Allocator>(
     Ok(Reply::Integer(number))
 }
 
-/// What stands behind the `$` of a bulk string.
+/// What stands after the `$` of a bulk string.
 fn read_bulk<'i, A: Allocator>(
     input: &mut Partial<&'i [u8]>,
 ) -> Result<Reply<&'i [u8], A>, ErrMode<EmptyError>>
@@ -64,7 +64,7 @@ pub const SAFE_LEVEL: usize = 128;
 /// say, and they may state one that they do not have.
 const ROOM_AT_FIRST: usize = 64;
 
-/// What stands behind the `*` of an array.
+/// What stands after the `*` of an array.
 #[cycle(read)]
 fn read_array<'i, A: Allocator + Copy>(
     alloc: A,
@@ -93,11 +93,11 @@ fn read_array<'i, A: Allocator + Copy>(
 }
 
 /// The reply that the bytes begin with, with no more than `level` arrays in one another; what is
-/// left is behind it. Each level takes some of the stack: up to [`SAFE_LEVEL`] two megabytes
+/// left is after it. Each level takes some of the stack: up to [`SAFE_LEVEL`] two megabytes
 /// suffice.
 ///
 /// On a whole input (a stream that is marked complete) it answers exactly where such a reply stands
-/// first: an error backtracks and says that none does, or wants memory. On a cut one an answer
+/// first: an error backtracks and says that none does, or is out of memory. On a cut one an answer
 /// holds whatever follows, and so does an error that backtracks; else more is asked for. Then the
 /// input is to be read again from its start, with more of it there. Of when more is asked for no
 /// clause says more: that it is asked only where a reply may go on, and for how many bytes where

@@ -44,7 +44,7 @@ impl From<AllocError> for WriteError {
     }
 }
 
-/// Puts a byte behind what is there.
+/// Puts a byte after what is there.
 fn put<B: Allocator>(byte: u8, into: &mut Vec<u8, B>) -> Result<(), AllocError>
     ensures written { OnOk result (into.new.items ≡ into.old.items ++ byte ∷ []) }
     ensures kept { OnErr result (into.new.items ≡ into.old.items) }
@@ -55,7 +55,7 @@ fn put<B: Allocator>(byte: u8, into: &mut Vec<u8, B>) -> Result<(), AllocError>
     }
 }
 
-/// Puts a byte, what stands behind it on its line, and the line end behind what is there.
+/// Puts a byte, what stands after it on its line, and the line end after what is there.
 fn write_line<B: Allocator>(mark: u8, line: &[u8], into: &mut Vec<u8, B>) -> Result<(), AllocError>
     ensures written { OnOk result (into.new.items ≡ into.old.items ++ marked mark line.now) }
     ensures kept { Keeps into.old.items into.new.items }
@@ -66,7 +66,7 @@ fn write_line<B: Allocator>(mark: u8, line: &[u8], into: &mut Vec<u8, B>) -> Res
     Ok(())
 }
 
-/// Puts the digits of a number behind what is there: it calls itself once for each but the last.
+/// Puts the digits of a number after what is there: it calls itself once for each but the last.
 fn write_digits<B: Allocator>(number: u64, into: &mut Vec<u8, B>) -> Result<(), AllocError>
     ensures written { OnOk result (into.new.items ≡ into.old.items ++ decimal number) }
     ensures kept { Keeps into.old.items into.new.items }
@@ -80,7 +80,7 @@ fn write_digits<B: Allocator>(number: u64, into: &mut Vec<u8, B>) -> Result<(), 
     Ok(())
 }
 
-/// Puts a number behind what is there, with a minus sign where it is negative.
+/// Puts a number after what is there, with a minus sign where it is negative.
 fn write_signed<B: Allocator>(number: i64, into: &mut Vec<u8, B>) -> Result<(), AllocError>
     ensures written { OnOk result (into.new.items ≡ into.old.items ++ signed_decimal number) }
     ensures kept { Keeps into.old.items into.new.items }
@@ -92,7 +92,7 @@ fn write_signed<B: Allocator>(number: i64, into: &mut Vec<u8, B>) -> Result<(), 
     write_digits(number.unsigned_abs(), into)
 }
 
-/// Puts a size behind a first byte on a line of its own.
+/// Puts a size after a first byte on a line of its own.
 fn write_size<B: Allocator>(mark: u8, size: usize, into: &mut Vec<u8, B>) -> Result<(), AllocError>
     ensures written { OnOk result (into.new.items ≡ into.old.items ++ marked mark (decimal size)) }
     ensures kept { Keeps into.old.items into.new.items }
@@ -103,7 +103,7 @@ fn write_size<B: Allocator>(mark: u8, size: usize, into: &mut Vec<u8, B>) -> Res
     Ok(())
 }
 
-/// Puts an integer behind what is there.
+/// Puts an integer after what is there.
 fn write_integer<B: Allocator>(number: i64, into: &mut Vec<u8, B>) -> Result<(), AllocError>
     ensures written { OnOk result
         (into.new.items ≡ into.old.items ++ marked 58 (signed_decimal number)) }
@@ -115,7 +115,7 @@ fn write_integer<B: Allocator>(number: i64, into: &mut Vec<u8, B>) -> Result<(),
     Ok(())
 }
 
-/// Puts a bulk string behind what is there.
+/// Puts a bulk string after what is there.
 fn write_bulk<B: Allocator>(bytes: &[u8], into: &mut Vec<u8, B>) -> Result<(), AllocError>
     ensures written { OnOk result (into.new.items ≡ into.old.items ++ bulk_of bytes.now) }
     ensures kept { Keeps into.old.items into.new.items }
@@ -134,7 +134,7 @@ fn is_line(bytes: &[u8]) -> bool
     memchr2(b'\r', b'\n', bytes).is_none()
 }
 
-/// Puts a simple string or an error behind what is there.
+/// Puts a simple string or an error after what is there.
 fn write_text<B: Allocator>(mark: u8, text: &[u8], into: &mut Vec<u8, B>) -> Result<(), WriteError>
     ensures written { OnOk result (AllByRecursion InLine text.now
         × (into.new.items ≡ into.old.items ++ marked mark text.now)) }
@@ -148,7 +148,7 @@ fn write_text<B: Allocator>(mark: u8, text: &[u8], into: &mut Vec<u8, B>) -> Res
     Ok(())
 }
 
-/// Puts replies behind what is there.
+/// Puts replies after what is there.
 #[cycle(write)]
 fn write_elements<A: Allocator, B: Allocator>(
     level: usize,
@@ -166,7 +166,7 @@ fn write_elements<A: Allocator, B: Allocator>(
     Ok(())
 }
 
-/// Puts an array behind what is there.
+/// Puts an array after what is there.
 #[cycle(write)]
 fn write_array<A: Allocator, B: Allocator>(
     level: usize,
@@ -185,7 +185,7 @@ fn write_array<A: Allocator, B: Allocator>(
     write_elements(level - 1, replies.as_slice(), into)
 }
 
-/// Puts a reply behind what is there.
+/// Puts a reply after what is there.
 #[cycle(write)]
 fn write_nested<A: Allocator, B: Allocator>(
     level: usize,
@@ -220,10 +220,10 @@ fn write_nested<A: Allocator, B: Allocator>(
     }
 }
 
-/// Puts a reply behind what is there, in which no more than `level` arrays stand in one another.
+/// Puts a reply after what is there, in which no more than `level` arrays stand in one another.
 ///
 /// A number has no plus sign and no leading zero, so one text is written for each reply. It reads
-/// back as this reply, whatever stands behind it: see [`reads_back`](crate::back::reads_back).
+/// back as this reply, whatever stands after it: see [`reads_back`](crate::back::reads_back).
 /// Writing calls itself once for each array that stands in another, as
 /// [`read_reply`](crate::read::read_reply) does; up to
 /// [`SAFE_LEVEL`](crate::read::SAFE_LEVEL) two megabytes of stack suffice.
@@ -267,7 +267,7 @@ pub fn write_reply<A: Allocator, B: Allocator>(
     }
 }
 
-/// Puts bulk strings behind what is there.
+/// Puts bulk strings after what is there.
 fn write_bulks<B: Allocator>(parts: &[&[u8]], into: &mut Vec<u8, B>) -> Result<(), AllocError>
     ensures written { OnOk result (into.new.items ≡ into.old.items ++ bulks_of parts.now) }
     ensures kept { Keeps into.old.items into.new.items }
@@ -278,7 +278,7 @@ fn write_bulks<B: Allocator>(parts: &[&[u8]], into: &mut Vec<u8, B>) -> Result<(
     Ok(())
 }
 
-/// Puts the size of an array and so many bulk strings behind what is there.
+/// Puts the size of an array and that many bulk strings after what is there.
 fn write_parts<B: Allocator>(parts: &[&[u8]], into: &mut Vec<u8, B>) -> Result<(), AllocError>
     ensures written { OnOk result (into.new.items ≡ into.old.items ++ command_of parts.now) }
     ensures kept { Keeps into.old.items into.new.items }
@@ -287,7 +287,7 @@ fn write_parts<B: Allocator>(parts: &[&[u8]], into: &mut Vec<u8, B>) -> Result<(
     write_bulks(parts, into)
 }
 
-/// Puts a command behind what is there, as clients send it: an array of bulk strings, of which the
+/// Puts a command after what is there, as clients send it: an array of bulk strings, of which the
 /// first is its name.
 ///
 /// `NoParts` says that there is not even a name: a server answers nothing to an empty array.

@@ -9,7 +9,7 @@ use Rattle.std.proofs.Common.{◌⊎◌}
 use Rattle.format_toml.specs.Numbers.{DigitsText, NextText, NumberText}
 use Rattle.winnow.specs.Texts.{BothText, EachText, EitherText, Spelled, TokenOfText}
 
--- Behind digits of this number a digit is due, or nothing is; with what stands there the number is
+-- After digits of this number a digit is due, or nothing is; with what stands there the number is
 -- n.
 abbrev pub Continues : ℕ → Bool → ℕ → List ℕ → ℕ → Type 0
 Continues base true number tokens n =

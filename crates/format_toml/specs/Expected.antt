@@ -29,7 +29,7 @@ Stands {O} grammar tokens rest = (o : O) × grammar tokens o rest
 abbrev pub Begun : {O : Type 0} → Grammar ℕ O → List ℕ → Type 0
 Begun grammar tokens = (rest : List ℕ) × Stands grammar tokens rest
 
--- what is left behind what stands first, or nothing where nothing does
+-- what is left after what stands first, or nothing where nothing does
 abbrev pub IsPast : {O : Type 0} → Grammar ℕ O → List ℕ → Option (Bor (List ℕ)) → Type 0
 IsPast grammar tokens (Some rest) =
     Stands grammar tokens (chars rest.now)
@@ -41,7 +41,7 @@ IsLack lacks whole (Some lack) = lacks lack.expected (chars lack.rest.now)
 IsLack lacks whole None = whole
 
 module _ (A : Type 0) where
-  -- What stands behind a bracket that opens the name of a table, before what is lacking, one behind
+  -- What stands after a bracket that opens the name of a table, before what is lacking, one after
   -- the other; and what does not stand there.
   abbrev pub HeaderLacks : List ℕ → Expected → List ℕ → Type 0
   HeaderLacks text TableName rest = Stands Ws text rest × NoneStands (AnyKey {A = A}) rest
@@ -50,7 +50,7 @@ module _ (A : Type 0) where
       × NoneStands (Char 93) rest
   HeaderLacks text expected rest = ⊥
 
-  -- The same behind two brackets: the name lacks something, or the second bracket behind it.
+  -- The same after two brackets: the name lacks something, or the second bracket after it.
   abbrev pub DoubleLacks : List ℕ → Expected → List ℕ → Type 0
   DoubleLacks text what rest =
       (name : List ℕ) × Stands (Char 91) text name
@@ -77,13 +77,13 @@ module _ (A : Type 0) where
         × NoneStands (AnyValue {A = A} level) rest
     EntryLacks text expected rest = ⊥
 
-    -- What a table or an entry lacks behind white space.
+    -- What a table or an entry lacks after white space.
     abbrev pub ItemLacks : List ℕ → Expected → List ℕ → Type 0
     ItemLacks line what rest =
         (text : List ℕ) × Stands Ws line text
         × (TableLacks text what rest ⊎ EntryLacks text what rest)
 
-    -- Behind white space a table or an entry stands, or a comment is first.
+    -- After white space a table or an entry stands, or a comment is first.
     abbrev pub ItemWhole : List ℕ → Type 0
     ItemWhole line =
         (text : List ℕ) × Stands Ws line text
@@ -91,14 +91,14 @@ module _ (A : Type 0) where
 
     -- What a line lacks that is none of TOML: what stands of a line is followed neither by the end
     -- of the text nor by a line end. Its table or its entry lacks it; or one of these stands, or a
-    -- comment is there, and then it is the end of the line, behind what stands of it.
+    -- comment is there, and then it is the end of the line, after what stands of it.
     abbrev pub Lacks : List ℕ → Expected → List ℕ → Type 0
     Lacks line what rest =
         (end : List ℕ) × Stands (Line {A = A} level) line end × (end ≡ [] → ⊥)
         × NoneStands Newline end
         × (ItemLacks line what rest ⊎ ((what ≡ LineEnd) × (rest ≡ end) × ItemWhole line))
 
-    -- A line with its line end, and what is left behind it.
+    -- A line with its line end, and what is left after it.
     abbrev pub LineStands : List ℕ → List ℕ → Type 0
     LineStands line behind =
         (end : List ℕ) × Stands (Line {A = A} level) line end × Stands Newline end behind
@@ -109,7 +109,7 @@ module _ (A : Type 0) where
     IsLine line (Before behind) = LineStands line (chars behind.now)
     IsLine line (lines.Lacks lack) = Lacks line lack.expected (chars lack.rest.now)
 
-    -- So many lines stand before a line, each with its line end.
+    -- That many lines stand before a line, each with its line end.
     abbrev pub LinesBefore : ℕ → List ℕ → List ℕ → Type 0
     LinesBefore zero text line = line ≡ text
     LinesBefore (suc n) text line =
@@ -131,7 +131,7 @@ newline_takes =
     either_takes (char_takes 10)
     (both_take latter (char_unique 13) (char_unique 10) (inl (char_takes 13)))
 
--- so there are fewer behind a line
+-- so there are fewer after a line
 pub line_less : (A : Type 0) (level : ℕ) (line behind : List ℕ) → LineStands A level line behind
     → length behind < length line
 line_less A level line behind (end, (o, x), (c, y)) =

@@ -243,7 +243,7 @@ magnitude_none text free = (λ x. there (sorted text x), λ d. from_decimal text
         absurd (neither_at (Neither 101 69) number power letter
         (subst (λ l. All (Neither 101 69) l) f free) l)
 
--- ---- behind a sign
+-- ---- after a sign
 
 pub signs_off : (p : List ℕ → Type 0) (text rest : List ℕ) → SignsOff text rest
     → ((c : ℕ) (others : List ℕ) → IsSign c → p (c ∷ others) → ⊥) → Signed p text ↔ p rest

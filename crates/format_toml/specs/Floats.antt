@@ -80,14 +80,14 @@ IsDecimal tokens =
     (whole : List ℕ) × (digits : List ℕ) × IsWhole whole × AreDigits digits
     × (tokens ≡ whole ++ 46 ∷ digits)
 
--- What stands before the first of two tokens, and what behind it; none, where neither stands.
+-- What stands before the first of two tokens, and what after it; none, where neither stands.
 unfoldable pub SplitsAt : ℕ → ℕ → List ℕ → Option (Bor (List ℕ) × Bor (List ℕ)) → Type 0
 SplitsAt one other text None = All (λ c. ((c ≡ one) ⊎ (c ≡ other)) → ⊥) text
 SplitsAt one other text (Some parts) =
     (c : ℕ) × ((c ≡ one) ⊎ (c ≡ other)) × (text ≡ parts.0.now ++ c ∷ parts.1.now)
     × All (λ c. ((c ≡ one) ⊎ (c ≡ other)) → ⊥) parts.0.now
 
--- What stands behind a sign that is first; all, where none is.
+-- What stands after a sign that is first; all, where none is.
 unfoldable pub SignsOff : List ℕ → List ℕ → Type 0
 SignsOff text rest =
     ((sign : ℕ) × IsSign sign × (text ≡ sign ∷ rest))

@@ -55,8 +55,8 @@ Mark c = Both pair (Char c) Ws
 abbrev pub WideMark : ℕ → Grammar ℕ (ℕ × ⊤)
 WideMark c = Both pair (Char c) Gap
 
--- elements with a mark between each two of them, and perhaps behind the last, or nothing, between
--- two others; white space is behind the first mark, and behind those between elements
+-- elements with a mark between each two of them, and perhaps after the last, or nothing, between
+-- two others; white space is after the first mark, and after those between elements
 abbrev pub Listing : {T O M W A : Type 0} → Grammar T O → Grammar T M → Grammar T M → Grammar T M
     → Grammar T W → Grammar T (Option (Vec O A))
 Listing element opening comma closing gap =
@@ -75,7 +75,7 @@ Short = Meaning StandsFor (Token (λ c. c))
 abbrev pub WideUnits : Grammar ℕ (ℕ × ℕ)
 WideUnits = Both pair CodeUnit CodeUnit
 
--- what stands behind a backslash
+-- what stands after a backslash
 abbrev pub Escape : Grammar ℕ ℕ
 Escape =
     Led (λ c. c ≡ 117) (Both latter (Char 117) (Meaning IsAlone CodeUnit))
@@ -88,7 +88,7 @@ Character = Either (TokenOf (λ c. c) Tells Basic) (Both latter (Char 92) Escape
 abbrev pub Blank : Grammar ℕ ℕ
 Blank = Either (TokenOf (λ c. c) Tells White) Newline
 
--- a backslash, a line end, and what is blank behind it
+-- a backslash, a line end, and what is blank after it
 abbrev pub EscapedLine : Grammar ℕ ⊤
 EscapedLine =
     Both latter (Char 92) (Both latter Ws (Both latter Newline

@@ -51,7 +51,7 @@ zero_alone = (
   λ others e. sym (tail_of e),
 )
 
--- ---- integers that are, behind a sign or none, a number
+-- ---- integers that are, after a sign or none, a number
 
 pub record Reduces (sign : ℕ → ℤ) (text : Text ℕ ℕ) (tail tokens : List ℕ) : Type 0 where
   pub same : (n : ℤ) → AnyIntegerText n tokens ↔ ((m : ℕ) × text m tail × (n ≡ sign m))
@@ -284,7 +284,7 @@ no_zero text (Some n) not (is, only) = ((is, lone), λ m (x, _). only m x)
     lone (o ∷ os) e =
         absurd (not (omega (arith, ap (λ l. length l) e)) (ap (λ l. get_or l 0 0) e))
 
--- ---- behind a zero
+-- ---- after a zero
 
 pub zero_ends : (text : List ℕ) → length text ≡ 0 → IsNumber BehindZero text (Some 0)
 unfolding IsNumber BehindZero

@@ -61,7 +61,7 @@ opens_key_is c (inr (inr bare)) =
       closes,
     )
 
--- what stands behind a key and white space
+-- what stands after a key and white space
 abbrev pub EndsKey : ℕ → Type 0
 EndsKey c = (c ≡ 61) ⊎ (c ≡ 93)
 

@@ -14,17 +14,17 @@ module _ {T O : Type 0} (quote : Grammar T O) where
   abbrev pub ThreeOf : Grammar T (O × O × O)
   ThreeOf = Three (λ a b c. (a, b, c)) quote quote quote
 
-  -- a quotation mark of the string: behind it, and three that close the string or none, no two are
+  -- a quotation mark of the string: after it, and three that close the string or none, no two are
   abbrev pub QuoteOf : Grammar T O
   QuoteOf = Both former quote (Ahead (Both pair (Optional ThreeOf) (NotAhead TwoOf)))
 
-  -- a character, behind what is skipped
+  -- a character, after what is skipped
   abbrev pub PartOf : Grammar T O → Grammar T ⊤ → Grammar T O
   PartOf content skips = Both latter skips (Either content QuoteOf)
 
 module _ {T M : Type 0} (quote : Grammar T M) (part : Grammar T ℕ) (skips : Grammar T ⊤)
     (newline : Grammar T M) where
-  -- a line end or none, and parts with what is skipped behind them
+  -- a line end or none, and parts with what is skipped after them
   abbrev pub BodyOf : {A : Type 0} → Grammar T (String A)
   BodyOf =
       Both latter (Optional newline) (Both former

@@ -18,7 +18,7 @@ module _ (quote : ℕ) where
   abbrev pub NotTwo : List ℕ → Type 0
   NotTwo tokens = (x : List ℕ) → tokens ≡ quote ∷ quote ∷ x → ⊥
 
-  -- Two are not first; or three are, and behind these two are not.
+  -- Two are not first; or three are, and after these two are not.
   abbrev pub Clear : List ℕ → Type 0
   Clear tokens =
       NotTwo tokens ⊎ ((x : List ℕ) × (tokens ≡ quote ∷ quote ∷ quote ∷ x) × NotTwo x)

@@ -59,7 +59,7 @@ line_of =
 line_begins : BeginsIn (λ c. c ≡ 92) EscapedLineText
 line_begins = both_front latter (spelled_begins 92 [] 92) front_any
 
--- behind a backslash something blank is
+-- after a backslash something blank is
 abbrev Second : (ℕ → Type 0) → List ℕ → Type 0
 Second these tokens = (rest : List ℕ) × (tokens ≡ 92 ∷ rest) × Begins these rest
 
@@ -118,7 +118,7 @@ lines_stop [] o tokens rest (mid, x, e) =
     subst (λ l. NoneStands Blank l) (sym e) (line_stops tokens mid o x)
 lines_stop (p ∷ os) o tokens rest (mid, x, more) = lines_stop os p mid rest more
 
--- behind each there may be another
+-- after each there may be another
 again : InFront EscapedLineText (NoneStands Blank) (NoneStands Blank)
 again = record {
   makes = λ o xs rest t none. none_begins blank_of blank_begins (xs ++ rest)

@@ -24,7 +24,7 @@ pub record Skipping (quote : ℕ) (text : Text ℕ ℕ) (skips : Grammar ℕ ⊤
   pub content : (o : ℕ) (ys rest : List ℕ) → text o ys → stop (ys ++ rest)
   pub mark : (tokens : List ℕ) → Begins (λ c. c ≡ quote) tokens → stop tokens
 
--- three quotation marks, and none behind them
+-- three quotation marks, and none after them
 abbrev pub Closes : ℕ → List ℕ → Type 0
 Closes quote tokens =
     (x : List ℕ) × (tokens ≡ quote ∷ quote ∷ quote ∷ x) × NotFirst (λ c. c ≡ quote) x
@@ -114,7 +114,7 @@ module _ (quote : ℕ) {content : Grammar ℕ ℕ} {text : Text ℕ ℕ} {skips 
   abbrev pub Last : List ℕ → Type 0
   Last tokens = NotFirst (λ c. c ≡ quote) tokens ⊎ Closes quote tokens
 
-  -- at most so many quotation marks are first, or three more that close the string
+  -- at most that many quotation marks are first, or three more that close the string
   pub Near : ℕ → List ℕ → Type 0
   Near zero tokens = Last tokens
   Near (suc k) tokens =

@@ -22,7 +22,7 @@ unfoldable pub Trimmed : {N O : Type 0} → Text ℕ N → Text ℕ O → Text �
 Trimmed newline text o tokens =
     BothText latter newline text o tokens ⊎ (text o tokens × NoneWritten newline tokens)
 
--- How many quotation marks may stand next, where so many might stand before these tokens.
+-- How many quotation marks may stand next, where that many might stand before these tokens.
 abbrev pub room_behind : ℕ → List ℕ → ℕ
 room_behind room [] = room
 room_behind room (x ∷ xs) = 2
@@ -31,7 +31,7 @@ room_behind room (x ∷ xs) = 2
 module _ (quote : ℕ) (content : Text ℕ ℕ) (skipped : List ℕ → List ℕ → Type 0) where
   -- ml-basic-body = *mlb-content *( mlb-quotes 1*mlb-content ) [ mlb-quotes ], with mlb-quotes =
   -- 1*2quotation-mark, and so ml-literal-body: contents and quotation marks, of which no more than
-  -- two stand behind one another, and so many at the beginning. What is skipped may stand before
+  -- two stand after one another, and that many at the beginning. What is skipped may stand before
   -- each character, and at the end.
   unfoldable pub BodyText : ℕ → Text ℕ (List ℕ)
   BodyText room [] tokens = skipped tokens []

@@ -7,8 +7,8 @@ use Rattle.format_toml.specs.Expected.{Lacks, LinesBefore}
 use Rattle.format_toml.specs.declared.expected.Expected.{Expected}
 
 module _ (A : Type 0) (level : ℕ) (text : List ℕ) where
-  -- This is expected in the first line that is none of TOML, behind some text; and the line and the
-  -- column are those behind this text.
+  -- This is expected in the first line that is none of TOML, after some text; and the line and the
+  -- column are those after this text.
   abbrev pub LacksAt : Position → Expected → Type 0
   LacksAt position what =
       (n : ℕ) × (line : List ℕ) × (before : List ℕ) × (rest : List ℕ) × (text ≡ before ++ rest)

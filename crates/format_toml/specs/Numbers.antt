@@ -75,7 +75,7 @@ unfoldable pub IsIntegerOf : List ℕ → Option ℤ → Type 0
 IsIntegerOf tokens None = (n : ℤ) → IntegerText n tokens → ⊥
 IsIntegerOf tokens (Some n) = IntegerText n tokens
 
--- what stands behind a zero that is first: nothing, or a letter and digits of its base
+-- what stands after a zero that is first: nothing, or a letter and digits of its base
 unfoldable pub BehindZero : Text ℕ ℕ
 BehindZero n tokens =
     ((tokens ≡ []) × (n ≡ 0))

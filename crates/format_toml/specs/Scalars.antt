@@ -36,7 +36,7 @@ goes_is c (inl (inr (inr (inr (inr (inr e)))))) = omega (arith, e)
 goes_is c (inr (inl e)) = omega (arith, e)
 goes_is c (inr (inr e)) = omega (arith, e)
 
--- none of these is behind a value
+-- none of these is after a value
 abbrev pub Goes : List ℕ → Type 0
 Goes = NotFirst GoesOn
 

@@ -53,7 +53,7 @@ IsOf Basic c = IsShown c × ((c ≡ 34 → ⊥) × (c ≡ 92 → ⊥))
 IsOf White c = IsSpace c
 IsOf Unquoted c = IsUnquoted c
 
--- escape-seq-char: the character behind a backslash, and that for which both stand; of b a
+-- escape-seq-char: the character after a backslash, and that for which both stand; of b a
 -- backspace, of t a tab, of n a line feed, of f a form feed, of r a carriage return, of " and \
 -- the same
 abbrev pub StandsFor : ℕ → ℕ → Type 0
@@ -127,14 +127,14 @@ GapPartText = EitherText (TokenOfText (λ c. c) (IsOf White))
 abbrev pub GapText : Text ℕ ⊤
 GapText = GatheredText (λ all parts. ⊤) (EachText GapPartText)
 
--- a text, and white space behind it, on its line or over lines
+-- a text, and white space after it, on its line or over lines
 abbrev pub Spaced : {O : Type 0} → Text ℕ O → Text ℕ O
 Spaced text = BothText former text WsText
 
 abbrev pub Gapped : {O : Type 0} → Text ℕ O → Text ℕ O
 Gapped text = BothText former text GapText
 
--- a character, and white space behind it, on its line or over lines
+-- a character, and white space after it, on its line or over lines
 abbrev pub MarkText : ℕ → Text ℕ (ℕ × Slice)
 MarkText c = BothText pair (One c) WsText
 
@@ -180,7 +180,7 @@ abbrev pub false_word : List ℕ
 false_word = 102 ∷ 97 ∷ 108 ∷ 115 ∷ 101 ∷ []
 
 module _ {A : Type 0} where
-  -- so many characters of a set or more
+  -- that many characters of a set or more
   abbrev pub CharactersText : Characters → ℕ → Text ℕ (String A)
   CharactersText set least =
       GatheredText HasCharacters (AtLeast least (EachText (TokenOfText (λ c. c) (IsOf set))))
@@ -230,7 +230,7 @@ module _ {A : Type 0} where
   abbrev pub NameText : Text ℕ (String A)
   NameText = EitherText BasicText (EitherText LiteralText (CharactersText Bare 1))
 
-  -- key = simple-key *( dot-sep simple-key ), with dot-sep = ws %x2E ws, and white space behind it
+  -- key = simple-key *( dot-sep simple-key ), with dot-sep = ws %x2E ws, and white space after it
   abbrev pub KeyText : Text ℕ (Key A)
   KeyText = For IsKey (InList (AtLeast 1 (PartedText (MarkText 46) (Spaced NameText))))
 
@@ -240,8 +240,8 @@ module _ {A : Type 0} where
   abbrev pub PairText : Text ℕ (Value A) → Text ℕ (Key A × Value A)
   PairText value = BothText pair KeyText (BothText latter (MarkText 61) value)
 
-  -- array-values: values with commas between them, and perhaps one behind the last; and white space
-  -- and comments behind each value and each comma
+  -- array-values: values with commas between them, and perhaps one after the last; and white space
+  -- and comments after each value and each comma
   abbrev pub ArrayValuesText : Text ℕ (Value A) → Text ℕ (Vec (Value A) A)
   ArrayValuesText value =
       BothText former (InList (AtLeast 1 (PartedText (WideMarkText 44) (Gapped value))))
@@ -256,7 +256,7 @@ module _ {A : Type 0} where
   InlineText value =
       Between (MarkText 123) (InList (PartedText (MarkText 44) (Spaced (PairText value)))) (One 125)
 
-  -- a value, of which no more than so many arrays and inline tables stand in one another
+  -- a value, of which no more than that many arrays and inline tables stand in one another
   unfoldable pub ValueText : ℕ → Text ℕ (Value A)
   ValueText zero = ScalarText
   ValueText (suc level) =
@@ -265,11 +265,11 @@ module _ {A : Type 0} where
 
   -- ---- lines
 
-  -- what stands behind a bracket that opens a name: ws key ws %x5D
+  -- what stands after a bracket that opens a name: ws key ws %x5D
   abbrev pub HeaderText : Text ℕ (Key A)
   HeaderText = Between WsText KeyText (One 93)
 
-  -- std-table = %x5B ws key ws %x5D, array-table = %x5B.5B ws key ws %x5D.5D: what stands behind
+  -- std-table = %x5B ws key ws %x5D, array-table = %x5B.5B ws key ws %x5D.5D: what stands after
   -- the first bracket
   abbrev pub TableText : Text ℕ (Item A)
   TableText = EitherText (For IsTables (Between (One 91) HeaderText (One 93)))

@@ -133,7 +133,7 @@ fn read_long_code<'i>(input: &mut &'i str) -> Result<char, ErrMode<EmptyError>>
     preceded('U', LongCode.by(read_wide_character)).read(input)
 }
 
-/// The name of what stands behind a backslash.
+/// The name of what stands after a backslash.
 #[derive(Clone, Copy, Drop)]
 struct AnyEscape;
 
@@ -149,7 +149,7 @@ impl<'i> Rule<&'i str, char> for AnyEscape {
     ghost takes = { λ _ never. absurd never };
 }
 
-/// What stands behind a backslash: the character for which both stand.
+/// What stands after a backslash: the character for which both stand.
 fn read_escape<'i>(input: &mut &'i str) -> Result<char, ErrMode<EmptyError>>
     ensures { Reads text_reading ⟦<ErrMode<EmptyError> as HasKind>⟧.kind Escape
         (text_input input.old.now) result (text_input input.new.now) }

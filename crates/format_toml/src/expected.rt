@@ -71,7 +71,7 @@ pub struct Lack<'i> {
     pub rest: &'i str,
 }
 
-/// What is lacking behind the bracket that opens the name of a table; nothing where all stands.
+/// What is lacking after the bracket that opens the name of a table; nothing where all stands.
 fn lack_of_header<'i, A: Allocator + Copy>(
     alloc: A,
     text: &'i str,
@@ -188,9 +188,9 @@ fn lack_of_item<'i, A: Allocator + Copy>(
 /// What a line is with which a text begins.
 #[derive(Drop)]
 enum Outcome<'i> {
-    /// It is one of TOML, and nothing is behind it.
+    /// It is one of TOML, and nothing is after it.
     Last,
-    /// It is one of TOML, and this line is behind it.
+    /// It is one of TOML, and this line is after it.
     Before(&'i str),
     /// It is none.
     Lacks(Lack<'i>),
@@ -204,7 +204,7 @@ fn is_end(text: &str) -> bool
     text.chars().next().is_none()
 }
 
-/// What a line lacks that has no end behind what stands of it: what its table or its entry lacks;
+/// What a line lacks that has no end after what stands of it: what its table or its entry lacks;
 /// or, where these lack nothing, its end.
 fn lack_of_line<'i, A: Allocator + Copy>(
     alloc: A,
@@ -248,7 +248,7 @@ fn line_of<'i, A: Allocator + Copy>(
 }
 
 /// What the first line of a text lacks that is none of TOML, and the text from that place on. In
-/// values no more than so many arrays stand in one another.
+/// values no more than that many arrays stand in one another.
 ///
 /// After what stands of this line is neither the end of the text nor a line end. It lacks what its
 /// table or its entry does, after the parts of these that stand; or, where all of these stands, the

@@ -6,7 +6,7 @@ ghost use Rattle.format_toml.specs.Floats.{Signed, SignsOff, SplitsAt};
 
 use std::alloc::{AllocError, Allocator};
 
-/// What stands before the first of two bytes, and what stands behind it.
+/// What stands before the first of two bytes, and what stands after it.
 fn split_at_first(text: &[u8], one: u8, other: u8) -> Option<(&[u8], &[u8])>
     ensures { SplitsAt one other text.now result }
 {
@@ -55,7 +55,7 @@ fn is_decimal(text: &[u8]) -> bool
     }
 }
 
-/// What stands behind a sign that is first, or all.
+/// What stands after a sign that is first, or all.
 fn without_sign(text: &[u8]) -> &[u8]
     ensures { SignsOff text.now result.now }
 {

@@ -52,7 +52,7 @@ fn unsigned(text: &[u8]) -> Option<u64>
     number_in(10, text)
 }
 
-/// The number of what stands behind a zero that is first: nothing, or a letter and digits of its
+/// The number of what stands after a zero that is first: nothing, or a letter and digits of its
 /// base.
 fn behind_zero(text: &[u8]) -> Option<u64>
     ensures { IsNumber BehindZero text.now result }

@@ -27,7 +27,7 @@ use winnow::exact::Rule;
 use winnow::stream::Range;
 use winnow::token::take_while;
 
-/// The name of a table of an array of tables, behind the first bracket, as an item.
+/// The name of a table of an array of tables, after the first bracket, as an item.
 fn read_double_item<'i, A: Allocator + Copy>(
     alloc: A,
     input: &mut &'i str,
@@ -42,7 +42,7 @@ fn read_double_item<'i, A: Allocator + Copy>(
     }
 }
 
-/// The name of a table, behind the first bracket, as an item.
+/// The name of a table, after the first bracket, as an item.
 fn read_header_item<'i, A: Allocator + Copy>(
     alloc: A,
     input: &mut &'i str,
@@ -72,7 +72,7 @@ impl<'i, A: Allocator> Rule<&'i str, Item<A>> for AnyTable<A> {
     ghost takes = { λ _ never. absurd never };
 }
 
-/// The name of a table, or of a table of an array of tables, behind the first bracket.
+/// The name of a table, or of a table of an array of tables, after the first bracket.
 fn read_table<'i, A: Allocator + Copy>(
     alloc: A,
     input: &mut &'i str,
@@ -178,7 +178,7 @@ pub(crate) fn read_line<'i, A: Allocator + Copy>(
 
 /// What the statements of a document say, where all of the text is lines of TOML, with a line feed
 /// between each two, or a carriage return and a line feed; nothing where one is blank. An array may
-/// go on over line ends. In values no more than so many arrays and inline tables stand in one
+/// go on over line ends. In values no more than that many arrays and inline tables stand in one
 /// another, and each level takes some of the stack, as of
 /// [`read_value`](crate::values::read_value). Lines may say a key or a table again.
 ///

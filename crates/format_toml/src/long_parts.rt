@@ -13,7 +13,7 @@ use winnow::combinator::{alt, delimited, not, opt, peek, preceded, repeat, termi
 use winnow::error::ParserError;
 use winnow::stream::{Range, Stream};
 
-/// Reads a quotation mark that belongs to a string over lines: behind it, and behind three more or
+/// Reads a quotation mark that belongs to a string over lines: after it, and after three more or
 /// none of these, no two are. So of up to two all do, of three none does, and of four or five the
 /// first ones do, before three that close the string.
 pub fn read_quote_of<I, O, E, P>(quote: P, input: &mut I) -> Result<O, E>
@@ -32,7 +32,7 @@ where
     terminated(quote, peek((opt(three), not(two)))).read(input)
 }
 
-/// Reads what stands for a character, or a quotation mark, behind what is skipped.
+/// Reads what stands for a character, or a quotation mark, after what is skipped.
 pub fn read_part_of<I, O, W, E, S, P, Q>(
     skips: S,
     content: P,
@@ -80,7 +80,7 @@ where
     alt((first, second)).read(input)
 }
 
-/// Reads an escaped line end: a backslash, white space, a line end, and all that is blank behind
+/// Reads an escaped line end: a backslash, white space, a line end, and all that is blank after
 /// it.
 pub fn read_escaped_of<I, M, W, E, A, B, G, N, P>(
     alloc: A,
@@ -121,7 +121,7 @@ where
 }
 
 /// Reads a string over lines: three quotation marks, a line end or none, parts with what is skipped
-/// behind them, and three quotation marks.
+/// after them, and three quotation marks.
 pub fn read_long_of<I, M, E, A, Q, P, S, N>(
     alloc: A,
     quote: Q,

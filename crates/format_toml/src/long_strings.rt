@@ -1,4 +1,4 @@
-//! Strings over lines (TOML 1.0: String): between three quotation marks. A line end right behind
+//! Strings over lines (TOML 1.0: String): between three quotation marks. A line end right after
 //! the first three is dropped, and each other one, also of two characters, is a line feed.
 ghost use Rattle.std.specs.Prelude.{◌≡◌, ⊤};
 ghost use Rattle.winnow.specs.Text.{text_input, text_reading};
@@ -159,7 +159,7 @@ impl<'i, A: Allocator> Rule<&'i str, ()> for EscapedLines<A> {
     ghost takes = { λ _ _. escaped_line_takes };
 }
 
-/// An escaped line end, and what is blank behind it. No memory is taken.
+/// An escaped line end, and what is blank after it. No memory is taken.
 fn read_escaped_line<'i, A: Allocator + Copy>(
     alloc: A,
     input: &mut &'i str,
@@ -217,7 +217,7 @@ impl<'i, A: Allocator> Rule<&'i str, char> for BasicParts<A> {
     ghost takes = { λ _ _. basic_part_takes };
 }
 
-/// A character of a basic string, a line end or a quotation mark, behind escaped line ends.
+/// A character of a basic string, a line end or a quotation mark, after escaped line ends.
 fn read_basic_part<'i, A: Allocator + Copy>(
     alloc: A,
     input: &mut &'i str,

@@ -21,7 +21,7 @@ use winnow::error::{ParseFault, ParserError};
 use winnow::exact::Rule;
 use winnow::stream::{Range, Stream, StreamIsPartial};
 
-/// Reads elements, one at least, with a mark between each two of them, and white space behind each
+/// Reads elements, one at least, with a mark between each two of them, and white space after each
 /// element and each mark.
 pub fn read_joined<I, E, O, M, W, A, P, B, G>(
     alloc: A,
@@ -91,8 +91,8 @@ where
     delimited(first, opt(second), third).read(input)
 }
 
-/// Reads elements between two marks, with a third between each two of them and perhaps behind the
-/// last, or nothing between these marks; and white space behind the first mark and behind each of
+/// Reads elements between two marks, with a third between each two of them and perhaps after the
+/// last, or nothing between these marks; and white space after the first mark and after each of
 /// those between elements.
 pub fn read_list<I, E, O, M, W, A, P, B, G>(
     alloc: A,
@@ -139,7 +139,7 @@ where
 
 /// Reads values between marks, as [`read_list`]. A function reads a value by a rule, and white
 /// space
-/// is behind it.
+/// is after it.
 pub fn read_list_of<I, E, O, M, W, A, R, F, B, G>(
     alloc: A,
     rule: R,
@@ -277,7 +277,7 @@ where
     separated_pair(first, second, third).read(input)
 }
 
-/// Reads an item or none, with white space round it, and a comment behind it or none.
+/// Reads an item or none, with white space round it, and a comment after it or none.
 pub fn read_line_of<I, E, O, C, W, P, Q, G>(
     item: P,
     comment: Q,

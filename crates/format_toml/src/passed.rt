@@ -1,4 +1,4 @@
-//! What stands behind parts of a line, where these stand, for what a line lacks.
+//! What stands after parts of a line, where these stand, for what a line lacks.
 ghost use Rattle.std.specs.Prelude.{◌≡◌, ℕ, false, IfOk, IsTrue, List};
 ghost use Rattle.std.specs.Str.{chars};
 ghost use Rattle.format_parts.specs.Words.{Char};
@@ -59,21 +59,21 @@ fn behind<'i, O: Drop, P: Parser<&'i str, O, ErrMode<EmptyError>> + Drop>(
     }
 }
 
-/// What is behind white space, which may be none.
+/// What is after white space, which may be none.
 pub fn behind_white<'i>(text: &'i str) -> Result<&'i str, ErrMode<EmptyError>>
     ensures { IfOk result (λ rest. Stands Ws (chars text.now) (chars rest.now)) }
 {
     behind(Space0, text)
 }
 
-/// What is behind a bracket that opens.
+/// What is after a bracket that opens.
 pub fn behind_bracket<'i>(text: &'i str) -> Result<&'i str, ErrMode<EmptyError>>
     ensures { IfOk result (λ rest. Stands (Char 91) (chars text.now) (chars rest.now)) }
 {
     behind('[', text)
 }
 
-/// What is behind a key and white space.
+/// What is after a key and white space.
 pub fn past_key<'i, A: Allocator + Copy>(
     alloc: A,
     text: &'i str,
@@ -86,7 +86,7 @@ pub fn past_key<'i, A: Allocator + Copy>(
     )
 }
 
-/// What is behind the name of a table and its bracket. An error says that it does not stand, or
+/// What is after the name of a table and its bracket. An error says that it does not stand, or
 /// that a request for memory was refused.
 pub fn behind_header<'i, A: Allocator + Copy>(
     alloc: A,
@@ -100,7 +100,7 @@ pub fn behind_header<'i, A: Allocator + Copy>(
     )
 }
 
-/// What is behind an equals sign and white space.
+/// What is after an equals sign and white space.
 pub fn past_equals<'i>(text: &'i str) -> Result<Option<&'i str>, ErrMode<EmptyError>>
     ensures { IfOk result (λ o. IsPast (Mark 61) (chars text.now) o) }
 {
@@ -138,14 +138,14 @@ pub fn lacks_value<'i, A: Allocator + Copy>(
     }
 }
 
-/// What is behind a line end.
+/// What is after a line end.
 pub fn past_newline<'i>(text: &'i str) -> Result<Option<&'i str>, ErrMode<EmptyError>>
     ensures { IfOk result (λ o. IsPast Newline (chars text.now) o) }
 {
     past(alt(('\n', preceded('\r', '\n'))), text)
 }
 
-/// What is behind what stands of a line. Something always does, so an error says that a request for
+/// What is after what stands of a line. Something always does, so an error says that a request for
 /// memory was refused.
 pub fn behind_line<'i, A: Allocator + Copy>(
     alloc: A,

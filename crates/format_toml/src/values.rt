@@ -68,11 +68,12 @@ impl<'i, A: Allocator> Rule<&'i str, (Key<A>, Value<A>)> for Entries<A> {
     ghost takes = { λ _ never. absurd never };
 }
 
-/// The value that stands first, in which no more than so many arrays and inline tables stand in one
-/// another. Each level takes some of the stack: up to [`SAFE_LEVEL`] two megabytes suffice.
+/// The value that stands first, in which no more than that many arrays and inline tables stand in
+/// one another. Each level takes some of the stack: up to [`SAFE_LEVEL`] two megabytes suffice.
 ///
 /// The input is left after the value. An error backtracks where no value of the level stands first,
-/// and wants memory where a request was refused; what of the input is left then is an end of it.
+/// and is out of memory where a request was refused; what of the input is left then is an end of
+/// it.
 ///
 /// ```
 /// use format_toml::values::read_value;

@@ -35,7 +35,7 @@ module _ {A : Type 0} where
   says_of roles.Dotted = dots
   says_of (roles.Value v) = gives v.now
 
-  -- what a place of a kind, with so many elements, is
+  -- what a place of a kind, with that many elements, is
   abbrev pub node_of : Kind A → ℕ → Node A
   node_of (kinds.Value v) n = valued v.now
   node_of kinds.Super n = super
@@ -71,7 +71,7 @@ module _ {A : Type 0} where
   Stands slots at =
       (tree : Tree A) × (path : ℕ → Path) × Holds slots tree path × (at < length slots)
 
-  -- Places hold a state behind one that others held, and these keep their paths.
+  -- Places hold a state after one that others held, and these keep their paths.
   pub record Goes (old : List (Slot A)) (path : ℕ → Path) (s : State A) (j : ℕ)
       (new : List (Slot A)) : Type 0 where
     pub paths : ℕ → Path
@@ -109,7 +109,7 @@ module _ {A : Type 0} where
       → Goes old path
       (put tree (named name ∷ path table) (node_of kind 0), named name ∷ path table) j new
 
-  -- an element is added behind the others
+  -- an element is added after the others
   abbrev pub AddsElement : List (Slot A) → ℕ → Kind A → ℕ → List (Slot A) → Type 0
   AddsElement old array kind j new =
       (tree : Tree A) (path : ℕ → Path) (was : Slot A) → Holds old tree path

@@ -19,7 +19,7 @@ module _ (A : Type 0) where
     header : Node
     -- a table that dotted keys defined
     dotted : Node
-    -- an array of so many tables
+    -- an array of that many tables
     tables : ℕ → Node
 
   -- What a statement says of a name.

@@ -126,7 +126,7 @@ module _ {A : Type 0} where
           (s : State A) → say_key dots (gives v) (tree, q) key.names.items ≡ Ok s
           → Fills s.0 s.1 v r → FillsEntry tree q key v r
 
-  -- A statement, from the tree and the table that it is in to those behind it, or why it is
+  -- A statement, from the tree and the table that it is in to those after it, or why it is
   -- refused.
   abbrev pub Runs : State A → Item A → Result (State A) Refusal → Type 0
   Runs s (items.Table key) r = r ≡ say_key passes defines (s.0, []) key.names.items

@@ -98,8 +98,8 @@ impl<'d, 't, A: Allocator + Copy> Node<'d, 't, A> {
         self.len() == 0
     }
 
-    /// The entry of a table, or the element of an array, with so many before it. Entries are in the
-    /// order in which they were first named.
+    /// The entry of a table, or the element of an array, with that many before it. Entries are in
+    /// the order in which they were first named.
     pub fn at(&self, index: usize) -> Option<Node<'d, 't, A>> {
         let slot = self.tree.slots.as_slice().get(self.place)?;
         let places = if slot.entries.is_empty() {

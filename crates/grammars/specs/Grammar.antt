@@ -1,4 +1,4 @@
--- Grammars over tokens: which output stands first in some tokens, and what is left behind it.
+-- Grammars over tokens: which output stands first in some tokens, and what is left after it.
 use Rattle.std.specs.Prelude.{◌≡◌, ◌⊎◌, ◌≤◌, ◌<◌, ℕ, List, [], ◌∷◌, ◌++◌, length, Option, Some}
 use Rattle.std.specs.Prelude.{None, Bool, true, false, IsTrue, ⊤, ◌↔◌}
 use Rattle.std.specs.Borrow.{Bor}
@@ -22,7 +22,7 @@ pub mod Till
 pub mod Tuples
 pub mod Unique
 
--- Some tokens, an output that stands first in them, and the tokens that are left behind it.
+-- Some tokens, an output that stands first in them, and the tokens that are left after it.
 abbrev pub Grammar : Type 0 → Type 0 → Type 1
 Grammar T O = List T → O → List T → Type 0
 
@@ -30,7 +30,7 @@ Grammar T O = List T → O → List T → Type 0
 abbrev pub NoneStands : {T O : Type 0} → Grammar T O → List T → Type 0
 NoneStands {T} {O} grammar tokens = (o : O) (rest : List T) → grammar tokens o rest → ⊥
 
--- What is left behind what stands is an end of the tokens, and one alone.
+-- What is left after what stands is an end of the tokens, and one alone.
 pub record IsUnique {T O : Type 0} (grammar : Grammar T O) : Type 0 where
   pub ends : (tokens : List T) (o : O) (rest : List T) → grammar tokens o rest
       → (front : List T) × (tokens ≡ front ++ rest)
@@ -76,13 +76,13 @@ Longest {T = T} reading seen tells set bounds tokens slice rest =
 abbrev pub InClass : {K : Type 0} → (ℕ → Type 0) → (K → ℕ) → ⊤ → K → Bool → Type 0
 InClass class code _ k b = IsTrue b ↔ class (code k)
 
--- The longest beginning of characters of a class, and at least so many.
+-- The longest beginning of characters of a class, and at least that many.
 abbrev pub Class : {K T L : Type 0} → (ℕ → Type 0) → ℕ → (K → ℕ) → (K → T) → Reading T L
     → Grammar T L
 Class class least code seen reading =
     Longest reading seen (InClass class code) tt (from_to least None)
 
--- So many tokens are first, and a slice shows them.
+-- That many tokens are first, and a slice shows them.
 unfoldable pub Counted : {T L : Type 0} → Reading T L → ℕ → Grammar T L
 Counted {T} reading n tokens slice rest =
     (front : List T) × (length front ≡ n) × reading.shows slice front × (tokens ≡ front ++ rest)
@@ -107,14 +107,14 @@ Nothing output tokens o rest = (o ≡ output) × (rest ≡ tokens)
 unfoldable pub Never : {T O : Type 0} → Grammar T O
 Never tokens o rest = ⊥
 
--- One stands first, and the other behind it.
+-- One stands first, and the other after it.
 unfoldable pub Both : {T O1 O2 O : Type 0} → (O1 → O2 → O) → Grammar T O1 → Grammar T O2
     → Grammar T O
 Both {T} {O1} {O2} output first second tokens o rest =
     (o1 : O1) × (o2 : O2) × (mid : List T) × first tokens o1 mid × second mid o2 rest
     × (o ≡ output o1 o2)
 
--- One stands first, another behind it, and a third behind that.
+-- One stands first, another after it, and a third after that.
 unfoldable pub Three : {T O1 O2 O3 O : Type 0} → (O1 → O2 → O3 → O) → Grammar T O1
     → Grammar T O2 → Grammar T O3 → Grammar T O
 Three {T} {O1} {O2} {O3} output first second third tokens o rest =
@@ -163,18 +163,18 @@ Ahead {T} grammar tokens o rest = (end : List T) × grammar tokens o end × (res
 unfoldable pub NotAhead : {T O : Type 0} → Grammar T O → Grammar T (Unit {0})
 NotAhead grammar tokens o rest = NoneStands grammar tokens × (rest ≡ tokens)
 
--- These stand one behind the other.
+-- These stand one after the other.
 abbrev pub Each : {T O : Type 0} → Grammar T O → Grammar T (List O)
 Each grammar tokens [] rest = rest ≡ tokens
 Each {T} grammar tokens (o ∷ os) rest =
     (mid : List T) × grammar tokens o mid × Each grammar mid os rest
 
--- Behind so many no more are read: they are as many as may be, or none stands there.
+-- After that many no more are read: they are as many as may be, or none stands there.
 abbrev pub Stops : {T O : Type 0} → Grammar T O → Option ℕ → ℕ → List T → Type 0
 Stops grammar greatest n rest =
     (greatest ≡ Some n) ⊎ (IsBelow greatest n × NoneStands grammar rest)
 
--- As many as stand one behind the other, within the bounds.
+-- As many as stand one after the other, within the bounds.
 unfoldable pub Many : {T O : Type 0} → Grammar T O → Bounds → Grammar T (List O)
 Many grammar bounds tokens os rest =
     Each grammar tokens os rest × (bounds.least ≤ length os)
@@ -186,11 +186,11 @@ unfoldable pub Gathered : {T O C : Type 0} → (C → List O → Type 0) → Gra
 Gathered {O = O} holds grammar tokens all rest =
     (os : List O) × holds all os × grammar tokens os rest
 
--- As many as stand one behind the other, as often as a range says, held by an accumulator.
+-- As many as stand one after the other, as often as a range says, held by an accumulator.
 abbrev pub Repeated : {T O C : Type 0} → (C → List O → Type 0) → Range → Grammar T O → Grammar T C
 Repeated holds range grammar = Gathered holds (Many grammar (bounds_of range))
 
--- Elements with a separator between each two of them, as many as stand, within the bounds: behind
+-- Elements with a separator between each two of them, as many as stand, within the bounds: after
 -- the last are no separator and element, or there are as many as may be. There may be none.
 unfoldable pub Parted : {T O D : Type 0} → Grammar T O → Grammar T D → Bounds → Grammar T (List O)
 Parted element separator bounds tokens [] rest =

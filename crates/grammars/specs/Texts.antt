@@ -35,17 +35,17 @@ LiterallyText {L = L} reading spelled output literal o tokens =
 unfoldable pub TokenOfText : {K T : Type 0} → (K → T) → (K → Type 0) → Text T K
 TokenOfText seen these k tokens = these k × (tokens ≡ seen k ∷ [])
 
--- So many of these tokens or more, for a slice that shows them.
+-- That many of these tokens or more, for a slice that shows them.
 unfoldable pub Members : {T L : Type 0} → Reading T L → (T → Type 0) → ℕ → Text T L
 Members reading these least slice tokens =
     All these tokens × (least ≤ length tokens) × reading.shows slice tokens
 
--- So many of these tokens, for a slice that shows them.
+-- That many of these tokens, for a slice that shows them.
 unfoldable pub SoManyOf : {T L : Type 0} → Reading T L → (T → Type 0) → ℕ → Text T L
 SoManyOf reading these n slice tokens =
     All these tokens × (length tokens ≡ n) × reading.shows slice tokens
 
--- So many tokens, for a slice that shows them.
+-- That many tokens, for a slice that shows them.
 unfoldable pub CountedText : {T L : Type 0} → Reading T L → ℕ → Text T L
 CountedText reading n slice tokens = (length tokens ≡ n) × reading.shows slice tokens
 
@@ -55,7 +55,7 @@ NoTokensText reading slice tokens = (tokens ≡ []) × reading.shows slice []
 
 -- ---- texts made of texts
 
--- A text of one, and one of another behind it.
+-- A text of one, and one of another after it.
 unfoldable pub BothText : {T O1 O2 O : Type 0} → (O1 → O2 → O) → Text T O1 → Text T O2 → Text T O
 BothText {T} {O1} {O2} output first second o tokens =
     (o1 : O1) × (o2 : O2) × (xs : List T) × (ys : List T) × first o1 xs × second o2 ys
@@ -70,7 +70,7 @@ unfoldable pub OptionalText : {T O : Type 0} → Text T O → Text T (Option O)
 OptionalText text None tokens = tokens ≡ []
 OptionalText text (Some o) tokens = text o tokens
 
--- Texts of these values, one behind the other.
+-- Texts of these values, one after the other.
 unfoldable pub EachText : {T O : Type 0} → Text T O → Text T (List O)
 EachText text [] tokens = tokens ≡ []
 EachText {T} text (o ∷ os) tokens =
@@ -83,7 +83,7 @@ PartedText {T} separator text (o ∷ os) tokens =
     (xs : List T) × (ys : List T) × text o xs × EachText (BothText (λ d o. o) separator text) os ys
     × (tokens ≡ xs ++ ys)
 
--- A text of so many values or more.
+-- A text of that many values or more.
 abbrev pub AtLeast : {T O : Type 0} → ℕ → Text T (List O) → Text T (List O)
 AtLeast zero text os tokens = text os tokens
 AtLeast (suc n) text os tokens = text os tokens × (suc n ≤ length os)
@@ -108,7 +108,7 @@ TakenText {O = O} reading text slice tokens = (o : O) × text o tokens × readin
 unfoldable pub AndTakenText : {T L O : Type 0} → Reading T L → Text T O → Text T (O × L)
 AndTakenText reading text both tokens = text both.0 tokens × reading.shows both.1 tokens
 
--- ---- what may stand behind a text, and at the beginning of one
+-- ---- what may stand after a text, and at the beginning of one
 
 -- Any tokens.
 abbrev pub Anything : {T : Type 0} → List T → Type 0
@@ -152,7 +152,7 @@ pub record Divides {T : Type 0} (member : T → Bool → Type 0) (inside outside
 
 -- ---- grammars of texts
 
--- What stands by the grammar is a text; and a text stands where what is behind it may follow it.
+-- What stands by the grammar is a text; and a text stands where what is after it may follow it.
 pub record IsGrammarOf {T O : Type 0} (grammar : Grammar T O) (text : Text T O)
     (follow : List T → Type 0) : Type 0 where
   pub there : (tokens : List T) (o : O) (rest : List T) → grammar tokens o rest

@@ -47,7 +47,7 @@ table_tells has P set made same exact b answer below (t, seen, is) =
     is ∙ ap (λ x. has set x) seen ∙ ap (λ s. has s b) same in
     (below, subst Q (sym told) (exact b below))
 
--- what stands behind bytes in bytes
+-- what stands after bytes in bytes
 behind_front : (front rest : List ℕ) → AreBytes (front ++ rest) → AreBytes rest
 behind_front [] rest bytes = bytes
 behind_front (x ∷ xs) rest bytes =

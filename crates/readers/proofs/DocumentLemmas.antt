@@ -148,7 +148,7 @@ pub ends_first : (P : ℕ → Type 0) (behind : List ℕ) → (P 10 → ⊥) →
 ends_first P [] never ends = tt
 ends_first P (b ∷ more) never ends = λ h. never (subst P ends h)
 
--- behind the value stands `;`, a line feed or nothing
+-- after the value stands `;`, a line feed or nothing
 pub line_tail : (P : ℕ → Type 0) (remark behind : List ℕ) → (P 59 → ⊥) → (P 10 → ⊥)
     → IsRemark remark → EndsLine behind → NotFirst P (remark ++ behind)
 line_tail P remark behind no59 no10 (inl none) ends =
@@ -170,7 +170,7 @@ pub blank_no_key : (b : ℕ) → IsBlank b → IsKeyByte b → ⊥
 blank_no_key b (inl e) k = let high = (key_high b k).0 in omega (arith, e, high)
 blank_no_key b (inr e) k = let high = (key_high b k).0 in omega (arith, e, high)
 
--- what may stand behind a value may stand in it
+-- what may stand after a value may stand in it
 pub trailing_in_value : (b : ℕ) → IsTrailing b → IsValueByte b
 trailing_in_value b (inl (inl e)) = (λ f. omega (arith, e, f), λ f. omega (arith, e, f))
 trailing_in_value b (inl (inr e)) = (λ f. omega (arith, e, f), λ f. omega (arith, e, f))
@@ -182,7 +182,7 @@ pub key_ends : (before more : List ℕ) → All IsBlank before
 key_ends [] more blanks = mark_is_no_key
 key_ends (b ∷ bs) more blanks = blank_no_key b (All-head IsBlank b bs blanks)
 
--- the spaces and tabs behind the mark end before the value, or where that is empty behind it
+-- the spaces and tabs after the mark end before the value, or where that is empty after it
 pub lead_stops : (body tail : List ℕ) → NotFirst IsBlank body → NotFirst IsBlank tail
     → NotFirst IsBlank (body ++ tail)
 lead_stops [] tail a b = b

@@ -1,4 +1,4 @@
--- What sections one behind another say, and a document.
+-- What sections one after another say, and a document.
 use Rattle.std.proofs.Common.{◌≡◌, ◌≤◌, ◌+◌, ◌∙◌, ◌⊎◌, ℕ, List, [], ◌∷◌, ◌++◌, length, Bool, true}
 use Rattle.std.proofs.Common.{false, Some, None, Ok, Err, refl, sym, ap, subst, arith, inl, inr}
 use Rattle.std.specs.Prelude.{map}
@@ -132,7 +132,7 @@ sections_read told run reads (o ∷ os) s i u m (q, item, rest) =
       λ some. no_pair_behind parts q.1.left.tokens m.left.tokens no_pair with last_pair,
     )
 
--- sections, and one behind them: one stands first
+-- sections, and one after them: one stands first
 first_section : (ps : List Part) (a b : List ℕ) → BeginsWith ps a b → BeginsAtSection ps
     → SectionBegins b → SectionBegins a
 first_section [] a b e at some =
@@ -215,7 +215,7 @@ gap_then_pair (comment text ∷ gap) p all h = gap_then_pair gap p all.1 h
 gap_then_pair (section name ∷ gap) p all h = all.0
 gap_then_pair (pair q ∷ gap) p all h = all.0
 
--- behind a gap and sections no part follows
+-- after a gap and sections no part follows
 no_part_behind : (gap parts : List Part) (rest : List ℕ) → AllByRecursion IsGapPart gap
     → NoGapBegins rest → NoSectionBegins rest → ((parts ≡ [] → ⊥) → NoPairBegins rest)
     → (part : Part) (behind : List ℕ) → Begins part rest behind
@@ -231,7 +231,7 @@ no_part_behind gap [] rest all no_gap no_section no_pair (pair p) behind begins 
 no_part_behind gap (q ∷ qs) rest all no_gap no_section no_pair (pair p) behind begins h =
     no_pair (λ e. not_none e) p behind begins
 
--- behind a gap a section begins: so the document has one
+-- after a gap a section begins: so the document has one
 reaches_behind : (gap : List Part) (input rest : List ℕ) → AllByRecursion IsGapPart gap
     → BeginsWith gap input rest → SectionBegins rest → ReachesSection input
 reaches_behind gap input rest all with (name, behind, begins) =
@@ -283,7 +283,7 @@ document_read told s i (Err k) t j ends ran = elim (both_err k ran) [
       ]
 ]
 
--- No parts reach further than those behind which no part follows.
+-- No parts reach further than those after which no part follows.
 longest_of_all : (ps qs : List Part) (input rest left : List ℕ) → BeginsWith ps input rest
     → BeginsWith qs input left → ((part : Part) (behind : List ℕ) → Begins part rest behind → ⊥)
     → length rest ≤ length left
@@ -382,7 +382,7 @@ pub document_fails : {C : Type 0} (told : C → List SectionText) (i : Input ℕ
 document_fails told i k j (ends, inl (all, parts, begins, texts, none, is)) = ok_is_err is refl
 document_fails told i k j (ends, inr (reaches, is)) = (reaches, same_kind is)
 
--- the inner error of want of memory is want of memory
+-- the inner error of want of memory is out of memory
 pub inner_memory : (k inner : Kind) → k ≡ memory → inner_kind_of k ≡ Some inner → inner ≡ memory
 inner_memory k inner is e =
     let P : Kind → Type 0 = λ x. inner_kind_of x ≡ Some inner in

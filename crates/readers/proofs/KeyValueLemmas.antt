@@ -185,7 +185,7 @@ remark_ends [] stops none = tt
 remark_ends (b ∷ more) stops none =
     elim (cases_eq b 10) [ inl e ↦ e | inr n ↦ absurd (stops (none, n)) ]
 
--- What a run of a comment that may be left out says behind a value.
+-- What a run of a comment that may be left out says after a value.
 pub remark_read : (s : Unit {0}) (i : Input ℕ) (o : Option (Unit {0})) (t : Unit {0})
     (j : Input ℕ) → NotFirst IsValueByte i.left.tokens
     → OptRuns (λ s i answer t j. CommentRuns i answer j) s i (Ok o) t j

@@ -42,13 +42,13 @@ longer (x ∷ xs) ys (z ∷ zs) ws e h =
     let (y, more, rest, whole) = longer xs ys zs ws (same_others e) (omega arith) in
     (y, more, rest, ap (λ a. a ∷ zs) (sym (same_first e)) ∙ ap (λ l. x ∷ l) whole)
 
--- the mark behind a key is no byte of a key
+-- the mark after a key is no byte of a key
 pub mark_is_no_key : IsKeyByte 61 → ⊥
 mark_is_no_key (inl h) = omega (arith, h.0, h.1)
 mark_is_no_key (inr (inl h)) = omega (arith, h.0, h.1)
 mark_is_no_key (inr (inr h)) = omega (arith, h.0, h.1)
 
--- a byte behind a key that is neither of a key nor the mark is in no line
+-- a byte after a key that is neither of a key nor the mark is in no line
 no_line_after_key : (key more : List ℕ) (y : ℕ) (k v : List ℕ) → All IsKeyByte key
     → (IsKeyByte y → ⊥) → (length key ≡ 0) ⊎ (y ≢ 61) → IsPairLine (key ++ y ∷ more) k v → ⊥
 no_line_after_key key more y k v all stranger (inl none) (end, some, keys, values, ends, e) =
@@ -92,7 +92,7 @@ key_begins (x ∷ xs) all = (
   ([], omega arith, all, All-nil (λ b. b ≢ 10), inl refl, refl),
 )
 
--- The bytes are refused behind those of a key, where no mark follows, or there are none.
+-- The bytes are refused after those of a key, where no mark follows, or there are none.
 pub refused_after_key : (input key rest : List ℕ) → input ≡ key ++ rest → All IsKeyByte key
     → ((y : ℕ) (more : List ℕ) → rest ≡ y ∷ more
     → (IsKeyByte y → ⊥) × ((length key ≡ 0) ⊎ (y ≢ 61))) → IsRefusedPair input (length key)
@@ -131,7 +131,7 @@ refused_after_key input key rest e all stops = record {
         no_line_after_key key (mid ++ tail) y k v all s.0 s.1
         (subst P (ap (λ l. l ++ tail) is_other ∙ append_assoc key (y ∷ mid) tail) line)
 
--- nothing stands behind the line feed of a line
+-- nothing stands after the line feed of a line
 no_line_too_long : (key value more : List ℕ) (y : ℕ) (k v : List ℕ) → All IsKeyByte key
     → All (λ b. b ≢ 10) value → IsPairLine (key ++ (61 ∷ (value ++ (10 ∷ (y ∷ more))))) k v → ⊥
 no_line_too_long key value more y k v keys values (end, some, ks, vs, ends, e) =
@@ -150,7 +150,7 @@ no_line_too_long key value more y k v keys values (end, some, ks, vs, ends, e) =
         (λ h. h refl) (λ h. h refl) (e ∙ ap (λ l. v ++ l) feed) in
         not_none same.2
 
--- The bytes are refused behind the line feed, where something follows it.
+-- The bytes are refused after the line feed, where something follows it.
 pub refused_after_line : (input key value more : List ℕ) (y : ℕ)
     → input ≡ key ++ (61 ∷ (value ++ (10 ∷ (y ∷ more)))) → 0 < length key → All IsKeyByte key
     → All (λ b. b ≢ 10) value

@@ -63,7 +63,7 @@ line_read input k v x left line nothing = (
       ∙ ap (λ l. k ++ (61 ∷ (v ++ l))) (ap (λ l. x ++ l) nothing ∙ append-nil x),
 )
 
--- behind the value stands a line feed or nothing, and behind no line feed that was taken no other
+-- after the value stands a line feed or nothing, and after no line feed that was taken no other
 pub line_stops : (value_set feed_set : ℕ → Bool → Type 0) (v x : List ℕ) (b c j : Input ℕ)
     → Took value_set 0 None b v c → Took feed_set 0 (Some 1) c x j
     → ((b : ℕ) → value_set b false → b ≡ 10) → ((b : ℕ) → feed_set b false → b ≢ 10)

@@ -131,7 +131,7 @@ pub no_open : (tokens : List ℕ) → ((rest : List ℕ) → tokens ≡ 91 ∷ r
     → NoSectionBegins tokens
 no_open tokens other name behind (e, fits) = other _ e
 
--- behind a `[` a section has the longest name
+-- after a `[` a section has the longest name
 one_name : (tokens a name b other behind : List ℕ) → tokens ≡ 91 ∷ a
     → IsFront IsNameByte a name b → Begins (section other) tokens behind
     → (name ≡ other) × (b ≡ 93 ∷ behind)

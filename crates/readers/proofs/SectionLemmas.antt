@@ -76,7 +76,7 @@ gap_before (comment text ∷ ps) qs all h = gap_before ps qs all.1 h
 gap_before (section name ∷ ps) qs all h = absurd all.0
 gap_before (pair p ∷ ps) qs all h = absurd all.0
 
--- What one run of a pair with the gap behind it says: it takes them, or there is no pair.
+-- What one run of a pair with the gap after it says: it takes them, or there is no pair.
 pub record ReadsPair {S : Type 0} (run : Runs S ℕ (Bor (List ℕ) × Bor (List ℕ))) : Type 0 where
   pub takes : (s : S) (i : Input ℕ) (o : Bor (List ℕ) × Bor (List ℕ)) (t : S) (j : Input ℕ)
       → run s i (Ok o) t j
@@ -187,7 +187,7 @@ pairs_repeated run assert_kind range s i (Err k) t j e ends ran reads =
 
 -- ---- one section
 
--- a name with the gap behind it
+-- a name with the gap after it
 pub name_gap_ok : {U : Type 0} (s : Unit {0} × U) (i : Input ℕ) (name : Bor (List ℕ))
     (t : Unit {0} × U) (j : Input ℕ)
     → TerminatedRuns (λ s i answer t j. CategoryRuns i answer j)
@@ -220,7 +220,7 @@ name_gap_err s i k t j ran = elim (both_err k ran) [
     category_err (ends, inl (o, begins, is)) = ok_is_err is refl
     category_err (ends, inr (none, back, is)) = (none, same_kind is)
 
--- a name with its gap, and the pairs behind it
+-- a name with its gap, and the pairs after it
 pub section_ok : {C : Type 0} (told : C → List (List ℕ × List ℕ)) (i : Input ℕ) (name : List ℕ)
     (gap : List Part) (a : Input ℕ) (all : C) (j : Input ℕ)
     → BeginsWith (section name ∷ gap) i.left.tokens a.left.tokens

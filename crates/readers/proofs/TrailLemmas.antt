@@ -1,4 +1,4 @@
--- A value without what trails behind it.
+-- A value without what trails after it.
 use Rattle.std.proofs.Common.{◌≡◌, ◌≢◌, ◌≤◌, ◌<◌, ◌+◌, ◌∙◌, ℕ, List, [], ◌∷◌, ◌++◌, length, take}
 use Rattle.std.proofs.Common.{drop, get_or, Option, Some, None, sym, ap, subst, arith, inl, inr}
 use Rattle.std.proofs.Common.{length-append, length-drop, take-append-drop}
@@ -32,7 +32,7 @@ All-drop_from_reads P xs i reads =
     (λ k inside. subst P (sym (get_or-drop i xs k 0))
     (reads (i + k) (omega arith) (omega (arith, length-drop i xs))))
 
--- the front up to a byte that does not trail is the value, where those behind it do
+-- the front up to a byte that does not trail is the value, where those after it do
 pub trailing_from : (xs : List ℕ) (i : ℕ) → i < length xs → (IsTrailing (get_or xs i 0) → ⊥)
     → ((k : ℕ) → i + 1 ≤ k → k < length xs → IsTrailing (get_or xs k 0))
     → IsWithoutTrailing xs (take (i + 1) xs)

@@ -13,7 +13,7 @@ IsBlank b = (b ≡ 32) ⊎ (b ≡ 9)
 abbrev pub IsWhite : ℕ → Type 0
 IsWhite b = IsBlank b ⊎ ((b ≡ 13) ⊎ (b ≡ 10))
 
--- what may stand behind a value in its line: a space, a tab or a carriage return
+-- what may stand after a value in its line: a space, a tab or a carriage return
 abbrev pub IsTrailing : ℕ → Type 0
 IsTrailing b = IsBlank b ⊎ (b ≡ 13)
 
@@ -46,21 +46,21 @@ EndsLine (b ∷ more) = b ≡ 10
 -- The bytes of a pair.
 pub record PairBytes : Type 0 where
   pub key : List ℕ
-  -- the spaces and tabs behind the key
+  -- the spaces and tabs after the key
   pub before : List ℕ
-  -- the spaces and tabs behind `=`
+  -- the spaces and tabs after `=`
   pub lead : List ℕ
   pub value : List ℕ
-  -- the spaces, tabs and carriage returns behind the value
+  -- the spaces, tabs and carriage returns after the value
   pub trail : List ℕ
-  -- the comment behind them, if there is one
+  -- the comment after them, if there is one
   pub remark : List ℕ
 
 -- A part of a document.
 pub data Part : Type 0 where
   -- spaces, tabs and ends of lines
   white : (bytes : List ℕ) → Part
-  -- what stands behind `;`
+  -- what stands after `;`
   comment : (text : List ℕ) → Part
   -- the name between `[` and `]`
   section : (name : List ℕ) → Part
@@ -147,7 +147,7 @@ pairs_of (comment text ∷ parts) = pairs_of parts
 pairs_of (section name ∷ parts) = []
 pairs_of (pair p ∷ parts) = (p.key, p.value) ∷ pairs_of parts
 
--- the sections, in order, each with the pairs behind it
+-- the sections, in order, each with the pairs after it
 abbrev pub sections_of : List Part → List SectionText
 sections_of [] = []
 sections_of (white bytes ∷ parts) = sections_of parts

@@ -41,7 +41,7 @@ MarkRuns i answer j = IsEndOf bytes_reading j i × (
     ((before : List ℕ) × (lead : List ℕ) × (rest : List ℕ)
     × IsFront IsBlank i.left.tokens before (61 ∷ rest)
     × IsFront IsBlank rest lead j.left.tokens × (answer ≡ Ok tt))
-    -- no `=` behind the first ones
+    -- no `=` after the first ones
     ⊎ ((before : List ℕ) × (rest : List ℕ) × IsFront IsBlank i.left.tokens before rest
     × NotFirst (λ b. b ≡ 61) rest × (answer ≡ Err backtrack)))
 
@@ -73,7 +73,7 @@ BracketsRuns i answer j = IsEndOf bytes_reading j i × (
     × IsFront IsNameByte a name.now (93 ∷ j.left.tokens) × (answer ≡ Ok name))
     -- no `[` stands first
     ⊎ ((((rest : List ℕ) → i.left.tokens ≡ 91 ∷ rest → ⊥) × (answer ≡ Err backtrack))
-    -- no `]` stands behind them
+    -- no `]` stands after them
     ⊎ ((name : List ℕ) × (a : List ℕ) × (b : List ℕ) × (i.left.tokens ≡ 91 ∷ a)
     × IsFront IsNameByte a name b × ((rest : List ℕ) → b ≡ 93 ∷ rest → ⊥)
     × (answer ≡ Err backtrack))))
@@ -124,7 +124,7 @@ HasNoSection (comment text ∷ parts) = HasNoSection parts
 HasNoSection (section name ∷ parts) = ⊥
 HasNoSection (pair p ∷ parts) = HasNoSection parts
 
--- A run of the reader of pairs, each with the gap behind it, where `told` is what a list of them
+-- A run of the reader of pairs, each with the gap after it, where `told` is what a list of them
 -- says.
 abbrev pub PairsRuns : {C : Type 0} → (C → List (List ℕ × List ℕ)) → Input ℕ → Answer C
     → Input ℕ → Type 0
@@ -139,7 +139,7 @@ PairsRuns {C} told i answer j = IsEndOf bytes_reading j i × (
 -- A run of the reader of a section with its pairs, where `told` is what a section says.
 abbrev pub SectionRuns : {S : Type 0} → (S → SectionText) → Input ℕ → Answer S → Input ℕ → Type 0
 SectionRuns {S} told i answer j = IsEndOf bytes_reading j i × (
-    -- a section begins the input, and is taken with all the parts behind it that are no section
+    -- a section begins the input, and is taken with all the parts after it that are no section
     ((s : S) × (name : List ℕ) × (parts : List Part)
     × BeginsWith (section name ∷ parts) i.left.tokens j.left.tokens × HasNoSection parts
     × NoGapBegins j.left.tokens × NoPairBegins j.left.tokens
@@ -161,7 +161,7 @@ BeginsAtSection (pair p ∷ parts) = ⊥
 abbrev pub SectionsRuns : {C : Type 0} → (C → List SectionText) → Input ℕ → Answer C → Input ℕ
     → Type 0
 SectionsRuns {C} told i answer j = IsEndOf bytes_reading j i × (
-    -- all the sections that there are, with all that stands behind them
+    -- all the sections that there are, with all that stands after them
     ((all : C) × (parts : List Part) × BeginsWith parts i.left.tokens j.left.tokens
     × BeginsAtSection parts × (told all ≡ sections_of parts)
     × NoSectionBegins j.left.tokens

@@ -120,7 +120,7 @@ struct Answer<A: Allocator> {
     text: Vec<u8, A>,
 }
 
-/// The program over any reader and two writers. `words` are the arguments behind its name; the
+/// The program over any reader and two writers. `words` are the arguments after its name; the
 /// answer is the exit status.
 ///
 /// The words are checked first, and nothing is read where they are not one reader's name, `pair`,

@@ -12,7 +12,7 @@ use Rattle.streams.specs.Reading.{Reading}
 use Rattle.stream_bits.specs.BitList.{bits_of, length_bits}
 use Rattle.stream_bits.specs.BitReading.{bits_reading}
 
--- Whether bits can be read from so many bits of the first byte on: there is such a byte, or none
+-- Whether bits can be read from that many bits of the first byte on: there is such a byte, or none
 -- is begun, and a number of 64 bits counts the bits of all bytes.
 abbrev pub can_be_read : List ℕ → ℕ → Bool
 can_be_read bytes offset =
@@ -25,11 +25,11 @@ abbrev pub bits_where : Bool → List ℕ → ℕ → List Bool
 bits_where true bytes offset = drop offset (bits_of bytes)
 bits_where false bytes offset = []
 
--- the bits of bytes from so many bits of the first on
+-- the bits of bytes from that many bits of the first on
 abbrev pub bits_from : List ℕ → ℕ → List Bool
 bits_from bytes offset = bits_where (can_be_read bytes offset) bytes offset
 
--- what is left of bytes as bits, from so many bits of the first byte on
+-- what is left of bytes as bits, from that many bits of the first byte on
 abbrev pub bits_left : Remaining ℕ → ℕ → Remaining Bool
 bits_left left offset = record {
   tokens = bits_from left.tokens offset;
@@ -37,7 +37,7 @@ bits_left left offset = record {
   possible = can_be_read left.tokens offset;
 }
 
--- an input of bytes as one of bits, from so many bits of the first byte on
+-- an input of bytes as one of bits, from that many bits of the first byte on
 abbrev pub bits_input : Input ℕ → ℕ → Input Bool
 bits_input i offset = record { left = bits_left i.left offset; status = i.status }
 
@@ -103,7 +103,7 @@ length_from bytes offset e =
 abbrev pub WholeBytes : List Bool → Type 0
 WholeBytes bits = (bytes : List ℕ) × All (λ b. b < 256) bytes × (bits ≡ bits_of bytes)
 
--- Behind bits come whole bytes of bits, as long as a number of 64 bits counts all bits.
+-- After bits come whole bytes of bits, as long as a number of 64 bits counts all bits.
 abbrev pub bits_follow : {S : Type 0} → Reading ℕ S → Following Bool
 bits_follow reading = record {
   can_follow = FitsBehind WholeBytes length (8 * most_bytes);

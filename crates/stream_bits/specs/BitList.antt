@@ -106,7 +106,7 @@ number_append (x ∷ xs) ys =
     distributes : (b p q n m : ℕ) → b * (p * q) + (n * q + m) ≡ (b * p + n) * q + m
     distributes b p q n m = grind arith
 
--- so many bits stand for a number below so great a power
+-- that many bits stand for a number below so great a power
 pub number_below : (xs : List Bool) → number_of xs < 2 ^ length xs
 unfolding number_of
 number_below [] = omega arith

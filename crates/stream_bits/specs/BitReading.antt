@@ -14,7 +14,7 @@ use Rattle.stream_bits.specs.BitList.{bits_of, length_bits, length_low, low_bits
 abbrev pub byte_step : {S : Type 0} → Reading ℕ S → ℕ
 byte_step reading = (reading.advance no_place 1).passed
 
--- the place so many bits on, whether the stream stands inside a byte that is there or not
+-- the place that many bits on, whether the stream stands inside a byte that is there or not
 abbrev pub moved : {S : Type 0} → Reading ℕ S → Bool → Place → ℕ → Place
 moved reading true p bits = record {
   passed = p.passed + (p.bits_read + bits) / 8 * byte_step reading;
@@ -22,17 +22,17 @@ moved reading true p bits = record {
 }
 moved reading false p bits = p
 
--- The place so many bits on: the bytes wholly passed move it as they do in the stream inside. A
--- place behind more than seven bits of a byte stands still.
+-- The place that many bits on: the bytes wholly passed move it as they do in the stream inside. A
+-- place after more than seven bits of a byte stands still.
 abbrev pub advance_bits : {S : Type 0} → Reading ℕ S → Place → ℕ → Place
 advance_bits reading p bits = moved reading (nat_lt p.bits_read 8) p bits
 
 -- A slice of bits: the bytes wholly passed, how many bits of the first were read before, and how
--- many of the byte behind them are read.
+-- many of the byte after them are read.
 abbrev pub BitSlice : Type 0 → Type 0
 BitSlice S = S × ℕ × ℕ
 
--- The slice shows these bits. It does not know the byte behind its bytes.
+-- The slice shows these bits. It does not know the byte after its bytes.
 pub record ShowsBits {S : Type 0} (reading : Reading ℕ S) (slice : BitSlice S)
     (shown : List Bool) : Type 0 where
   pub bytes : List ℕ
@@ -42,8 +42,8 @@ pub record ShowsBits {S : Type 0} (reading : Reading ℕ S) (slice : BitSlice S)
   pub bits : shown ≡ drop slice.1 (bits_of bytes ++ take slice.2 (low_bits 8 begun))
 
 -- A slice that was cut from bits says where: how many bits of the first byte were read before it,
--- and how many of the byte behind its bytes are read behind it. Its bytes are those wholly passed:
--- none at a place behind more than seven bits of a byte, which is not moved.
+-- and how many of the byte after its bytes are read after it. Its bytes are those wholly passed:
+-- none at a place after more than seven bits of a byte, which is not moved.
 pub record StandsBetween {S : Type 0} (reading : Reading ℕ S) (bytes : List ℕ) (before units : ℕ)
     (slice : BitSlice S) (behind : ℕ) : Type 0 where
   pub begins : slice.1 ≡ before

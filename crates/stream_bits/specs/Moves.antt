@@ -52,7 +52,7 @@ bytes_move reading counts (suc n) p none =
 
 -- ---- lists of bits that are passed
 
--- the bits behind those of some bytes and some more
+-- the bits after those of some bytes and some more
 behind : (front later : List ℕ) (n : ℕ)
     → drop (8 * length front + n) (bits_of (front ++ later)) ≡ drop n (bits_of later)
 behind front later n =
@@ -83,7 +83,7 @@ begun_bits n (b ∷ bs) h k =
 
 -- ---- a stream of bits of which some are passed
 
--- The bytes `front` are passed inside, so many bits are passed, and so many of the next byte.
+-- The bytes `front` are passed inside, that many bits are passed, and that many of the next byte.
 pub record Moves {S : Type 0} (reading : Reading ℕ S) (i j : Input ℕ) (offset bits : ℕ)
     : Type 0 where
   pub counts : CountsBytes reading
@@ -181,7 +181,7 @@ module _ {S : Type 0} (reading : Reading ℕ S) (i j : Input ℕ) (offset bits :
             ∙ ap (λ l. drop offset (bits_of m.front ++ l)) begun.1;
       }
 
--- where a list of so many bits stands first, it is the one that is passed
+-- where a list of that many bits stands first, it is the one that is passed
 pub cut_bits : {S : Type 0} (reading : Reading ℕ S) (i j : Input ℕ) (offset bits : ℕ)
     → Moves reading i j offset bits → (slice : S)
     → ((front : List ℕ) → length front ≡ (offset + bits) / 8 → (rest : List ℕ)

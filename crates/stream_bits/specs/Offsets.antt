@@ -14,7 +14,7 @@ use Rattle.stream_bits.specs.BitList.{low_split}
 abbrev pub bytes_to_come : List (ℕ × ℕ) → List ℕ
 bytes_to_come bytes = map (λ x. x.1) bytes
 
--- the bits still to come: so many of a byte begun, and those of the bytes behind it; or none
+-- the bits still to come: that many of a byte begun, and those of the bytes after it; or none
 abbrev pub bits_to_come : Bool → List (ℕ × ℕ) → ℕ → ℕ → List Bool
 bits_to_come true bytes begun ahead = low_bits ahead begun ++ bits_of (bytes_to_come bytes)
 bits_to_come false bytes begun ahead = []
@@ -77,7 +77,7 @@ last_bit true bytes begun ahead none nothing =
     ∙ ap (λ l. bits_of (bytes_to_come l)) nothing ∙ bits_nil
 last_bit false bytes begun ahead none nothing = refl
 
--- the bits behind some of the first byte
+-- the bits after some of the first byte
 pub first_begun : (bytes rest : List (ℕ × ℕ)) (offset b read : ℕ) → read < 8
     → bytes ≡ (offset, b) ∷ rest
     → bits_to_come true rest b (8 - read) ≡ drop read (bits_of (bytes_to_come bytes))
@@ -93,7 +93,7 @@ first_begun bytes rest offset b read inside first =
     (drop_at (low_bits read (b / 2 ^ (8 - read))) (low_bits (8 - read) b) read
     (length_low read (b / 2 ^ (8 - read)))))
 
--- A token with its offset, behind others with theirs, stands behind those tokens.
+-- A token with its offset, after others with theirs, stands after those tokens.
 pub record StandsAt {T : Type 0} (all : List T) (before : List (ℕ × T)) (start offset : ℕ) (t : T)
     : Type 0 where
   pub rest : List T

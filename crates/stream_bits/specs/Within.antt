@@ -71,7 +71,7 @@ shows_none reading slice offset shown = record {
       )));
 }
 
--- the bits of a byte from one bit on, so many of them
+-- the bits of a byte from one bit on, that many of them
 pub within : (x offset count least : ℕ) → offset + count + least ≡ 8
     → take count (drop offset (low_bits 8 x)) ≡ low_bits count (x / 2 ^ least)
 within x offset count least fits =
@@ -106,7 +106,7 @@ number_within bytes x rest offset count least first fits readable =
     ∙ ap number_of (within x offset count least fits)
     ∙ number_low count (x / 2 ^ least)
 
--- So many bits of an input stand for the number, and are passed.
+-- That many bits of an input stand for the number, and are passed.
 pub record ReadsNumber {S : Type 0} (reading : Reading Bool S) (count : ℕ) (i : Input Bool)
     (n : ℕ) (j : Input Bool) : Type 0 where
   pub bits : List Bool
@@ -114,7 +114,7 @@ pub record ReadsNumber {S : Type 0} (reading : Reading Bool S) (count : ℕ) (i 
   pub number : n ≡ number_of bits
   pub passes : Passes reading bits i j
 
--- a mask of so many ones
+-- a mask of that many ones
 pub one_shifted : (count : ℕ) → count ≤ 8 → 1 * 2 ^ count % 65536 ≡ 2 ^ count
 one_shifted count few =
     let small = pow_mono few in
@@ -205,7 +205,7 @@ one_bit_number (b ∷ []) n one is = ap (λ x. x ∷ []) (bit b n (omega (arith,
     bit false n is = sym (ne_eqb n 1 (λ e. omega (arith, is, e)))
 one_bit_number (b ∷ c ∷ bits) n one is = absurd (omega arith)
 
--- nothing is behind all
+-- nothing is after all
 pub nothing_behind : {T : Type 0} (all later : List T) → all ≡ all ++ later → later ≡ []
 nothing_behind all later e =
     nil_from_length later (omega (arith, ap (λ l. length l) e, length-append all later))

@@ -31,7 +31,7 @@ pub struct BitOffsets<I: ByteStream> {
 }
 
 impl<I: ByteStream> BitOffsets<I> {
-    /// The bits of bytes, of which so many of the first byte were read.
+    /// The bits of bytes, of which that many of the first byte were read.
     #[inline(always)]
     pub(crate) fn new(bytes: I::IterOffsets, read: usize) -> BitOffsets<I>
         requires can { I.IterOffsets.can_next bytes }

@@ -16,7 +16,7 @@ contexts_of e = listed e.contexts
 abbrev pub wants_memory : {C A : Type 0} → ContextError C A → Bool
 wants_memory e = e.is_memory
 
--- The context stands behind the others, and the mark is as it was; or a request for memory was
+-- The context stands after the others, and the mark is as it was; or a request for memory was
 -- refused, the contexts are as they were, and the error is marked.
 abbrev pub IsPushed : {C A : Type 0} → ContextError C A → C → ContextError C A → Type 0
 IsPushed old context new =

@@ -10,7 +10,7 @@ abbrev pub assert_kind : ErrorForm → Kind
 assert_kind plain = backtrack
 assert_kind modal = cut
 
--- the kind of an error for want of so many units
+-- the kind of an error for want of that many units
 abbrev pub incomplete_kind : ErrorForm → Option ℕ → Kind
 incomplete_kind plain need = backtrack
 incomplete_kind modal need = incomplete need
@@ -43,7 +43,7 @@ abbrev pub answer_by : {O E : Type 0} → (E → Kind) → Result O E → Answer
 answer_by kind (Ok o) = Ok o
 answer_by kind (Err e) = Err (kind e)
 
--- a marked error backtracks or wants memory
+-- a marked error backtracks or is out of memory
 pub marked_kind-cases : (mark : Bool) → (marked_kind mark ≡ backtrack) ⊎ (marked_kind mark ≡ memory)
 marked_kind-cases true = inr refl
 marked_kind-cases false = inl refl

@@ -6,7 +6,7 @@ use Rattle.streams.specs.declared.needed.Needed.{Needed}
 use Rattle.stream_errors.specs.declared.mode.ErrMode.{ErrMode}
 use Rattle.stream_errors.specs.declared.mode.ErrMode.TheVariants.{Backtrack, Cut, Incomplete}
 
--- the kind `mode` round an inner error: memory where that wants memory
+-- the kind `mode` round an inner error: memory where that is out of memory
 abbrev pub mode_round : Kind → Kind → Kind
 mode_round mode memory = memory
 mode_round mode backtrack = mode

@@ -3,12 +3,12 @@ use Rattle.std.specs.Prelude.{◌≡◌, ◌⊎◌, Bool, true, false, [], ◌�
 use Rattle.streams.specs.Input.{Input}
 use Rattle.streams.specs.Kind.{Kind, memory}
 
--- an input with a kind behind those that were recorded before
+-- an input with a kind after those that were recorded before
 abbrev pub with_recorded : {T : Type 0} → Input T → Kind → Input T
 with_recorded i kind =
     record i { status = record i.status { recorded = i.status.recorded ++ kind ∷ [] } }
 
--- A stream that records errors has the kind behind those recorded before; or a request for memory
+-- A stream that records errors has the kind after those recorded before; or a request for memory
 -- was refused, of which the error tells that is given back. One that records none gives the error
 -- itself back. Where an error is given back, the stream is as it was.
 abbrev pub Records : {E T : Type 0} → Bool → (E → Kind) → E → Input T → Result (Unit {0}) E

@@ -32,7 +32,7 @@ pub trait AddContext<I: Stream, C, A: Allocator>: HasKind {
         → IsTrue context_grows };
 
     /// The error with one context more, of a parser that began at `token_start`. The kind stays;
-    /// only where keeping the context asks for memory can it be want of memory instead, and an
+    /// only where keeping the context asks for memory can it be out of memory instead, and an
     /// incomplete error keeps none.
     fn add_context(self, alloc: A, input: &I, token_start: &I::Checkpoint, context: C) -> Self
         ensures kind { KeepsKind (IsTrue context_grows) (Self.kind self) (Self.kind result) }

@@ -60,7 +60,7 @@ impl<C, A: Allocator> ContextError<C, A> {
             None => &[],
         }
     }
-    /// Puts a context behind the others. Where a request for memory is refused, the contexts stay,
+    /// Puts a context after the others. Where a request for memory is refused, the contexts stay,
     /// and the error is marked: its kind is memory from then on.
     pub fn push(&mut self, alloc: A, context: C)
     where

@@ -9,7 +9,7 @@ use crate::mode::ErrMode;
 use std::alloc::Allocator;
 
 /// An error that becomes one of another type, as of a parser over the bits of bytes. The kind
-/// stays: it backtracks, cuts, is incomplete with the same need, or wants memory, as before.
+/// stays: it backtracks, cuts, is incomplete with the same need, or is out of memory, as before.
 ///
 /// ```
 /// let converted: ErrMode<InputError<Bits<&[u8]>>> =

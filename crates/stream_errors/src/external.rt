@@ -29,7 +29,7 @@ pub trait FromExternalError<I: Stream, E>: HasKind {
         → IsTrue external_grows };
 
     /// A backtracking error at the place of `input`, for `error`. Only where keeping that asks for
-    /// memory can it be want of memory instead.
+    /// memory can it be out of memory instead.
     fn from_external_error(input: &I, error: E) -> Self
         ensures kind { IsOrMemory backtrack (IsTrue external_grows) (Self.kind result) }
         ensures given { KindGiven (external_gives error) backtrack (Self.kind result) };

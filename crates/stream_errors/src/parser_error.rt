@@ -55,13 +55,13 @@ pub trait ParserError<I: Stream>: HasKind + Drop {
 
     /// Joins the errors of two branches. Two that backtrack give one that does. Want of memory on
     /// either side stays; else the error is incomplete where one was, as the first of two; else it
-    /// cuts where one did. Only where joining asks for memory can it also be want of memory.
+    /// cuts where one did. Only where joining asks for memory can it also be out of memory.
     fn or(self, other: Self) -> Self
         ensures { IsOrMemory (joint_kind (Self.kind self) (Self.kind other))
             (or_grows self other) (Self.kind result) };
 
     /// Adds the place of an enclosing parser. The kind stays; only where that asks for memory can
-    /// it be want of memory instead.
+    /// it be out of memory instead.
     fn append(self, input: &I, token_start: &I::Checkpoint) -> Self
         ensures { IsOrMemory (Self.kind self) (append_grows self) (Self.kind result) };
 
@@ -87,7 +87,7 @@ pub trait ParserError<I: Stream>: HasKind + Drop {
             (λ inner. inner_kind_of (Self.kind self) ≡ Some (inner_kind inner))
             (λ e. (inner_kind_of (Self.kind self) ≡ None) × (e ≡ self)) };
 
-    // An error of a plain type backtracks or wants memory.
+    // An error of a plain type backtracks or is out of memory.
     ghost plain_kinds: { Self.form ≡ plain → (e : Self)
         → (Self.kind e ≡ backtrack) ⊎ (Self.kind e ≡ memory) };
 }

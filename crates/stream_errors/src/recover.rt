@@ -17,9 +17,9 @@ pub trait Recover<E: HasKind>: Stream {
     // Whether errors are recorded.
     ghost supports_recovery: { Bool };
 
-    /// Records an error of a parser that began at `token_start` and failed at `err_start`, behind
+    /// Records an error of a parser that began at `token_start` and failed at `err_start`, after
     /// those recorded before; nothing else of the stream changes. Where memory for that is refused
-    /// it answers want of memory, and a stream without recovery hands `err` back: both leave the
+    /// it answers out of memory, and a stream without recovery hands `err` back: both leave the
     /// stream as it was.
     fn record_err(
         &mut self,

@@ -25,7 +25,7 @@ pub trait FromRecoverableError<I: Stream, E: HasKind>: HasKind {
     ghost recoverable_grows: { Bool };
 
     /// The error for `error`, of a parser that began at `token_start` and failed at `err_start`.
-    /// The kind stays; only where keeping the error asks for memory can it be want of memory
+    /// The kind stays; only where keeping the error asks for memory can it be out of memory
     /// instead.
     fn from_recoverable_error(
         token_start: &I::Checkpoint,

@@ -6,7 +6,7 @@ use Rattle.stream_errors.specs.Form.{marked_kind}
 use Rattle.stream_errors.specs.Join.{IsOrMemory, joint_kind}
 use Rattle.stream_expected.specs.declared.expected.ExpectedError.{ExpectedError}
 
--- what was expected at the place of the error, a branch behind the other
+-- what was expected at the place of the error, a branch after the other
 abbrev pub expected_of : {C A : Type 0} → ExpectedError C A → List C
 expected_of e = listed e.expected
 

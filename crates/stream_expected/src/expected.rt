@@ -128,7 +128,7 @@ impl<C, A: Allocator> ExpectedError<C, A> {
     }
 }
 
-/// One list behind the other, and whether a request for memory was refused.
+/// One list after the other, and whether a request for memory was refused.
 fn listed_behind<C: Drop, A: Allocator>(
     first: Option<Vec<C, A>>,
     second: Option<Vec<C, A>>,

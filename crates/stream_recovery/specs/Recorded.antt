@@ -4,7 +4,7 @@ use Rattle.streams.specs.Input.{Input, Status}
 use Rattle.streams.specs.Kind.{Kind}
 use Rattle.stream_recovery.specs.declared.recoverable.Recoverable.{Recoverable}
 
--- a status with kinds behind those that were recorded before
+-- a status with kinds after those that were recorded before
 abbrev pub behind : Status → List Kind → Status
 behind s kinds = record s { recorded = s.recorded ++ kinds }
 

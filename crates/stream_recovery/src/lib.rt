@@ -1,7 +1,7 @@
 //! Streams that record the errors from which parsers recover.
 //!
 //! A stream that records errors is seen as the input inside it, with the kinds of the errors
-//! recorded behind those that this one has recorded itself.
+//! recorded after those that this one has recorded itself.
 #![tactic(auto)]
 
 mod compare;

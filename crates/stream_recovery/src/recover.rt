@@ -10,7 +10,7 @@ use streams::stream::Stream;
 
 /// What is recorded is made of the error by
 /// [`from_recoverable_error`](stream_errors::recoverable::FromRecoverableError). Where that, or the
-/// list of errors, finds no memory, nothing is recorded, and want of memory is answered.
+/// list of errors, finds no memory, nothing is recorded, and out of memory is answered.
 impl<I, R, A, E> Recover<E> for Recoverable<I, R, A>
 where
     I: Stream,

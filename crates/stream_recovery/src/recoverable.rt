@@ -41,7 +41,7 @@ impl<I, R, A: Allocator> Recoverable<I, R, A> {
         (input, errors)
     }
 
-    /// Records an error behind the others. Where memory for it is refused, it is handed back, and
+    /// Records an error after the others. Where memory for it is refused, it is handed back, and
     /// the stream is as it was.
     #[inline(always)]
     pub fn push_err(&mut self, err: R) -> Result<(), R>

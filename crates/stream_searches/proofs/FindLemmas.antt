@@ -17,7 +17,7 @@ use Rattle.memchr.proofs.lemmas.MatchLemmas.{OccursAt-from_part, OccursAt-split}
 use Rattle.stream_searches.specs.FindSlice.{Stands, IsFirstMatch, FindsSlice}
 use Rattle.stream_searches.specs.Three.{IsOneOfThree}
 
--- a needle that stands behind some bytes occurs there
+-- a needle that stands after some bytes occurs there
 occurs : (hay needle front rest : List ℕ) → hay ≡ front ++ (needle ++ rest)
     → OccursAt hay needle (length front)
 occurs hay needle front rest e =
@@ -63,7 +63,7 @@ needle_stands hay needle (Some k) (before, here) =
       ];
     }
 
--- the bytes at a place, behind those before it
+-- the bytes at a place, after those before it
 byte_split : (hay : List ℕ) (k d : ℕ) → k < length hay
     → hay ≡ take k hay ++ (get_or hay k d ∷ drop (k + 1) hay)
 byte_split hay k d h =

@@ -14,7 +14,7 @@ use Rattle.streams.specs.Text.{width, width_chars, length_encodes}
 use Rattle.stream_searches.specs.FindSlice.{Stands, FindsSlice}
 use Rattle.stream_searches.specs.Three.{IsOneOfThree}
 
--- a text that stands in a text stands behind a text, where it is not empty
+-- a text that stands in a text stands after a text, where it is not empty
 front_is_text : (all front lit rest : List ℕ) → IsUtf8 all → IsUtf8 lit
     → all ≡ front ++ (lit ++ rest) → (lit ≡ [] → front ≡ []) → IsUtf8 front
 front_is_text all front [] rest all_utf8 lit_utf8 split none =

@@ -1,4 +1,4 @@
--- A first match stays the first one, whatever tokens come behind.
+-- A first match stays the first one, whatever tokens come after.
 use Rattle.std.specs.Prelude.{◌≡◌, ℕ, ◌+◌, ◌/◌, ◌%◌, ◌<◌, ◌≤◌, List, [], ◌∷◌, ◌++◌, ⊤, length}
 use Rattle.std.specs.Char.{encode_utf8}
 use Rattle.std.proofs.Common.{append_assoc, refl, sym, ap, subst, ◌∙◌, arith, inl, inr, ◌⊎◌}
@@ -11,7 +11,7 @@ use Rattle.streams.specs.Utf8.{two_bytes, three_bytes, four_bytes}
 use Rattle.stream_searches.specs.FindSlice.{Stands, IsFirstMatch}
 use Rattle.stream_searches.specs.Three.{IsOneOfThree}
 
--- No list that is sought stands in another one behind its first token.
+-- No list that is sought stands in another one after its first token.
 abbrev pub NoneInside : {T : Type 0} → (List T → Type 0) → Type 0
 NoneInside {T} sought =
     (front inner rest : List T) → sought (front ++ (inner ++ rest)) → sought inner

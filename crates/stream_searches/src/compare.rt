@@ -17,7 +17,7 @@ use streams::stream::Stream;
 /// What a comparison of the input with a literal answers.
 #[derive(Clone, Copy, Debug, PartialEq, Eq)]
 pub enum CompareResult {
-    /// The literal stands first, and takes so many units.
+    /// The literal stands first, and takes that many units.
     Ok(usize),
     /// The input is a proper beginning of the literal.
     Incomplete,

@@ -33,7 +33,7 @@ pub trait FindSlice<T>: Stream {
         ensures { FindsSlice Self.reading.units (sought substr) (Self.view self.now).left.tokens
             result };
 
-    // The first match stays the first one, whatever tokens come behind.
+    // The first match stays the first one, whatever tokens come after.
     ghost stays_first: { (substr : T) → StaysFirst Self.reading.units (sought substr) };
 }
 

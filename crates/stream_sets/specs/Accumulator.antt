@@ -16,11 +16,11 @@ pub mod Known
 
 -- What an accumulator is to a repetition.
 pub record Accumulator (C O : Type 0) : Type 1 where
-  -- the empty ones, made for so many outputs where that is known
+  -- the empty ones, made for that many outputs where that is known
   pub starts : Option ℕ → C → Type 0
   -- one that takes an output, and what it is then
   pub takes : C → O → C → Type 0
-  -- whether a request for memory may be refused where an empty one is made for so many outputs
+  -- whether a request for memory may be refused where an empty one is made for that many outputs
   pub start_grows : Option ℕ → Type 0
   -- the ones for which one may be refused where they take this output
   pub grows : C → O → Type 0

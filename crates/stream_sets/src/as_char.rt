@@ -140,7 +140,7 @@ impl AsChar for char {
     }
 }
 
-/// The byte behind it.
+/// The byte after it.
 impl AsChar for &u8 {
     ghost code = { λ r. r.now };
 
@@ -185,7 +185,7 @@ impl AsChar for &u8 {
     }
 }
 
-/// The character behind it.
+/// The character after it.
 impl AsChar for &char {
     ghost code = { λ r. r.now };
 

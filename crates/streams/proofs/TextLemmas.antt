@@ -69,7 +69,7 @@ module _ (text front rest : List ℕ) (utf8 : IsUtf8 text) (splits : chars text 
       ∙ ap chars (drop_at (encode_utf8_all front) (encode_utf8_all rest) offset behind_front)
       ∙ chars_all rest
 
-  -- the slice before the offset shows the characters there, and the others are left behind it
+  -- the slice before the offset shows the characters there, and the others are left after it
   pub takes_front : (slice : Bor (List ℕ)) (later : List ℕ) → slice.now ≡ take offset text
       → later ≡ drop offset text
       → Takes text_reading front (text_input text) slice (text_input later)
@@ -81,7 +81,7 @@ module _ (text front rest : List ℕ) (utf8 : IsUtf8 text) (splits : chars text 
 
 -- ---- loops over the characters with their offsets
 
--- The characters `front` of a text are passed, of which P is known, and the iterator stands behind
+-- The characters `front` of a text are passed, of which P is known, and the iterator stands after
 -- them.
 pub record Passed (P : List ℕ → Type 0) (text : List ℕ) (s : CharIndices) : Type 0 where
   pub front : List ℕ

@@ -1,4 +1,4 @@
--- How a stream of bytes counts them, and what may come behind them.
+-- How a stream of bytes counts them, and what may come after them.
 use Rattle.std.specs.Prelude.{◌≡◌, ◌<◌, ℕ, List, length}
 use Rattle.std.specs.List.{All}
 use Rattle.streams.specs.Following.{FitsBehind, Following, most_bytes}
@@ -16,7 +16,7 @@ pub located_counts : {S : Type 0} {reading : Reading ℕ S} → CountsBytes read
     → CountsBytes (located_reading reading)
 located_counts counts = record { units = counts.units; between = counts.between }
 
--- Behind bytes come bytes: any numbers from 0 to 255, as long as a number of 64 bits counts the
+-- After bytes come bytes: any numbers from 0 to 255, as long as a number of 64 bits counts the
 -- bits of all, and nothing else.
 pub record FollowedByBytes (following : Following ℕ) : Type 0 where
   pub may : (left more : List ℕ) → FitsBehind (All (λ b. b < 256)) length most_bytes left more

@@ -17,7 +17,7 @@ bytes_input = counted_input
 abbrev pub bytes_reading : Reading ℕ (Bor (List ℕ))
 bytes_reading = counted_reading
 
--- any bytes may come behind bytes, as long as a number of 64 bits counts their bits
+-- any bytes may come after bytes, as long as a number of 64 bits counts their bits
 abbrev pub bytes_follow : Following ℕ
 bytes_follow = record {
   can_follow = FitsBehind (All (λ b. b < 256)) length most_bytes;

@@ -1,25 +1,25 @@
--- What may come behind the tokens that are left.
+-- What may come after the tokens that are left.
 use Rattle.std.specs.Prelude.{◌≡◌, ◌+◌, ◌-◌, ◌/◌, ◌^◌, ◌≤◌, ℕ, true, List, [], ◌++◌}
 use Rattle.std.proofs.Common.{subst, ◌∙◌, arith}
 use Rattle.streams.specs.Input.{Input, Remaining, Ends, IsEndOf}
 use Rattle.streams.specs.Reading.{Reading}
 
--- Which tokens more input may add behind those that are left.
+-- Which tokens more input may add after those that are left.
 pub record Following (T : Type 0) : Type 1 where
-  -- the second list may come behind the first
+  -- the second list may come after the first
   pub can_follow : List T → List T → Type 0
-  -- what may come behind a list may come behind what is left of it
+  -- what may come after a list may come after what is left of it
   pub kept : (dropped later more : List T) → can_follow (dropped ++ later) more
       → can_follow later more
 
--- More input may add these tokens to what is left: it can be read at all, and they may come behind
+-- More input may add these tokens to what is left: it can be read at all, and they may come after
 -- its tokens.
 pub record Follows {T : Type 0} (following : Following T) (left : Remaining T)
     (more : List T) : Type 0 where
   pub possible : left.possible ≡ true
   pub tokens : following.can_follow left.tokens more
 
--- nothing ever comes behind a list that is always whole
+-- nothing ever comes after a list that is always whole
 abbrev pub none_follows : {T : Type 0} → Following T
 none_follows = record { can_follow = λ left more. more ≡ []; kept = λ dropped later more e. e }
 
@@ -27,7 +27,7 @@ none_follows = record { can_follow = λ left more. more ≡ []; kept = λ droppe
 abbrev pub most_bytes : ℕ
 most_bytes = (2 ^ 64 - 1) / 8
 
--- The tokens are of a kind, and with those left they take at most so many units.
+-- The tokens are of a kind, and with those left they take at most that many units.
 pub record FitsBehind {T : Type 0} (kind : List T → Type 0) (units : List T → ℕ) (most : ℕ)
     (left more : List T) : Type 0 where
   pub known : kind more

@@ -54,7 +54,7 @@ pub record Takes {T S : Type 0} (reading : Reading T S) (front : List T) (earlie
   pub shown : reading.shows slice front
   pub passed : Passes reading front earlier later
 
--- i with more tokens behind, cut or marked complete
+-- i with more tokens after, cut or marked complete
 abbrev pub with_more : {T : Type 0} → Input T → List T → Bool → Input T
 with_more i more still_cut =
     record i {

@@ -5,15 +5,15 @@ use Rattle.streams.specs.Input.{Input, Remaining, IsEndOf, Passes, Takes, is_end
 use Rattle.streams.specs.Place.{Place, further, same_place}
 use Rattle.streams.specs.Reading.{Reading}
 
--- the place with so many units passed
+-- the place with that many units passed
 abbrev pub place_at : Place → ℕ → Place
 place_at place passed = record place { passed = passed }
 
--- what is left, with so many units passed
+-- what is left, with that many units passed
 abbrev pub located_left : {T : Type 0} → Remaining T → ℕ → Remaining T
 located_left left passed = record left { place = place_at left.place passed }
 
--- an input with so many units passed
+-- an input with that many units passed
 abbrev pub located_input : {T : Type 0} → Input T → ℕ → Input T
 located_input i passed = record i { left = located_left i.left passed }
 
@@ -95,7 +95,7 @@ located_same reading i j m same =
     λ x. IsEndOf (located_reading reading) (located_input x m) (located_input i m) in
     subst P (sym same) (is_end_of_refl (located_reading reading) (located_input i m))
 
--- tokens that are passed take the units that are missing behind them
+-- tokens that are passed take the units that are missing after them
 pub passed_units : {T S : Type 0} (reading : Reading T S) (front : List T) (i j : Input T)
     → Passes reading front i j
     → reading.units i.left.tokens ≡ reading.units front + reading.units j.left.tokens

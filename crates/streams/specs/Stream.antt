@@ -8,7 +8,7 @@ use Rattle.streams.specs.Input.{Input, Takes}
 use Rattle.streams.specs.Place.{Place, same_place}
 use Rattle.streams.specs.Reading.{Reading, ShowsOneList}
 
--- the offset is behind some first tokens
+-- the offset is after some first tokens
 abbrev pub IsBoundary : {T : Type 0} → (List T → ℕ) → List T → ℕ → Type 0
 IsBoundary {T} units tokens offset =
     (front : List T) × (rest : List T) × (tokens ≡ front ++ rest) × (offset ≡ units front)
@@ -30,7 +30,7 @@ abbrev pub with_offsets : {T : Type 0} → (List T → ℕ) → ℕ → List T �
 with_offsets units start [] = []
 with_offsets units start (t ∷ ts) = (start, t) ∷ with_offsets units (start + units (t ∷ [])) ts
 
--- the offset behind n tokens; or how many are missing, where the stream counts them
+-- the offset after n tokens; or how many are missing, where the stream counts them
 abbrev pub FindsOffset : {T : Type 0} → Bool → (List T → ℕ) → List T → ℕ → Result ℕ (Option ℕ)
     → Type 0
 FindsOffset counts units tokens n answer =

@@ -39,7 +39,7 @@ pub width_chars : (text : List ℕ) → IsUtf8 text → width (chars text) ≡ l
 width_chars text utf8 =
     sym (length_encodes (chars text)) ∙ ap (λ bytes. length bytes) (encodes-chars text utf8)
 
--- any characters may come behind a text
+-- any characters may come after a text
 abbrev pub text_follows : Following ℕ
 text_follows = record {
   can_follow = λ left more. All IsScalar more;

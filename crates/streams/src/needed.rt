@@ -18,7 +18,7 @@ use std::num::NonZeroUsize;
 pub enum Needed {
     /// More is needed, and how much is not known.
     Unknown,
-    /// At least so many units more are needed.
+    /// At least that many units more are needed.
     Size(NonZeroUsize),
 }
 

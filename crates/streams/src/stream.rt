@@ -51,7 +51,7 @@ pub trait Stream: Drop {
     // Whether `offset_at` says how many tokens are missing.
     ghost counts_missing: { Bool };
 
-    // The lists that more input may add behind those left.
+    // The lists that more input may add after those left.
     ghost following: { Following Self.Seen };
 
     // The tokens still to come, each with its offset.
@@ -81,7 +81,7 @@ pub trait Stream: Drop {
         ensures { FindsFirst (AnswersSeen seen_as (P.answers predicate)) reading.units
             (view self.now).left.tokens result };
 
-    /// The offset, in units, behind the first `tokens` tokens. Where there are fewer, the need is
+    /// The offset, in units, after the first `tokens` tokens. Where there are fewer, the need is
     /// how many are missing, or unknown over text.
     fn offset_at(&self, tokens: usize) -> Result<usize, Needed>
         ensures { FindsOffset counts_missing reading.units (view self.now).left.tokens tokens

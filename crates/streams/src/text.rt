@@ -1,7 +1,7 @@
 //! Text as a stream of characters.
 //!
 //! The stream of winnow for `&str`: tokens are characters, and each offset and each need counts
-//! bytes of UTF-8, one to four a character. Where an offset is asked for behind more characters
+//! bytes of UTF-8, one to four a character. Where an offset is asked for after more characters
 //! than there are, the need is unknown, since nothing tells how many bytes a missing one takes.
 //!
 //! ```

@@ -1,4 +1,4 @@
--- The line of a place, of what stands before the place and behind it.
+-- The line of a place, of what stands before the place and after it.
 use Rattle.std.proofs.Common.{◌≡◌, ◌∙◌, ◌+◌, ◌-◌, ◌≤◌, ◌<◌, ◌⊎◌, ℕ, List, ◌∷◌, [], ◌++◌, length}
 use Rattle.std.proofs.Common.{ap, arith, inl, inr, refl, subst, sym, take, drop, min}
 use Rattle.std.proofs.lemmas.Bool.{cases_lt}
@@ -39,8 +39,8 @@ one_in before behind start n here there k d low high feed =
           (sym (get_or-append_right before behind (length before) k d refl beyond) ∙ feed)
     ]
 
--- the line of what stands before a place and behind it, by where it begins before the place and by
--- how much of it stands behind
+-- the line of what stands before a place and after it, by where it begins before the place and by
+-- how much of it stands after
 pub line_in : (before behind : List ℕ) (start n : ℕ) → start ≤ length before
     → (start ≡ 0) ⊎ (slice_index before (start - 1) ≡ 10)
     → AllWithin IsWithinLine before start (length before) → n ≤ length behind
@@ -93,7 +93,7 @@ front_is bytes rest start end last ordered bound is =
     ∙ sym (drop-take start (length rest) bytes)
     ∙ ap (λ n. drop start (take n bytes)) place
 
--- what stands before a place and behind it is all
+-- what stands before a place and after it is all
 whole_is : (bytes before behind : List ℕ) (offset : ℕ) → before ≡ take offset bytes
     → behind ≡ drop offset bytes → before ++ behind ≡ bytes
 whole_is bytes before behind offset is_before is_behind =

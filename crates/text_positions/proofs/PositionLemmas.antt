@@ -7,7 +7,7 @@ use Rattle.std.proofs.lemmas.List.{append-nil, flat_map_more, length_push}
 use Rattle.std.proofs.lemmas.List.Elements.{All-head, All-nil, All-push, All-tail}
 use Rattle.text_positions.specs.Position.{IsPosition, IsWithinLine, ended}
 
--- behind one more character of the line
+-- after one more character of the line
 pub within_line : (before : List ℕ) (line column c : ℕ) → IsWithinLine c
     → IsPosition before line column → IsPosition (before ++ c ∷ []) line (column + 1)
 within_line before line column c within it = record {
@@ -21,7 +21,7 @@ within_line before line column c within it = record {
   column_is = omega (arith, it.column_is, length_push it.begun c);
 }
 
--- behind the line feed
+-- after the line feed
 pub behind_line : (before : List ℕ) (line column c : ℕ) → c ≡ 10
     → IsPosition before line column → IsPosition (before ++ c ∷ []) (line + 1) 1
 behind_line before line column c feed it = record {
@@ -37,7 +37,7 @@ behind_line before line column c feed it = record {
   column_is = refl;
 }
 
--- behind the first line feeds of two texts that are the same stands the same
+-- after the first line feeds of two texts that are the same stands the same
 behind_first : (xs ys a b : List ℕ) → All IsWithinLine xs → All IsWithinLine ys
     → xs ++ 10 ∷ a ≡ ys ++ 10 ∷ b → a ≡ b
 behind_first [] [] a b p q e = cc
@@ -63,7 +63,7 @@ first_line line lines a =
     ∙ append_assoc (line ++ 10 ∷ []) (flat_map ended lines) a
     ∙ append_assoc line (10 ∷ []) (flat_map ended lines ++ a)
 
--- texts that are the same have as many lines, and as many characters behind them
+-- texts that are the same have as many lines, and as many characters after them
 same_lines : (xs ys : List (List ℕ)) (a b : List ℕ) → All (All IsWithinLine) xs
     → All (All IsWithinLine) ys → All IsWithinLine a → All IsWithinLine b
     → flat_map ended xs ++ a ≡ flat_map ended ys ++ b

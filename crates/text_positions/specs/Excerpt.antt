@@ -3,7 +3,7 @@ use Rattle.std.specs.Prelude.{◌≡◌, ◌⊎◌, ◌≤◌, ◌<◌, ◌-◌,
 use Rattle.std.specs.List.{AllWithin, slice_index}
 use Rattle.text_positions.specs.Position.{IsWithinLine}
 
--- Some bytes have a line between these places: it begins where they do, or behind a line feed, has
+-- Some bytes have a line between these places: it begins where they do, or after a line feed, has
 -- none in it, and ends where they do, or before one.
 abbrev pub IsLine : List ℕ → ℕ → ℕ → Type 0
 IsLine bytes start end =
@@ -12,13 +12,13 @@ IsLine bytes start end =
     × AllWithin IsWithinLine bytes start end
     × ((end ≡ length bytes) ⊎ (slice_index bytes end ≡ 10))
 
--- The line between these places ends with a carriage return, and a line feed stands behind it.
+-- The line between these places ends with a carriage return, and a line feed stands after it.
 abbrev pub EndsWithReturn : List ℕ → ℕ → ℕ → Type 0
 EndsWithReturn bytes start end =
     (start < end) × (end < length bytes) × (slice_index bytes (end - 1) ≡ 13)
 
 -- This is the line that has the place, or at whose end it is, without the carriage return and the
--- line feed that end it. A place behind the end is the end.
+-- line feed that end it. A place after the end is the end.
 abbrev pub IsLineShown : List ℕ → ℕ → List ℕ → Type 0
 IsLineShown bytes offset shown =
     (start : ℕ) × (end : ℕ) × IsLine bytes start end

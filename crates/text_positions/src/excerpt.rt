@@ -33,7 +33,7 @@ pub struct Excerpt<'t> {
 }
 
 impl<'t> Excerpt<'t> {
-    /// The place that lies `offset` bytes behind the start of these bytes; one behind their end is
+    /// The place that lies `offset` bytes after the start of these bytes; one after their end is
     /// their end.
     pub fn new(text: &'t [u8], offset: usize) -> Excerpt<'t>
         ensures text { result.text.now ≡ text.now }
@@ -95,10 +95,10 @@ impl fmt::Display for Excerpt<'_> {
     }
 }
 
-/// The line and the column of the place that lies `offset` bytes behind the start of some bytes.
+/// The line and the column of the place that lies `offset` bytes after the start of some bytes.
 ///
 /// Bytes that are no text count as the characters do that stand for them where they are printed.
-/// A place behind the end is the end.
+/// A place after the end is the end.
 pub fn position_in(bytes: &[u8], offset: usize) -> Position
     ensures place { IsUtf8 bytes.now → IsCharBoundary bytes.now offset
         → IsPosition (chars (take offset bytes.now)) result.line result.column }
@@ -115,7 +115,7 @@ pub fn position_in(bytes: &[u8], offset: usize) -> Position
     }
 }
 
-/// The line and the column behind some bytes.
+/// The line and the column after some bytes.
 fn place_behind(before: &[u8]) -> Position {
     let mut line = 1usize;
     for byte in before {
@@ -134,7 +134,7 @@ fn place_behind(before: &[u8]) -> Position {
     Position { line, column }
 }
 
-/// What stands before a place, and what behind it.
+/// What stands before a place, and what after it.
 fn parted(bytes: &[u8], offset: usize) -> (&[u8], &[u8])
     ensures before { result.0.now ≡ take offset bytes.now }
     ensures behind { result.1.now ≡ drop offset bytes.now }

@@ -17,13 +17,13 @@ pub struct Position {
     pub column: usize,
 }
 
-/// The line and the column of the place that lies `offset` bytes behind the start of a text.
+/// The line and the column of the place that lies `offset` bytes after the start of a text.
 ///
 /// Both are counted from 1, as compilers and editors show them. A column counts characters, and
 /// neither bytes nor cells of a screen. A line ends with its line feed, so the carriage return of
 /// `"\r\n"` is the last character of its line. The end of the text is a place too.
 ///
-/// `None` where the text has no such place: behind its end, or within a character.
+/// `None` where the text has no such place: after its end, or within a character.
 ///
 /// It goes once over the text before the place, and takes no memory.
 ///

@@ -218,7 +218,7 @@ pub use Rattle.winnow_separated.specs.SeparatedLaws
 -- The parsers of integers as bytes.
 pub use Rattle.winnow_integers.specs.Integer
 pub use Rattle.winnow_integers.specs.IntegerLaws
--- The parsers of binary data: integers whose order of bytes is chosen, and data behind its length.
+-- The parsers of binary data: integers whose order of bytes is chosen, and data after its length.
 pub use Rattle.winnow_binary.specs.Chosen
 pub use Rattle.winnow_binary.specs.Length
 pub use Rattle.winnow_binary.specs.LengthAndThen
@@ -261,7 +261,7 @@ pub use Rattle.winnow_recovery.specs.Recovery
 pub use Rattle.winnow_recovery.specs.RecoveryLaws
 pub use Rattle.winnow_recovery.specs.ResumeAfter
 pub use Rattle.winnow_recovery.specs.RetryAfter
--- Text with escapes: parts that stand for themselves, and parts behind a control, as a backslash.
+-- Text with escapes: parts that stand for themselves, and parts after a control, as a backslash.
 pub use Rattle.winnow_escapes.specs.Controls
 pub use Rattle.winnow_escapes.specs.Escaped
 pub use Rattle.winnow_escapes.specs.TakeEscaped

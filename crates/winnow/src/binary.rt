@@ -1,4 +1,4 @@
-//! Parsers of binary data: integers as bytes, data behind its length, and bits.
+//! Parsers of binary data: integers as bytes, data after its length, and bits.
 pub mod impls;
 
 pub use winnow_bits::bits;

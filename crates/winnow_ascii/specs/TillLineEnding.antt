@@ -46,14 +46,14 @@ TillLineEndingRuns {T} {S} spells sought reading form i answer j =
     ⊎ (((slice : S) × (both : Bor (List ℕ)) × (both.now ≡ 13 ∷ 10 ∷ [])
     × LineRuns sought reading form i slice j
     × StandsFirst (spells both) j.left.tokens × (answer ≡ Ok slice))
-    -- "\r" follows, and the input ends before a line feed could stand behind it
+    -- "\r" follows, and the input ends before a line feed could stand after it
     ⊎ (((slice : S) × (return : Bor (List ℕ)) × (both : Bor (List ℕ)) × (k : Kind)
     × (return.now ≡ 13 ∷ []) × (both.now ≡ 13 ∷ 10 ∷ [])
     × LineRuns sought reading form i slice j
     × StandsFirst (spells return) j.left.tokens × IsShort (spells both) j.left.tokens
     × (StandsFirst (spells both) j.left.tokens → ⊥) × ShortKind form None j k
     × (answer ≡ Err k))
-    -- "\r" follows, and no line feed behind it
+    -- "\r" follows, and no line feed after it
     ⊎ (((slice : S) × (return : Bor (List ℕ)) × (both : Bor (List ℕ))
     × (return.now ≡ 13 ∷ []) × (both.now ≡ 13 ∷ 10 ∷ [])
     × LineRuns sought reading form i slice j

@@ -54,10 +54,10 @@ pub record AsksExactly {T O : Type 0} (begun : List T → Type 0) (i : Input T) 
     : Type 0 where
   -- where it asks for more they are begun
   pub asked : AsksForMore answer → begun i.left.tokens
-  -- where they are begun it asks for more, or wants memory
+  -- where they are begun it asks for more, or is out of memory
   pub asks : begun i.left.tokens → AsksForMore answer ⊎ WantsMemory answer
 
--- what is not final asks for more, or wants memory
+-- what is not final asks for more, or is out of memory
 asks_by : {O : Type 0} (answer : Answer O) → (IsFinal answer → ⊥)
     → AsksForMore answer ⊎ WantsMemory answer
 asks_by (Ok o) never = absurd (never tt)

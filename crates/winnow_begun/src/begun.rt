@@ -68,7 +68,7 @@ pub trait Begun<I: Stream, O, E: ParserError<I>>: Stable<I, O, E> {
         → AsksWhere (Self.state p) (Self.meaning modal) (begun p) };
 
     /// As [`read_cut`](winnow_exact::pieces::ReadsPieces::read_cut), and on a cut input it asks for
-    /// more exactly where the tokens are begun (`asks`): else it answers, or wants memory. The
+    /// more exactly where the tokens are begun (`asks`): else it answers, or is out of memory. The
     /// caller owes errors with a mode.
     #[inline(always)]
     final fn read_asking(&mut self, input: &mut I) -> Result<O, E>

@@ -17,7 +17,8 @@ use Rattle.winnow_binary.specs.declared.binary.impls.i32.I32.{I32}
 use Rattle.winnow_binary.specs.declared.binary.impls.i64.I64.{I64}
 use Rattle.winnow_binary.specs.declared.binary.impls.i128.I128.{I128}
 
--- A run of the parser of an integer of so many bytes, each list of which has a value in each order;
+-- A run of the parser of an integer of that many bytes, each list of which has a value in each
+-- order;
 -- the order that is chosen stays.
 abbrev pub ChosenRuns : {S O : Type 0} → ℕ → (Endianness → List ℕ → O) → Reading ℕ S → ErrorForm
     → Runs Endianness ℕ O

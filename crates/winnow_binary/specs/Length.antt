@@ -1,4 +1,4 @@
--- A length, and what stands behind it.
+-- A length, and what stands after it.
 use Rattle.std.specs.Prelude.{◌≡◌, ℕ, Ok, Err, ◌⊎◌}
 use Rattle.streams.specs.Input.{Input}
 use Rattle.streams.specs.Kind.{Kind}

@@ -1,4 +1,4 @@
--- A length, and a parser of so many tokens.
+-- A length, and a parser of that many tokens.
 use Rattle.std.specs.Prelude.{◌≡◌, ◌<◌, ◌-◌, ℕ, Bool, false, List, length, Some, None, Err, ◌⊎◌}
 use Rattle.std.specs.Prelude.{if◌then◌else◌}
 use Rattle.streams.specs.Input.{Input, Passes}
@@ -17,7 +17,7 @@ pub mod Laws
 abbrev pub length_and_then_count : {P G I N O E : Type 0} → LengthAndThen P G I N O E → P
 length_and_then_count s = s.count
 
--- the parser of what stands behind it
+-- the parser of what stands after it
 abbrev pub length_and_then_parser : {P G I N O E : Type 0} → LengthAndThen P G I N O E → G
 length_and_then_parser s = s.parser
 
@@ -29,7 +29,7 @@ only_first taken i =
       status = record i.status { cut = false };
     }
 
--- So many tokens are taken, and a parser is run on them as an input of their own.
+-- That many tokens are taken, and a parser is run on them as an input of their own.
 abbrev pub TakenRuns : {S T L O : Type 0} → Reading T L → ErrorForm → Bool → Runs S T O → ℕ
     → Runs S T O
 TakenRuns {S} {T} {L} {O} reading form counts run n s i answer t j =
@@ -42,7 +42,7 @@ TakenRuns {S} {T} {L} {O} reading form counts run n s i answer t j =
     × ShortKind form (if counts then Some (n - length i.left.tokens) else None) i k
     × (answer ≡ Err k) × (t ≡ s) × (j ≡ i))
 
--- A run of the parser of a length, and one of the other on so many tokens.
+-- A run of the parser of a length, and one of the other on that many tokens.
 abbrev pub LengthAndThenRuns : {S V T N L O : Type 0} → (N → ℕ) → Reading T L → ErrorForm → Bool
     → Runs S T N → Runs V T O → Runs (S × V) T O
 LengthAndThenRuns number reading form counts count run =

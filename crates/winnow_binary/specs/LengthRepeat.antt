@@ -1,4 +1,4 @@
--- A length, and so many items.
+-- A length, and that many items.
 use Rattle.std.specs.Prelude.{ℕ, Some}
 use Rattle.streams.specs.Kind.{Kind}
 use Rattle.stream_sets.specs.Accumulator.{Accumulator}
@@ -14,16 +14,16 @@ pub mod Laws
 abbrev pub length_repeat_count : {P G I N O C E A : Type 0} → LengthRepeat P G I N O C E A → P
 length_repeat_count s = s.count
 
--- the parser of the items behind it
+-- the parser of the items after it
 abbrev pub length_repeat_parser : {P G I N O C E A : Type 0} → LengthRepeat P G I N O C E A → G
 length_repeat_parser s = s.parser
 
--- So many items: a repetition from so many times to so many.
+-- That many items: a repetition from that many times to that many.
 abbrev pub ItemsBehind : {S T O C : Type 0} → Runs S T O → Accumulator C O → Kind → ℕ
     → Runs S T C
 ItemsBehind run into assert_kind n = RepeatManyRuns run into assert_kind (from_to n (Some n))
 
--- A run of the parser of a length, and a repetition of the other, so many times.
+-- A run of the parser of a length, and a repetition of the other, that many times.
 abbrev pub LengthRepeatRuns : {S V T N O C : Type 0} → (N → ℕ) → Accumulator C O → Kind
     → Runs S T N → Runs V T O → Runs (S × V) T C
 LengthRepeatRuns number into assert_kind count run =

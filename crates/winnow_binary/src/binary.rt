@@ -1,5 +1,5 @@
 //! Parsers of binary data, as winnow's documentation has them: integers whose order of bytes is
-//! chosen, and data behind its length.
+//! chosen, and data after its length.
 #![tactic(auto, using(streams::specs::Ends::ends_follow))]
 
 mod chosen;

@@ -1,4 +1,4 @@
--- Takes of so many bits, as a number.
+-- Takes of that many bits, as a number.
 use Rattle.std.specs.Prelude.{◌≡◌, ◌<◌, ◌≤◌, ℕ, Bool, true, false, length, Some, Ok, Err, ◌⊎◌}
 use Rattle.streams.specs.Input.{Input}
 use Rattle.streams.specs.Kind.{Kind}
@@ -14,8 +14,8 @@ pub mod Laws
 abbrev pub bit_take_count : {I O E : Type 0} → Take I O E → ℕ
 bit_take_count s = s.count
 
--- A take of some bits cannot be answered: the output does not hold so many, or the place cannot be
--- read.
+-- A take of some bits cannot be answered: the output does not hold that many, or the place cannot
+-- be read.
 abbrev pub CannotTake : ℕ → ℕ → Input Bool → Type 0
 CannotTake width n i = (0 < n) × ((width < n) ⊎ (i.left.possible ≡ false))
 
@@ -28,6 +28,6 @@ BitTakeRuns {O} number width reading form n i answer j =
     × ReadsNumber reading n i (number o) j × (answer ≡ Ok o))
     -- the take cannot be answered
     ⊎ ((CannotTake width n i × (answer ≡ Err (assert_kind form)) × (j ≡ i))
-    -- there are too few bits, and a cut input lacks so many
+    -- there are too few bits, and a cut input lacks that many
     ⊎ ((k : Kind) × (n ≤ width) × (i.left.possible ≡ true) × (length i.left.tokens < n)
     × ShortKind form (Some n) i k × (answer ≡ Err k) × (j ≡ i)))

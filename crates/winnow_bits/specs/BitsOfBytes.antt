@@ -43,6 +43,6 @@ BitsOfBytesRuns {S} {L} {O} reading form run s i answer t j =
     ⊎ (((o : O) × (k : Input Bool) × (length i.left.tokens ≤ most_bytes)
     × run s (bits_input i 0) (Ok o) t k × (k.left.possible ≡ false)
     × (answer ≡ Err (assert_kind form)) × (j ≡ i))
-    -- the bits of so many bytes cannot be counted, and nothing is run
+    -- the bits of that many bytes cannot be counted, and nothing is run
     ⊎ ((most_bytes < length i.left.tokens) × (t ≡ s) × (answer ≡ Err (assert_kind form))
     × (j ≡ i))))

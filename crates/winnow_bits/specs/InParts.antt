@@ -48,7 +48,7 @@ reads_both reading some more count i x j y k n p q total is = record {
   passes = passes_both reading p.bits q.bits i j k p.passes q.passes;
 }
 
--- so many bits stand for a number below so great a power
+-- that many bits stand for a number below so great a power
 pub reads_below : {S : Type 0} (reading : Reading Bool S) (count : ℕ) (i : Input Bool) (n : ℕ)
     (j : Input Bool) → ReadsNumber reading count i n j → n < 2 ^ count
 reads_below reading count i n j r =

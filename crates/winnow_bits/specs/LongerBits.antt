@@ -1,4 +1,4 @@
--- The bits of bytes that more bytes stand behind.
+-- The bits of bytes that more bytes stand after.
 use Rattle.std.specs.Prelude.{◌≡◌, ◌≤◌, ℕ, true, List, ◌++◌, length, Bool, Option}
 use Rattle.std.proofs.Common.{sym, ap, ◌∙◌, arith, length-append}
 use Rattle.streams.specs.Following.{most_bytes}
@@ -10,7 +10,7 @@ use Rattle.streams.specs.Kind.{Kind, backtrack, cut, incomplete, memory}
 use Rattle.winnow_bits.specs.Needs.{with_need}
 use Rattle.winnow_core.specs.Stable.{IsFinalKind}
 
--- where the bits of bytes and of those behind them can be read, they are the bits of both
+-- where the bits of bytes and of those after them can be read, they are the bits of both
 more_bits : (bytes more : List ℕ) → length (bytes ++ more) ≤ most_bytes
     → (can_be_read (bytes ++ more) 0 ≡ can_be_read bytes 0)
     × (bits_from (bytes ++ more) 0 ≡ bits_from bytes 0 ++ bits_of more)

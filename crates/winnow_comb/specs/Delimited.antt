@@ -13,7 +13,7 @@ abbrev pub delimited_parser : {P1 P2 P3 I O1 O2 O3 E : Type 0} → Delimited P1 
     → P2
 delimited_parser s = s.parser
 
--- the parser behind
+-- the parser after
 abbrev pub delimited_ignored2 : {P1 P2 P3 I O1 O2 O3 E : Type 0}
     → Delimited P1 P2 P3 I O1 O2 O3 E → P3
 delimited_ignored2 s = s.ignored2

@@ -43,6 +43,6 @@ ChoosesFirstItem {S} {T} {O} run assert_kind chooses =
     → ((s ≡ []) × (answer ≡ Err assert_kind) × (j ≡ i))
     ⊎ AnswersAsFirst i.left (branch_runs run s t) i answer j
 
--- Runs behind some reference.
+-- Runs after some reference.
 abbrev pub WithoutName : {S T O : Type 0} → Runs (S × ℕ) T O → Runs S T O
 WithoutName {S} {T} {O} run s i answer t j = (x : ℕ) × (y : ℕ) × run (s, x) i answer (t, y) j

@@ -1,4 +1,4 @@
--- A child behind one whose output is let go.
+-- A child after one whose output is let go.
 use Rattle.winnow_core.specs.Runs.{Runs}
 use Rattle.winnow_core.specs.InOrder.{BothRuns}
 use Rattle.winnow_comb.specs.declared.combinator.impls.preceded.Preceded.{Preceded}

@@ -18,7 +18,7 @@ pub record Claim (T O : Type 0) : Type 1 where
   pub spares_memory : Type 0
   -- when what it reads takes tokens
   pub consumes : Type 0
-  -- which outputs stand first in some tokens, and what is left behind each
+  -- which outputs stand first in some tokens, and what is left after each
   pub grammar : Grammar T O
   -- what is asked of the parser, so that one state and one input decide its runs
   pub decides : Type 0

@@ -11,7 +11,7 @@ same_ends reading i j same =
     let P : Input _ → Type 0 = λ x. IsEndOf reading x i
     in subst P (sym same) (is_end_of_refl reading i)
 
--- back at the start behind a run that left an end
+-- back at the start after a run that left an end
 pub back_ends : {T L : Type 0} (reading : Reading T L) (i a j : Input T) → j ≡ back_at i.left a
     → IsEndOf reading a i → IsEndOf reading j i
 back_ends reading i a j same ends =

@@ -50,7 +50,7 @@ abbrev pub Backtracks : {S T O : Type 0} → S → Runs S T O → Type 0
 Backtracks s run = FailsBy (λ k. k ≡ backtrack) s run
 
 -- What a call tells by a grammar. It leaves an end of its input. On a whole one an output stands,
--- with what is left; an error backtracks and says that none stands, or wants memory.
+-- with what is left; an error backtracks and says that none stands, or is out of memory.
 pub record Reads {T L O E : Type 0} (reading : Reading T L) (kind : E → Kind)
     (grammar : Grammar T O) (i : Input T) (result : Result O E) (j : Input T) : Type 0 where
   pub ends : IsEndOf reading j i

@@ -18,7 +18,8 @@ abbrev pub try_map_closure : {F G I O U E R : Type 0} → TryMap F G I O U E R �
 try_map_closure s = s.map
 
 -- One call of the closure settles an output; where it fails, the error is the one that is made of
--- the closure's: it backtracks, or wants memory, each where the type of errors says that it may.
+-- the closure's: it backtracks, or is out of memory, each where the type of errors says that it
+-- may.
 abbrev pub TryMapSettles : {G O U R : Type 0} → (G → O → Result U R → G → Type 0)
     → G × (R → Keeping) → O → Answer U → G × (R → Keeping) → Type 0
 TryMapSettles {G} {O} {U} {R} step g o answer h = (h.1 ≡ g.1) × (

@@ -210,7 +210,7 @@ pub fn the_slice_with_the_output_and_the_rest_are_the_input<
         (⟦<WithTaken<P, I, O, E> as Parser<I, (O, I::Slice), E>>⟧.meaning E.form) }
 {}
 
-/// On a cut input a stable parser asks for more, or wants memory, or answers what every longer
+/// On a cut input a stable parser asks for more, or is out of memory, or answers what every longer
 /// input gets, still cut or complete.
 pub fn a_cut_input_is_answered_as_each_longer_one<
     P: Stable<I, O, E>,

@@ -151,9 +151,10 @@ pub trait Parser<I: Stream, O, E: ParserError<I>>: Sized {
     }
 
     /// As [`parse`](Parser::parse), and the parser's grammar says what it answers: an output stands
-    /// first in the tokens and leaves nothing, and a fault says that none does, or wants memory. It
-    /// asks for no more tokens, and for no memory where the parser asks for none (`spared`). The
-    /// caller owes what the parser asks for (`premise`), and a stream type that is not partial.
+    /// first in the tokens and leaves nothing, and a fault says that none does, or is out of
+    /// memory. It asks for no more tokens, and for no memory where the parser asks for none
+    /// (`spared`). The caller owes what the parser asks for (`premise`), and a stream type that is
+    /// not partial.
     #[inline(always)]
     final fn read_all(&mut self, input: I) -> Result<O, ParseFault<I, E::Inner>>
     where
@@ -219,7 +220,7 @@ pub trait Parser<I: Stream, O, E: ParserError<I>>: Sized {
         }
     }
 
-    /// The parser behind a reference, as a parser: it runs this one, whose state goes on.
+    /// The parser after a reference, as a parser: it runs this one, whose state goes on.
     #[inline(always)]
     final fn by_ref(&mut self) -> ByRef<'_, Self, I, O, E>
         ensures state { by_ref_parser result ≡ self.old }
@@ -337,7 +338,7 @@ pub trait Parser<I: Stream, O, E: ParserError<I>>: Sized {
         VerifyMap::new(self, filter)
     }
 
-    /// What the parser answers that `map` makes of the output, behind what this one read. It owes
+    /// What the parser answers that `map` makes of the output, after what this one read. It owes
     /// that each parser that it makes can be run.
     #[inline(always)]
     final fn flat_map<G, H, O2>(self, map: G) -> FlatMap<Self, G, H, I, O, O2, E>

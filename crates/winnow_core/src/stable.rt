@@ -41,8 +41,8 @@ pub trait Stable<I: Stream, O, E: ParserError<I>>: Parser<I, O, E> {
     ghost stable: { IsStable I.following (Self.meaning modal) };
 
     /// As [`parse_next`](crate::parser::Parser::parse_next) on a cut input: it asks for more,
-    /// or wants memory, or every longer input gets this answer, this new state and this rest with
-    /// what was added. The caller owes errors with a mode, and a cut input.
+    /// or is out of memory, or every longer input gets this answer, this new state and this rest
+    /// with what was added. The caller owes errors with a mode, and a cut input.
     ///
     /// ```
     /// let mut input = Partial::new("12;");

@@ -21,7 +21,7 @@ escaped_normal s = s.normal
 abbrev pub escaped_control : {N K X I O D P C E A : Type 0} → Escaped N K X I O D P C E A → K
 escaped_control s = s.control
 
--- the parser of what stands behind a control
+-- the parser of what stands after a control
 abbrev pub escaped_escape : {N K X I O D P C E A : Type 0} → Escaped N K X I O D P C E A → X
 escaped_escape s = s.escape
 
@@ -95,7 +95,7 @@ turns_kept normals escapes = record {
   grows = grows_by_turn normals.grows escapes.grows;
 }
 
--- What ends the turns, behind those of a chain. `short` is the kind for more input, of which it is
+-- What ends the turns, after those of a chain. `short` is the kind for more input, of which it is
 -- not known how much.
 abbrev pub EscapesEnd : {S W V T O D P C : Type 0} → Runs S T O → Runs W T D → Runs V T P
     → Accumulator C (Turn O P) → Kind → Kind → C → S × W × V → Input T → Answer C → S × W × V

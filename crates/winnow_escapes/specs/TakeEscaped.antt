@@ -19,7 +19,7 @@ take_escaped_normal s = escaped_normal (take_parser s.taken)
 abbrev pub take_escaped_control : {N K X I O D P E : Type 0} → TakeEscaped N K X I O D P E → K
 take_escaped_control s = escaped_control (take_parser s.taken)
 
--- the parser of what stands behind a control
+-- the parser of what stands after a control
 abbrev pub take_escaped_escapable : {N K X I O D P E : Type 0} → TakeEscaped N K X I O D P E → X
 take_escaped_escapable s = escaped_escape (take_parser s.taken)
 

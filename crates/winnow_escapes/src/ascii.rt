@@ -22,7 +22,7 @@ use winnow_core::parser::Parser;
 /// Where `control` refuses, the text ends with success, and what `control` consumed stays consumed:
 /// it belongs to the slice. So it is where `control` was cut off, since its error cannot tell.
 ///
-/// Another failure of `normal`, each failure of `escapable`, and want of memory of `control` are
+/// Another failure of `normal`, each failure of `escapable`, and out of memory of `control` are
 /// handed on, with the input where they left it. A turn that consumes nothing is an assert error.
 /// At the end of a whole input it succeeds; at the end of a cut one it is incomplete with an
 /// unknown need, and the input stays at that end. No memory is taken.
@@ -56,14 +56,14 @@ where
 }
 
 /// Reads text with escapes, and puts what it stands for into an accumulator: the outputs of
-/// `normal`, and those of `escape` behind a `control`.
+/// `normal`, and those of `escape` after a `control`.
 ///
 /// A turn is `normal`; where that backtracks, it is `control` and `escape`, from the same place; so
 /// it goes on while anything is left. Where `control` refuses, the text ends with success, and what
 /// `control` consumed stays consumed. So it is where `control` was cut off, since its error cannot
 /// tell.
 ///
-/// Another failure of `normal`, each failure of `escape`, and want of memory of `control` are
+/// Another failure of `normal`, each failure of `escape`, and out of memory of `control` are
 /// handed on, with the input where they left it. A turn that consumes nothing is an assert error.
 /// At the end of a whole input it succeeds; at the end of a cut one it is incomplete with an
 /// unknown need, and the input stays at that end. Memory is taken by the accumulator alone.

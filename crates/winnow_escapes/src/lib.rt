@@ -1,4 +1,4 @@
-//! Text with escapes: parts that stand for themselves, and parts behind a control, as a backslash.
+//! Text with escapes: parts that stand for themselves, and parts after a control, as a backslash.
 //!
 //! Each is the definition of its name in `specs/`: a chain of turns, and what ended it.
 #![tactic(auto)]

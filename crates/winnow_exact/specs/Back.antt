@@ -102,7 +102,7 @@ of_one makes part keeps one = record {
   one = λ u v tokens (o, a, is) (p, b, are). keeps u v o p is are (one.one o p tokens a b);
 }
 
--- ---- one behind the other
+-- ---- one after the other
 
 -- where a text ends its grammar tells
 module _ {T O : Type 0} {g : Grammar T O} {text : Text T O} {follow : List T → Type 0}

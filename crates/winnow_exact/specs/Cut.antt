@@ -21,7 +21,7 @@ Asks k = (need : Option ℕ) × (k ≡ incomplete need)
 
 -- What a call on a cut input tells by a grammar. Whatever the input is followed by until it is
 -- complete, an output stands in all of it, with what is left and what followed; and an error
--- backtracks and says that none does, or else asks for more, or wants memory.
+-- backtracks and says that none does, or else asks for more, or is out of memory.
 pub record ReadsCut {T O E : Type 0} (following : Following T) (kind : E → Kind)
     (grammar : Grammar T O) (i : Input T) (result : Result O E) (j : Input T) : Type 0 where
   pub stands : IfOk result (λ o. (more : List T) → Follows following i.left more

@@ -1,4 +1,4 @@
--- What calls in turn tell: of a text that stands first, and of what stands behind it.
+-- What calls in turn tell: of a text that stands first, and of what stands after it.
 use Rattle.std.specs.Prelude.{◌≡◌, ◌⊎◌, Bool, false, true, List, [], ◌++◌}
 use Rattle.std.specs.Prelude.{Result, Ok, Err}
 use Rattle.std.specs.Result.{IsErrAnd}
@@ -18,7 +18,7 @@ pub mod Rows
 unfoldable pub First : {T O : Type 0} → Text T O → Grammar T O
 First {T} text tokens o rest = (front : List T) × text o front × (tokens ≡ front ++ rest)
 
--- A text of some value, and behind it a text by that value.
+-- A text of some value, and after it a text by that value.
 unfoldable pub Led : {T X O : Type 0} → Text T X → (X → Text T O) → Text T O
 Led {T} {X} first behind o tokens =
     (x : X) × (xs : List T) × (ys : List T) × first x xs × behind x o ys × (tokens ≡ xs ++ ys)
@@ -208,7 +208,7 @@ pub record Splits {T X : Type 0} (text : Text T X) : Type 0 where
       → First text tokens y other → (x ≡ y) × (rest ≡ other)
 
 module _ {T X O : Type 0} (first : Text T X) (behind : X → Text T O) where
-  -- a text that leads, and what is behind it
+  -- a text that leads, and what is after it
   led_first : (tokens : List T) (o : O) (rest : List T) → First (Led first behind) tokens o rest
       → (x : X) × (mid : List T) × First first tokens x mid × First (behind x) mid o rest
   unfolding First Led
@@ -229,7 +229,7 @@ module _ {T X O : Type 0} (first : Text T X) (behind : X → Text T O) where
     e ∙ ap (λ l. xs ++ l) d ∙ sym (append_assoc xs ys rest),
   )
 
-  -- what is left behind both is one
+  -- what is left after both is one
   pub led_unique : Splits first → ((x : X) → IsUnique (First (behind x)))
       → IsUnique (First (Led first behind))
   unfolding First
@@ -282,7 +282,7 @@ module _ {T X O : Type 0} (first : Text T X) (behind : X → Text T O) where
       ];
     }
 
-    -- a call behind a text tells of both
+    -- a call after a text tells of both
     pub led_told : {E : Type 0} {kind : E → Kind} {x : X} {result : Result O E} {j : Input T}
         → Splits first → Stood reading following (First first) i x m
         → ReadsOrAsks reading following kind (First (behind x)) m result j

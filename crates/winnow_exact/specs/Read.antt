@@ -14,7 +14,7 @@ pub reads_by : {T L O E : Type 0} {reading : Reading T L} {kind : E → Kind} {g
     → Reads reading kind h i result j
 reads_by {T} {L} {O} {E} {reading} {kind} {g} {h} {i} {j} {result} r e = rw e at r
 
--- a call that wants memory says nothing else
+-- a call that is out of memory says nothing else
 pub reads_wanting : {T L O E : Type 0} {reading : Reading T L} {kind : E → Kind}
     {g : Grammar T O} {i j : Input T} {e : E} → kind e ≡ memory → IsEndOf reading j i
     → Reads reading kind g i (Err e) j

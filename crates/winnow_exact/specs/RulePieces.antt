@@ -50,7 +50,7 @@ asks_again reading following view kind called grammar f x r g y reads call =
 
 -- ---- what may come in several pieces
 
--- What may come behind a list in two pieces may come in one.
+-- What may come after a list in two pieces may come in one.
 pub record Joins {T : Type 0} (following : Following T) : Type 0 where
   pub join : (left more behind : List T) → following.can_follow left more
       → following.can_follow (left ++ more) behind → following.can_follow left (more ++ behind)
@@ -70,7 +70,7 @@ text_joins = record {
   join = λ left more behind f g. All-append IsScalar more behind f g;
 }
 
--- These lists may come behind, one after the other.
+-- These lists may come after, one after the other.
 pub AllFollow : {T : Type 0} → Following T → List T → List (List T) → Type 0
 AllFollow following left [] = ⊤
 AllFollow following left (more ∷ others) =
@@ -112,8 +112,8 @@ TellsWhole grammar tokens (Err k) rest =
     (k ≡ memory) ⊎ ((k ≡ backtrack) × NoneStands grammar tokens)
 
 -- A run that the grammar allows: it leaves an end of its input. On a whole one it answers by the
--- grammar. On a cut one it asks for more, or wants memory, or answers by the grammar whatever comes
--- behind until the input is complete, in however many pieces.
+-- grammar. On a cut one it asks for more, or is out of memory, or answers by the grammar whatever
+-- comes after until the input is complete, in however many pieces.
 pub record RunsInPieces {T L O : Type 0} (reading : Reading T L) (following : Following T)
     (grammar : Grammar T O) (i : Input T) (answer : Answer O) (j : Input T) : Type 0 where
   pub ends : IsEndOf reading j i

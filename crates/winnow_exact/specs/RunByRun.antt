@@ -16,7 +16,7 @@ use Rattle.grammars.specs.Texts.{Divides, MayBegin, Members}
 use Rattle.grammars.specs.Texts.Tokens.{longest_of}
 use Rattle.winnow_core.specs.Exact.{Reads}
 
--- Tokens of these, as many as stand, and a slice that shows them: behind them is none, or one of
+-- Tokens of these, as many as stand, and a slice that shows them: after them is none, or one of
 -- those.
 abbrev pub RunOf : {T L : Type 0} → Reading T L → (these those : T → Type 0) → Grammar T L
 RunOf {T} reading these those tokens slice rest =
@@ -92,9 +92,9 @@ module _ {T L : Type 0} (reading : Reading T L) (these those : T → Type 0)
         let (slice, rest, x) = run_stands i.left.tokens in absurd (none slice rest x)
   ]
 
--- ---- items one behind the other
+-- ---- items one after the other
 
--- behind items that stand, more of them
+-- after items that stand, more of them
 pub each_more : {T O : Type 0} (g : Grammar T O) (os ps : List O) (start mid rest : List T)
     → Each g start os mid → Each g mid ps rest → Each g start (os ++ ps) rest
 each_more {T} g [] ps start mid rest e more =
@@ -102,7 +102,7 @@ each_more {T} g [] ps start mid rest e more =
 each_more g (o ∷ os) ps start mid rest (next, x, each) more =
     (next, x, each_more g os ps next mid rest each more)
 
--- behind items that stand, one more
+-- after items that stand, one more
 pub each_one : {T O : Type 0} (g : Grammar T O) (os : List O) (o : O) (start mid rest : List T)
     → Each g start os mid → g mid o rest → Each g start (os ++ o ∷ []) rest
 each_one g os o start mid rest each x =
@@ -119,21 +119,21 @@ module _ {T : Type 0} (g : Grammar T T) (these : T → Type 0)
     each_run ts rest (All-tail these t ts all),
   )
 
-  -- and stand behind items
+  -- and stand after items
   pub each_behind : (os front start mid rest : List T) → Each g start os mid → All these front
       → mid ≡ front ++ rest → Each g start (os ++ front) rest
   each_behind os front start mid rest each all split =
       let P : List T → Type 0 = λ l. Each g l front rest in
       each_more g os front start mid rest each (subst P (sym split) (each_run front rest all))
 
--- what takes tokens behind a run leaves fewer than stood before it
+-- what takes tokens after a run leaves fewer than stood before it
 pub run_takes : {T L : Type 0} (reading : Reading T L) (these those : T → Type 0)
     (start mid rest : List T) (slice : L) → RunOf reading these those start slice mid
     → length rest < length mid → length rest < length start
 run_takes reading these those start mid rest slice (front, all, split, shown, ends) fewer =
     omega (arith, ap (λ l. length l) split, length-append front mid, fewer)
 
--- Where none stands of what is read behind runs, and so no item, those that were read are all.
+-- Where none stands of what is read after runs, and so no item, those that were read are all.
 pub all_read : {T L O U C E : Type 0} {reading : Reading T L} {kind : E → Kind} {e : E}
     (holds : C → List O → Type 0) (g : Grammar T O) (h : Grammar T U) (i j now : Input T)
     (all : C) (os : List O) → IsEndOf reading j i → j.status.cut ≡ false

@@ -12,8 +12,8 @@ use Rattle.stream_errors.specs.declared.fault.ParseFault.{ParseFault}
 use Rattle.winnow_core.specs.Exact.{Reads}
 use Rattle.winnow_core.specs.Exact.Whole.{IsRefused, IsWant, ReadsAll}
 
--- What all tokens are: a text of the output; a fault says that they are no text, or wants memory,
--- and asks for no more tokens.
+-- What all tokens are: a text of the output; a fault says that they are no text, or is out of
+-- memory, and asks for no more tokens.
 pub record IsTextOf {I T O X : Type 0} (inner_kind : X → Kind) (text : Text T O) (tokens : List T)
     (result : Result O (ParseFault I X Needed)) : Type 0 where
   pub stands : IfOk result (λ o. text o tokens)
@@ -52,8 +52,8 @@ text_found {result = Err fault} told o a = elim told.none [
 ]
 
 -- What a call tells by a text. It leaves an end of its input. On a whole one a text of the output
--- stands first, and what is left is behind it; an error backtracks and says that no text stands
--- first, with what may stand behind it, or wants memory.
+-- stands first, and what is left is after it; an error backtracks and says that no text stands
+-- first, with what may stand after it, or is out of memory.
 pub record ReadsText {T L O E : Type 0} (reading : Reading T L) (kind : E → Kind) (text : Text T O)
     (follow : List T → Type 0) (i : Input T) (result : Result O E) (j : Input T) : Type 0 where
   pub ends : IsEndOf reading j i

@@ -30,7 +30,7 @@ pub trait ReadsPieces<I: Stream, O, E: ParserError<I>>: Stable<I, O, E> {
     /// cut
     /// input too: whatever follows until the input is complete, an output stands first in all of
     /// it, with what is left and what followed; an error that backtracks says that none does. Else
-    /// it asks for more, or wants memory. The caller owes errors with a mode.
+    /// it asks for more, or is out of memory. The caller owes errors with a mode.
     #[inline(always)]
     final fn read_cut(&mut self, input: &mut I) -> Result<O, E>
         requires callable { Self.can_parse self.old }

@@ -23,7 +23,7 @@ pub trait Rule<I: Stream, O>: Sized {
     #[inline(always)]
     fn name() {}
 
-    // What is left behind what stands is an end of the tokens, and one alone.
+    // What is left after what stands is an end of the tokens, and one alone.
     ghost unique: { (r : Self) → IsUnique (grammar r) };
 
     // What is read takes tokens.

@@ -66,11 +66,11 @@ opens_of xs = map open_of xs
 abbrev pub calls_of : {V F H A : Type 0} → KeptCalls V F H A → Calls V F H
 calls_of calls = record { present = call_of calls.present; opened = opens_of calls.open.items }
 
--- a call that begins where so many units are left
+-- a call that begins where that many units are left
 abbrev pub call_at : ℤ → ℕ → Call
 call_at least units = record { least = least; began = units; turn = units; neither = None }
 
--- a call behind an infix whose turn began where so many units were left
+-- a call after an infix whose turn began where that many units were left
 abbrev pub with_infix : Call → ℕ → Option ℤ → Call
 with_infix call units neither = record call { turn = units; neither = neither }
 

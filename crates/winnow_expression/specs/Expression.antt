@@ -52,7 +52,7 @@ mutual
         → ResumeRuns g x b w n a t j
         → CallRuns g call s i a t j
 
-  -- What it does behind a value.
+  -- What it does after a value.
   pub data TurnRuns {S W T V F G H : Type 0} (g : Grammar S W T V F G H) : Call → V → S × W
       → Input T → Answer (V × Bool) → S × W → Input T → Type 0 where
     turn_ends : (call : Call) (left : V) (s t : S × W) (i j : Input T) (a : Answer (V × Bool))

@@ -82,7 +82,7 @@ CallEnds {V = V} {F = F} H units first refusal call s i kind t j =
     ⊎ ((x : Open V F H) × (power : ℤ) × Prefixes units first call s i x power t j
     × (kind ≡ memory)))
 
--- An infix is accepted behind a left operand: its right operand begins, with its right power. The
+-- An infix is accepted after a left operand: its right operand begins, with its right power. The
 -- call has consumed something, and remembers a neither.
 abbrev pub Infixes : {W T V F G H : Type 0} → (List T → ℕ) → Runs W T (Next G H) → Call → V → W
     → Input T
@@ -105,7 +105,7 @@ Postfixes {T = T} {G = G} units next behind call left s i value t j =
     × (call.least ≤ℤ power) × behind fold m left (Ok value) j
     × (units_left units j ≡ units_left units i → ⊥)
 
--- A call ends behind a value: with it, or with a failure. The flag says that every open call ends.
+-- A call ends after a value: with it, or with a failure. The flag says that every open call ends.
 abbrev pub TurnEnds : {W T V G H : Type 0} → (F : Type 0) → (List T → ℕ) → Runs W T (Next G H)
     → (G → Input T → V → Answer V → Input T → Type 0) → Kind → Call → V → W → Input T
     → Answer (V × Bool) → W → Input T → Type 0

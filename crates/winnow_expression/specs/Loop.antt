@@ -19,7 +19,7 @@ Resumed {S} {W} {T} {V} {F} {G} {H} g (x ∷ xs) b s i a t j =
     (c : Answer (V × Bool)) × (u : S × W) × (m : Input T) × ResumeRuns g x b s i c u m
     × Resumed g xs c u m a t j
 
--- What the present call does: from its beginning, or behind a value.
+-- What the present call does: from its beginning, or after a value.
 abbrev pub PresentRuns : {S W T V F G H : Type 0} → Grammar S W T V F G H → Call → Option V
     → S × W → Input T → Answer (V × Bool) → S × W → Input T → Type 0
 PresentRuns g call None s i a t j = CallRuns g call s i a t j
@@ -32,12 +32,12 @@ pub record Leads {S W T V F G H : Type 0} (g : Grammar S W T V F G H) (whole : C
   pub leads : (b a : Answer (V × Bool)) (u w : S × W) (m n : Input T)
       → PresentRuns g call left t j b u m → Resumed g open_ b u m a w n → CallRuns g whole s i a w n
 
--- A right operand begins behind its operator: that of a prefix behind the turn's beginning.
+-- A right operand begins after its operator: that of a prefix after the turn's beginning.
 abbrev pub Falls : {V F H : Type 0} → Operator V F H → ℕ → ℕ → Type 0
 Falls (Prefix fold) began turn = began < turn
 Falls (Infix left fold) began turn = began ≤ turn
 
--- Calls begin and take their turns one behind another, the first of these operators the last.
+-- Calls begin and take their turns one after another, the first of these operators the last.
 abbrev pub Nested : {V F H : Type 0} → List (Open V F H) → ℕ → Type 0
 Nested [] began = Unit {0}
 Nested (x ∷ xs) began =

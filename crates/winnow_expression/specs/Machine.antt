@@ -46,7 +46,7 @@ abbrev pub EndsToo : {T L : Type 0} → Reading T L → Remaining T → Input T 
 EndsToo {T} {L} reading x earlier later =
     (i : Input T) → x ≡ i.left → IsEndOf reading earlier i → IsEndOf reading later i
 
--- A postfix is read behind what was left at x.
+-- A postfix is read after what was left at x.
 abbrev pub PostfixTurn : {T V G : Type 0} → (List T → ℕ)
     → (G → Input T → V → Answer V → Input T → Type 0) → Kind
     → ℤ → ℤ → G → Remaining T → ℕ → V → Input T → Answer (Turn V) → Input T → Type 0
@@ -59,7 +59,7 @@ PostfixTurn {V = V} units behind refusal least power fold x here left m answer j
     ⊎ ((value : V) × (least ≤ℤ power) × behind fold m left (Ok value) j
     × (units_left units j ≡ here → ⊥) × (answer ≡ Ok (Goes value)))))
 
--- An infix is read behind what was left at x.
+-- An infix is read after what was left at x.
 abbrev pub InfixTurn : {T V F H : Type 0} → (List T → ℕ) → Kind → Infix H → Remaining T → ℕ
     → Calls V F H → V
     → Input T → Answer (Turn V) → Calls V F H → Input T → Type 0
@@ -78,7 +78,7 @@ InfixTurn {V = V} {F = F} {H = H} units refusal infix_ x here calls left m answe
       call = record calls.present { turn = here; neither = neither_power infix_ };
     }) (right_power infix_) (units_left units j) after))))))
 
--- At the place of an operator, behind a value.
+-- At the place of an operator, after a value.
 abbrev pub TurnStep : {W T V F G H : Type 0} → (List T → ℕ) → Runs W T (Next G H)
     → (G → Input T → V → Answer V → Input T → Type 0) → Kind → Calls V F H → V
     → W → Input T → Answer (Turn V) → Calls V F H → W → Input T → Type 0

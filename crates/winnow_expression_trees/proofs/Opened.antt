@@ -56,7 +56,7 @@ pub record IsLeft {S W T V F G H : Type 0} (g : Grammar S W T V F G H) (s0 : S �
   pub top : call.neither ≡ top_neither tree
   pub value : Value g tree left
 
--- What folding an open operator gives, behind a right operand: a left operand of the call that it
+-- What folding an open operator gives, after a right operand: a left operand of the call that it
 -- interrupted, where that goes on. With folds that refuse nothing it is folded too.
 pub record Opened {S W T V F G H : Type 0} (g : Grammar S W T V F G H) (s0 : S × W) (level : ℤ)
     (start : Input T) (x : Open V F H) (i : Input T) (right : V) (all : Bool) : Type 0 where
@@ -84,7 +84,7 @@ module _ {S W T V F G H : Type 0} (g : Grammar S W T V F G H) (alike : V → V �
   abbrev OverFrom : Tree V F G H → Input T → Input T → Type 0
   OverFrom l k i = Over (FirstStep g s0) (NextStep g s0) l k i
 
-  -- what is read behind a right operand does not bind within it
+  -- what is read after a right operand does not bind within it
   not_within : (p : ℤ) (r : Tree V F G H) (n : Input T) (all : Bool)
       → Keeps (NextStep g s0) p r n all → all ≡ false → (x : Next G H) (k : Input T)
       → NextStep g s0 n x k → (q : ℤ) → power_of x ≡ Some q → (q <ℤ p) × EdgeAbove r q

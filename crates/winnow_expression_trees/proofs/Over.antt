@@ -156,7 +156,7 @@ module _ {V F G H P : Type 0} (units : P → ℕ) (av : V → V → Type 0) (af 
         clash_flag (sym
         (reads_stays x v o read goes none (right_power q) j r k true inner same.1).1)
 
-  -- So no finite reading goes through an infix over nothing, behind an operand over nothing.
+  -- So no finite reading goes through an infix over nothing, after an operand over nothing.
   no_turn : (x : P) (v : V) (o : Infix H) → first x (Operand v) x → next x (infix_read o) x
       → (m : ℤ) (l t : Tree V F G H) (n : P) (b : Bool) → Grows first next m l x t n b
       → (top_neither l ≡ Some (left_power o) → ⊥) → m ≤ℤ left_power o → ⊥

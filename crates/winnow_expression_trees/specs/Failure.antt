@@ -56,7 +56,7 @@ InfixTakes m l o =
     TakesLeft m l (left_power o) × (top_neither l ≡ Some (left_power o) → ⊥)
 
 -- An operand of a least power begins at a place: all of the expression, whose least power is its
--- level; the right operand of a prefix that begins an operand; or that of an infix, behind a left
+-- level; the right operand of a prefix that begins an operand; or that of an infix, after a left
 -- operand that it takes and that has a value.
 pub data Begins {S W T V F G H : Type 0} (g : Grammar S W T V F G H) (s : S × W) (level : ℤ)
     (start : Input T) : ℤ → Input T → Type 0 where

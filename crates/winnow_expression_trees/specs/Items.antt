@@ -1,5 +1,5 @@
 -- Expressions whose parts read items: each part tells by the tokens left whether they begin with
--- an item of its own, which, and what is behind it; and folds give values.
+-- an item of its own, which, and what is after it; and folds give values.
 use Rattle.std.specs.Prelude.{◌≡◌, ◌<◌, ◌⊎◌, ℕ, ℤ, Bool, List, Ok, Err}
 use Rattle.streams.specs.Input.{Input}
 use Rattle.streams.specs.Kind.{backtrack}
@@ -26,7 +26,7 @@ use Rattle.winnow_expression_trees.specs.Tree.{Tree, leaf, before, behind, betwe
 pub mod Laws
 pub mod Premises
 
--- Items of a part: the tokens begin with an item that is this, and these are behind it.
+-- Items of a part: the tokens begin with an item that is this, and these are after it.
 abbrev pub Items : Type 0 → Type 0 → Type 1
 Items T O = List T → O → List T → Type 0
 
@@ -94,7 +94,7 @@ HasValue {V = V} one other two (between o l r) v =
     × two (fold_of o) w x v
 
 -- A run succeeds exactly where a tree over the items keeps the powers and has a value: with that
--- value, and what is behind the tree left. There is at most one such tree. Want of memory aside.
+-- value, and what is after the tree left. There is at most one such tree. Want of memory aside.
 pub record ReadsItems {T V F G H : Type 0} (operand : Items T V) (prefix : Items T (Prefix F))
     (postfix : Items T (Postfix G)) (infix_ : Items T (Infix H)) (one : F → V → V → Type 0)
     (other : G → V → V → Type 0) (two : H → V → V → V → Type 0) (level : ℤ) (i : Input T)

@@ -38,7 +38,7 @@ Over {P = P} first next (behind p g l) i j = (k : P) × Over first next l i k
 Over {P = P} first next (between o l r) i j =
     (k : P) × (n : P) × Over first next l i k × next k (infix_read o) n × Over first next r n j
 
--- the left power of what is read behind an operand, if that is an operator
+-- the left power of what is read after an operand, if that is an operator
 abbrev pub power_of : {G H : Type 0} → Next G H → Option ℤ
 power_of Nothing = None
 power_of (Postfix p g) = Some p

@@ -30,7 +30,7 @@ pub record Told (T O : Type 0) : Type 1 where
   pub spares_memory : Type 0
   -- when what it reads takes tokens
   pub consumes : Type 0
-  -- which outputs stand first in some tokens, and what is left behind each
+  -- which outputs stand first in some tokens, and what is left after each
   pub grammar : Grammar T O
   -- with which kind it fails on some tokens, and what it leaves
   pub failure : Failure T
@@ -45,7 +45,7 @@ pub record IsFailureOf {T O : Type 0} (grammar : Grammar T O) (failure : Failure
   pub apart : (tokens : List T) (k : Kind) (rest : List T) → failure tokens k rest
       → NoneStands grammar tokens
 
--- It fails so, or wants memory where it asks for some.
+-- It fails so, or is out of memory where it asks for some.
 pub record Fell {T : Type 0} (spares : Type 0) (failure : Failure T) (tokens : List T) (k : Kind)
     (rest : List T) : Type 0 where
   pub how : ((k ≡ memory) × ¬ spares) ⊎ failure tokens k rest

@@ -19,7 +19,7 @@ pub mod Values
 pub mod Written
 
 -- The number that bytes stand for, the highest of them first: the sum of each byte times 256 to
--- the number of bytes behind it.
+-- the number of bytes after it.
 abbrev pub value_of : List ℕ → ℕ
 value_of [] = 0
 value_of (b ∷ bytes) = b * 256 ^ length bytes + value_of bytes
@@ -49,11 +49,11 @@ signed_value order bytes = signed_of (highest_first order bytes)
 abbrev pub AreBytes : List ℕ → Type 0
 AreBytes bytes = All (λ b. b < 256) bytes
 
--- A run of the parser of an integer of so many bytes, each list of which has a value.
+-- A run of the parser of an integer of that many bytes, each list of which has a value.
 abbrev pub IntegerRuns : {S O : Type 0} → ℕ → (List ℕ → O) → Reading ℕ S → ErrorForm → Input ℕ
     → Answer O → Input ℕ → Type 0
 IntegerRuns width value reading form i answer j =
-    -- so many bytes are passed, and their value is answered
+    -- that many bytes are passed, and their value is answered
     ((bytes : List ℕ) × (length bytes ≡ width) × AreBytes bytes × Passes reading bytes i j
     × (answer ≡ Ok (value bytes)))
     -- there are too few

@@ -15,8 +15,8 @@ use Rattle.winnow_integers.specs.Integer.Values.{reverse_are_bytes}
 abbrev pub with_tokens : {T : Type 0} → List T → Input T → Input T
 with_tokens tokens i = record i { left = record i.left { tokens = tokens } }
 
--- Where so many bytes are left, the one parser has the runs that the other has where these are left
--- in the other order: with the same answer and rest.
+-- Where that many bytes are left, the one parser has the runs that the other has where these are
+-- left in the other order: with the same answer and rest.
 abbrev pub ReadsReversed : {O : Type 0} → ℕ → Runs ⊤ ℕ O → Runs ⊤ ℕ O → Type 0
 ReadsReversed {O} width one other =
     (i : Input ℕ) (bytes rest : List ℕ) (answer : Answer O) (j : Input ℕ)

@@ -12,7 +12,7 @@ use streams::byte_stream::ByteStream;
 use streams::stream::StreamIsPartial;
 use winnow_core::parser::Parser;
 
-/// A little endian integer is the big endian one of the reversed bytes: where so many bytes are
+/// A little endian integer is the big endian one of the reversed bytes: where that many bytes are
 /// left, the one parser answers and leaves what the other does where these are left in the other
 /// order.
 pub fn little_endian_is_big_endian_of_the_reversed_bytes<I, E>()

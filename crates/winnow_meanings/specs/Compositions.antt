@@ -18,7 +18,7 @@ ByteRuns reading form spells = Keeps (λ s. LiteralRuns reading form (spells s) 
 abbrev pub DigitsRuns : {K T L : Type 0} → (K → ℕ) → (K → T) → Reading T L → ErrorForm → Runs ⊤ T L
 DigitsRuns code seen reading form = Keeps (λ _. ClassRuns IsDecDigit 1 code seen reading form)
 
--- A sign that may be left out, and then digits behind one letter, or, where that backtracks, behind
+-- A sign that may be left out, and then digits after one letter, or, where that backtracks, after
 -- another: a sequence of an option and a choice of two sequences.
 abbrev pub SignedRuns : {S D T O L : Type 0} → Runs S T O → Runs D T L
     → Runs (S × ((S × D) × (S × D))) T (Option O × (O × L))

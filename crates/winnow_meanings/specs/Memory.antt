@@ -15,7 +15,8 @@ GivenMemory run s i answer t j = run s i answer t j × IsGivenMemory answer
 
 -- Each run of the one that does not want memory is a run of the other. Where the other is made of
 -- the runs of children that do not want memory (`GivenMemory`), no child of such a run wanted it:
--- so nothing is run behind a child that wants memory, and the answer is that it wants memory.
+-- so nothing is run after a child that is out of memory, and the answer is that it is out of
+-- memory.
 abbrev pub NeverHides : {S T O : Type 0} → Runs S T O → Runs S T O → Type 0
 NeverHides {S} {T} {O} one other =
     (s : S) (i : Input T) (answer : Answer O) (t : S) (j : Input T)

@@ -45,7 +45,7 @@ plus_left : (text digits : List ℕ) → IsUnsignedText text digits
 plus_left text digits (are, inl e) = ap without_leading_plus e ∙ no_plus digits are
 plus_left text digits (are, inr e) = ap without_leading_plus e
 
--- a text whose rest is a numeral is digits behind a plus or nothing
+-- a text whose rest is a numeral is digits after a plus or nothing
 unsigned_by : (c : ℕ) (cs : List ℕ) (b : Bool) → (c == 43) ≡ b
     → IsNumeral 10 (drop (cond b 1 0) (c ∷ cs))
     → (digits : List ℕ) × IsUnsignedText (c ∷ cs) digits
@@ -142,7 +142,7 @@ signed_as text sign digits (are, e, inr (c, is, one)) =
     let P : List ℕ → Type 0 = λ s. SignedAs text s digits in
     subst P (sym one) (signed_behind text digits c is (e ∙ ap (λ s. s ++ digits) one))
 
--- a text whose rest is a numeral is digits behind a sign or nothing
+-- a text whose rest is a numeral is digits after a sign or nothing
 abbrev pub HasSigned : List ℕ → Type 0
 HasSigned text = (sign : List ℕ) × (digits : List ℕ) × IsSignedText text sign digits
 

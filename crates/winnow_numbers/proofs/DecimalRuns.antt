@@ -167,7 +167,7 @@ module _ {K T S : Type 0} (seen : K → T) (code : K → ℕ) (reading : Reading
         λ l. NumeralRuns seen code reading false i l taken.2 j in
         inr (inl (taken.2, j, subst P text.0 taken.3, told, ap (λ x. Err x) kind, same))
 
-  -- the status behind a numeral is that of the start
+  -- the status after a numeral is that of the start
   pub taken_status : (signed : Bool) (i j : Input T) (slice : S)
       → TakesNumeral seen code reading signed i slice j → j.status ≡ i.status
   taken_status signed i j slice (front, sign, digits, run, takes, chars) = takes.passed.status
@@ -182,7 +182,7 @@ module _ {K T S : Type 0} (seen : K → T) (code : K → ℕ) (reading : Reading
       let unsigned = inr (λ e. absurd cc, refl, refl) in
       inl (digits, n, (i, unsigned, run), subst (λ v. v < bound) same fits, is ∙ same, refl)
 
-  -- a numeral was passed behind its sign
+  -- a numeral was passed after its sign
   pub signed_run : (i a j : Input T) (sign : Option ℕ) (m : ℕ) (z : ℤ)
       → SignRuns seen code reading true i (sign_of sign) a
       → ((digits : List ℕ) × DigitsRuns seen code reading true a digits j

@@ -74,7 +74,7 @@ ends_digits xs others long are some =
 
 -- ---- the first digits
 
--- so many lanes are there, and they are digits
+-- that many lanes are there, and they are digits
 pub front_of : (xs : List ℕ) (count : ℕ) → EndsDigits xs count
     → AreAtMost 9 (take count xs) × (count < length xs)
 front_of xs count (front, other, rest, e, long, all, above) =
@@ -172,7 +172,7 @@ zero_found [] long is = absurd (omega (arith, long))
 zero_found (b ∷ bytes) long is =
     (48 ∷ [], bytes, (ap (λ c. c ∷ bytes) is, inl refl), refl, refl)
 
--- a digit from 1 to 9 and those behind it
+-- a digit from 1 to 9 and those after it
 pub found : (bytes lanes : List ℕ) (count number : ℕ) → Each1 (Fits w8) (take 16 bytes)
     → lanes ≡ map less (take 16 bytes) → (slice_index_or bytes 0 0 ≡ 48 → ⊥)
     → EndsDigits lanes count → (count ≡ 0 → ⊥) → number ≡ in_base 10 0 (take count lanes)

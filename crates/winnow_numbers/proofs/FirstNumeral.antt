@@ -127,7 +127,7 @@ module _ {K T S : Type 0} (seen : K → T) (code : K → ℕ) (reading : Reading
       (digits rest : List ℕ) × BeginsNumeral (bytes_of i.left.tokens) digits rest
       × (count ≡ length digits) × (number ≡ value_in 10 digits)
 
-  -- the tokens can be cut behind it
+  -- the tokens can be cut after it
   pub bounded : (i a : Input T) (count number : ℕ) → a ≡ i → FoundIn i count number
       → IsBoundary reading.units a.left.tokens count
   bounded i a count number same (digits, rest, begins, long, is) =

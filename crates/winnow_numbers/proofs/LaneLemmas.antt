@@ -40,7 +40,7 @@ bytes_of (suc n) x below =
     let more = bytes_of n (x / 256) (omega (arith, below, power)) in
     omega (arith, ap (λ y. 256 * y) more)
 
--- lanes of this width are parts of a number of so many digits
+-- lanes of this width are parts of a number of that many digits
 below_power : (size most : ℕ)
     → ((x n power : ℕ) → x ≤ most → n < power → x + size * n < power * size)
     → (xs : List ℕ) → AreAtMost most xs → number_l size xs < size ^ length xs
@@ -204,9 +204,9 @@ pub zeros_most : (k : ℕ) (xs : List ℕ) → AreAtMost 9 xs → AreAtMost 9 (r
 zeros_most zero xs all = all
 zeros_most (suc k) xs all = (omega arith, zeros_most k xs all)
 
--- ---- lanes that are moved behind zeros
+-- ---- lanes that are moved after zeros
 
--- the places that the lanes are taken from, where so many zeros come first: 240 and more before
+-- the places that the lanes are taken from, where that many zeros come first: 240 and more before
 -- them, where a lane is zero
 abbrev places : ℕ → List ℕ
 places zeros = map (λ p. (p + (256 - zeros % 256)) % 256) (range_with_len 0 16)

@@ -54,7 +54,7 @@ module _ {K T S : Type 0} (seen : K → T) (code : K → ℕ) (reading : Reading
   stranger class t more n (inl (x, is, told)) = (x, is, λ c. absurd (let f = told.1 c in cc))
   stranger class t more n (inr e) = absurd cc
 
-  -- what stands behind all members is none
+  -- what stands after all members is none
   none_first : (class : ℕ → Type 0) (front rest tokens : List T)
       → IsLongest (AnswersSeen seen (λ x b. IsTrue b ↔ class (code x))) None tokens front rest
       → NoneFirst seen code class rest
@@ -70,7 +70,7 @@ module _ {K T S : Type 0} (seen : K → T) (code : K → ℕ) (reading : Reading
   ended_whole class front rest cut (inl (inr e)) none = absurd cc
   ended_whole class front rest cut (inr e) none = e
 
-  -- the digits behind a first one, and that there are no more
+  -- the digits after a first one, and that there are no more
   abbrev pub MoreDigits : Input T → Input T → Type 0
   MoreDigits a j =
       (front : List T) × (others : List ℕ) × Passes reading front a j
@@ -129,7 +129,7 @@ module _ {K T S : Type 0} (seen : K → T) (code : K → ℕ) (reading : Reading
       (inr (inr (inr (front, rest, within, longest, ended, few, e, same)))) =
       absurd (omega arith)
 
-  -- behind a first digit more are passed,
+  -- after a first digit more are passed,
   pub leading : (zero : Bool) (i a j : Input T) (x : K) → IsLeadingDigit (code x)
       → Passes reading (seen x ∷ []) i a → MoreDigits a j
       → (digits : List ℕ) × DigitsRuns seen code reading zero i digits j

@@ -23,20 +23,20 @@ pub record ReadsUnsigned {N : Type 0} (number : N → ℕ) (bound : ℕ) (text :
       (λ n. (value_in 10 digits < bound) × (number n ≡ value_in 10 digits))
   pub only : IsSome answer → (digits : List ℕ) × IsUnsignedText text digits
 
--- The text is digits behind a sign, '+' or '-' or none.
+-- The text is digits after a sign, '+' or '-' or none.
 abbrev pub IsSignedText : List ℕ → List ℕ → List ℕ → Type 0
 IsSignedText text sign digits =
     AreDigits digits × (text ≡ sign ++ digits)
     × ((sign ≡ []) ⊎ ((c : ℕ) × IsSign c × (sign ≡ c ∷ [])))
 
--- the number that digits behind a sign stand for: negative behind '-'
+-- the number that digits after a sign stand for: negative after '-'
 abbrev pub signed_value : List ℕ → List ℕ → ℤ
 signed_value [] digits = pos (value_in 10 digits)
 signed_value (c ∷ cs) digits =
     if c == 45 then neg_ℤ (pos (value_in 10 digits)) else pos (value_in 10 digits)
 
 -- The number of a type, of those that fit it, that a text is read as: none exactly where it is no
--- digits behind a sign, or their number does not fit.
+-- digits after a sign, or their number does not fit.
 pub record ReadsSigned {N : Type 0} (number : N → ℤ) (fits : ℤ → Type 0) (text : List ℕ)
     (answer : Option N) : Type 0 where
   pub reads : (sign digits : List ℕ) → IsSignedText text sign digits

@@ -4,14 +4,14 @@ use Rattle.std.specs.List.{AllByRecursion}
 use Rattle.stream_sets.specs.AsChar.{IsDecDigit}
 use Rattle.winnow_numbers.specs.Numeral.{IsLeadingDigit}
 
--- The bytes begin with the digits of a numeral, and the rest stands behind them: a lone '0', or a
--- digit from 1 to 9 and all digits behind it, and then another byte.
+-- The bytes begin with the digits of a numeral, and the rest stands after them: a lone '0', or a
+-- digit from 1 to 9 and all digits after it, and then another byte.
 abbrev pub BeginsNumeral : List ℕ → List ℕ → List ℕ → Type 0
 BeginsNumeral bytes digits rest =
     (bytes ≡ digits ++ rest)
     -- a lone '0'
     × ((digits ≡ 48 ∷ [])
-    -- a digit from 1 to 9 and all digits behind it, and then another byte
+    -- a digit from 1 to 9 and all digits after it, and then another byte
     ⊎ ((first : ℕ) × (others : List ℕ) × (last : ℕ) × (more : List ℕ)
     × (digits ≡ first ∷ others) × IsLeadingDigit first × AllByRecursion IsDecDigit others
     × (rest ≡ last ∷ more) × (IsDecDigit last → ⊥)))
@@ -21,13 +21,13 @@ abbrev pub AreAtMost : ℕ → List ℕ → Type 0
 AreAtMost most [] = ⊤
 AreAtMost most (x ∷ xs) = (x ≤ most) × AreAtMost most xs
 
--- The first lanes, so many, are at most 9, and the next one is above.
+-- The first lanes, that many, are at most 9, and the next one is above.
 abbrev pub EndsDigits : List ℕ → ℕ → Type 0
 EndsDigits lanes count =
     (front : List ℕ) × (other : ℕ) × (rest : List ℕ) × (lanes ≡ front ++ other ∷ rest)
     × (length front ≡ count) × AreAtMost 9 front × (9 < other)
 
--- the number behind n of digits in a base, the greatest first
+-- the number after n of digits in a base, the greatest first
 abbrev pub in_base : ℕ → ℕ → List ℕ → ℕ
 in_base base n [] = n
 in_base base n (x ∷ xs) = in_base base (n * base + x) xs

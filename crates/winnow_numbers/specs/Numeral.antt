@@ -76,7 +76,7 @@ abbrev pub sign_of : Option ℕ → List ℕ
 sign_of None = []
 sign_of (Some c) = c ∷ []
 
--- A number behind a sign, negative behind '-', or behind none; behind a sign it is not 0.
+-- A number after a sign, negative after '-', or after none; after a sign it is not 0.
 abbrev pub SignedBy : Option ℕ → ℕ → ℤ → Type 0
 SignedBy None n z = z ≡ pos n
 SignedBy (Some c) n z = (0 < n) × (z ≡ (if c == 45 then neg_ℤ (pos n) else pos n))
@@ -88,7 +88,7 @@ NumeralRuns {K} {T} seen code reading signed i sign digits j =
     (a : Input T) × SignRuns seen code reading signed i sign a
     × DigitsRuns seen code reading (is_none sign) a digits j
 
--- where an input stands that is too short: under errors with a mode behind what was passed, under
+-- where an input stands that is too short: under errors with a mode after what was passed, under
 -- plain errors at the start
 abbrev pub left_by : {T : Type 0} → ErrorForm → Input T → Input T → Input T
 left_by plain i passed = i
@@ -99,8 +99,8 @@ abbrev pub NoNumeral : {K T S : Type 0} → (K → T) → (K → ℕ) → Readin
     → Input T → Kind → Input T → Type 0
 NoNumeral {K} {T} seen code reading form signed i k j =
     (sign : List ℕ) × (a : Input T) × SignRuns seen code reading signed i sign a
-    -- a cut input is too short: it stands behind the sign and the first digit that are there
+    -- a cut input is too short: it stands after the sign and the first digit that are there
     × (((b : Input T) × LacksDigits seen code reading a b × (i.status.cut ≡ true)
     × (k ≡ incomplete_kind form (Some 1)) × (j ≡ left_by form i b))
-    -- no digits stand behind the sign: the input stands at the start
+    -- no digits stand after the sign: the input stands at the start
     ⊎ (NoDigits seen code (is_none sign) a × (k ≡ backtrack) × (j ≡ i)))

@@ -24,7 +24,7 @@ needs_none memory none = refl
 stays_memory : (k l : Kind) → l ≡ complete_kind k → k ≡ memory → l ≡ memory
 stays_memory k l is e = is ∙ ap complete_kind e
 
--- a run wants memory, or does not
+-- a run is out of memory, or does not
 wants_or_not : (P : Kind → Type 0) (k : Kind) → P k → P memory ⊎ (P k × (k ≡ memory → ⊥))
 wants_or_not P memory p = inl p
 wants_or_not P backtrack p = inr (p, λ e. absurd (cc))
@@ -66,7 +66,7 @@ module _ {S I T O R A L : Type 0} (reading : Reading T L) (run : Runs S T O) (vi
     (is_back reading view begin start j seen back same at ends is, recorded),
   )
 
-  -- What comes back with an error behind the others, or where there is no memory for it.
+  -- What comes back with an error after the others, or where there is no memory for it.
   abbrev Ended : Option O → Kind → Result (I × Option O × Vec R A) (NoMemory I) → Type 0
   Ended output k result = MatchResult result
       (λ all. (all.1 ≡ output) × (k ≡ memory → ⊥)

@@ -25,7 +25,7 @@ abbrev pub ComesBack : {I T R : Type 0} → (I → Input T) → (R → Kind) →
 ComesBack view kind start j back errors =
     IsBack view start back × ((view back).status.recorded ++ map kind errors ≡ j.status.recorded)
 
--- So, and behind them stands the error that ended the parse, of kind k.
+-- So, and after them stands the error that ended the parse, of kind k.
 abbrev pub ComesBackWith : {I T R : Type 0} → (I → Input T) → (R → Kind) → Input T → Input T
     → Kind → I → List R → Type 0
 ComesBackWith {R = R} view kind start j k back errors =
@@ -49,7 +49,7 @@ RecoverableParses {I} {T} {O} view kind start ran result = MatchResult result
     ⊎ ((k : Kind) × (j : Input T) × ran (Err k) j × (k ≡ memory → ⊥) × (all.1 ≡ None)
     × ComesBackWith view kind start j (complete_kind k) all.0 all.2.items)))
     (λ refused. IsBack view start (no_memory_input refused) × (
-    -- the run wants memory
+    -- the run is out of memory
     ((j : Input T) × ran (Err memory) j)
     -- or there is none for the error that ended the parse
     ⊎ (((o : O) × (j : Input T) × ran (Ok o) j × (j.left.tokens ≡ [] → ⊥))

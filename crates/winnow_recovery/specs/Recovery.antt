@@ -45,7 +45,7 @@ IsNotRecovered {W} {T} must_consume grows recover k w x l v j =
     -- the parser that recovers fails: the error is answered
     ((f : Kind) × recover w x (Err f) v m × (f ≡ memory → ⊥)
     × IsOrMemory k (IsTrue grows) l)
-    -- it wants memory
+    -- it is out of memory
     ⊎ ((recover w x (Err memory) v m × (l ≡ memory))
     -- it consumes nothing where it must: the error is answered
     ⊎ (((must_consume ≡ true) × recover w x (Ok tt) v m × (m.left.tokens ≡ x.left.tokens)

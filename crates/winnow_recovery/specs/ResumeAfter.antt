@@ -1,4 +1,4 @@
--- A parser behind which one goes on where it could not parse.
+-- A parser after which one goes on where it could not parse.
 use Rattle.std.specs.Prelude.{◌≡◌, ◌⊎◌, Bool, true, false, Option, Some, None, Ok, Err}
 use Rattle.streams.specs.Input.{Input}
 use Rattle.streams.specs.Kind.{Kind}

@@ -1,4 +1,4 @@
--- A parser that is tried again behind what could not be parsed.
+-- A parser that is tried again after what could not be parsed.
 use Rattle.std.specs.Prelude.{◌≡◌, ◌⊎◌, Bool, true, false, List, Ok, Err}
 use Rattle.std.specs.List.{FoldsTo}
 use Rattle.streams.specs.Input.{Input}
@@ -18,7 +18,7 @@ retry_after_parser s = s.parser
 abbrev pub retry_after_recover : {P R I O E : Type 0} → RetryAfter P R I O E → R
 retry_after_recover s = s.recover
 
--- A try that is recovered from: the parser fails by the kind, and behind that the parser that
+-- A try that is recovered from: the parser fails by the kind, and after that the parser that
 -- recovers succeeds and consumes; the kind is recorded.
 abbrev pub IsTry : {S W T O : Type 0} → Runs S T O → Runs W T (Unit {0}) → (S × W) × Input T
     → Kind → (S × W) × Input T → Type 0

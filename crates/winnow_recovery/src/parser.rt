@@ -37,7 +37,7 @@ pub trait RecoveringParser<
     O,
     E: ParserError<I> + FromRecoverableError<I, E>,
 >: Parser<I, O, E> {
-    /// The output of the first try that succeeds. Behind a try that backtracks or cuts, `recover`
+    /// The output of the first try that succeeds. After a try that backtracks or cuts, `recover`
     /// is run: where it succeeds and consumes, the error is recorded and the parser tried again;
     /// where it fails, or consumes nothing, the error is answered, and the input goes back to where
     /// it arose. Over a stream that records no errors only the parser is run.
@@ -168,7 +168,7 @@ fn parts_at_start<I: Stream, R: ParserError<Recoverable<I, R, A>>, A: Allocator>
     (back, errors)
 }
 
-/// What comes back where an error ended the parse: it stands behind those that were recorded.
+/// What comes back where an error ended the parse: it stands after those that were recorded.
 fn ended_by<
     I: Stream,
     O: Drop,

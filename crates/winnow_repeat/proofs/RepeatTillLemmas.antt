@@ -53,7 +53,7 @@ pub room_by : (least : ℕ) (greatest room : Option ℕ)
 room_by least None room e = e
 room_by least (Some most) room e = e
 
--- turns behind the least number of items
+-- turns after the least number of items
 pub turns_follow : {S W T O D C : Type 0} (run : Runs S T O) (till : Runs W T D)
     (into : Accumulator C O) (assert_kind : Kind) (least : ℕ)
     (given greatest capacity room : Option ℕ) (s : S) (z : W) (i : Input T) (empty : C) (v : S)

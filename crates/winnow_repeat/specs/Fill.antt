@@ -12,7 +12,7 @@ pub mod Laws
 abbrev pub fill_parser : {P I O E : Type 0} → Fill P I O E → P
 fill_parser s = s.parser
 
--- A buffer behind a reference: its elements, and which reference it is.
+-- A buffer after a reference: its elements, and which reference it is.
 pub record Buffer (O : Type 0) : Type 0 where
   pub elements : List O
   pub name : ℕ

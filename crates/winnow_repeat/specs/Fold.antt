@@ -48,13 +48,13 @@ FoldedRuns {S} {Q} {R} {T} {O} folds run s i answer t j =
 abbrev pub FoldItemsRun : {S Q R T O : Type 0} → (Q → R → O → Answer R → Q → Type 0)
     → Runs S T O → Kind → Bounds → S × (Q × R) → Input T → Answer R → S × Q → Input T → Type 0
 FoldItemsRun {S} {Q} {R} {T} {O} folds run assert_kind bounds s i answer t j =
-    -- their repetition succeeds: the answer is the value behind them
+    -- their repetition succeeds: the answer is the value after them
     ((value : R) × ItemsRun (FoldedRuns folds run) nothing_kept assert_kind bounds tt s i (Ok tt)
     (t.0, (t.1, value)) j × (answer ≡ Ok value))
     -- it fails
     ⊎ (((k : Kind) × (value : R) × ItemsRun (FoldedRuns folds run) nothing_kept assert_kind bounds
     tt s i (Err k) (t.0, (t.1, value)) j × (answer ≡ Err k))
-    -- behind some items, one is not folded in, but refused: back before it
+    -- after some items, one is not folded in, but refused: back before it
     ⊎ ((outputs : List O) × (u : S × (Q × R)) × (m : Input T) × (o : O) × (k : Kind)
     × (x : Input T) × Chain (FoldedRuns folds run) s i outputs u m
     × IsBelow bounds.greatest (length outputs) × run u.0 m (Ok o) t.0 x
@@ -78,7 +78,7 @@ FoldManyRuns {S} {G} {Q} {R} {T} {O} starts folds run assert_kind bounds s i ans
     ⊎ ((empty : R) × IsWithin bounds.greatest bounds.least × Makes starts s.1.0 empty t.1.0
     × FoldItemsRun folds run assert_kind bounds (s.0, (s.1.1, empty)) i answer (t.0, t.1.1) j)
 
--- One item or more: the first may consume nothing, and the value to begin with is made behind it.
+-- One item or more: the first may consume nothing, and the value to begin with is made after it.
 abbrev pub FoldOneRuns : {S G Q R T O : Type 0} → (G → R → G → Type 0)
     → (Q → R → O → Answer R → Q → Type 0) → Runs S T O → Kind → S × (G × Q) → Input T → Answer R
     → S × (G × Q) → Input T → Type 0

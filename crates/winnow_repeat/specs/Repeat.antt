@@ -23,7 +23,7 @@ repeat_occurrences s = s.occurrences
 abbrev pub repeat_parser : {P I O C E A : Type 0} → Repeat P I O C E A → P
 repeat_parser s = s.parser
 
--- What ends a repetition of a number of items within the bounds, behind the items of a chain.
+-- What ends a repetition of a number of items within the bounds, after the items of a chain.
 abbrev pub RepeatEnds : {S T O C : Type 0} → Runs S T O → Accumulator C O → Kind → Bounds → C
     → List O → S → Input T → Answer C → S → Input T → Type 0
 RepeatEnds {S} {T} {O} {C} run into assert_kind bounds before outputs u m answer t j =
@@ -57,7 +57,7 @@ ItemsRun {S} {T} {O} {C} run into assert_kind bounds before s i answer t j =
     (outputs : List O) × (u : S) × (m : Input T) × Chain run s i outputs u m
     × RepeatEnds run into assert_kind bounds before outputs u m answer t j
 
--- One item or more: the first may consume nothing, and the accumulator is made behind it.
+-- One item or more: the first may consume nothing, and the accumulator is made after it.
 abbrev pub RepeatOneRuns : {S T O C : Type 0} → Runs S T O → Accumulator C O → Kind → S
     → Input T → Answer C → S → Input T → Type 0
 RepeatOneRuns {S} {T} {O} {C} run into assert_kind s i answer t j =

@@ -30,7 +30,7 @@ repeat_till_parser s = s.parser
 abbrev pub repeat_till_terminator : {P G I O D C E A : Type 0} → RepeatTill P G I O D C E A → G
 repeat_till_terminator s = s.terminator
 
--- how many items there is room for behind the least, if there is a greatest number
+-- how many items there is room for after the least, if there is a greatest number
 abbrev pub room_behind : ℕ → Option ℕ → Option ℕ
 room_behind least None = None
 room_behind least (Some most) = Some (most - least)
@@ -55,7 +55,7 @@ abbrev pub TurnRuns : {S W T O D : Type 0} → Runs S T O → Runs W T D → Run
 TurnRuns {S} {W} {T} {O} {D} run till s i answer t j =
     (x : Input T) × till s.1 i (Err backtrack) t.1 x × run s.0 (back_at i.left x) answer t.0 j
 
--- What ends the turns, behind those of a chain, of which there is room for so many.
+-- What ends the turns, after those of a chain, of which there is room for that many.
 abbrev pub TurnsEnd : {S W T O D C : Type 0} → Runs S T O → Runs W T D → Accumulator C O → Kind
     → Option ℕ → List O → C → S × W → Input T → Answer (C × D) → S × W → Input T → Type 0
 TurnsEnd {S} {W} {T} {O} {D} {C} run till into assert_kind room outputs some u m answer t j =

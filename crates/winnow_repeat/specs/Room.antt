@@ -5,7 +5,7 @@ use Rattle.std.specs.Prelude.{MatchOption}
 use Rattle.stream_sets.specs.Range.{IsBelow}
 use Rattle.streams.specs.Equal.{same_some, none_is_some}
 
--- What is still missing and what room is left, behind so many of the items.
+-- What is still missing and what room is left, after that many of the items.
 pub record RoomBehind (least : ℕ) (greatest : Option ℕ) (missing : ℕ) (room : Option ℕ)
     (count : ℕ) : Type 0 where
   pub still_missing : missing ≡ least - count

@@ -27,8 +27,8 @@ abbrev pub try_fold_closure : {P G H I O R E X : Type 0} → RepeatTryFold P G H
 try_fold_closure s = s.op.closure
 
 -- One call of the closure takes an output into the value; where it fails, the error is the one that
--- is made of the closure's: it backtracks, or wants memory, each where the type of errors says that
--- it may.
+-- is made of the closure's: it backtracks, or is out of memory, each where the type of errors says
+-- that it may.
 abbrev pub TryFoldTakes : {Q R O X : Type 0} → (Q → R → O → Result R X → Q → Type 0)
     → Q × (X → Keeping) → R → O → Answer R → Q × (X → Keeping) → Type 0
 TryFoldTakes {Q} {R} {O} {X} step q value o answer p =

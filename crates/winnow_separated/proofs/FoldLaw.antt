@@ -167,7 +167,7 @@ module _ {S W T O D : Type 0} (run : Runs S T O) (separator : Runs W T D) where
 
 -- ---- folds
 
--- what both do behind one element
+-- what both do after one element
 same_turns : {S W T O D A : Type 0} (run : Runs S T O) (separator : Runs W T D) → Decides run
     → Decides separator → Consumes separator → (s : S × W) (n : Input T)
     (links : List (D × O)) (v : S × W) (m x : Input T) (t : S × W) (all : Vec (D × O) A)
@@ -202,7 +202,7 @@ same_turns {S} {W} {T} {O} {D} run separator decides between consumes s n links 
           ∙ sym known.back,
     )
 
--- what both do behind the first element, where links were folded to the left
+-- what both do after the first element, where links were folded to the left
 both_fold : {S W Q T O D A : Type 0} (step : Q → O → D → O → O → Q → Type 0) (run : Runs S T O)
     (separator : Runs W T D) → Decides run → Decides separator → Consumes separator
     → (s : S × W × Q) (i : Input T) (first one : O) (v : S) (n : Input T) (left : O)

@@ -8,7 +8,7 @@ use Rattle.winnow_separated.specs.Link.{LinkRuns, LinkTried, PairLinkRuns, Separ
 use Rattle.winnow_separated.specs.Separated.{one_less}
 use Rattle.winnow_separated.specs.SeparatedFoldl1.{FoldsLeft}
 
--- behind the first element, one is missing less, and there is room for one less
+-- after the first element, one is missing less, and there is room for one less
 pub fewer_links : (links : ℕ → Option ℕ → Type 0) (least missing : ℕ) (greatest room : Option ℕ)
     → missing ≡ least - 1 → MatchOption greatest (room ≡ None) (λ n. room ≡ Some (n - 1))
     → links missing room → links (least - 1) (one_less greatest)

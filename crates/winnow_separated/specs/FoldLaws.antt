@@ -12,7 +12,7 @@ Consumes {S} {T} {O} run =
     (s : S) (i : Input T) (o : O) (t : S) (j : Input T) → run s i (Ok o) t j
     → length j.left.tokens < length i.left.tokens
 
--- Separators and the elements behind them, each where the one before it ended, with their outputs:
+-- Separators and the elements after them, each where the one before it ended, with their outputs:
 -- from a state and an input through states and inputs.
 abbrev pub Turns : {S W T O D : Type 0} → Runs S T O → Runs W T D → S × W → Input T
     → List (D × O) → List ((S × W) × Input T) → Type 0

@@ -1,4 +1,4 @@
--- Links: a separator, and the element behind it.
+-- Links: a separator, and the element after it.
 use Rattle.std.specs.Prelude.{◌≡◌, ◌<◌, length, Option, Some, None, Ok, Err, ◌⊎◌}
 use Rattle.streams.specs.Input.{Input}
 use Rattle.streams.specs.Kind.{Kind}
@@ -6,7 +6,7 @@ use Rattle.stream_errors.specs.Form.{Answer}
 use Rattle.winnow_core.specs.Runs.{Runs}
 pub mod Laws
 
--- A link fails: its separator does, or that consumes, and the element behind it fails.
+-- A link fails: its separator does, or that consumes, and the element after it fails.
 abbrev pub LinkFails : {S W T O D : Type 0} → Runs S T O → Runs W T D → S × W → Input T → Kind
     → S × W → Input T → Type 0
 LinkFails {S} {W} {T} {O} {D} run separator s i k t j =
@@ -14,7 +14,7 @@ LinkFails {S} {W} {T} {O} {D} run separator s i k t j =
     ⊎ ((d : D) × (m : Input T) × separator s.1 i (Ok d) t.1 m
     × (length m.left.tokens < length i.left.tokens) × run s.0 m (Err k) t.0 j)
 
--- A link: a separator that consumes, and the element behind it, whose output is the link's.
+-- A link: a separator that consumes, and the element after it, whose output is the link's.
 abbrev pub LinkRuns : {S W T O D : Type 0} → Runs S T O → Runs W T D → Runs (S × W) T O
 LinkRuns run separator s i (Err k) t j = LinkFails run separator s i k t j
 LinkRuns {T = T} {D = D} run separator s i (Ok o) t j =

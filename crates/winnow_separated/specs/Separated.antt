@@ -39,8 +39,8 @@ one_less (Some most) = Some (most - 1)
 abbrev pub links_within : Bounds → Bounds
 links_within bounds = from_to (bounds.least - 1) (one_less bounds.greatest)
 
--- Links within the bounds: as the items of a repetition, so one that backtracks behind enough of
--- them is the end, back before its separator; or, behind some of them, there may be one more, and a
+-- Links within the bounds: as the items of a repetition, so one that backtracks after enough of
+-- them is the end, back before its separator; or, after some of them, there may be one more, and a
 -- separator consumes nothing: it is the assert error.
 abbrev pub LinksRun : {S W T O D C : Type 0} → Runs S T O → Runs W T D → Accumulator C O → Kind
     → Bounds → C → S × W → Input T → Answer C → S × W → Input T → Type 0

@@ -23,8 +23,8 @@ foldl1_separator s = s.link.separator
 abbrev pub foldl1_closure : {P S H I O D E : Type 0} → SeparatedFoldl1 P S H I O D E → H
 foldl1_closure s = s.op
 
--- The value of a first element and the links behind it, from the left: the closure joins the value
--- so far, a separator and the element behind it.
+-- The value of a first element and the links after it, from the left: the closure joins the value
+-- so far, a separator and the element after it.
 abbrev pub FoldsLeft : {Q O D : Type 0} → (Q → O → D → O → O → Q → Type 0) → Q → O → List (D × O)
     → O → Q → Type 0
 FoldsLeft step q first [] value p = (value ≡ first) × (p ≡ q)
@@ -32,7 +32,7 @@ FoldsLeft {Q} {O} step q first (link ∷ links) value p =
     (more : O) × (c : Q) × step q first link.0 link.1 more c
     × FoldsLeft step c more links value p
 
--- What ends links of any number, behind a chain of them.
+-- What ends links of any number, after a chain of them.
 abbrev pub LinksEnd : {S W T O D : Type 0} → Runs S T O → Runs W T D → Kind → O → S × W → Input T
     → Answer O → S × W → Input T → Type 0
 LinksEnd {S} {W} {T} {O} {D} run separator assert_kind value u m answer t j =

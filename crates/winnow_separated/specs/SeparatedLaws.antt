@@ -8,8 +8,8 @@ use Rattle.winnow_separated.specs.Separated.Known.{NoElement, SomeElements}
 
 -- Elements of any number, or of one and more, that are answered: none, where none is needed, since
 -- the first backtracked, and the input is back before it. Or the first, and the elements of links
--- behind it, in a chain, as the accumulator took them; and behind the last of these a separator
--- backtracked, or an element behind one that consumed, and the input is back before that separator.
+-- after it, in a chain, as the accumulator took them; and after the last of these a separator
+-- backtracked, or an element after one that consumed, and the input is back before that separator.
 abbrev pub LeavesTheSeparator : {S W T O D C : Type 0} → Runs S T O → Runs W T D
     → Accumulator C O → Runs (S × W × Range) T C → Type 0
 LeavesTheSeparator {S} {W} {T} {O} {D} {C} run separator into elements =

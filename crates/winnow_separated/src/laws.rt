@@ -11,8 +11,8 @@ use streams::stream::Stream;
 use winnow_core::parser::Parser;
 
 /// Where [`separated`](crate::combinator::separated) reads any number of elements, or one and more,
-/// and succeeds, it answers the first element and those of the links behind it, which are a chain,
-/// and leaves the input before the link behind these, which backtracked: so it leaves a separator
+/// and succeeds, it answers the first element and those of the links after it, which are a chain,
+/// and leaves the input before the link after these, which backtracked: so it leaves a separator
 /// unread whose element backtracks. Where it reads none, the first element backtracked.
 pub fn separated_leaves_a_separator_without_an_element<
     P: Parser<I, O, E>,

@@ -18,7 +18,7 @@ use Rattle.stream_sets.specs.Longest.{IsLongest}
 use Rattle.winnow_token.specs.TakeWhile.{IsEnded, TakeWhileRuns}
 use Rattle.winnow_token.specs.Members.{CountsMembers, FoundRuns}
 
--- `count` members stand first, and `left` are the tokens behind them, each with its offset.
+-- `count` members stand first, and `left` are the tokens after them, each with its offset.
 pub record Counted {T : Type 0} (member : T → Bool → Type 0) (units : List T → ℕ)
     (tokens : List T) (greatest count : ℕ) (left : List (ℕ × T)) : Type 0 where
   pub front : List T

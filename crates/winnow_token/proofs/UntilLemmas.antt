@@ -74,7 +74,7 @@ same_take_same reading front rest n le ge = elim (cases_lt (length front) n) [
       omega (arith, ap reading.units taken, reading.units_add front (take 0 rest)))
 ]
 
--- The offset behind n tokens says whether at least n stand before another offset.
+-- The offset after n tokens says whether at least n stand before another offset.
 pub says_at_least : {T S : Type 0} (reading : Reading T S) (tokens : List T) (n end offset : ℕ)
     → n ≤ length tokens → end ≡ reading.units (take n tokens)
     → SaysAtLeast reading.units tokens n offset (leb end offset)
@@ -102,7 +102,7 @@ says_fewer reading tokens n offset lt front rest split at = (
       (arith, lt, few, ap (λ l. length l) split, length-append front rest))),
 )
 
--- The offset behind n tokens says whether at most n stand before another offset.
+-- The offset after n tokens says whether at most n stand before another offset.
 pub says_at_most : {T S : Type 0} (reading : Reading T S) (tokens : List T) (n end offset : ℕ)
     → n ≤ length tokens → end ≡ reading.units (take n tokens)
     → SaysAtMost reading.units tokens n offset (leb offset end)

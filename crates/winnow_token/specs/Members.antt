@@ -9,8 +9,8 @@ use Rattle.stream_errors.specs.Form.{ErrorForm, Answer, incomplete_kind}
 use Rattle.stream_sets.specs.Longest.{IsLongest}
 use Rattle.winnow_token.specs.TakeWhile.{IsEnded, IsOpen, missing_of}
 
--- So many members stand first, and end at the offset; or all tokens are members, and more could be
--- taken.
+-- That many members stand first, and end at the offset; or all tokens are members, and more could
+-- be taken.
 abbrev pub CountsMembers : {T : Type 0} → (T → Bool → Type 0) → Option ℕ → (List T → ℕ) → List T
     → ℕ → Option ℕ → Type 0
 CountsMembers {T} member greatest units tokens count end = MatchOption end

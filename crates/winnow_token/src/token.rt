@@ -219,8 +219,8 @@ where
 /// A tuple of one to three bytes or characters is matched by each of them. Where nothing matches
 /// it fails, and on a cut input it is incomplete with an unknown need. The forms `0..` and `1..`
 /// have no greatest count, and in `1..` a match at the start fails; of `n..` with another `n` it is
-/// the greatest `usize`. With a greatest count, a first match behind fewer tokens than the least is
-/// as no match is, and one behind more than the greatest fails. Nothing is then consumed. A
+/// the greatest `usize`. With a greatest count, a first match after fewer tokens than the least is
+/// as no match is, and one after more than the greatest fails. Nothing is then consumed. A
 /// greatest count below the least is an assert error.
 ///
 /// No match after the first is looked for, as in winnow. So on the cut input `ax` the range `2..`

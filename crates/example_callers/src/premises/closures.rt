@@ -80,14 +80,14 @@ pub fn verified_byte<'i>(input: &mut &'i [u8]) -> Result<u8, EmptyError>
     Any.verify(is_dark).read(input)
 }
 
-/// Whether a character is behind the space.
+/// Whether a character is after the space.
 fn is_behind_space(character: &char) -> bool
     ensures { IsTrue result ↔ (32 < character.now) }
 {
     *character > ' '
 }
 
-/// The first character, where `verify` finds it behind the space. It fails, by a backtrack, where
+/// The first character, where `verify` finds it after the space. It fails, by a backtrack, where
 /// there is no character or another one, which then is left.
 ///
 /// ```

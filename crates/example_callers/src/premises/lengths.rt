@@ -12,7 +12,7 @@ use winnow::error::{EmptyError, HasKind};
 use winnow::token::impls::Any;
 
 /// The letters that begin as many bytes as the first byte says, by `length_and_then`; what is
-/// behind these letters in those bytes is dropped. It fails, by a backtrack, where there are fewer
+/// after these letters in those bytes is dropped. It fails, by a backtrack, where there are fewer
 /// bytes, or the first of them is no letter.
 ///
 /// ```

@@ -1,4 +1,4 @@
-//! `parse_to`, `and_then`, `flat_map`: what stands in an output, or behind it.
+//! `parse_to`, `and_then`, `flat_map`: what stands in an output, or after it.
 ghost use Rattle.example_callers.specs.Premises.{Character, LettersOfTwo, TextLettersOfTwo, Twice};
 ghost use Rattle.std.specs.Prelude.{◌≡◌, Some};
 ghost use Rattle.winnow.specs.Bytes.{bytes_input, bytes_reading};
@@ -51,7 +51,7 @@ pub fn number_of_three_characters<'i>(input: &mut &'i str) -> Result<u16, EmptyE
     take(3usize).parse_to::<u16>().read(input)
 }
 
-/// The letters that the first two bytes begin with, by `and_then`; what is behind these letters in
+/// The letters that the first two bytes begin with, by `and_then`; what is after these letters in
 /// the two bytes is dropped. It fails, by a backtrack, where there are fewer bytes, or the first is
 /// no letter.
 ///
@@ -69,7 +69,7 @@ pub fn letters_of_two<'i>(input: &mut &'i [u8]) -> Result<&'i [u8], EmptyError>
     take(2usize).and_then(Alpha1).read(input)
 }
 
-/// The letters that the first two characters begin with, by `and_then`; what is behind these
+/// The letters that the first two characters begin with, by `and_then`; what is after these
 /// letters in the two is dropped. It fails, by a backtrack, where there are fewer characters, or
 /// the first is no letter of ASCII.
 ///
@@ -94,7 +94,7 @@ fn itself(byte: u8) -> u8
     byte
 }
 
-/// A byte that stands twice, by `flat_map`: what is read behind it is the parser that is made of
+/// A byte that stands twice, by `flat_map`: what is read after it is the parser that is made of
 /// it. It fails, by a backtrack, where the first byte does not stand twice.
 ///
 /// ```
@@ -118,7 +118,7 @@ fn same_character(character: char) -> char
     character
 }
 
-/// A character that stands twice, by `flat_map`: what is read behind it is the parser that is made
+/// A character that stands twice, by `flat_map`: what is read after it is the parser that is made
 /// of it. It fails, by a backtrack, where the first character does not stand twice.
 ///
 /// ```

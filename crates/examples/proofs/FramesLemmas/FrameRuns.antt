@@ -54,7 +54,7 @@ short_cut : (need : ℕ) (i : Input ℕ) (k : Kind) → i.status.cut ≡ true
 short_cut need i k cut (inl (_, is)) = is
 short_cut need i k cut (inr (whole, is)) = true_is_false (sym cut ∙ whole)
 
--- What is missing: so many bytes of the frame that the bytes begin.
+-- What is missing: that many bytes of the frame that the bytes begin.
 pub record IsMissing (bytes : List ℕ) (k : Kind) : Type 0 where
   pub missing : ℕ
   pub kind : k ≡ incomplete (Some missing)
@@ -93,7 +93,7 @@ no_payload i a n k j cut counted (inr (l, few, kind, e, same)) =
       );
     }
 
--- where it fails on bytes to which more may be added, so many are missing
+-- where it fails on bytes to which more may be added, that many are missing
 pub frame_missing : (s : ⊤) (i : Input ℕ) (k : Kind) (t : ⊤) (j : Input ℕ) → i.status.cut ≡ true
     → FrameMeans s i (Err k) t j → IsMissing i.left.tokens k
 frame_missing s i k t j cut (inl (n, a, r, q)) = no_payload i a n k j cut r.0 q.0

@@ -1,4 +1,4 @@
--- What is held behind a read.
+-- What is held after a read.
 use Rattle.std.proofs.Common.{◌≡◌, ◌∙◌, ◌≤◌, ◌+◌, ◌++◌, ℕ, List, [], length, take, drop, sym, ap}
 use Rattle.std.proofs.Common.{arith}
 use Rattle.std.proofs.Common.{length-append, length-take-le, append-nil, drop_at, take_at}
@@ -15,7 +15,7 @@ use Rattle.examples.specs.Frames.Held.{IsReady, capacity, held}
 use Rattle.examples.specs.declared.frames.frames.FrameBuffer.{FrameBuffer}
 use Rattle.examples.specs.Frames.Frame.{BeginsFrameOf, IsOneAtMost, IsPayload, ReadsFrames, frame}
 
--- a write behind the first bytes, seen as far as it goes
+-- a write after the first bytes, seen as far as it goes
 pub behind_front : (a n : ℕ) (xs ys zs : List ℕ) → a ≤ length xs → n ≤ length ys
     → take (a + n) (take a xs ++ (ys ++ zs)) ≡ take a xs ++ take n ys
 behind_front a n xs ys zs within fits =

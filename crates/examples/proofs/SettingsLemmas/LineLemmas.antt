@@ -45,7 +45,7 @@ none_records run recover keeps skips s i t j (is, k, x, can, ran, (m, skipped, c
   refl,
 )
 
--- what one line and those behind it recorded
+-- what one line and those after it recorded
 both_record : {T O : Type 0} (i n j : Input T) (first total : ℕ) (others : List (Option O))
     → total ≡ first + faults others
     → ((kinds : List Kind) × (n.status.recorded ≡ i.status.recorded ++ kinds)

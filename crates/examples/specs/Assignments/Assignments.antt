@@ -30,19 +30,19 @@ IsFlag tokens rest = (name : Bor (List ℕ)) × Name tokens name (10 ∷ rest)
 abbrev pub Line : Grammar ℕ (Unit {0})
 Line tokens u rest = IsSetting tokens rest ⊎ IsFlag tokens rest
 
--- lines, one behind the other
+-- lines, one after the other
 abbrev pub AreLines : List ℕ → List ℕ → Type 0
 AreLines tokens rest = (us : List (Unit {0})) × Each Line tokens us rest
 
--- behind a name and an equals sign no digit is
+-- after a name and an equals sign no digit is
 abbrev pub NoValue : List ℕ → List ℕ → Type 0
 NoValue tokens rest = (name : Bor (List ℕ)) × Name tokens name (61 ∷ rest) × NoneStands Digits rest
 
--- Behind lines a value lacks, at the rest.
+-- After lines a value lacks, at the rest.
 abbrev pub LacksValue : List ℕ → List ℕ → Type 0
 LacksValue tokens rest = (mid : List ℕ) × AreLines tokens mid × NoValue mid rest
 
--- Behind lines is the rest, which is no line and no name with a value that lacks.
+-- After lines is the rest, which is no line and no name with a value that lacks.
 abbrev pub NoLine : List ℕ → List ℕ → Type 0
 NoLine tokens rest =
     AreLines tokens rest × NoneStands Line rest × ((end : List ℕ) → NoValue rest end → ⊥)

@@ -31,12 +31,12 @@ module _ {A : Type 0} where
   abbrev pub AreOf : Vec (Brackets A) A → Brackets A → Type 0
   AreOf inner brackets = brackets ≡ roll-Brackets A (record { inner = inner })
 
-  -- brackets, of which no more than so many stand in one another
+  -- brackets, of which no more than that many stand in one another
   unfoldable pub AreBrackets : ℕ → Grammar ℕ (Brackets A)
   AreBrackets zero = Never
   AreBrackets (suc level) = Meaning AreOf (InBrackets (AreBrackets level))
 
-  -- ---- what is left behind them
+  -- ---- what is left after them
 
   between_unique : (item : Grammar ℕ (Brackets A)) → IsUnique item → IsUnique (InBrackets item)
   between_unique item unique = three_unique (λ _ list _. list) (byte_unique 91)

@@ -51,7 +51,7 @@ chosen Other second = second
 chosen (Expected part) second = second
 chosen (UnknownLevel letter) second = second
 
--- an error backtracks or wants memory
+-- an error backtracks or is out of memory
 pub line_kind-cases : (e : LineError) → (line_kind e ≡ backtrack) ⊎ (line_kind e ≡ memory)
 line_kind-cases Other = inl refl
 line_kind-cases (Expected part) = inl refl

@@ -16,13 +16,13 @@ frame payload = bytes_high_first 2 (length payload) ++ payload
 abbrev pub IsFrame : List ℕ → Type 0
 IsFrame bytes = (payload : List ℕ) × IsPayload payload × (bytes ≡ frame payload)
 
--- However the bytes go on, the frame that they begin is of at least so many bytes.
+-- However the bytes go on, the frame that they begin is of at least that many bytes.
 abbrev pub BeginsFrameOf : List ℕ → ℕ → Type 0
 BeginsFrameOf bytes least = (more payload rest : List ℕ) → IsPayload payload
     → bytes ++ more ≡ frame payload ++ rest → least ≤ length (frame payload)
 
--- Of the frame that the bytes begin so many are missing: those of its length, as long as it is not
--- there, and then those of the payload.
+-- Of the frame that the bytes begin that many are missing: those of its length, as long as it is
+-- not there, and then those of the payload.
 abbrev pub Lacks : List ℕ → ℕ → Type 0
 Lacks bytes missing =
     ((length bytes < 2) × (missing + length bytes ≡ 2))
@@ -30,7 +30,7 @@ Lacks bytes missing =
     × (bytes ≡ bytes_high_first 2 size ++ rest) × (length rest < size)
     × (missing + length rest ≡ size))
 
--- Nothing stands behind the frame that the bytes begin.
+-- Nothing stands after the frame that the bytes begin.
 abbrev pub IsOneAtMost : List ℕ → Type 0
 IsOneAtMost bytes = (payload rest : List ℕ) → IsPayload payload → bytes ≡ frame payload ++ rest
     → rest ≡ []

@@ -56,7 +56,7 @@ module _ {A : Type 0} where
   IsNode element =
       Either IsLeaf (Meaning IsBranchOf (AreElements element (Byte 91) (Byte 44) (Byte 93)))
 
-  -- a tree in which no more than so many brackets stand in one another
+  -- a tree in which no more than that many brackets stand in one another
   unfoldable pub IsTree : ℕ → Grammar ℕ (Tree A)
   IsTree zero = IsLeaf
   IsTree (suc level) = IsNode (IsTree level)
@@ -65,7 +65,7 @@ module _ {A : Type 0} where
 abbrev pub Opens : List ℕ → Type 0
 Opens bytes = (rest : List ℕ) × (bytes ≡ 91 ∷ rest)
 
--- ---- what is left behind a tree
+-- ---- what is left after a tree
 
 module _ {A : Type 0} where
   pub leaf_unique : IsUnique (IsLeaf {A = A})

@@ -20,8 +20,8 @@ module _ {T O : Type 0} (literal : ℕ → Grammar T ℕ) (option : Grammar T O)
       (Parted option (literal 44) (from_to 0 None))) (literal 93)
 
   -- Where more is asked for, by the tokens in which a byte or an option is begun: the bracket that
-  -- opens is; or behind it, and behind options with commas between them, an option is, or a comma,
-  -- or the option behind one; or behind all options that stand the bracket that closes is.
+  -- opens is; or after it, and after options with commas between them, an option is, or a comma,
+  -- or the option after one; or after all options that stand the bracket that closes is.
   abbrev pub InBracketsBegun : Type 0 → (ℕ → Begun T) → Begun T → Begun T
   InBracketsBegun A begins begun = Behind (literal 91) (begins 91)
       (Behind (Gathered (λ (list : Vec O A) options. list.items ≡ options)
@@ -30,13 +30,13 @@ module _ {T O : Type 0} (literal : ℕ → Grammar T ℕ) (option : Grammar T O)
 
 module _ {K T L : Type 0} (reading : Reading T L) (seen : K → T) (code : K → ℕ)
     (literal : ℕ → Grammar T ℕ) where
-  -- the longest beginning of letters, at least one; and behind it an equals sign and the longest
+  -- the longest beginning of letters, at least one; and after it an equals sign and the longest
   -- beginning of letters and digits, at least one, or neither stands there
   abbrev pub OptionOf : Grammar T (L × Option L)
   OptionOf = Both (λ name value. (name, value)) (Class IsAlpha 1 code seen reading)
       (Optional (Both (λ _ value. value) (literal 61) (Class IsAlphanum 1 code seen reading)))
 
-  -- nothing but letters is there; or behind the name an equals sign is begun, or behind that
+  -- nothing but letters is there; or after the name an equals sign is begun, or after that
   -- nothing but letters and digits is there
   abbrev pub OptionBegun : (ℕ → Begun T) → Begun T
   OptionBegun begins = Behind (Class IsAlpha 1 code seen reading) (AllOfClass IsAlpha code seen)

@@ -18,7 +18,7 @@ faults [] = 0
 faults (None ∷ lines) = 1 + faults lines
 faults (Some o ∷ lines) = faults lines
 
--- From i on lines are read, one behind the other and each consuming: their outputs; the kinds of
+-- From i on lines are read, one after the other and each consuming: their outputs; the kinds of
 -- the faults that were recorded, one for each line without an output; and what is left, where the
 -- next line backtracks.
 pub record LinesRead {Q T O : Type 0} (line : Runs Q T (Option O)) (s : Q) (i : Input T)
@@ -35,7 +35,7 @@ pub record LinesRead {Q T O : Type 0} (line : Runs Q T (Option O)) (s : Q) (i : 
   pub each : length kinds ≡ faults outputs
 
 -- What comes back of them: the stream at its start, and as errors the faults that were recorded,
--- in order; and behind them one that backtracks, where something is left.
+-- in order; and after them one that backtracks, where something is left.
 abbrev pub LinesAnswer : {Q I T O R : Type 0} → (I → Input T) → (R → Kind) → Runs Q T (Option O)
     → Q → Input T → I → List (Option O) → List R → Type 0
 LinesAnswer {Q} {I} {T} view kind line s start back outputs errors =

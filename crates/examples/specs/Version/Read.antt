@@ -54,7 +54,7 @@ no_digit : (rest : List ℕ) → NotFirst IsDecDigit rest → NoDigitFirst rest
 no_digit rest not d more e is =
     let P : List ℕ → Type 0 = λ l. NotFirst IsDecDigit l in absurd (subst P e not is)
 
--- what `{}` writes is a decimal number, where no digit is behind it
+-- what `{}` writes is a decimal number, where no digit is after it
 written_of : IsGrammarOf (Written (λ n. n) (2 ^ 64)) Number (NotFirst IsDecDigit)
 unfolding Written Number
 written_of = record {

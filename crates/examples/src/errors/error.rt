@@ -25,7 +25,7 @@ use winnow::stream::Stream;
 pub enum Part {
     /// The letter of its level.
     Level,
-    /// The colon behind the level.
+    /// The colon after the level.
     Colon,
 }
 

@@ -33,7 +33,7 @@ fn missing(error: ErrMode<EmptyError>) -> usize
 
 /// The length of the payload of the frame that the bytes begin with, or how many bytes it lacks.
 ///
-/// Behind the frame more may stand. The bytes that are missing are those of the length, as long as
+/// After the frame more may stand. The bytes that are missing are those of the length, as long as
 /// it is not there, and then those of the payload.
 ///
 /// ```

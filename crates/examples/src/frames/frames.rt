@@ -1,8 +1,8 @@
-//! Frames: a length of two bytes, the highest first, and so many bytes of payload.
+//! Frames: a length of two bytes, the highest first, and that many bytes of payload.
 //!
 //! They come from a reader in pieces, whatever pieces it gives, into a buffer of the caller's. The
 //! parser of a frame is run on the bytes that came so far; what it lacks decides how much is read,
-//! so nothing behind a frame is read with it.
+//! so nothing after a frame is read with it.
 //!
 //! ```
 //! use examples::frames::frames::FrameBuffer;
@@ -116,7 +116,7 @@ impl<'b> FrameBuffer<'b> {
     }
 }
 
-/// Copies a payload behind others. That wants memory for its bytes, where it has any, and for its
+/// Copies a payload after others. That wants memory for its bytes, where it has any, and for its
 /// place, where the list is full.
 fn keep<A: Allocator + Copy>(
     alloc: A,
@@ -141,10 +141,10 @@ fn keep<A: Allocator + Copy>(
     }
 }
 
-/// Reads frames to the end of a source, and puts their payloads behind others.
+/// Reads frames to the end of a source, and puts their payloads after others.
 ///
 /// Where a fault is answered, the payloads before it are there, and the buffer holds what was read
-/// behind them: at [`NoMemory`](FrameFault::NoMemory) the frame whose payload could not be kept. An
+/// after them: at [`NoMemory`](FrameFault::NoMemory) the frame whose payload could not be kept. An
 /// empty payload wants memory only where the list has no more of the room that it had. The other
 /// faults are those of [`FrameBuffer::fill`].
 ///

@@ -11,7 +11,7 @@ use crate::frames::fault::FrameFault;
 use crate::frames::first::first_frame;
 use std::io::{ErrorKind, Read};
 
-/// Reads some of the bytes that are missing behind the first `filled`, and answers how many: none
+/// Reads some of the bytes that are missing after the first `filled`, and answers how many: none
 /// at the end of the source alone.
 fn read_missing<R: Read>(
     source: &mut R,

@@ -40,7 +40,7 @@ pub fn line_or_fault<
     line.resume_after(skip).parse_next(input)
 }
 
-/// The first line that `line` reads. Behind one where it backtracks or cuts, `skip` is run: where
+/// The first line that `line` reads. After one where it backtracks or cuts, `skip` is run: where
 /// it succeeds and consumes, the fault is recorded, and the next line is tried.
 pub fn first_line<
     P: Parser<I, O, E> + Drop,
@@ -60,11 +60,11 @@ pub fn first_line<
 }
 
 /// Reads all of `input` as lines by `line`: an output for each, and none where it failed, `skip`
-/// succeeded behind that, and the fault was recorded.
+/// succeeded after that, and the fault was recorded.
 ///
 /// It answers the input, back at its start, the outputs, and the faults in order: as many as there
 /// are lines without an output, where neither parser records anything itself. Where something is
-/// left behind the lines, an error that backtracks is the last. There are no outputs where the list
+/// left after the lines, an error that backtracks is the last. There are no outputs where the list
 /// itself fails: that error is the last. Where memory is refused, the input alone comes back. The
 /// stream is one that is never partial.
 pub fn read_lines<

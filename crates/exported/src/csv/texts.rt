@@ -1,4 +1,4 @@
-//! The bytes of fields, one behind the other.
+//! The bytes of fields, one after the other.
 
 ghost use Rattle.std.specs.Prelude.{◌≡◌, ◌<◌, ◌^◌, length};
 ghost use Rattle.exported.specs.Texts.{AreFields, text_of};
@@ -31,7 +31,7 @@ pub fn copy_fields(fields: &[Vec<u8>], text: &mut [u8])
     }
 }
 
-/// Writes which places the fields have where their bytes stand one behind the other.
+/// Writes which places the fields have where their bytes stand one after the other.
 pub fn place_fields(fields: &[Vec<u8>], places: &mut [Span])
     requires bytes { length (text_of fields.now) < 2 ^ 63 }
     requires room { length places.old ≡ length fields.now }

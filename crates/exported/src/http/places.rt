@@ -12,7 +12,7 @@ use crate::span::{Span, first_of};
 use format_http::heads::field_line::Field as Found;
 use format_http::heads::request_line::RequestLine;
 
-/// What stands behind the first bytes.
+/// What stands after the first bytes.
 fn behind<'i>(count: usize, bytes: &'i [u8]) -> &'i [u8]
     requires { count ≤ length bytes.now }
     ensures { result.now ≡ drop count bytes.now }
@@ -20,7 +20,7 @@ fn behind<'i>(count: usize, bytes: &'i [u8]) -> &'i [u8]
     &bytes[count..]
 }
 
-/// What stands behind the spaces and tabs that come first.
+/// What stands after the spaces and tabs that come first.
 fn behind_gap<'i>(bytes: &'i [u8]) -> &'i [u8]
     ensures { IsBehindGap result.now bytes.now }
 {
@@ -34,7 +34,7 @@ fn behind_gap<'i>(bytes: &'i [u8]) -> &'i [u8]
     rest
 }
 
-/// The places of the field in whose line the input ends, and what stands behind that line.
+/// The places of the field in whose line the input ends, and what stands after that line.
 fn field_at<'i>(input: &'i [u8], line: &'i [u8], found: &Found<'_>) -> (Field, &'i [u8])
     requires line { (behind : List ℕ)
         × IsFieldLine found.now.name.now found.now.value.now line.now behind }
@@ -72,7 +72,7 @@ pub fn place_fields<'i>(input: &'i [u8], lines: &'i [u8], found: &[Found<'_>], f
     }
 }
 
-/// The places of the method and of the target, and what stands behind the request line.
+/// The places of the method and of the target, and what stands after the request line.
 pub fn request_at<'i>(input: &'i [u8], line: &RequestLine<'_>) -> (Span, Span, &'i [u8])
     requires { (rest : List ℕ) × IsRequestLine line.now.method.now line.now.target.now
         line.now.major line.now.minor input.now rest }

@@ -55,7 +55,7 @@ pub(crate) fn state_at(extent: Extent) -> RespExtent
 
 /// Where calls of `exported_resp_extent` follow one another, the first with a state of zeros, each
 /// with the state that the last one left and with its bytes and a piece more, and all ask for more:
-/// then the state that is left is one of these bytes, whatever comes behind them. So what the next
+/// then the state that is left is one of these bytes, whatever comes after them. So what the next
 /// call tells, it tells of all of its bytes, as one call with a state of zeros would.
 pub fn calls_in_turn_are_of_their_bytes()
     ensures { (pieces : List (List ℕ)) (state : RespExtent) → CallsInTurn nothing [] pieces state

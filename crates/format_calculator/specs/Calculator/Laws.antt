@@ -41,7 +41,7 @@ pub behind_takes : (test : ℕ → Bool) (c : ℕ) (cs : List ℕ) → test c �
     → behind test (c ∷ cs) ≡ behind test cs
 behind_takes test c cs e = ap (λ b. if b then behind test cs else c ∷ cs) e
 
--- what is behind is an end
+-- what is after is an end
 behind_splits : (test : ℕ → Bool) (cs : List ℕ) → (front : List ℕ) × (cs ≡ front ++ behind test cs)
 behind_splits test [] = ([], refl)
 behind_splits test (c ∷ cs) = behind_more test c cs (behind_splits test cs) (test c)

@@ -1,4 +1,4 @@
-//! What a formula is made of: numbers and operators, each with the white space behind it.
+//! What a formula is made of: numbers and operators, each with the white space after it.
 ghost use Rattle.std.specs.Prelude.{◌≡◌, ℕ, pos, ◌+◌, ◌*◌, ◌<◌, MatchBool, MatchOption};
 ghost use Rattle.std.specs.Str.{chars};
 ghost use Rattle.format_calculator.specs.Calculator.{AnswersItem, CharItem, IsDigitTaken};
@@ -59,7 +59,7 @@ pub(super) fn white(input: &mut &str)
     'spaces: while space(input) {}
 }
 
-/// Takes an operator before an operand and the white space behind it.
+/// Takes an operator before an operand and the white space after it.
 pub(super) fn read_sign(input: &mut &str) -> Option<Prefix<Sign>>
     ensures { AnswersItem (CharItem sign_at) (chars input.old.now) result (chars input.new.now) }
 {
@@ -79,7 +79,7 @@ pub(super) fn read_sign(input: &mut &str) -> Option<Prefix<Sign>>
     }
 }
 
-/// Takes an operator behind an operand and the white space behind it.
+/// Takes an operator after an operand and the white space after it.
 pub(super) fn read_mark(input: &mut &str) -> Option<Postfix<Mark>>
     ensures { AnswersItem (CharItem mark_at) (chars input.old.now) result (chars input.new.now) }
 {
@@ -99,7 +99,7 @@ pub(super) fn read_mark(input: &mut &str) -> Option<Postfix<Mark>>
     }
 }
 
-/// Takes an operator between two operands and the white space behind it.
+/// Takes an operator between two operands and the white space after it.
 pub(super) fn read_pair(input: &mut &str) -> Option<Infix<Pair>>
     ensures { AnswersItem (CharItem pair_at) (chars input.old.now) result (chars input.new.now) }
 {
@@ -133,7 +133,7 @@ fn with_digit(value: Option<i64>, digit: i64) -> Option<i64>
     }
 }
 
-/// Takes the digits that come first, as a number where it fits, behind a first digit.
+/// Takes the digits that come first, as a number where it fits, after a first digit.
 fn digits(input: &mut &str, first: i64) -> Option<i64>
     ensures rest { chars input.new.now ≡ behind is_digit (chars input.old.now) }
     ensures value { (k : ℕ) → first ≡ pos k → k < 10
@@ -146,7 +146,7 @@ fn digits(input: &mut &str, first: i64) -> Option<i64>
     value
 }
 
-/// Takes a number and the white space behind it.
+/// Takes a number and the white space after it.
 pub(super) fn read_number(input: &mut &str) -> Option<i64>
     ensures { AnswersItem NumberItem (chars input.old.now) result (chars input.new.now) }
 {

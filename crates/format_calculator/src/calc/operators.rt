@@ -18,7 +18,7 @@ pub enum Sign {
     Negative,
 }
 
-/// The operator behind an operand.
+/// The operator after an operand.
 #[derive(Clone, Copy, Drop)]
 pub enum Mark {
     Factorial,
@@ -47,7 +47,7 @@ pub(super) fn sign_of(c: char) -> Option<Prefix<Sign>>
     }
 }
 
-/// The operator that a character is, behind an operand.
+/// The operator that a character is, after an operand.
 pub(super) fn mark_of(c: char) -> Option<Postfix<Mark>>
     ensures { result ≡ mark_at c }
 {

@@ -63,7 +63,7 @@ impl<'i> Parser<&'i str, Prefix<Sign>, EmptyError> for BeforeIt {
     }
 }
 
-/// The parser of an operator behind an operand.
+/// The parser of an operator after an operand.
 #[derive(Drop)]
 pub(super) struct BehindIt;
 

@@ -53,7 +53,7 @@ not_blank value (text, behind, e, x, all) blank =
 
 -- ---- over fields
 
--- The last coding so far was `chunked`, or was not, and these fields are behind it.
+-- The last coding so far was `chunked`, or was not, and these fields are after it.
 abbrev pub Last : Bool → List Pair → Type 0
 Last true fields = AreBlank fields ⊎ EndChunked fields
 Last false fields = EndChunked fields

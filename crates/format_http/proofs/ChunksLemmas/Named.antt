@@ -14,7 +14,7 @@ no_field = record {
 }
 
 module _ (P : List Pair → Type 0) (fields : List Field) (i : ℕ) where
-  -- what is so of what is left, by the next field and those behind it
+  -- what is so of what is left, by the next field and those after it
   pub at_next : i < length fields → P (map pair (drop i fields))
       → P (pair (get_or fields i no_field) ∷ map pair (drop (i + 1) fields))
   at_next below x =

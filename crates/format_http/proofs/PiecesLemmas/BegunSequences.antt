@@ -6,7 +6,7 @@ use Rattle.winnow.specs.Sequence.{SequenceRuns4, SequenceRuns5}
 use Rattle.winnow.specs.Sequence.Known.{sequence4_err, sequence4_ok, sequence5_err, sequence5_ok}
 use Rattle.format_http.proofs.PiecesLemmas.Begun.{Begins}
 
--- behind what was read, with more
+-- after what was read, with more
 behind : (t x r m : List ℕ) → t ≡ x ++ r → t ++ m ≡ x ++ (r ++ m)
 behind t x r m e = ap (λ l. l ++ m) e ∙ append_assoc x r m
 

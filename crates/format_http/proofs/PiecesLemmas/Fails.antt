@@ -142,7 +142,7 @@ member_fails P = record {
 
 -- ---- sequences
 
--- where it may come behind what was read, it may come behind the input
+-- where it may come after what was read, it may come after the input
 so_before : (k : Kind) (i a : Input ℕ) → a.status.cut ≡ i.status.cut
     → FailsSo k a.status.cut → FailsSo k i.status.cut
 so_before k i a same so = let P : Bool → Type 0 = λ c. FailsSo k c in subst P same so

@@ -57,7 +57,7 @@ no_white x i text y j is ran =
     took_stops (λ b. IsWhite b → ⊥) _ 0 i text.now j (tells_of IsWhite).no
     (took_by modal _ x.0 0 None i text j is ran.0)
 
--- what they answer is a field line, with the white space behind the value
+-- what they answer is a field line, with the white space after the value
 pub line_read : {A B C : Type 0} (s : States A B C) (i : Input ℕ) (o : Parts) (t : States A B C)
     (j : Input ℕ) → IsMade s → LineMeans s i (Ok o) t j
     → IsRead o.0.now o.3.now i.left.tokens j.left.tokens

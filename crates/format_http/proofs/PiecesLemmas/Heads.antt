@@ -16,7 +16,7 @@ use Rattle.format_http.proofs.PiecesLemmas.Values.{field_line_begins, field_line
 
 -- ---- the request line
 
--- what stands behind the target and a space
+-- what stands after the target and a space
 abbrev behind_target : ℕ → ℕ → List ℕ → List ℕ
 behind_target major minor rest =
     72 ∷ 84 ∷ 84 ∷ 80 ∷ 47 ∷ (digits major minor ++ (line_end ++ rest))
@@ -55,7 +55,7 @@ lines_more [] f bytes now rest e line =
 lines_more (g ∷ fields) f bytes now rest (behind, first, others) line =
     (behind, first, lines_more fields f behind now rest others line)
 
--- what is behind some field lines is field lines, where the whole is so and ends as fields do
+-- what is after some field lines is field lines, where the whole is so and ends as fields do
 lines_behind : (fields others : List Pair) (bytes now end rest : List ℕ)
     → AreFieldLines fields bytes now → AreFieldLines others bytes end → end ≡ line_end ++ rest
     → (more : List Pair) × AreFieldLines more now end
@@ -70,7 +70,7 @@ lines_behind (f ∷ fields) (g ∷ others) bytes now end rest (behind, first, li
     let same = field_line_one f.0 g.0 f.1 g.1 bytes behind behind' first first' in
     lines_behind fields others behind now end rest lines (subst P (sym same.2) lines') ended
 
--- where no field line stands behind some, and fields stand there, an empty line does
+-- where no field line stands after some, and fields stand there, an empty line does
 pub ended_behind : (fields others : List Pair) (bytes now rest : List ℕ)
     → AreFieldLines fields bytes now → AreFields others bytes rest
     → ((name value more : List ℕ) → IsFieldLine name value now more → ⊥)
@@ -134,7 +134,7 @@ head_one line other fields others bytes one two h k =
       behind.1,
     )
 
--- behind the request line of a head its fields stand
+-- after the request line of a head its fields stand
 pub head_fields : (line : Request) (fields : List Pair) (m g : List ℕ) (a b : ℕ)
     (bytes now rest : List ℕ) → IsHead line fields bytes rest → IsRequestLine m g a b bytes now
     → AreFields fields now rest
@@ -156,7 +156,7 @@ read_more fields fields' f bytes now rest lines line grew =
     subst P (sym (ap (λ l. map pair l) grew ∙ map_push pair fields f))
     (lines_more (map pair fields) (pair f) bytes now rest lines line)
 
--- ---- what begins with none, whatever comes behind it
+-- ---- what begins with none, whatever comes after it
 
 field_line_longer : (name value bytes rest more : List ℕ) → IsFieldLine name value bytes rest
     → IsFieldLine name value (bytes ++ more) (rest ++ more)
@@ -201,7 +201,7 @@ lines_longer (f ∷ fields) bytes rest more (behind, line, lines) = (
   lines_longer fields behind rest more lines,
 )
 
--- behind some field lines there is neither one more nor the empty line
+-- after some field lines there is neither one more nor the empty line
 pub fields_never : (fields : List Pair) (bytes now : List ℕ) → AreFieldLines fields bytes now
     → NoFieldLine now → ((more rest : List ℕ) → now ++ more ≡ line_end ++ rest → ⊥)
     → NoFields bytes
@@ -211,7 +211,7 @@ fields_never fields bytes now lines no_line no_end others more rest it =
     (lines_longer fields bytes now more lines) it
     (λ name value behind line. no_line name value more behind line))
 
--- no request line stands first, or behind one no fields
+-- no request line stands first, or after one no fields
 pub line_lacks : (bytes : List ℕ) → NoRequestLine bytes → NoHead bytes
 line_lacks bytes none line fields more rest head =
     none line.method line.target line.major line.minor more head.behind head.is_line
@@ -223,9 +223,9 @@ fields_lack m g a b bytes now read none line fields more rest head =
     (head_fields line fields m g a b (bytes ++ more) (now ++ more) rest head
     (request_line_longer m g a b bytes now more read))
 
--- ---- what begins with one, with more behind it
+-- ---- what begins with one, with more after it
 
--- behind some field lines, one more that is begun, or the empty line
+-- after some field lines, one more that is begun, or the empty line
 pub begun_line : (fields : List Pair) (bytes now : List ℕ) → AreFieldLines fields bytes now
     → BeginsFieldLine now → BeginsFields bytes
 begun_line fields bytes now lines (name, value, more, line) =
@@ -263,7 +263,7 @@ begun_either fields bytes now a b (inl (n, e)) lines line end =
 begun_either fields bytes now a b (inr (n, e)) lines line end =
     begun_end fields bytes now lines (end n e)
 
--- a request line that is begun, or fields behind one
+-- a request line that is begun, or fields after one
 pub begun_request : (bytes : List ℕ) → BeginsRequestLine bytes → BeginsHead bytes
 begun_request bytes (m, g, a, b, more, line) =
     let P : List ℕ → Type 0 = λ l. IsRequestLine m g a b l line_end in (

@@ -20,7 +20,7 @@ use Rattle.winnow.specs.TakeWhile.Known.{TakesOf}
 use Rattle.winnow.specs.TakeWhile.Laws.{take_while_ends, take_while_stays}
 use Rattle.format_http.proofs.PiecesLemmas.Members.{MemberOf, Tells}
 
--- Any bytes may come behind any.
+-- Any bytes may come after any.
 abbrev pub anything : Following ℕ
 anything = record { can_follow = λ left more. ⊤; kept = λ dropped later more e. e }
 

@@ -8,7 +8,7 @@ use Rattle.winnow.specs.Equal.{same_first, same_others}
 stranger : (P : ℕ → Type 0) (x y : ℕ) (xs ys : List ℕ) → (P x → ⊥) → P y → x ∷ xs ≡ y ∷ ys → ⊥
 stranger P x y xs ys not is e = not (subst P (sym (same_first e)) is)
 
--- there is one text of P before a stranger to it, and one rest behind that
+-- there is one text of P before a stranger to it, and one rest after that
 pub one_text : (P : ℕ → Type 0) (x : ℕ) (xs ys a b : List ℕ) → (P x → ⊥) → All P xs → All P ys
     → xs ++ x ∷ a ≡ ys ++ x ∷ b → (xs ≡ ys) × (a ≡ b)
 one_text P x [] [] a b not p q e = (refl, same_others e)
@@ -23,7 +23,7 @@ one_text P x (z ∷ xs) (y ∷ ys) a b not p q e =
       again.1,
     )
 
--- behind texts of P the first strangers stand at one place
+-- after texts of P the first strangers stand at one place
 pub one_stranger : (P : ℕ → Type 0) (x y : ℕ) (xs ys a b : List ℕ) → (P x → ⊥) → (P y → ⊥)
     → All P xs → All P ys → xs ++ x ∷ a ≡ ys ++ y ∷ b → x ∷ a ≡ y ∷ b
 one_stranger P x y [] [] a b not other p q e = e

@@ -113,7 +113,7 @@ pub field_line_begins : (name value bytes rest more : List ℕ) → IsFieldLine 
 field_line_begins name value bytes rest more line =
     none_returns bytes (field_of name value) rest more line
 
--- ---- a field line as it is read: its text is the value, and white space behind that
+-- ---- a field line as it is read: its text is the value, and white space after that
 
 pub record IsRead (name text bytes rest : List ℕ) : Type 0 where
   pub white : List ℕ
@@ -124,7 +124,7 @@ pub record IsRead (name text bytes rest : List ℕ) : Type 0 where
   pub is_value : All IsValueByte text
   pub bare : BeginsBare text
 
--- the text without the white space behind it is the value
+-- the text without the white space after it is the value
 pub read_trimmed : (name text value bytes rest : List ℕ) → IsRead name text bytes rest
     → IsTrimmed value text → IsFieldLine name value bytes rest
 read_trimmed name text value bytes rest line it =

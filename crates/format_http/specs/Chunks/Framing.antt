@@ -51,7 +51,7 @@ IsEnd commas b = IsWhite b ⊎ ((commas ≡ true) × (b ≡ 44))
 abbrev pub IsBlank : List ℕ → Type 0
 IsBlank = AllByRecursion (IsEnd true)
 
--- Behind this text an element may begin: nothing is before it but white space, or a comma is the
+-- After this text an element may begin: nothing is before it but white space, or a comma is the
 -- last that stands there before white space.
 abbrev pub IsSeparated : List ℕ → Type 0
 IsSeparated front =
@@ -64,7 +64,7 @@ EndsBehind text =
     (front : List ℕ) × (word : List ℕ) × (text ≡ front ++ word) × IsNamed (codes "chunked") word
     × IsSeparated front
 
--- The last element of the list is `chunked`: behind it are white space and commas alone.
+-- The last element of the list is `chunked`: after it are white space and commas alone.
 abbrev pub EndsChunked : List ℕ → Type 0
 EndsChunked value =
     (text : List ℕ) × (behind : List ℕ) × (value ≡ text ++ behind) × EndsBehind text

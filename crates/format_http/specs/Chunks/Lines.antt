@@ -25,7 +25,7 @@ IsQuotedByte b = (b ≡ 9) ⊎ ((b ≡ 32) ⊎ ((b ≡ 33) ⊎ (IsBetween 35 91 
 abbrev pub OneOf : {T : Type 0} → (ℕ → T) → (ℕ → Type 0) → Grammar T ℕ
 OneOf seen these = TokenOf seen (InClass these (λ b. b)) tt
 
--- so many of these bytes or more
+-- that many of these bytes or more
 abbrev pub RunOf : {T L : Type 0} → Reading T L → (ℕ → T) → (ℕ → Type 0) → ℕ → Grammar T L
 RunOf reading seen these least = Class these least (λ b. b) seen reading
 
@@ -60,7 +60,7 @@ module _ {T L : Type 0} (reading : Reading T L) (seen : ℕ → T) (literal : �
   Extensions {A} value = Gathered (λ (list : Vec (L × Option L) A) os. list.items ≡ os)
       (Many (Extension value) (from_to 0 None))
 
-  -- chunk-size behind CRLF, where chunk-size = 1*HEXDIG
+  -- chunk-size after CRLF, where chunk-size = 1*HEXDIG
   abbrev pub Ended : {O : Type 0} → Grammar T O → Grammar T (L × O)
   Ended behind = Both (λ digits o. (digits, o)) (RunOf reading seen IsHexDigit 1)
       (Both (λ o _. o) behind (Both {O = ℕ × ℕ} (λ r f. (r, f)) (literal 13) (literal 10)))
@@ -78,7 +78,7 @@ RunBegun seen these = AllOfClass these (λ b. b) seen
 -- `begins` says of each byte where it is begun, which is where no byte is
 module _ {T L : Type 0} (reading : Reading T L) (seen : ℕ → T) (literal : ℕ → Grammar T ℕ)
     (begins : ℕ → Begun T) where
-  -- nothing but white space is there; or behind it nothing; or behind the byte only white space
+  -- nothing but white space is there; or after it nothing; or after the byte only white space
   abbrev pub SpacedBegun : ℕ → Begun T
   SpacedBegun byte = Behind (RunOf reading seen IsSpace 0) (RunBegun seen IsSpace)
       (Behind (literal byte) (begins byte) (RunBegun seen IsSpace))
@@ -98,7 +98,7 @@ module _ {T L : Type 0} (reading : Reading T L) (seen : ℕ → T) (literal : �
       (RunBegun seen IsTokenByte)
       (Behind (literal 34) (begins 34) (Behind text begun (begins 34)))
 
-  -- the semicolon or the name is not ended; or behind them the equals sign or the value is not
+  -- the semicolon or the name is not ended; or after them the equals sign or the value is not
   abbrev pub ExtensionBegun : Begun T → Begun T
   ExtensionBegun begun =
       Behind (Both (λ _ name. name) (Spaced reading seen literal 59)
@@ -106,12 +106,12 @@ module _ {T L : Type 0} (reading : Reading T L) (seen : ℕ → T) (literal : �
       (Behind (Spaced reading seen literal 59) (SpacedBegun 59) (RunBegun seen IsTokenByte))
       (Behind (Spaced reading seen literal 61) (SpacedBegun 61) begun)
 
-  -- the digits are not ended; or behind them what is there is not; or behind that the line end
+  -- the digits are not ended; or after them what is there is not; or after that the line end
   abbrev pub EndedBegun : {O : Type 0} → Grammar T O → Begun T → Begun T
   EndedBegun behind begun = Behind (RunOf reading seen IsHexDigit 1) (RunBegun seen IsHexDigit)
       (Behind behind begun (Behind (literal 13) (begins 13) (begins 10)))
 
-  -- the same, of extensions: behind some that stand one is begun
+  -- the same, of extensions: after some that stand one is begun
   abbrev pub ExtensionsBegun : Type 0 → Grammar T L → Begun T → Begun T
   ExtensionsBegun A value begun = EndedBegun (Extensions reading seen literal {A = A} value)
       (Words.Among (Extension reading seen literal value) (ExtensionBegun begun) None)

@@ -18,7 +18,7 @@ use Rattle.format_http.specs.declared.heads.request_line.RequestLine.{RequestLin
 abbrev pub IsHost : List ℕ → Type 0
 IsHost name = map to_ascii_lowercase name ≡ 104 ∷ 111 ∷ 115 ∷ 116 ∷ []
 
--- So many of the fields are named Host.
+-- That many of the fields are named Host.
 abbrev pub AreHosts : List Pair → ℕ → Type 0
 AreHosts [] hosts = hosts ≡ 0
 AreHosts (field ∷ fields) hosts =
@@ -29,11 +29,11 @@ AreHosts (field ∷ fields) hosts =
 abbrev pub NeedsHost : RequestLine → Type 0
 NeedsHost line = (line.major ≡ 1) × (1 ≤ line.minor)
 
--- A request of this line may have so many Host fields.
+-- A request of this line may have that many Host fields.
 abbrev pub MayHave : RequestLine → ℕ → Type 0
 MayHave line hosts = (hosts ≡ 1) ⊎ ((hosts ≡ 0) × (NeedsHost line → ⊥))
 
--- Why a request of this line with so many Host fields is refused for them, or that it is not.
+-- Why a request of this line with that many Host fields is refused for them, or that it is not.
 abbrev pub IsHostRefusal : RequestLine → ℕ → Option Refusal → Type 0
 IsHostRefusal line hosts (Some NoHost) = NeedsHost line × (hosts ≡ 0)
 IsHostRefusal line hosts (Some ManyHosts) = 1 < hosts
@@ -69,7 +69,7 @@ IsFault fields (Some LengthIsNoNumber) =
     × HaveValue content_length length fields × (IsNumber length → ⊥)
 IsFault fields None = IsFramed fields
 
--- Why a request of this line, with so many Host fields among these fields, is refused, or that it
+-- Why a request of this line, with that many Host fields among these fields, is refused, or that it
 -- is not. The Host fields come first.
 abbrev pub IsRefusal : RequestLine → ℕ → List Pair → Option Refusal → Type 0
 IsRefusal line hosts fields (Some NoHost) = NeedsHost line × (hosts ≡ 0)

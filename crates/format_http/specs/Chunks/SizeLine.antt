@@ -19,7 +19,7 @@ use Rattle.winnow.specs.Digits.{value_in}
 abbrev pub Slice : Type 0
 Slice = Bor (List ℕ)
 
--- so many of these bytes or more
+-- that many of these bytes or more
 abbrev pub RunText : (ℕ → Type 0) → ℕ → Text ℕ Slice
 RunText = Members counted_reading
 

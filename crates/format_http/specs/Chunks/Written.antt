@@ -61,9 +61,9 @@ hex_least b (inl is) = (omega (arith, is.0), (λ e. omega (arith, is.1, e)))
 hex_least b (inr (inl is)) = (omega (arith, is.0), (λ e. omega (arith, is.0, e)))
 hex_least b (inr (inr is)) = (omega (arith, is.0), (λ e. omega (arith, is.0, e)))
 
--- ---- a byte behind white space
+-- ---- a byte after white space
 
--- White space is first, and this byte behind it.
+-- White space is first, and this byte after it.
 abbrev Marked : ℕ → List ℕ → Type 0
 Marked mark tokens = (white : List ℕ) × (more : List ℕ) × AllByRecursion IsSpace white
     × (tokens ≡ white ++ mark ∷ more)
@@ -192,7 +192,7 @@ given_of = both_of (λ _ v. v) (spaced_of 61 bare_61) value_of
 given_marks : InFront GivenText Anything (Marked 61)
 given_marks = both_front (λ _ v. v) (spaced_marks 61) front_any
 
--- What may stand behind an extension: another, or the line end.
+-- What may stand after an extension: another, or the line end.
 abbrev Clear : List ℕ → Type 0
 Clear rest = Marked 59 rest ⊎ Marked 13 rest
 

@@ -14,7 +14,7 @@ abbrev pub BeginsBare : List ℕ → Type 0
 BeginsBare text = (b : ℕ) (more : List ℕ) → text ≡ b ∷ more → IsWhite b → ⊥
 
 -- The bytes are a field line with this name and this value, and then the rest: white space may
--- stand before the value and behind it, and is no part of it.
+-- stand before the value and after it, and is no part of it.
 pub record IsFieldLine (name value bytes rest : List ℕ) : Type 0 where
   pub before : List ℕ
   pub behind : List ℕ

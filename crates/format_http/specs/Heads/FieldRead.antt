@@ -19,7 +19,7 @@ use Rattle.winnow.specs.Texts.{NotFirst}
 
 -- ---- a value, with the white space around it
 
--- White space, a value and white space stand first, and no byte of a value is behind them.
+-- White space, a value and white space stand first, and no byte of a value is after them.
 pub record ValueStands (bytes : List ℕ) (value : Bor (List ℕ)) (rest : List ℕ) : Type 0 where
   pub before : List ℕ
   pub behind : List ℕ
@@ -134,7 +134,7 @@ Texts = Bor (List ℕ) × Bor (List ℕ)
 abbrev pub NameRead : Grammar ℕ (Bor (List ℕ))
 NameRead = Both (λ name _. name) (Run IsTokenByte 1) (Byte 58)
 
--- by that, and behind it a value
+-- by that, and after it a value
 abbrev pub NameValue : Grammar ℕ Texts
 NameValue = Steps NameRead ValueStands
 

@@ -35,7 +35,7 @@ Pair = List ℕ × List ℕ
 abbrev pub pair : Field → Pair
 pair field = (field.name.now, field.value.now)
 
--- The bytes are field lines of these fields, one behind the other, and then the rest.
+-- The bytes are field lines of these fields, one after the other, and then the rest.
 abbrev pub AreFieldLines : List Pair → List ℕ → List ℕ → Type 0
 AreFieldLines [] bytes rest = bytes ≡ rest
 AreFieldLines (f ∷ fields) bytes rest =

@@ -81,7 +81,7 @@ module _ {A : Type 0} where
 
   -- ---- a head
 
-  -- by a reader of the one behind that of the other
+  -- by a reader of the one after that of the other
   abbrev pub HeadRead : Grammar ℕ (RequestLine × Vec Field A)
   HeadRead = Steps RequestLineStands FieldsStand
 

@@ -67,7 +67,7 @@ pub run_is : {S : Type 0} (these : ℕ → Type 0) (least : ℕ) (set : S)
 unfolding Longest
 run_is these least set = refl
 
--- So many of these bytes or more, with none behind them, and then the rest.
+-- That many of these bytes or more, with none after them, and then the rest.
 pub record IsRunOf (these : ℕ → Type 0) (least : ℕ) (bytes text rest : List ℕ) : Type 0 where
   pub splits : bytes ≡ text ++ rest
   pub members : All these text

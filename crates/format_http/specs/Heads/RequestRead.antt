@@ -52,7 +52,7 @@ digit_unique = record {
   one = λ bytes n m rest other (below, e) (less, f). same_others (sym e ∙ f);
 }
 
--- ---- a version, with what stands before and behind it
+-- ---- a version, with what stands before and after it
 
 -- A space, the version of these numbers and a line end stand first.
 abbrev pub VersionStands : Grammar ℕ (ℕ × ℕ)
@@ -141,7 +141,7 @@ abbrev pub MethodTarget : Grammar ℕ Texts
 MethodTarget = Three (λ method _ target. (method, target)) (Run IsTokenByte 1) (Byte 32)
     (Run IsVisible 1)
 
--- by that, and behind it the version
+-- by that, and after it the version
 abbrev pub RequestRead : Grammar ℕ Parts
 RequestRead = Steps MethodTarget VersionStands
 

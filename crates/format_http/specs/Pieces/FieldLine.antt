@@ -2,12 +2,12 @@
 use Rattle.std.specs.Prelude.{ℕ, List, [], ◌++◌}
 use Rattle.format_http.specs.Heads.FieldLine.{IsFieldLine}
 
--- Whatever comes behind the bytes, they begin with no field line.
+-- Whatever comes after the bytes, they begin with no field line.
 abbrev pub NoFieldLine : List ℕ → Type 0
 NoFieldLine bytes =
     (name value more rest : List ℕ) → IsFieldLine name value (bytes ++ more) rest → ⊥
 
--- With more behind them the bytes are a field line.
+-- With more after them the bytes are a field line.
 abbrev pub BeginsFieldLine : List ℕ → Type 0
 BeginsFieldLine bytes =
     (name : List ℕ) × (value : List ℕ) × (more : List ℕ)

@@ -12,7 +12,7 @@ use Rattle.winnow.specs.Steps.{Steps}
 use Rattle.winnow.specs.Grammar.{Both, Grammar}
 
 module _ {A : Type 0} where
-  -- by a reader of the one behind that of the other
+  -- by a reader of the one after that of the other
   abbrev pub ResponseRead : Grammar ℕ (StatusLine × Vec Field A)
   ResponseRead = Steps StatusLineStands FieldsStand
 

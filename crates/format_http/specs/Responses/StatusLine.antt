@@ -21,7 +21,7 @@ pub record IsCode (status hundreds tens ones : ℕ) : Type 0 where
   pub some_tens : tens < 10
   pub some_ones : ones < 10
 
--- What stands behind the status code: a space and the reason, or nothing where there is none.
+-- What stands after the status code: a space and the reason, or nothing where there is none.
 abbrev pub IsBehind : List ℕ → List ℕ → Type 0
 IsBehind behind reason = (behind ≡ 32 ∷ reason) ⊎ ((behind ≡ []) × (reason ≡ []))
 

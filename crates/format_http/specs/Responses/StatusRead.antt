@@ -21,7 +21,7 @@ use Rattle.winnow.specs.Grammar.Known.{Byte, byte_stands, byte_unique, slice_for
 use Rattle.winnow.specs.Grammar.Sequences.{three_unique}
 use Rattle.winnow.specs.Grammar.Unique.{both_unique, optional_unique, unique_by}
 
--- ---- a version, and a space behind it
+-- ---- a version, and a space after it
 
 -- The version of these numbers and a space stand first.
 abbrev pub ProtocolStands : Grammar ℕ (ℕ × ℕ)
@@ -137,7 +137,7 @@ code_unique = unique_by code_back (three_unique {O = ℕ × ℕ × ℕ} (λ a b 
 
 -- ---- a reason, and the line end
 
--- What stands behind the status code of this reason, and a line end, stand first.
+-- What stands after the status code of this reason, and a line end, stand first.
 abbrev pub ReasonStands : Grammar ℕ (Bor (List ℕ))
 ReasonStands bytes reason rest =
     (behind : List ℕ) × IsBehind behind reason.now × All IsValueByte reason.now
@@ -242,7 +242,7 @@ module _ (last : Bor (List ℕ)) (ends : last.now ≡ line_end) where
 
 -- ---- a status line
 
--- by a reader of the one behind that of the other
+-- by a reader of the one after that of the other
 abbrev pub ProtocolCode : Grammar ℕ ((ℕ × ℕ) × ℕ)
 ProtocolCode = Steps ProtocolStands CodeStands
 

@@ -47,16 +47,16 @@ pub enum Message<'m> {
 /// ```
 #[derive(Clone, Copy, Debug, PartialEq, Eq, Drop)]
 pub enum BodyLength {
-    /// The message has no body: the next message begins behind its head.
+    /// The message has no body: the next message begins after its head.
     NoBody,
     /// The body is chunks and a trailer section, which say where they end (section 7.1). Other
     /// codings may stand before `chunked`: what the chunks hold is then coded by these.
     Chunked,
-    /// The body is so many bytes.
+    /// The body is that many bytes.
     Length(u64),
     /// The body is all bytes up to the end of the connection.
     UntilClose,
-    /// What is behind the head is no body: the connection has become a tunnel.
+    /// What is after the head is no body: the connection has become a tunnel.
     Tunnel,
 }
 

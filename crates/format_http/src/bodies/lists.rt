@@ -13,7 +13,7 @@ fn comma_in(list: &[u8]) -> Option<usize>
     list.iter().position(|b| *b == b',')
 }
 
-/// What stands before the first comma of a list, and the list behind that comma, if there is one.
+/// What stands before the first comma of a list, and the list after that comma, if there is one.
 pub(crate) fn next_part<'i>(list: &'i [u8]) -> (&'i [u8], Option<&'i [u8]>)
     ensures { parts_of list.now ≡ result.0.now ∷ parts_in result.1 }
 {

@@ -78,7 +78,7 @@ fn without_end<'i>(text: &'i [u8], commas: bool) -> &'i [u8]
     left
 }
 
-/// Whether an element of a list may begin behind this text.
+/// Whether an element of a list may begin after this text.
 fn is_separated(front: &[u8]) -> bool
     ensures { IsTrue result ↔ IsSeparated front.now }
 {

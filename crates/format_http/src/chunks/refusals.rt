@@ -7,7 +7,7 @@
 //! lines: it backtracks there. The value of a Host field is not looked at, nor which codings there
 //! are before
 //! the last one: a server answers those that it does not know with status 501 (section 6.1). Nor is
-//! a transfer coding in a request of HTTP/1.0 refused, behind which a server closes the connection.
+//! a transfer coding in a request of HTTP/1.0 refused, after which a server closes the connection.
 #![tactic(auto)]
 
 ghost use Rattle.format_http.specs.Chunks.Framing.{HasNone, HasValue, content_length};
@@ -63,7 +63,7 @@ fn hosts_in(fields: &[Field<'_>]) -> usize
     hosts
 }
 
-/// Why a request of this line with so many Host fields is refused for these.
+/// Why a request of this line with that many Host fields is refused for these.
 fn host_refusal(line: &RequestLine<'_>, hosts: usize) -> Option<Refusal>
     ensures { IsHostRefusal line.now hosts result }
 {
@@ -121,7 +121,7 @@ fn framing_refusal(fields: &[Field<'_>]) -> Option<Refusal>
 ///
 /// All fields of one name count as one list. Elements of it that are empty are passed over, and
 /// `chunked` with parameters is another coding. Fields that are no lists of codings, as with a
-/// quote that is left open, are not told from others: their last coding is what is behind the last
+/// quote that is left open, are not told from others: their last coding is what is after the last
 /// comma.
 ///
 /// ```

@@ -26,7 +26,7 @@ use winnow::stream::{Partial, Stream};
 /// ```
 #[derive(Clone, Copy, Debug, PartialEq, Eq, Drop)]
 pub enum Size {
-    /// So many bytes.
+    /// That many bytes.
     Bytes(u64),
     /// 2<sup>64</sup> bytes or more. A recipient must not take such a numeral for a smaller one
     /// (RFC 9112, section 7.1), and refuses the message.
@@ -51,7 +51,7 @@ pub struct SizeLine<'i, A: Allocator> {
 }
 
 /// The size line with which the bytes begin: one hexadecimal digit or more, any number of
-/// extensions, and a line end. What is left is the data of the chunk, and what is behind that.
+/// extensions, and a line end. What is left is the data of the chunk, and what is after that.
 ///
 /// An error that backtracks says that no size line stands there; some bytes may then have been
 /// passed. Else memory for the list is wanting.
@@ -82,7 +82,7 @@ pub fn read_size_line<'i, A: Allocator + Copy>(
 /// As [`read_size_line`], from an input to which more may come. What it answers there, it answers
 /// whatever follows, and where it backtracks no size line stands whatever follows. It asks for
 /// more, by `Incomplete`, exactly where a size line is begun (`asks`), want of memory aside; a
-/// caller bounds how many bytes it holds then. Behind an error some bytes may have been passed:
+/// caller bounds how many bytes it holds then. After an error some bytes may have been passed:
 /// read again from the start, with more of them there.
 ///
 /// ```

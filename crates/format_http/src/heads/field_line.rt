@@ -1,5 +1,5 @@
 //! A header field line of HTTP/1.1 (RFC 9112, section 5): a name, a colon, a value, and a line end
-//! (a carriage return and a line feed). White space may stand before the value and behind it.
+//! (a carriage return and a line feed). White space may stand before the value and after it.
 #![tactic(auto)]
 
 ghost use Rattle.std.specs.List.{All};
@@ -82,7 +82,7 @@ fn read_name<'i>(input: &mut &'i [u8]) -> Result<&'i [u8], ErrMode<EmptyError>>
     terminated(name, b':').read(input)
 }
 
-/// A name and a colon, and a value behind them.
+/// A name and a colon, and a value after them.
 fn read_name_and_value<'i>(
     input: &mut &'i [u8],
 ) -> Result<(&'i [u8], &'i [u8]), ErrMode<EmptyError>>

@@ -1,8 +1,8 @@
 //! The head of a request of HTTP/1.1 (RFC 9112, section 2.1): a request line, field lines one
-//! behind the other, and an empty line.
+//! after the other, and an empty line.
 //!
 //! An empty line before the request line, which a server should pass over (section 2.2), is no part
-//! of it, and a line that goes on behind white space, which senders must not write, is no field
+//! of it, and a line that goes on after white space, which senders must not write, is no field
 //! line.
 #![tactic(auto)]
 
@@ -77,7 +77,7 @@ pub(crate) fn read_fields<'i, A: Allocator + Copy>(
     }
 }
 
-/// A request line and the fields behind it.
+/// A request line and the fields after it.
 fn read_parts<'i, A: Allocator + Copy>(
     alloc: A,
     input: &mut &'i [u8],
@@ -96,7 +96,7 @@ fn read_parts<'i, A: Allocator + Copy>(
 
 /// The head with which the bytes begin.
 ///
-/// An error leaves the input as it was: it wants memory, or says that no head stands there.
+/// An error leaves the input as it was: it is out of memory, or says that no head stands there.
 ///
 /// ```
 /// use format_http::heads::head::read_head;

@@ -7,7 +7,7 @@ ghost use Rattle.std.specs.Prelude.{◌≡◌, IfSome, List, None};
 
 use crate::heads::field_line::Field;
 
-/// The first field of this name, and the fields behind it. So a loop that goes on with those behind
+/// The first field of this name, and the fields after it. So a loop that goes on with those after
 /// it gives all fields of the name, in order, as the lines of a list field (RFC 9110, section 5.3).
 ///
 /// Names are the same in ASCII letters of either case. No memory is asked for.

@@ -36,7 +36,7 @@ pub struct RequestLine<'i> {
     pub target: &'i [u8],
     /// The number before the point of the version, below 10.
     pub major: u8,
-    /// The number behind the point of the version, below 10.
+    /// The number after the point of the version, below 10.
     pub minor: u8,
 }
 

@@ -31,7 +31,7 @@ impl ContainsToken<u8> for TokenBytes {
     }
 }
 
-/// The white space that may stand before a value and behind it.
+/// The white space that may stand before a value and after it.
 #[derive(Clone, Copy, Drop)]
 pub struct White;
 

@@ -20,7 +20,7 @@ use winnow::stream::{Partial, Range};
 use winnow::token::impls::TakeWhile;
 use winnow::token::take_while;
 
-/// The parsers of the name, the colon, the white space, the value with the white space behind it,
+/// The parsers of the name, the colon, the white space, the value with the white space after it,
 /// and the line end.
 type Line<I, E> = (
     TakeWhile<TokenBytes, I, E>,

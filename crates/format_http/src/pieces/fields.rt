@@ -1,4 +1,4 @@
-//! Field lines one behind the other, and the empty line behind them (RFC 9112, section 2.1).
+//! Field lines one after the other, and the empty line after them (RFC 9112, section 2.1).
 #![tactic(auto)]
 
 ghost use Rattle.std.specs.Prelude.{◌≡◌, ◌++◌, IfErr, IfOk, IsOk, List, Option, ℕ, map, true};
@@ -17,7 +17,7 @@ use winnow::error::{EmptyError, ErrMode, HasKind};
 use winnow::prelude::*;
 use winnow::stream::Partial;
 
-/// The empty line behind the fields: a carriage return and a line feed.
+/// The empty line after the fields: a carriage return and a line feed.
 fn read_line_end<'i>(input: &mut Partial<&'i [u8]>) -> Result<(), ErrMode<EmptyError>>
     ensures line { IfOk result (λ _.
         (⟦<Partial<&'static [u8]> as Stream>⟧.view input.old).left.tokens

@@ -21,9 +21,9 @@ use winnow::stream::Partial;
 /// The head with which bytes begin that come in pieces. It answers as soon as the empty line is
 /// there.
 ///
-/// An error leaves the input as it was. One that wants memory says that the list of fields could
-/// not grow, [`Incomplete`](ErrMode::Incomplete) that no head stands there and more input can make
-/// one, and each other error that no more input can.
+/// An error leaves the input as it was. One that is out of memory says that the list of fields
+/// could not grow, [`Incomplete`](ErrMode::Incomplete) that no head stands there and more input can
+/// make one, and each other error that no more input can.
 ///
 /// ```
 /// use format_http::pieces::head::read_head_in_pieces;

@@ -5,7 +5,7 @@ ghost use Rattle.std.specs.Prelude.{◌≡◌, List, ℕ};
 ghost use Rattle.format_http.specs.Heads.Head.{IsHead, Pair, Request};
 
 /// Bytes begin with one head at most: with one request line, one list of fields, and one rest
-/// behind them.
+/// after them.
 ///
 /// ```
 /// use format_http::pieces::laws;

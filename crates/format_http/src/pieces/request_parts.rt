@@ -13,7 +13,7 @@ use winnow::stream::Range;
 use winnow::token::impls::{OneOf, TakeWhile};
 use winnow::token::{one_of, take_while};
 
-/// The parsers of `HTTP/` behind a space, of the two digits and their point, and of the line end.
+/// The parsers of `HTTP/` after a space, of the two digits and their point, and of the line end.
 pub type Version<I, E> = (
     &'static [u8],
     OneOf<Digits, I, E>,
@@ -22,7 +22,7 @@ pub type Version<I, E> = (
     &'static [u8],
 );
 
-/// The parsers of the method, the space behind it, the target, and the rest of a request line.
+/// The parsers of the method, the space after it, the target, and the rest of a request line.
 pub type Line<I, E> = (
     TakeWhile<TokenBytes, I, E>,
     u8,

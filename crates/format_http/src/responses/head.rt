@@ -1,5 +1,5 @@
 //! The head of a response of HTTP/1.1 (RFC 9112, section 2.1): a status line, field lines one
-//! behind the other, and an empty line.
+//! after the other, and an empty line.
 #![tactic(auto)]
 
 ghost use Rattle.std.specs.Prelude.{◌≡◌, IfErr, map};
@@ -34,7 +34,7 @@ pub struct ResponseHead<'i, A: Allocator> {
     pub fields: Vec<Field<'i>, A>,
 }
 
-/// A status line and the fields behind it.
+/// A status line and the fields after it.
 fn read_parts<'i, A: Allocator + Copy>(
     alloc: A,
     input: &mut &'i [u8],
@@ -53,7 +53,7 @@ fn read_parts<'i, A: Allocator + Copy>(
 
 /// The head of a response with which the bytes begin.
 ///
-/// An error leaves the input as it was: it wants memory, or says that no head stands there.
+/// An error leaves the input as it was: it is out of memory, or says that no head stands there.
 ///
 /// ```
 /// use format_http::responses::head::read_response_head;
@@ -82,7 +82,7 @@ pub fn read_response_head<'i, A: Allocator + Copy>(
     }
 }
 
-/// How long the body behind the head of a response to a request of this method is, or why the
+/// How long the body after the head of a response to a request of this method is, or why the
 /// response is refused: [`body_length`].
 ///
 /// ```

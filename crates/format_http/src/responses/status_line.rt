@@ -32,15 +32,15 @@ use winnow::token::take_while;
 pub struct StatusLine<'i> {
     /// The number before the point of the version, below 10.
     pub major: u8,
-    /// The number behind the point of the version, below 10.
+    /// The number after the point of the version, below 10.
     pub minor: u8,
     /// The status code, below 1000.
     pub status: u16,
-    /// The reason, as it stands behind the space. It may have no bytes; a client ignores it.
+    /// The reason, as it stands after the space. It may have no bytes; a client ignores it.
     pub reason: &'i [u8],
 }
 
-/// The version, and the space behind it: the numbers of the version.
+/// The version, and the space after it: the numbers of the version.
 fn read_protocol<'i>(input: &mut &'i [u8]) -> Result<(u8, u8), ErrMode<EmptyError>>
     ensures reads { Reads bytes_reading ⟦<ErrMode<EmptyError> as HasKind>⟧.kind ProtocolStands
         (bytes_input input.old.now) result (bytes_input input.new.now) }

@@ -33,7 +33,7 @@ white_space c (inr (inr e)) = inr (inr (inl e))
 pub gap_written : Written IsGap GapText
 gap_written = run_written IsSpace IsMultispace space_white white_space
 
--- a byte, and white space behind it
+-- a byte, and white space after it
 abbrev pub IsMarked : ℕ → List ℕ → Type 0
 IsMarked c = BothText (IsByte (λ b. b ≡ c)) IsGap
 
@@ -276,7 +276,7 @@ module _ (I B : List ℕ → Type 0) (there : (cs : List ℕ) → I cs → BothT
       ∙ ap (λ l. l ++ f.second) (mark.joins ∙ ap (λ l. l ++ mark.second) comma)))
       ∙ simp append_assoc)
 
-  -- what stands behind the opening bracket, and before it
+  -- what stands after the opening bracket, and before it
   module _ (opens closes : ℕ) where
     abbrev Opened : List ℕ → Type 0
     Opened =

@@ -47,7 +47,7 @@ pub record Digits (P : ℕ → ℕ → Type 0) (cs : List ℕ) (u : ℕ) : Type 
   pub unit : UnitText u cs
   pub size : 4 ≤ length cs
 
--- a digit, and a text behind it
+-- a digit, and a text after it
 digit_then : {O : Type 0} (text : O → List ℕ → Type 0) (c d : ℕ) (o : O) (cs : List ℕ) → IsHex c d
     → text o cs → Both pair (For IsHex Whichever) text (d, o) (c ∷ cs)
 unfolding Both MadeText Whichever

@@ -1,11 +1,11 @@
--- What stands where an output decides what stands behind it.
+-- What stands where an output decides what stands after it.
 use Rattle.std.specs.Prelude.{◌⊎◌, List}
 use Rattle.std.proofs.Common.{subst, arith, inl, inr}
 use Rattle.grammars.specs.Grammar.{Grammar, IsUnique, TakesTokens}
 use Rattle.grammars.specs.Grammar.Same.{Same, same_sym}
 use Rattle.grammars.specs.Grammar.Unique.{end_of_end, no_longer_than}
 
--- An output stands, and behind it one of what is made of the first, by some part of the parser.
+-- An output stands, and after it one of what is made of the first, by some part of the parser.
 unfoldable pub FlatMapped : {F T O H U : Type 0} → (F → O → H → Type 0) → F → (H → Grammar T U)
     → Grammar T O → Grammar T U
 FlatMapped {T = T} {O} {H} makes part reads grammar tokens u rest =

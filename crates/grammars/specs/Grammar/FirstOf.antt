@@ -7,7 +7,7 @@ use Rattle.grammars.specs.Grammar.Alike.{either_same}
 use Rattle.grammars.specs.Grammar.Same.{Same, same_refl}
 use Rattle.grammars.specs.Grammar.Unique.{either_takes}
 
--- Of a branch and those behind it, the first of which something stands.
+-- Of a branch and those after it, the first of which something stands.
 abbrev pub FirstFrom : {P T O : Type 0} → (P → Grammar T O) → P → List P → Grammar T O
 FirstFrom grammar p [] = grammar p
 FirstFrom grammar p (q ∷ rest) = Either (grammar p) (FirstFrom grammar q rest)

@@ -20,7 +20,7 @@ abbrev pub StaysFolding : {H R O : Type 0} → (H → R → O → R → H → Ty
 StaysFolding {H} {R} {O} step op =
     (r : R) (o : O) (q : R) (h : H) → step op r o q h → h ≡ op
 
--- As many as stand one behind the other, as often as a range says, folded into a value.
+-- As many as stand one after the other, as often as a range says, folded into a value.
 abbrev pub Folded : {G R H T O : Type 0} → (G → R → G → Type 0) → G
     → (H → R → O → R → H → Type 0) → H → Range → Grammar T O → Grammar T R
 Folded starts init step op range grammar =

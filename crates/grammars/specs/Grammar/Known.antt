@@ -45,7 +45,7 @@ byte_takes x =
     literally_takes counted_reading (λ b xs. xs ≡ b ∷ []) (λ b _. b) x
     (λ e. omega (arith, ap (λ l. length l) e))
 
--- Items in a list stand one behind the other, enough of them, and none stands behind them.
+-- Items in a list stand one after the other, enough of them, and none stands after them.
 unfoldable pub Listed : {T O A : Type 0} → Grammar T O → ℕ → Grammar T (Vec O A)
 Listed grammar least tokens list rest =
     Each grammar tokens list.items rest × (least ≤ length list.items) × NoneStands grammar rest

@@ -1,4 +1,4 @@
--- What stands behind its length.
+-- What stands after its length.
 use Rattle.std.specs.Prelude.{◌≡◌, ℕ, List, [], ◌∷◌, ◌++◌, length}
 use Rattle.std.proofs.Common.{refl, sym, ap, subst, ◌∙◌, arith}
 use Rattle.streams.specs.Equal.{same_first, same_others}
@@ -7,18 +7,19 @@ use Rattle.grammars.specs.Grammar.Alike.{each_as}
 use Rattle.grammars.specs.Grammar.Same.{Same, same_sym}
 use Rattle.grammars.specs.Grammar.Unique.{each_ends, end_of_end, no_longer_than}
 
--- A length stands, and behind it what stands by the number that it says.
+-- A length stands, and after it what stands by the number that it says.
 unfoldable pub Sized : {T N O : Type 0} → (N → ℕ) → (ℕ → Grammar T O) → Grammar T N → Grammar T O
 Sized {T} {N} number behind length tokens o rest =
     (n : N) × (mid : List T) × length tokens n mid × behind (number n) mid o rest
 
--- So many tokens are first, and an output stands in them alone. What it leaves of them is dropped.
+-- That many tokens are first, and an output stands in them alone. What it leaves of them is
+-- dropped.
 unfoldable pub Inside : {T O : Type 0} → Grammar T O → ℕ → Grammar T O
 Inside {T} grammar n tokens o rest =
     (front : List T) × (end : List T) × (length front ≡ n) × (tokens ≡ front ++ rest)
     × grammar front o end
 
--- So many outputs stand one behind the other, held by an accumulator.
+-- That many outputs stand one after the other, held by an accumulator.
 unfoldable pub Times : {T O C : Type 0} → (C → List O → Type 0) → Grammar T O → ℕ → Grammar T C
 Times {O = O} holds grammar n tokens all rest =
     (os : List O) × holds all os × (length os ≡ n) × Each grammar tokens os rest
@@ -44,7 +45,7 @@ module _ {T N O : Type 0} (number : N → ℕ) (behind : ℕ → Grammar T O) {g
         (subst Q (says tokens m n mid2 mid z x) there);
   }
 
-  -- a length that takes tokens takes some with what stands behind it
+  -- a length that takes tokens takes some with what stands after it
   pub sized_takes : TakesTokens g → TakesTokens (Sized number behind g)
   unfolding Sized
   sized_takes takes = record {
@@ -55,7 +56,7 @@ module _ {T N O : Type 0} (number : N → ℕ) (behind : ℕ → Grammar T O) {g
     );
   }
 
--- beginnings of as many tokens are the same, and so is what is left behind them
+-- beginnings of as many tokens are the same, and so is what is left after them
 pub same_beginnings : {T : Type 0} (f g rest more : List T) → length f ≡ length g
     → f ++ rest ≡ g ++ more → (f ≡ g) × (rest ≡ more)
 same_beginnings [] [] rest more n e = (refl, e)
@@ -74,7 +75,7 @@ inside_unique g n = record {
 }
 
 module _ {T O : Type 0} {g : Grammar T O} (unique : IsUnique g) where
-  -- behind as many the same is left
+  -- after as many the same is left
   as_many_one : (os ps : List O) (tokens rest other : List T) → length os ≡ length ps
       → Each g tokens os rest → Each g tokens ps other → rest ≡ other
   as_many_one [] [] tokens rest other n e f = e ∙ sym f
@@ -94,7 +95,7 @@ module _ {T O : Type 0} {g : Grammar T O} (unique : IsUnique g) where
         as_many_one os ps tokens rest other (many ∙ sym many2) each each2;
   }
 
--- a length that takes tokens takes some with a parser's or with items behind it
+-- a length that takes tokens takes some with a parser's or with items after it
 module _ {T N O : Type 0} (number : N → ℕ) {g : Grammar T N} where
   pub sized_inside_takes : (h : Grammar T O) → IsUnique g → TakesTokens g
       → TakesTokens (Sized number (Inside h) g)

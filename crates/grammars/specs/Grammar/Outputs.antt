@@ -42,7 +42,7 @@ same_front (x ∷ f) (y ∷ g) rest more n e =
     ap (λ z. z ∷ f) (same_first e)
     ∙ ap (λ l. y ∷ l) (same_front f g rest more (omega (arith, n)) (same_others e))
 
--- beginnings of the same tokens behind which the same is left
+-- beginnings of the same tokens after which the same is left
 front_of : {T : Type 0} {tokens : List T} (f g rest more : List T) → tokens ≡ f ++ rest
     → tokens ≡ g ++ more → rest ≡ more → f ≡ g
 front_of f g rest more a b e = same_front f g rest more (omega (
@@ -115,7 +115,7 @@ both_alike {T} {O1} {O2} output {g1} {g2} unique first second = record {
       ∙ sym f;
 }
 
--- one of two that stand one behind the other
+-- one of two that stand one after the other
 pub first_alike : {T O1 O2 V : Type 0} (shown : O1 → V) {g1 : Grammar T O1} (g2 : Grammar T O2)
     → IsAlike shown g1 → IsAlike shown (Both (λ o1 o2. o1) g1 g2)
 unfolding Both

@@ -8,7 +8,7 @@ use Rattle.stream_searches.specs.Compare.{StandsFirst}
 use Rattle.stream_searches.specs.FindSlice.{Stands}
 pub mod Unique
 
--- Right behind the front a list that is sought stands, and none does at an earlier place.
+-- Right after the front a list that is sought stands, and none does at an earlier place.
 pub record IsBefore {T : Type 0} (sought : List T → Type 0) (tokens front rest : List T) : Type 0
   where
     pub splits : tokens ≡ front ++ rest
@@ -46,8 +46,8 @@ IsLineOf sought tokens front rest =
     IsBefore (sought (13, 10)) tokens front rest
     ⊎ (HasNoLineEnd sought tokens × (front ≡ tokens) × (rest ≡ []))
 
--- A line without its end, and a slice shows it. Where a carriage return is left behind it, a line
--- feed stands behind that.
+-- A line without its end, and a slice shows it. Where a carriage return is left after it, a line
+-- feed stands after that.
 unfoldable pub Line : {T L : Type 0} → Reading T L → (Bor (List ℕ) → List T → Type 0)
     → (ℕ × ℕ → List T → Type 0) → Grammar T L
 Line {T} reading spells sought tokens slice rest =

@@ -10,7 +10,7 @@ use Rattle.grammars.specs.Grammar.Unique.{each_ends, end_of_end}
 abbrev pub Turn : {T O D : Type 0} → Grammar T O → Grammar T D → Grammar T O
 Turn item till tokens o rest = NoneStands till tokens × item tokens o rest
 
--- The least number of items, and behind them items up to the first place where the terminator
+-- The least number of items, and after them items up to the first place where the terminator
 -- stands, no more in all than the greatest number; and the terminator.
 unfoldable pub UpTo : {T O D : Type 0} → Grammar T O → Grammar T D → Bounds
     → Grammar T (List O × D)
@@ -41,7 +41,7 @@ each_same {T} {O} {g} unique (o ∷ os) (p ∷ ps) tokens rest other n (mid, x, 
     (subst P (unique.one tokens o p mid mid2 x y) more) more2
 
 module _ {T O D : Type 0} (item : Grammar T O) (till : Grammar T D) (unique : IsUnique item) where
-  -- turns behind which a terminator stands are more than those behind which none does, and behind
+  -- turns after which a terminator stands are more than those after which none does, and after
   -- these an item stands
   pub more_turns : (os ps : List O) (tokens rest other end : List T) (d : D)
       → Each (Turn item till) tokens os rest → NoneStands till rest
@@ -61,7 +61,7 @@ module _ {T O D : Type 0} (item : Grammar T O) (till : Grammar T D) (unique : Is
       (subst P (unique.one tokens o p mid mid2 x y) more) none more2 z in
       (omega (arith, fewer), next)
 
-  -- behind the turns before a terminator the same is left
+  -- after the turns before a terminator the same is left
   pub turns_same : (os ps : List O) (tokens rest other end last : List T) (d e : D)
       → Each (Turn item till) tokens os rest → till rest d end
       → Each (Turn item till) tokens ps other → till other e last → rest ≡ other

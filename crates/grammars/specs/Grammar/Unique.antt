@@ -10,7 +10,7 @@ use Rattle.grammars.specs.Grammar.{Ahead, Both, Each, Either, Gathered, Grammar,
 use Rattle.grammars.specs.Grammar.{Literally, Made, Many, NoneStands, Nothing, Optional, Parted}
 use Rattle.grammars.specs.Grammar.{Repeated, Stops, Taken, TakesTokens, Token, TokenOf}
 
--- what is left behind what stands is no longer than the tokens
+-- what is left after what stands is no longer than the tokens
 pub no_longer_than : {T O : Type 0} {g : Grammar T O} → IsUnique g → (tokens : List T) (o : O)
     (rest : List T) → g tokens o rest → length rest ≤ length tokens
 no_longer_than unique tokens o rest x =
@@ -19,7 +19,7 @@ no_longer_than unique tokens o rest x =
 
 -- ---- literals
 
--- behind beginnings of as many units the same is left
+-- after beginnings of as many units the same is left
 pub one_front : {T L : Type 0} (reading : Reading T L) (front other rest more : List T)
     → front ++ rest ≡ other ++ more → reading.units front ≡ reading.units other → rest ≡ more
 one_front reading [] [] rest more e u = e
@@ -204,7 +204,7 @@ module _ {T O : Type 0} {g : Grammar T O} (unique : IsUnique g) where
   each_ends (o ∷ os) tokens rest (mid, x, more) =
       end_of_end (unique.ends tokens o mid x) (each_ends os mid rest more)
 
-  -- behind as many as stand the same is left
+  -- after as many as stand the same is left
   pub each_one : (greatest : Option ℕ) (k : ℕ) (os ps : List O) (n m : ℕ)
       (tokens rest other : List T) → n ≡ k + length os → m ≡ k + length ps
       → Each g tokens os rest → Stops g greatest n rest → Each g tokens ps other
@@ -232,7 +232,7 @@ module _ {T O : Type 0} {g : Grammar T O} (unique : IsUnique g) where
       each_one greatest (k + 1) os ps n m mid2 rest other (omega arith) (omega arith)
       (subst P (unique.one tokens o p mid mid2 x y) more) stops more2 ends
 
-  -- where none stands behind some, no more of them stand
+  -- where none stands after some, no more of them stand
   pub no_more : (os ps : List O) (tokens rest other : List T) → Each g tokens os rest
       → NoneStands g rest → Each g tokens ps other → length ps ≤ length os
   no_more [] [] tokens rest other e none f = omega arith

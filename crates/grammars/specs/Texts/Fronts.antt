@@ -1,4 +1,4 @@
--- What texts begin with, and what stands behind and before them.
+-- What texts begin with, and what stands after and before them.
 use Rattle.std.specs.Prelude.{◌≡◌, ◌<◌, ℕ, List, [], ◌∷◌, ◌++◌, length, Option, Some, None}
 use Rattle.std.specs.List.{All}
 use Rattle.std.proofs.Common.{refl, sym, ap, subst, inl, inr, ◌∙◌, arith, append_assoc}
@@ -45,7 +45,7 @@ pub may_begin_none : {T : Type 0} (these : T → Type 0) (tokens : List T) → A
 may_begin_none {T} these tokens e =
     let P : List T → Type 0 = λ l. MayBegin these l in subst P (sym e) tt
 
--- ---- what is behind, and what is made, may be other
+-- ---- what is after, and what is made, may be other
 
 module _ {T O : Type 0} {text : Text T O} {behind whole : List T → Type 0} where
   pub front_behind : {nearer : List T → Type 0} → ((rest : List T) → nearer rest → behind rest)
@@ -79,7 +79,7 @@ front_begins {these = these} {those} more begins = record {
   makes = λ o xs rest x b. may_begin these those more (xs ++ rest) (begins.makes o xs rest x tt);
 }
 
--- and so does what is empty or begins in one set, where what is behind it does
+-- and so does what is empty or begins in one set, where what is after it does
 pub front_may : {T O : Type 0} {text : Text T O} {these those : T → Type 0}
     {behind : List T → Type 0} → ((t : T) → these t → those t)
     → ((rest : List T) → behind rest → MayBegin those rest) → MayBeginIn these text

@@ -45,7 +45,7 @@ are_enough : {T O : Type 0} (least : ℕ) (text : Text T (List O)) (os : List O)
 are_enough zero text os tokens a = (a, omega arith)
 are_enough (suc n) text os tokens a = a
 
--- one behind the other
+-- one after the other
 module _ {T O : Type 0} {g : Grammar T O} {text : Text T O} {follow : List T → Type 0}
     (is : IsGrammarOf g text follow) where
   pub each_there : (os : List O) (tokens rest : List T) → Each g tokens os rest
@@ -60,7 +60,7 @@ module _ {T O : Type 0} {g : Grammar T O} {text : Text T O} {follow : List T →
         (xs, ys, a, b, refl),
       )
 
-  -- and behind each may stand what makes, with texts, such tokens again
+  -- and after each may stand what makes, with texts, such tokens again
   pub each_back : InFront text follow follow → (os : List O) (front rest : List T)
       → EachText text os front → follow rest
       → follow (front ++ rest) × Each g (front ++ rest) os rest
@@ -76,7 +76,7 @@ module _ {T O : Type 0} {g : Grammar T O} {text : Text T O} {follow : List T →
         (ys ++ rest, is.back o xs (ys ++ rest) a next, more),
       )
 
-  -- as many as stand: none stands behind them
+  -- as many as stand: none stands after them
   pub many_of : {ends : List T → Type 0} (bounds : Bounds) (least : ℕ)
       → bounds ≡ from_to least None → InFront text follow follow
       → ((rest : List T) → ends rest → follow rest)

@@ -118,7 +118,7 @@ token_of seen tells set d = record {
 
 module _ {X K T L : Type 0} (reading : Reading T L) (seen : K → T)
     (tells : X → K → Bool → Type 0) (set : X) {these those : T → Type 0} where
-  -- a take of members: none stands behind it
+  -- a take of members: none stands after it
   pub longest_of : (bounds : Bounds) (least : ℕ) → bounds ≡ from_to least None
       → Divides (AnswersSeen seen (tells set)) these those
       → IsGrammarOf (Longest reading seen tells set bounds) (Members reading these least)
@@ -152,7 +152,7 @@ module _ {X K T L : Type 0} (reading : Reading T L) (seen : K → T)
         );
   }
 
-  -- a take of so many members: anything stands behind it
+  -- a take of that many members: anything stands after it
   pub exactly_of : (bounds : Bounds) (n : ℕ) → bounds ≡ from_to n (Some n)
       → Divides (AnswersSeen seen (tells set)) these those
       → IsGrammarOf (Longest reading seen tells set bounds) (SoManyOf reading these n) Anything
@@ -191,7 +191,7 @@ module _ {X K T L : Type 0} (reading : Reading T L) (seen : K → T)
           let most : m ≤ n = subst P (ap (λ b. b.greatest) one) within in
           omega (arith, most, enough, ap (λ b. b.least) one)
 
--- the characters of a class: none stands behind them
+-- the characters of a class: none stands after them
 pub class_of : {K L : Type 0} (reading : Reading K L) (class : ℕ → Type 0) (code : K → ℕ)
     (least : ℕ) → IsGrammarOf (Class class least code (λ t. t) reading)
     (Members reading (λ t. class (code t)) least) (NotFirst (λ t. class (code t)))
@@ -199,7 +199,7 @@ class_of reading class code least =
     longest_of reading (λ t. t) (InClass class code) tt (from_to least None) least refl
     (divides_seen (InClass class code tt) (divides_where (λ t. class (code t))))
 
--- so many tokens
+-- that many tokens
 pub counted_of : {T L : Type 0} (reading : Reading T L) (n : ℕ)
     → IsGrammarOf (Counted reading n) (CountedText reading n) Anything
 unfolding Counted CountedText

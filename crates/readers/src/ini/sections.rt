@@ -31,7 +31,7 @@ pub struct Section<'i, A: Allocator> {
     pub pairs: Vec<(&'i str, &'i str), A>,
 }
 
-/// The parser of the pairs behind a section's name, each with the gap behind it.
+/// The parser of the pairs after a section's name, each with the gap after it.
 ///
 /// A struct of its own: the prover does not cover a repetition into a list as a member of a tuple
 /// at a reference with a named lifetime.
@@ -171,7 +171,7 @@ impl<'i, A: Allocator + Copy> Parser<
 /// Reads a document: any number of sections, each a name in brackets, as
 /// [`category`](crate::ini::category) reads it, and pairs, as
 /// [`key_value`](crate::ini::key_value) reads them, with white space and comments before, between
-/// and behind them. No pair stands before the first section.
+/// and after them. No pair stands before the first section.
 ///
 /// The answer is the sections in order, each with its pairs in order, repeats kept, as slices of
 /// the input. Other bytes are [`Fault::Refused`] at the place, in bytes from the start, where the

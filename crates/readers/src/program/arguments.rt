@@ -10,7 +10,7 @@ use std::env::Env;
 use std::io::{Error, ErrorKind, Read, Write};
 use std::process::ExitCode;
 
-/// The program: [`run`] with the words behind its name, which the runtime gives, and its status as
+/// The program: [`run`] with the words after its name, which the runtime gives, and its status as
 /// the exit code.
 ///
 /// Words that are not text are no reader's name: they give the usage line. Where there is no memory
@@ -68,7 +68,7 @@ fn status_over<A: Allocator + Copy, R: Env + Alloc<A = A>, I: Read, W: Write, E:
     }
 }
 
-/// The words behind the program's name, or why there are none.
+/// The words after the program's name, or why there are none.
 fn words<A: Allocator + Copy, R: Env + Alloc<A = A>>(rt: &R) -> Result<Vec<String<A>, A>, Stop> {
     let mut words = Vec::new(rt.alloc());
     for word in env::args(rt).map_err(stop_of)?.skip(1) {

@@ -17,7 +17,7 @@ pub(super) enum ReadFault {
 /// How many bytes one read asks for at most.
 const CHUNK: usize = 4096;
 
-/// One read of at most `most` bytes behind those of `bytes`. True at the end of the input.
+/// One read of at most `most` bytes after those of `bytes`. True at the end of the input.
 fn read_some<A: Allocator, R: Read>(
     input: &mut R,
     bytes: &mut Vec<u8, A>,

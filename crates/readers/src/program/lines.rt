@@ -50,7 +50,7 @@ pub(super) fn lines_of_sections<A: Allocator + Copy>(
     Ok(lines)
 }
 
-/// Puts the lines of a section behind others.
+/// Puts the lines of a section after others.
 fn push_section<A: Allocator + Copy>(
     lines: &mut Vec<u8, A>,
     section: &Section<'_, A>,
@@ -67,7 +67,7 @@ fn push_section<A: Allocator + Copy>(
     Ok(())
 }
 
-/// Puts the line of a pair behind others.
+/// Puts the line of a pair after others.
 fn push_pair<A: Allocator>(
     lines: &mut Vec<u8, A>,
     key: &[u8],

@@ -46,7 +46,7 @@ pub(crate) fn first_place(all: &[u8], literal: &[u8]) -> Option<usize>
     further_place(all, start, literal)
 }
 
-/// The first place from `start` on, behind tries that failed.
+/// The first place from `start` on, after tries that failed.
 #[inline(never)]
 fn further_place(all: &[u8], start: usize, literal: &[u8]) -> Option<usize>
     requires { start ≤ length all.now }

@@ -14,7 +14,7 @@ use Rattle.stream_sets.specs.Accumulator.{entries_kept}
 
 -- ---- values
 
--- what is found behind the same entries depends on what is found in the rest
+-- what is found after the same entries depends on what is found in the rest
 lookup_behind : {K X : Type 0} (test : K → Bool) (front rest others : List (K × X))
     → lookup test rest ≡ lookup test others
     → lookup test (front ++ rest) ≡ lookup test (front ++ others)
@@ -66,7 +66,7 @@ module _ {K X : Type 0} {R : K → K → Ordering} (order : IsTotalOrder R) wher
           ap (λ found. cond (test e.0) (Some e.1) found) rest
           ∙ cond_apart (test e.0) (test k) (apart is) (Some e.1) (Some v) (lookup test es)
 
-  -- behind some outputs, a key finds the last of these, and else what it found before
+  -- after some outputs, a key finds the last of these, and else what it found before
   entries_more : (q : K) (outputs : List (K × X)) (map all : BTreeMap K X)
       → FoldsTo (entries_kept R).takes map outputs all
       → lookup (is_at (R q)) all.entries ≡ lookup (is_at (R q)) (reverse outputs ++ map.entries)
@@ -176,7 +176,7 @@ module _ {K X : Type 0} {R : K → K → Ordering} (order : IsTotalOrder R) wher
       apart at_k at_e =
           true≢false (sym (ap is_eq (sym above.0 ∙ both_equal order q k e.0 at_k at_e)))
 
-  -- what is put in is found behind the keys that were there
+  -- what is put in is found after the keys that were there
   key_inserted : (q k : K) (v : X) (es : List (K × X)) → Ascend es
       → lookup_key (is_at (R q)) (insert_entry R es k v)
       ≡ lookup_key (is_at (R q)) (es ++ (k, v) ∷ [])
@@ -198,7 +198,7 @@ module _ {K X : Type 0} {R : K → K → Ordering} (order : IsTotalOrder R) wher
           (ap is_eq (alike_right order k e.0 q is) ∙ fails)))
       by Greater is rest = ap (λ found. cond (test e.0) (Some e.0) found) rest
 
-  -- behind some outputs, a key finds that which was there first
+  -- after some outputs, a key finds that which was there first
   keys_more : (q : K) (outputs : List (K × X)) (map all : BTreeMap K X) → Ascend map.entries
       → FoldsTo (entries_kept R).takes map outputs all
       → lookup_key (is_at (R q)) all.entries ≡ lookup_key (is_at (R q)) (map.entries ++ outputs)

@@ -55,7 +55,7 @@ HasNumber number os = number ≡ min (length os) (2 ^ 64 - 1)
 abbrev pub HasCharacters : {A : Type 0} → String A → List ℕ → Type 0
 HasCharacters text os = string_bytes text ≡ encode_utf8_all os
 
--- the texts, one behind the other
+-- the texts, one after the other
 abbrev pub HasTexts : {A : Type 0} → String A → List (Bor (List ℕ)) → Type 0
 HasTexts text os = string_bytes text ≡ flat_map (λ o. o.now) os
 

@@ -53,7 +53,7 @@ class_once {K} class code seen once x (t, is, has) (u, was, lacks) =
     let P : ℕ → Type 0 = λ n. class n in
     true_is_false (sym (lacks.1 (subst P same (has.0 refl))))
 
--- The characters of a class, at least so many.
+-- The characters of a class, at least that many.
 pub class_decided : {K T L : Type 0} (class : ℕ → Type 0) (least : ℕ) (code : K → ℕ) (seen : K → T)
     (reading : Reading T L) (form : ErrorForm) → SeenOnce seen code
     → IsDecided tt (Keeps (λ (_ : ⊤). ClassRuns class least code seen reading form))
@@ -65,7 +65,7 @@ class_decided class least code seen reading form once =
 
 -- ---- what it reads
 
--- The characters of a class, at least so many.
+-- The characters of a class, at least that many.
 module _ {K T L : Type 0} (class : ℕ → Type 0) (least : ℕ) (code : K → ℕ) (seen : K → T)
     (reading : Reading T L) (form : ErrorForm) where
   pub class_exact : SeesApart seen
@@ -79,7 +79,7 @@ module _ {K T L : Type 0} (class : ℕ → Type 0) (least : ℕ) (code : K → �
   class_fails = take_while_fails reading form seen (InClass class code) (λ s. s)
       (λ _. from_to least None) tt tt
 
--- so many characters of a class leave one rest
+-- that many characters of a class leave one rest
 pub class_unique : {K T L : Type 0} (class : ℕ → Type 0) (least : ℕ) (code : K → ℕ) (seen : K → T)
     (reading : Reading T L) → SeesApart seen → IsUnique (Class class least code seen reading)
 class_unique class least code seen reading apart =

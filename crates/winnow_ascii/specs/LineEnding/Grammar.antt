@@ -17,7 +17,7 @@ use Rattle.winnow_ascii.specs.Crlf.Known.{SpellsAscii, crlf_ascii, feed_ascii, r
 use Rattle.winnow_ascii.specs.LineEnding.Known.{IsLineEnd}
 use Rattle.winnow_ascii.specs.TillLineEnding.Known.{BehindLine, EndsLine, InLine, SeeksEnds}
 
--- Tokens among which is neither a carriage return nor a line feed; and behind them nothing, a line
+-- Tokens among which is neither a carriage return nor a line feed; and after them nothing, a line
 -- feed, or both characters.
 unfoldable pub LineText : {L : Type 0} → Reading ℕ L → Grammar ℕ L
 LineText reading tokens slice rest =

@@ -100,7 +100,7 @@ module _ {T L : Type 0} (reading : Reading T L) (form : ErrorForm)
           ok_is_err refl a
       stands i o j (inr (inr (inr (inr (k, lacks, a))))) = ok_is_err refl a
 
-      -- a carriage return stands behind the line, and no line feed behind that
+      -- a carriage return stands after the line, and no line feed after that
       lone : (i : Input T) (slice : L) (j : Input T) (return both : Bor (List ℕ))
           → return.now ≡ 13 ∷ [] → both.now ≡ 13 ∷ 10 ∷ []
           → LineRuns sought reading form i slice j → StandsFirst (spells return) j.left.tokens

@@ -47,7 +47,7 @@ text_seeks = record { list = λ xs either. by xs either; back = λ c is. back c 
     back c (inl e) = inl (ap (λ d. d ∷ []) e)
     back c (inr e) = inr (ap (λ d. d ∷ []) e)
 
--- What stands behind a line that is answered: nothing, a line feed, or both characters.
+-- What stands after a line that is answered: nothing, a line feed, or both characters.
 abbrev pub BehindLine : List ℕ → Type 0
 BehindLine tokens =
     (tokens ≡ [])

@@ -61,7 +61,7 @@ till_line_ending_alike {a} {b} {spells} {others} {sought} {searched} reading spe
     (same_by (λ s form. Keeps (λ _. TillLineEndingRuns s sought b form)) (facts_path spelled)))
     (same_by (λ s form. Keeps (λ _. TillLineEndingRuns others s b form)) (facts_path found))
 
--- a list that more stand behind stands first still
+-- a list that more stand after stands first still
 stands_more : {T : Type 0} (spelled : List T → Type 0) (tokens more : List T)
     → StandsFirst spelled tokens → StandsFirst spelled (tokens ++ more)
 stands_more spelled tokens more (front, rest, is, splits) =

@@ -136,7 +136,7 @@ where
 /// On a cut input with neither it is incomplete with an unknown need, and consumes nothing; under
 /// an error type with no mode it answers all that is left there too. Where what follows is a
 /// carriage return without a line feed, it backtracks, and the input stands at the carriage return;
-/// where a cut input ends behind that, it is incomplete with an unknown need, and the input stands
+/// where a cut input ends after that, it is incomplete with an unknown need, and the input stands
 /// there too.
 ///
 /// Known as `not_line_ending` in nom.

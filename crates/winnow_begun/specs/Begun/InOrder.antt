@@ -35,7 +35,7 @@ module _ {S1 S2 T O1 O2 O : Type 0} {run1 : Runs S1 T O1} {run2 : Runs S2 T O2}
         q.asks.asked a need t.1 j on (subst P (sym (same_kind e)) r2),
       )
 
-  -- what the second answers where it is begun behind what stands first
+  -- what the second answers where it is begun after what stands first
   behind_never : (i : Input T) (o : O1) (t : S1) (a : Input T) → IsCut i
       → run1 s.0 i (Ok o) t a → (answer : Answer O2) (u : S2) (j : Input T) → IsFinal answer
       → run2 s.1 a answer u j → Behind g1 b1 b2 i.left.tokens → ⊥
@@ -89,7 +89,7 @@ asks_along to there a = record {
 
 -- ---- three
 
--- three are one, and two behind it
+-- three are one, and two after it
 there3 : {S1 S2 S3 T O1 O2 O3 O : Type 0} (output : O1 → O2 → O3 → O) (run1 : Runs S1 T O1)
     (run2 : Runs S2 T O2) (run3 : Runs S3 T O3) (s : S1 × S2 × S3) (i : Input T)
     (answer : Answer O) (t : S1 × S2 × S3) (j : Input T)

@@ -27,7 +27,7 @@ below_known {n = n} e below = let P : Option ℕ → Type 0 = λ g. IsBelow g n 
 
 module _ {S T O : Type 0} {run : Runs S T O} {g : Grammar T O} {b : List T → Type 0} {s : S}
     (p : Part s run g b) where
-  -- the items of a chain stand one behind the other
+  -- the items of a chain stand one after the other
   pub chain_cut : (outputs : List O) (i : Input T) (u : S) (m : Input T) → IsCut i
       → FoldsTo (λ x o y. IsItem run x o y) (s, i) outputs (u, m)
       → (u ≡ s) × IsCut m × Each g i.left.tokens outputs m.left.tokens
@@ -41,7 +41,7 @@ module _ {S T O : Type 0} {run : Runs S T O} {g : Grammar T O} {b : List T → T
       let (last, still, each) = chain_cut os x.1 u m on (subst P same rest) in
       (last, still, (x.1.left.tokens, part_stands p i o x.0 x.1 may item.0, each))
 
-  -- Beside a chain, items behind which one is begun: they are as many, and one is begun at the end
+  -- Beside a chain, items after which one is begun: they are as many, and one is begun at the end
   -- of the chain; or they are more, and one stands there.
   abbrev Beside : ℕ → List O → Input T → List T → Type 0
   Beside n os m rest =

@@ -184,7 +184,7 @@ one_of_asks {S} {K} {T} seen reading member s c = leaf_asks c asked
     asked i need t j (inr (inl (x, rest, split, lacks, e, same)), kept) = back_asks (same_kind e)
     asked i need t j (inr (inr none), kept) = none_left_asks i need j none
 
--- ---- so many tokens
+-- ---- that many tokens
 
 pub take_asks : {S T L : Type 0} {alike : L → L → Type 0} (reading : Reading T L) (counts : Bool)
     (n : S → ℕ) (s : S) → IsDecided s (Keeps (λ y. TakeRuns reading modal counts (n y))) alike

@@ -1,4 +1,4 @@
--- Where data behind its length asks for more.
+-- Where data after its length asks for more.
 use Rattle.std.specs.Prelude.{◌<◌, ⊤, ℕ, Bool, List, length, Option, Some, Ok, Err}
 use Rattle.std.proofs.Common.{refl, sym, ap, subst, inl, inr, ◌∙◌, arith, length-append}
 use Rattle.streams.specs.Input.{Input}

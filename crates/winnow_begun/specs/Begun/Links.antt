@@ -1,4 +1,4 @@
--- Where links ask for more: a separator, and an element behind it.
+-- Where links ask for more: a separator, and an element after it.
 use Rattle.std.specs.Prelude.{ℕ, List, Option, Ok, Err}
 use Rattle.std.proofs.Common.{subst, inl, inr}
 use Rattle.streams.specs.Input.{Input}
@@ -15,7 +15,7 @@ use Rattle.winnow_separated.specs.Link.Laws.{link_exact, link_grows}
 module _ {S W T O D : Type 0} {run : Runs S T O} {separator : Runs W T D} {g : Grammar T O}
     {h : Grammar T D} {b c : List T → Type 0} {s : S × W} (p : Part s.0 run g b)
     (q : Part s.1 separator h c) where
-  -- behind a separator
+  -- after a separator
   behind_never : (i : Input T) (d : D) (t : W) (m : Input T) → IsCut i
       → separator s.1 i (Ok d) t m → (answer : Answer O) (u : S) (j : Input T) → IsFinal answer
       → run s.0 m answer u j → Behind h c b i.left.tokens → ⊥

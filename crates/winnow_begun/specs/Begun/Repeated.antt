@@ -53,7 +53,7 @@ module _ {S T O C : Type 0} {run : Runs S T O} {g : Grammar T O} {b : List T →
       )
   one_asked none i need t j may (inr (inr (o, r, grows, e))) = memory_asks (same_kind e)
 
-  -- an output of the first item, and items behind it
+  -- an output of the first item, and items after it
   behind_one : (i : Input T) (o : O) (v : S) (n : Input T) (one : C) (answer : Answer C) (t : S)
       (j : Input T) → IsCut i → IsFinal answer → run s i (Ok o) v n
       → ItemsRun run into cut (from_to 0 None) one v n answer t j

@@ -1,4 +1,4 @@
--- Where tuples of four to six parsers ask for more: where the first does, or what is behind it.
+-- Where tuples of four to six parsers ask for more: where the first does, or what is after it.
 use Rattle.std.specs.Prelude.{◌≡◌, List}
 use Rattle.std.proofs.Common.{refl, ap, inl, inr, ◌∙◌}
 use Rattle.streams.specs.Input.{Input}
@@ -32,7 +32,7 @@ rest_is5 {t = t} {s = s} e f g h i = ap (λ x. (x, t.1, t.2, t.3, t.4)) e
     ∙ ap (λ y. (s.0, y, t.2, t.3, t.4)) f ∙ ap (λ z. (s.0, s.1, z, t.3, t.4)) g
     ∙ ap (λ w. (s.0, s.1, s.2, w, t.4)) h ∙ ap (λ v. (s.0, s.1, s.2, s.3, v)) i
 
--- four are one, and three behind it
+-- four are one, and three after it
 along4 : {S1 S2 S3 S4 T O1 O2 O3 O4 : Type 0} (run1 : Runs S1 T O1)
     (run2 : Runs S2 T O2)
     (run3 : Runs S3 T O3)
@@ -79,7 +79,7 @@ four_asks {S1} {S2} {S3} {S4} {O2 = O2} {O3} {O4}
       asks = three_asks (λ o2 o3 o4. (o2, o3, o4)) p2 p3 p4;
     }))
 
--- five are one, and four behind it
+-- five are one, and four after it
 along5 : {S1 S2 S3 S4 S5 T O1 O2 O3 O4 O5 : Type 0} (run1 : Runs S1 T O1)
     (run2 : Runs S2 T O2)
     (run3 : Runs S3 T O3)
@@ -141,7 +141,7 @@ five_asks {S1} {S2} {S3} {S4} {S5} {O2 = O2} {O3} {O4} {O5}
       asks = four_asks p2 p3 p4 p5;
     }))
 
--- six are one, and five behind it
+-- six are one, and five after it
 along6 : {S1 S2 S3 S4 S5 S6 T O1 O2 O3 O4 O5 O6 : Type 0} (run1 : Runs S1 T O1)
     (run2 : Runs S2 T O2)
     (run3 : Runs S3 T O3)

@@ -14,7 +14,7 @@ use Rattle.winnow_numbers.specs.Digits.{IsIn, NoneFirst}
 use Rattle.winnow_numbers.specs.Numeral.{IsLeadingDigit, IsSign}
 use Rattle.winnow_token.specs.TakeUntil.Known.{StandsNowhere}
 
--- Some tokens, where more are asked for behind them.
+-- Some tokens, where more are asked for after them.
 abbrev pub Begun : Type 0 → Type 1
 Begun T = List T → Type 0
 
@@ -26,7 +26,7 @@ NeverBegun tokens = ⊥
 unfoldable pub NoneLeft : {T : Type 0} → Begun T
 NoneLeft tokens = tokens ≡ []
 
--- There are fewer than so many.
+-- There are fewer than that many.
 unfoldable pub Fewer : {T : Type 0} → ℕ → Begun T
 Fewer n tokens = length tokens < n
 
@@ -34,7 +34,7 @@ Fewer n tokens = length tokens < n
 unfoldable pub OnlyIf : {T : Type 0} → Bool → Begun T → Begun T
 OnlyIf condition begun tokens = (condition ≡ true) × begun tokens
 
--- The first is begun; or it stands, and behind it the second is begun.
+-- The first is begun; or it stands, and after it the second is begun.
 unfoldable pub Behind : {T O : Type 0} → Grammar T O → Begun T → Begun T → Begun T
 Behind {T} {O} grammar first second tokens =
     first tokens ⊎ ((o : O) × (mid : List T) × grammar tokens o mid × second mid)
@@ -44,15 +44,15 @@ unfoldable pub EitherBegun : {T O : Type 0} → Grammar T O → Begun T → Begu
 EitherBegun grammar first second tokens =
     first tokens ⊎ (NoneStands grammar tokens × second tokens)
 
--- One is begun behind some that stand one behind the other, and these are fewer than the greatest
+-- One is begun after some that stand one after the other, and these are fewer than the greatest
 -- number.
 unfoldable pub Among : {T O : Type 0} → Grammar T O → Begun T → Option ℕ → Begun T
 Among {T} {O} grammar begun greatest tokens =
     (os : List O) × (rest : List T) × Each grammar tokens os rest
     × IsBelow greatest (length os) × begun rest
 
--- Elements are wanted, and the first is begun; or it stands, and behind it and some more, each
--- behind a separator, a separator is begun, or an element behind one that stands; and those that
+-- Elements are wanted, and the first is begun; or it stands, and after it and some more, each
+-- after a separator, a separator is begun, or an element after one that stands; and those that
 -- stand are fewer than the greatest number.
 unfoldable pub Parting : {T O D : Type 0} → Grammar T O → Begun T → Grammar T D → Begun T
     → Option ℕ → Begun T
@@ -62,7 +62,7 @@ Parting {T} {O} element begun separator between greatest tokens =
     × Each (Both (λ d p. p) separator element) mid os rest
     × IsBelow greatest (length (o ∷ os)) × Behind separator between begun rest))
 
--- A length is begun; or one stands, and behind it what is begun by the number that it says.
+-- A length is begun; or one stands, and after it what is begun by the number that it says.
 unfoldable pub SizedBegun : {T N : Type 0} → (N → ℕ) → Grammar T N → Begun T → (ℕ → Begun T)
     → Begun T
 SizedBegun {T} {N} number length begun behind tokens =
@@ -77,14 +77,14 @@ BeforeBegun reading sought bounds tokens =
     × (m : IsFirstMatch reading.units sought tokens start end)
     × (length m.front < bounds.least) × (bounds.greatest ≡ Some most))
 
--- Nothing is there; or a digit from 1 to 9, and behind it nothing but digits.
+-- Nothing is there; or a digit from 1 to 9, and after it nothing but digits.
 unfoldable pub DigitsBegun : {K T : Type 0} → (K → T) → (K → ℕ) → Begun T
 DigitsBegun {K} {T} seen code tokens =
     (tokens ≡ [])
     ⊎ ((x : K) × (rest : List T) × (tokens ≡ seen x ∷ rest) × IsLeadingDigit (code x)
     × All (IsIn seen code IsDecDigit) rest)
 
--- The same, behind a sign or where none stands.
+-- The same, after a sign or where none stands.
 unfoldable pub SignedBegun : {K T : Type 0} → (K → T) → (K → ℕ) → Begun T
 SignedBegun {K} {T} seen code tokens =
     ((x : K) × (rest : List T) × (tokens ≡ seen x ∷ rest) × IsSign (code x)
@@ -105,7 +105,7 @@ LineEndBegun {T} spells tokens =
     × (IsShort (spells feed) tokens → ⊥)
     × IsShort (SpelledBy spells (13 ∷ 10 ∷ [])) tokens)
 
--- No line end stands anywhere; or a carriage return is the first, a line feed behind it is begun,
+-- No line end stands anywhere; or a carriage return is the first, a line feed after it is begun,
 -- and a slice shows what stands before it.
 unfoldable pub LineBegun : {T L : Type 0} → Reading T L → (Bor (List ℕ) → List T → Type 0)
     → (ℕ × ℕ → List T → Type 0) → Begun T

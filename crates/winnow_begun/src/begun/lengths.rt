@@ -1,4 +1,4 @@
-//! Data behind its length.
+//! Data after its length.
 ghost use Rattle.std.specs.Prelude.{Some};
 ghost use Rattle.stream_errors.specs.Form.{assert_kind, modal};
 ghost use Rattle.winnow_begun.specs.Begun.{part_of};
@@ -22,7 +22,7 @@ use streams::stream::{Stream, StreamIsPartial, UpdateSlice};
 use winnow_binary::binary::impls::{LengthAndThen, LengthRepeat, LengthTake};
 use winnow_core::parser::Parser;
 
-/// It asks for more where the length does, or where fewer tokens are behind it.
+/// It asks for more where the length does, or where fewer tokens are after it.
 impl<P: Begun<I, N, E>, I: StreamIsPartial, N: ToUsize + Drop, E: ParserError<I>> Begun<
     I,
     I::Slice,
@@ -42,7 +42,7 @@ impl<P: Begun<I, N, E>, I: StreamIsPartial, N: ToUsize + Drop, E: ParserError<I>
         (P.asks (length_take_count p)) is.0) is.1 };
 }
 
-/// It asks for more where the length does, or where fewer tokens are behind it.
+/// It asks for more where the length does, or where fewer tokens are after it.
 impl<
     P: Begun<I, N, E>,
     G: Parser<I, O, E>,
@@ -70,7 +70,7 @@ impl<
         (P.asks (length_and_then_count p)) is.0) is.1 };
 }
 
-/// It asks for more where the length does, or an item behind fewer than it says.
+/// It asks for more where the length does, or an item after fewer than it says.
 impl<
     P: Begun<I, N, E>,
     G: Begun<I, O, E>,

@@ -34,7 +34,7 @@ where
         I.one_code) };
 }
 
-/// The same, behind a sign or where none stands.
+/// The same, after a sign or where none stands.
 impl<I: StreamIsPartial + SlicesAsBytes, O: Int, E: ParserError<I>> Begun<I, O, E> for DecInt
 where
     I::Token: AsChar,

@@ -20,7 +20,7 @@ use streams::stream::Stream;
 use winnow_repeat::combinator::impls::Repeat;
 use winnow_separated::combinator::impls::Separated;
 
-/// It asks for more where its part does behind some that stand, fewer than the greatest number.
+/// It asks for more where its part does after some that stand, fewer than the greatest number.
 impl<
     P: Begun<I, O, E>,
     I: Stream,
@@ -45,7 +45,7 @@ impl<
         ((P.claimed (P.state (repeat_parser p))).takes is.0 is.2) is.3 };
 }
 
-/// It asks for more where an element or a separator does behind some that stand.
+/// It asks for more where an element or a separator does after some that stand.
 impl<
     P: Begun<I, O, E>,
     S: Begun<I, D, E>,

@@ -17,7 +17,7 @@ use stream_errors::parser_error::ParserError;
 use streams::stream::Stream;
 use winnow_comb::combinator::impls::{Delimited, Preceded, SeparatedPair, Terminated};
 
-/// It asks for more where the first does, or the second behind it.
+/// It asks for more where the first does, or the second after it.
 impl<P1: Begun<I, O1, E>, P2: Begun<I, O2, E>, I: Stream, O1: Drop, O2, E: ParserError<I>> Begun<
     I,
     O2,
@@ -39,7 +39,7 @@ impl<P1: Begun<I, O1, E>, P2: Begun<I, O2, E>, I: Stream, O1: Drop, O2, E: Parse
         (P2.asks (preceded_parser p)) is.1) };
 }
 
-/// It asks for more where the first does, or the second behind it.
+/// It asks for more where the first does, or the second after it.
 impl<
     P1: Begun<I, O1, E>,
     P2: Begun<I, O2, E>,
@@ -64,7 +64,7 @@ impl<
         (P2.asks (terminated_ignored p)) is.1) };
 }
 
-/// It asks for more where the first does, or one of the others behind those before it.
+/// It asks for more where the first does, or one of the others after those before it.
 impl<
     P1: Begun<I, O1, E>,
     P2: Begun<I, O2, E>,
@@ -96,7 +96,7 @@ impl<
         (P3.asks (separated_pair_second p)) is.2) };
 }
 
-/// It asks for more where the first does, or one of the others behind those before it.
+/// It asks for more where the first does, or one of the others after those before it.
 impl<
     P1: Begun<I, O1, E>,
     P2: Begun<I, O2, E>,

@@ -25,7 +25,7 @@ impl<I: Stream, E: ParserError<I>> Begun<I, (), E> for () {
     ghost asks = { λ p is. never_asks (λ i need t j r. empty_never r.0) };
 }
 
-/// It asks for more where the first does, or one of the others behind those before it.
+/// It asks for more where the first does, or one of the others after those before it.
 impl<I: Stream, O1: Drop, O2, E: ParserError<I>, P1: Begun<I, O1, E>, P2: Begun<I, O2, E>> Begun<
     I,
     (O1, O2),
@@ -44,7 +44,7 @@ impl<I: Stream, O1: Drop, O2, E: ParserError<I>, P1: Begun<I, O1, E>, P2: Begun<
         (part_of (P2.claimed (P2.state p.1)) P2.leaves_ends P2.ended (P2.asks p.1) is.1) };
 }
 
-/// It asks for more where the first does, or one of the others behind those before it.
+/// It asks for more where the first does, or one of the others after those before it.
 impl<
     I: Stream,
     O1: Drop,
@@ -71,7 +71,7 @@ impl<
         (part_of (P3.claimed (P3.state p.2)) P3.leaves_ends P3.ended (P3.asks p.2) is.2) };
 }
 
-/// It asks for more where the first does, or one of the others behind those before it.
+/// It asks for more where the first does, or one of the others after those before it.
 impl<
     I: Stream,
     O1: Drop,
@@ -102,7 +102,7 @@ impl<
         (part_of (P4.claimed (P4.state p.3)) P4.leaves_ends P4.ended (P4.asks p.3) is.3) };
 }
 
-/// It asks for more where the first does, or one of the others behind those before it.
+/// It asks for more where the first does, or one of the others after those before it.
 impl<
     I: Stream,
     O1: Drop,
@@ -138,7 +138,7 @@ impl<
         (part_of (P5.claimed (P5.state p.4)) P5.leaves_ends P5.ended (P5.asks p.4) is.4) };
 }
 
-/// It asks for more where the first does, or one of the others behind those before it.
+/// It asks for more where the first does, or one of the others after those before it.
 impl<
     I: Stream,
     O1: Drop,

@@ -1,4 +1,4 @@
--- A length and what stands behind it are decided.
+-- A length and what stands after it are decided.
 use Rattle.std.specs.Prelude.{◌≡◌, ℕ, Ok, Err}
 use Rattle.std.proofs.Common.{sym, subst, inl, inr, ◌∙◌}
 use Rattle.streams.specs.Input.{Input}

@@ -1,4 +1,4 @@
--- What holds of the runs of a length and of what stands behind it.
+-- What holds of the runs of a length and of what stands after it.
 use Rattle.std.specs.Prelude.{ℕ, Ok, Err, ◌≡◌, ◌⊎◌, false, List}
 use Rattle.std.proofs.Common.{inl, inr, refl, subst}
 use Rattle.streams.specs.Input.{is_end_of_trans, with_more, Input}
@@ -26,7 +26,7 @@ length_ends reading number count following first second s i answer t j (inr (k, 
     first s.0 i (Err k) t.0 j r
 
 module _ {T : Type 0} {following : Following T} where
-  -- a length, and what grows behind each number
+  -- a length, and what grows after each number
   pub length_grows : {S V N O : Type 0} (number : N → ℕ) (behind : ℕ → Runs V T O)
       {count : Runs S T N} → Grows following count
       → ((n : ℕ) → Grows following (behind n)) → Grows following (LengthRuns number count behind)

@@ -1,4 +1,4 @@
--- Parsers of so many tokens are decided.
+-- Parsers of that many tokens are decided.
 use Rattle.std.specs.Prelude.{◌≡◌, ◌<◌, ℕ, Bool, List, length}
 use Rattle.std.proofs.Common.{sym, ap, subst, inl, inr, ◌∙◌, arith, length-append}
 use Rattle.streams.specs.Input.{Input, Passes}

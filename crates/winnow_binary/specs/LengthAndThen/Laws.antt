@@ -1,4 +1,4 @@
--- What holds of the runs of a length and a parser of so many tokens.
+-- What holds of the runs of a length and a parser of that many tokens.
 use Rattle.std.specs.Prelude.{◌≡◌, ℕ, Bool, false, List, Err, ◌⊎◌, ◌++◌, length, Ok}
 use Rattle.std.proofs.Common.{ap, subst, ◌∙◌, inl, inr, refl, sym, arith, length-append}
 use Rattle.streams.specs.Input.{Input, Status, Takes, passes_end}
@@ -99,7 +99,8 @@ length_and_then_agrees number part1 other_part1 part2 other_part2 {a} {b} {count
 
 module _ {T : Type 0} {following : Following T} where
   module _ {L : Type 0} (reading : Reading T L) (counts : Bool) where
-    -- so many tokens as an input of their own, which no more input changes: whatever the parser is
+    -- that many tokens as an input of their own, which no more input changes: whatever the parser
+    -- is
     taken_grows : {V O : Type 0} (run : Runs V T O) (n : ℕ)
         → Grows following (TakenRuns reading modal counts run n)
     taken_grows run n more flag s i answer t j may final
@@ -120,7 +121,7 @@ module _ {T : Type 0} {following : Following T} where
 
 -- ---- what it reads
 
--- ---- a parser of so many tokens
+-- ---- a parser of that many tokens
 
 module _ {S T L O : Type 0} (reading : Reading T L) (form : ErrorForm) (counts : Bool)
     {run : Runs S T O} {g : Grammar T O} {s : S} (c : IsExact s run g) (n : ℕ) where

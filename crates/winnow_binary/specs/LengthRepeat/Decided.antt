@@ -1,4 +1,4 @@
--- So many items are decided.
+-- That many items are decided.
 use Rattle.std.specs.Prelude.{ℕ, List, Some}
 use Rattle.streams.specs.Kind.{Kind}
 use Rattle.stream_sets.specs.Accumulator.{Accumulator}

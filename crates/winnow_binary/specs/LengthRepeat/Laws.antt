@@ -1,4 +1,4 @@
--- What holds of the runs of a length and so many items.
+-- What holds of the runs of a length and that many items.
 use Rattle.std.specs.Prelude.{ℕ, Some, ◌≡◌, ◌⊎◌, false, List, Ok, Err}
 use Rattle.std.proofs.Common.{inr, sym, refl, ap, inl, ◌∙◌, arith}
 use Rattle.streams.specs.Equal.{same_some}
@@ -33,19 +33,19 @@ length_repeat_ends reading number into assert_kind count run first second =
     (λ n. many_ends reading run into assert_kind (from_to n (Some n)) second)
 
 module _ {T : Type 0} {following : Following T} where
-  -- so many items
+  -- that many items
   pub length_repeat_grows : {S V N O C : Type 0} (number : N → ℕ) (into : Accumulator C O)
       (asserted : Kind) {count : Runs S T N} (run : Runs V T O) → Grows following count
       → Grows following run → Grows following (LengthRepeatRuns number into asserted count run)
   length_repeat_grows number into asserted run reads items =
       length_grows number _ reads (λ n. many_grow run into asserted (from_to n (Some n)) items)
 
--- ---- so many items
+-- ---- that many items
 
 module _ {S T O C : Type 0} {run : Runs S T O} {g : Grammar T O} (into : Accumulator C O)
     (asserted : Kind) (holds : C → List O → Type 0) {s : S} (keeps : Holds into holds)
     (c : IsExact s run g) (f : IsSoft s run) (takes : TakesTokens g) (n : ℕ) where
-  -- as many items as may be are so many
+  -- as many items as may be are that many
   exactly : {all : C} (os : List O) (tokens rest : List T) → holds all os
       → Many g (from_to n (Some n)) tokens os rest → Times holds g n tokens all rest
   unfolding Many Times

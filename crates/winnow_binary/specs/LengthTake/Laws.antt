@@ -1,4 +1,4 @@
--- What holds of the runs of a length and so many tokens.
+-- What holds of the runs of a length and that many tokens.
 use Rattle.std.specs.Prelude.{◌≡◌, ℕ, Bool, ⊤, false, length}
 use Rattle.std.proofs.Common.{subst, refl, ap}
 use Rattle.streams.specs.Reading.{Reading}
@@ -48,7 +48,7 @@ length_take_agrees number part other_part {a} {b} {counts} {others} {state} {oth
 
 module _ {T : Type 0} {following : Following T} where
   module _ {L : Type 0} (reading : Reading T L) (counts : Bool) where
-    -- so many tokens
+    -- that many tokens
     take_grows : (n : ℕ)
         → Grows following (Keeps {S = ⊤} (λ _. TakeRuns reading modal counts n))
     take_grows n = grows (λ s i answer t j r. take_ends reading modal counts n i answer j r.0)
@@ -64,7 +64,7 @@ module _ {T : Type 0} {following : Following T} where
 
 -- ---- tokens
 
--- so many tokens, as a run by no state
+-- that many tokens, as a run by no state
 module _ {T L : Type 0} (reading : Reading T L) (form : ErrorForm) (counts : Bool) where
   some_exact : (n : ℕ) → IsExact tt (Keeps (λ (_ : ⊤). TakeRuns reading form counts n))
       (Counted reading n)
@@ -90,7 +90,7 @@ module _ {S T N L : Type 0} (number : N → ℕ) (reading : Reading T L) (form :
   length_take_fails c f = fails_along (λ x. (x, tt)) (λ i answer t j r. r)
       (length_fails number c f (some_fails reading form counts))
 
--- a length that takes tokens takes some with those behind it
+-- a length that takes tokens takes some with those after it
 pub length_take_takes : {S T N L : Type 0} (number : N → ℕ) (reading : Reading T L)
     {count : Runs S T N} {g : Grammar T N} {s : S} → IsExact s count g → TakesTokens g
     → TakesTokens (Sized number (Counted reading) g)

@@ -1,4 +1,4 @@
--- Takes behind their length as parts of what a composition reads.
+-- Takes after their length as parts of what a composition reads.
 use Rattle.std.specs.Prelude.{◌≡◌, ℕ, Bool, List, ◌++◌, length, Ok, Err}
 use Rattle.std.specs.Borrow.{Bor}
 use Rattle.std.proofs.Common.{refl, sym, ap, subst, ◌∙◌, append_assoc, inl, inr}
@@ -13,7 +13,7 @@ use Rattle.winnow_binary.specs.LengthTake.{LengthTakeRuns}
 
 module _ {S T N : Type 0} (number : N → ℕ) (form : ErrorForm) (counts : Bool) (count : Runs S T N)
   where
-    -- what a take behind its length means over bytes and token lists
+    -- what a take after its length means over bytes and token lists
     abbrev pub LengthTakeOf : Runs S T (Bor (List T))
     LengthTakeOf = LengthTakeRuns number counted_reading form counts count
 

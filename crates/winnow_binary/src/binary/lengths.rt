@@ -1,4 +1,4 @@
-//! Parsers of data behind its length.
+//! Parsers of data after its length.
 ghost use Rattle.std.specs.Prelude.{◌≡◌};
 ghost use Rattle.winnow_binary.specs.LengthAndThen.{length_and_then_count, length_and_then_parser};
 ghost use Rattle.winnow_binary.specs.LengthRepeat.{length_repeat_count, length_repeat_parser};
@@ -7,10 +7,10 @@ ghost use Rattle.winnow_binary.specs.LengthTake.{length_take_count};
 use crate::binary::impls::{LengthAndThen, LengthRepeat, LengthTake};
 use std::marker::PhantomData;
 
-/// A parser of a length, by `count`, and of so many tokens behind it; the output is their slice.
+/// A parser of a length, by `count`, and of that many tokens after it; the output is their slice.
 ///
 /// A failure of `count` is handed on. Where there are fewer tokens it fails, and the input stands
-/// behind the length; on a cut input it is incomplete there: the need is how many units are
+/// after the length; on a cut input it is incomplete there: the need is how many units are
 /// missing, and unknown over text. No memory is taken.
 ///
 /// Known as `length_data` in nom.
@@ -32,12 +32,12 @@ pub fn length_take<Input, Count, Error, CountParser>(
     }
 }
 
-/// A parser of a length, by `count`, and of so many tokens behind it, by `parser`, which is run on
+/// A parser of a length, by `count`, and of that many tokens after it, by `parser`, which is run on
 /// these alone; what it leaves of them is dropped.
 ///
 /// A failure of `count` is handed on. Where there are fewer tokens it fails, and the input stands
-/// behind the length; on a cut input it is incomplete there: the need is how many units are
-/// missing, and unknown over text. Else the input stands behind the tokens, whatever `parser`
+/// after the length; on a cut input it is incomplete there: the need is how many units are
+/// missing, and unknown over text. Else the input stands after the tokens, whatever `parser`
 /// answers; to it no more input comes, so an error of it that asks for more backtracks, and another
 /// one is handed on. No memory is taken.
 ///
@@ -63,13 +63,13 @@ pub fn length_and_then<Input, Output, Count, Error, CountParser, ParseNext>(
     }
 }
 
-/// A parser of a length, by `count`, and of so many items behind it, by `parser`, whose outputs are
-/// put into an accumulator: `()` keeps nothing, a `Vec` keeps them in order.
+/// A parser of a length, by `count`, and of that many items after it, by `parser`, whose outputs
+/// are put into an accumulator: `()` keeps nothing, a `Vec` keeps them in order.
 ///
 /// A failure of `count` is handed on, and so is each failure of `parser`. Each item must consume,
-/// else it is an assert error; where the length is 0 nothing is run behind it. The input stands
+/// else it is an assert error; where the length is 0 nothing is run after it. The input stands
 /// where the last run left it. Memory is taken by the accumulator alone; where that could not grow,
-/// the error is want of memory.
+/// the error is out of memory.
 ///
 /// Known as `length_count` in nom.
 ///

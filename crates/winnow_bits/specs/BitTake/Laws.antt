@@ -43,7 +43,7 @@ module _ {L : Type 0} (reading : Reading Bool L) where
     passes = passes_more more flag r.passes;
   }
 
-  -- so many bits, as a number
+  -- that many bits, as a number
   pub bit_take_stays : {O : Type 0} (number : O → ℕ) (width n : ℕ)
       → Stays (BitTakeRuns number width reading modal n)
   bit_take_stays number width n more flag i answer j is_cut final

@@ -134,7 +134,7 @@ module _ {L : Type 0} (reading : Reading ℕ L) (counts : CountsBytes reading) (
       (ap (λ m. i.left.place.passed + m * step) (omega arith)) (omega arith)
       ∙ sym (bytes_move reading counts n i.left.place between)
 
-  -- behind the bits read, the bytes of which none was read are left
+  -- after the bits read, the bytes of which none was read are left
   pub leaves_whole : LeavesWholeBytes reading i k j
   leaves_whole = record {
     begun = take n i.left.tokens;

@@ -90,7 +90,7 @@ bytes_of_bits_ends reading counts form run ends s i answer t j
 bytes_of_bits_ends reading counts form run ends s i answer t j
     (inr (inr (cannot, kept, e, same))) = same_ends (bits_reading reading) i j same
 
--- the bytes behind the rest of a byte begun
+-- the bytes after the rest of a byte begun
 pub whole_behind : {L : Type 0} (reading : Reading ℕ L) (i j : Input ℕ) (offset bits : ℕ)
     → Moves reading i j offset bits → (offset + bits) % 8 ≡ 0 → bits < 8
     → All (λ b. b < 256) j.left.tokens → j.left.place.bits_read ≡ 0

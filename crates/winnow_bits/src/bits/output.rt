@@ -27,8 +27,8 @@ pub trait BitOutput: Copy + Default + PartialEq {
         requires fits { 2 * number self + bit_number bit < 2 ^ WIDTH }
         ensures { number result ≡ 2 * number self + bit_number bit };
 
-    /// The number with `count` bits behind it, as `count` calls of `push_bit` make it. The caller
-    /// owes at most 8 bits, a number of so many bits, and that the result fits.
+    /// The number with `count` bits after it, as `count` calls of `push_bit` make it. The caller
+    /// owes at most 8 bits, a number of that many bits, and that the result fits.
     fn push_bits(self, bits: u8, count: usize) -> Self
         requires few { count ≤ 8 }
         requires below { bits < 2 ^ count }

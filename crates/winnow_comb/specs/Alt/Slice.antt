@@ -6,7 +6,7 @@ use Rattle.winnow_core.specs.Runs.{Runs}
 pub mod Decided
 pub mod Laws
 
--- Each of these branches backtracked, and the input went back to the start behind it.
+-- Each of these branches backtracked, and the input went back to the start after it.
 abbrev pub Backtracked : {S T O : Type 0} → Runs S T O → Remaining T → List S → Input T → List S
     → Input T → Type 0
 Backtracked run start [] i [] j = j ≡ i
@@ -21,7 +21,7 @@ abbrev pub AltSliceRuns : {S T O : Type 0} → Runs S T O → Kind → Runs (Lis
 AltSliceRuns {S} {T} {O} run assert_kind s i answer t j =
     -- there is none
     ((s ≡ []) × (t ≡ []) × (answer ≡ Err assert_kind) × (j ≡ i))
-    -- the branch x answers, behind some that backtracked: it does not backtrack, or it is the last
+    -- the branch x answers, after some that backtracked: it does not backtrack, or it is the last
     ⊎ ((before : List S) × (x : S) × (rest : List S) × (ran : List S) × (y : S) × (m : Input T)
     × (s ≡ before ++ x ∷ rest) × (t ≡ ran ++ y ∷ rest) × Backtracked run i.left before i ran m
     × run x m answer y j × (answer ≡ Err backtrack → rest ≡ []))

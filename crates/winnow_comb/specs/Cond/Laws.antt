@@ -116,7 +116,7 @@ when_unique {T} {O} condition {g} unique = record {
         true_is_false (sym holds ∙ fails)
     one tokens rest other o p (inr (fails, e, same)) (inr (never, d, is)) = same ∙ sym is
 
--- what is run on a condition, without what is said of the condition behind it
+-- what is run on a condition, without what is said of the condition after it
 abbrev CondWay : {S T O : Type 0} → Runs S T O → S × Bool → Input T → Answer (Option O) → S
     → Input T → Type 0
 CondWay {O = O} run s i answer t j =

@@ -1,4 +1,4 @@
--- What a caller knows of one run of a child behind one whose output is let go. Of a failure
+-- What a caller knows of one run of a child after one whose output is let go. Of a failure
 -- `both_err` of InOrder.Known says what is known.
 use Rattle.std.specs.Prelude.{Ok}
 use Rattle.std.proofs.Common.{sym, subst}

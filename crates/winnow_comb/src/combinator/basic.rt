@@ -19,7 +19,7 @@ use streams::stream::Stream;
 /// A parser of `parser` or of nothing.
 ///
 /// Where `parser` backtracks the output is `None`, and the input is back at the start. Its other
-/// errors, cut, incomplete and want of memory, are handed on, with the input as it left it.
+/// errors, cut, incomplete and out of memory, are handed on, with the input as it left it.
 ///
 /// ```
 /// assert_eq!(rt; opt('a').parse_peek("ab"), Ok::<_, EmptyError>(("b", Some('a'))));
@@ -90,7 +90,7 @@ pub fn peek<Input, Output, Error, ParseNext>(
 /// A parser that succeeds where `parser` does not, and consumes nothing.
 ///
 /// Where `parser` backtracks the output is `()`, and where it succeeds this backtracks. Its other
-/// errors, cut, incomplete and want of memory, are handed on. In each case the input is back at
+/// errors, cut, incomplete and out of memory, are handed on. In each case the input is back at
 /// the start.
 ///
 /// ```
@@ -116,8 +116,8 @@ pub fn not<Input, Output, Error, ParseNext>(
 
 /// A parser that cuts where `parser` backtracks, so that no other branch is tried.
 ///
-/// An output is handed on, and so is an error that cuts, is incomplete or wants memory. The input
-/// stands where `parser` left it.
+/// An output is handed on, and so is an error that cuts, is incomplete or is out of memory. The
+/// input stands where `parser` left it.
 ///
 /// Known as `cut` in nom.
 ///
@@ -143,8 +143,8 @@ pub fn cut_err<Input, Output, Error, ParseNext>(
 
 /// A parser that backtracks where `parser` cuts, so that another branch may be tried.
 ///
-/// An output is handed on, and so is an error that backtracks, is incomplete or wants memory. The
-/// input stands where `parser` left it.
+/// An output is handed on, and so is an error that backtracks, is incomplete or is out of memory.
+/// The input stands where `parser` left it.
 ///
 /// ```
 /// let mut input = "b";

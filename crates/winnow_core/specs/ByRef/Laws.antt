@@ -1,4 +1,4 @@
--- What holds of the runs of the parser behind a reference.
+-- What holds of the runs of the parser after a reference.
 use Rattle.streams.specs.Kind.{Kind}
 use Rattle.streams.specs.Reading.{Reading}
 use Rattle.streams.specs.Following.{Following}

@@ -326,7 +326,7 @@ module _ {S T O U : Type 0} {run : Runs S T O} {s : S} {alike : O → O → Type
           (t, Ok o, a, r, inr (k, (read, same_kind f), e, back), λ is. is)
       ran i answer t j free (inr (inr (k, r, kept, e))) = (t, Err k, j, r, (e, refl), λ is. is)
 
--- ---- a parser behind a reference
+-- ---- a parser after a reference
 
 pub by_ref_decided : {S T O : Type 0} {run : Runs S T O} {s : S × ℕ} {alike : O → O → Type 0}
     → IsDecided s.0 run alike → IsDecided s (ByRefRuns run) alike

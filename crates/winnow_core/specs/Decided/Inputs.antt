@@ -24,7 +24,7 @@ same_parts {T} a b tokens place possible status =
     ∙ ap (λ q. make b.left.tokens b.left.place q a.status) possible
     ∙ ap (λ s. make b.left.tokens b.left.place b.left.possible s) status
 
--- what is left behind the same tokens is the same
+-- what is left after the same tokens is the same
 pub same_passed : {T L : Type 0} {reading : Reading T L} (front : List T) {i j k : Input T}
     → Passes reading front i j → Passes reading front i k → j ≡ k
 same_passed front {j = j} {k = k} p q = same_parts j k

@@ -18,8 +18,8 @@ pub record IsMadeOf {S R T O U : Type 0}
       → (m : S) × (b : Answer O) × (a : Input T) × run s i b m a × becomes i b a answer j
       × (m ≡ s → t ≡ r)
 
--- What becomes of an answer that wants memory wants it too. What becomes of two that are alike is
--- alike, at one place, where nothing changes but what is left.
+-- What becomes of an answer that is out of memory wants it too. What becomes of two that are alike
+-- is alike, at one place, where nothing changes but what is left.
 pub record Carries {T O U : Type 0}
     (becomes : Input T → Answer O → Input T → Answer U → Input T → Type 0)
     (alike : O → O → Type 0) (also : U → U → Type 0) : Type 0 where

@@ -69,7 +69,7 @@ memory_allowed unless is = record {
 pub wanted : {b m : Type 0} → (m → ⊥) → Allowed b m memory
 wanted unless = memory_allowed unless refl
 
--- of a kind that lets others be tried, or wants memory
+-- of a kind that lets others be tried, or is out of memory
 soft_kind : {b m : Type 0} → b → (k : Kind) → Allowed b m k → (k ≡ memory) ⊎ (k ≡ backtrack)
 soft_kind b backtrack may = inr refl
 soft_kind b cut may = absurd (may.lets_others b refl)

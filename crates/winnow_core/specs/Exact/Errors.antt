@@ -19,7 +19,7 @@ use Rattle.winnow_core.specs.MapErrKept.{KeepsEachKind, MapErrKeptBecomes, MapEr
 use Rattle.winnow_core.specs.Runs.{Runs}
 use Rattle.winnow_core.specs.States.{pair_is}
 
--- What changes errors is after each as it was, and a kind stays or becomes a want of memory.
+-- What changes errors is after each as it was, and a kind stays or becomes out of memory.
 pub record KeepsKinds {G : Type 0} (becomes : G → Kind → Kind → G → Type 0) (f : G) : Type 0 where
   pub stays : (k l : Kind) (h : G) → becomes f k l h → h ≡ f
   pub kind : (k l : Kind) (h : G) → becomes f k l h → (l ≡ k) ⊎ (l ≡ memory)
@@ -112,7 +112,7 @@ context_fails {s = s} {allowed} is_clone clones unless refuses f =
       | inr (inr (whole, not, is)) ↦ subst allowed (sym is) (unless not)
     ]) f
 
--- An error is converted to one of its kind, or to a want of memory.
+-- An error is converted to one of its kind, or to out of memory.
 abbrev pub SameKinds : {E D : Type 0} → (E → Kind) → (D → Kind) → (E → D → Type 0) → Type 0
 SameKinds {E} {D} kind new_kind converts = (old : E) (new : D) → converts old new
     → (new_kind new ≡ kind old) ⊎ (new_kind new ≡ memory)

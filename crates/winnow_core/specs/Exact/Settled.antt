@@ -24,7 +24,7 @@ use Rattle.winnow_core.specs.Verify.{VerifySettles}
 use Rattle.winnow_core.specs.VerifyMap.{VerifyMapRuns}
 
 -- What settles outputs is after each as it was. What it accepts and rejects is so in these words,
--- and it rejects by a backtrack, or wants memory.
+-- and it rejects by a backtrack, or is out of memory.
 pub record Settler {G O U : Type 0} (settle : G → O → Answer U → G → Type 0)
     (accepts : G → O → U → Type 0) (rejects : G → O → Type 0) (f : G) : Type 0 where
   pub stays : (o : O) (answer : Answer U) (h : G) → settle f o answer h → h ≡ f

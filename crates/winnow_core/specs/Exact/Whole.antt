@@ -30,14 +30,14 @@ IsRefused (Refused e) = ⊤
 IsRefused (Incomplete needed) = ⊥
 
 -- What all tokens are by a grammar. An output stands, and nothing is left; a fault says that none
--- stands so, or wants memory, and asks for no more tokens.
+-- stands so, or is out of memory, and asks for no more tokens.
 pub record ReadsAll {I T O X : Type 0} (inner_kind : X → Kind) (grammar : Grammar T O)
     (tokens : List T) (result : Result O (ParseFault I X Needed)) : Type 0 where
   pub stands : IfOk result (λ o. grammar tokens o [])
   pub none : IfErr result (λ fault. IsWant inner_kind fault ⊎ ((o : O) → grammar tokens o [] → ⊥))
   pub whole : IfErr result (λ fault. IsRefused fault)
 
--- where a run wants memory, the fault does
+-- where a run is out of memory, the fault does
 fault_wants : {I T X : Type 0} (view : I → Input T) (units : List T → ℕ) (inner_kind : X → Kind)
     (i j : Input T) (k : Kind) (fault : ParseFault I X Needed) → k ≡ memory
     → IsFaultAt view units inner_kind i.left j k fault → IsWant inner_kind fault

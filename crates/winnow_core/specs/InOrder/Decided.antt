@@ -57,7 +57,7 @@ module _ {S1 S2 T O1 O2 O : Type 0} {output : O1 → O2 → O} {run1 : Runs S1 T
           let (same2, still2) = c2.kept a (Err k) t.1 j (err_not_memory e free) r2 in
           (pair_is same1 same2, still2 ∙ still1)
 
-      -- the second child, behind the first
+      -- the second child, after the first
       second : (i a b : Input T) (o1 p1 : O1) (x y : Answer O2) (t u : S1 × S2) (j k : Input T)
           → NotMemory x → NotMemory y → run1 s.0 i (Ok o1) t.0 a → run1 s.0 i (Ok p1) u.0 b
           → run2 s.1 a x t.1 j → run2 s.1 b y u.1 k
@@ -109,7 +109,7 @@ module _ {S1 S2 T O1 O2 O : Type 0} {output : O1 → O2 → O} {run1 : Runs S1 T
           (err_not_memory e na) (err_not_memory f nb) r1 q1 r2 q2 in
           (both_err also e f like2, last)
 
--- a run of three children is one of two, and of one behind them
+-- a run of three children is one of two, and of one after them
 three_there : {S1 S2 S3 T O1 O2 O3 O : Type 0} (output : O1 → O2 → O3 → O) (run1 : Runs S1 T O1)
     (run2 : Runs S2 T O2) (run3 : Runs S3 T O3) (s : S1 × S2 × S3) (i : Input T)
     (answer : Answer O) (t : S1 × S2 × S3) (j : Input T)

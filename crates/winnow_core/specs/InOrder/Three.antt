@@ -26,7 +26,7 @@ three_same output g1 g2 g3 = record {
       ((o1, o2), o3, b, (o1, o2, a, x1, x2, refl), x3, e);
 }
 
--- a run of three children is one of two, and of one behind them
+-- a run of three children is one of two, and of one after them
 there : {S1 S2 S3 T O1 O2 O3 O : Type 0} (output : O1 → O2 → O3 → O) (run1 : Runs S1 T O1)
     (run2 : Runs S2 T O2) (run3 : Runs S3 T O3) (s : S1 × S2 × S3) (i : Input T)
     (answer : Answer O) (t : S1 × S2 × S3) (j : Input T)

@@ -54,7 +54,7 @@ literal_missing reading form spelled output i k j whole (inr (inl (short, cut, e
 literal_missing reading form spelled output i k j whole (inr (inr (other, open_too, e, same))) =
     record { stays = same; kind = same_err refl e; other = other }
 
--- A literal of one token that was taken: the token, and behind it what is left.
+-- A literal of one token that was taken: the token, and after it what is left.
 pub record TokenTaken {T : Type 0} (x : T) (i j : Input T) : Type 0 where
   pub splits : i.left.tokens ≡ x ∷ j.left.tokens
   pub status : j.status ≡ i.status
@@ -86,7 +86,7 @@ token_missing reading form x output i k j whole ran =
       other = λ rest e. missing.other (x ∷ [], rest, refl, e);
     }
 
--- An input that was whole is whole behind a token of it.
+-- An input that was whole is whole after a token of it.
 pub token_whole : {T : Type 0} {x : T} {i j : Input T} → TokenTaken x i j
     → i.status.cut ≡ false → j.status.cut ≡ false
 token_whole taken whole = ap (λ s. s.cut) taken.status ∙ whole

@@ -1,5 +1,5 @@
 -- What a caller knows of the calls of an iterator over all of an input: its items so far are the
--- outputs of a chain of runs that consume; behind them all is read, or the run that ended it has
+-- outputs of a chain of runs that consume; after them all is read, or the run that ended it has
 -- given its fault.
 use Rattle.std.specs.Prelude.{◌≡◌, List, [], ◌∷◌, ◌++◌, Option, Some, None, Ok, Err, Result}
 use Rattle.std.proofs.Common.{sym, subst, inl, inr}
@@ -73,7 +73,7 @@ same_start : {T : Type 0} {standing : Standing T} {a b : Remaining T} {i j : Inp
     → standing ≡ reads a i → standing ≡ reads b j → (a ≡ b) × (i ≡ j)
 same_start p q = (cc, cc)
 
--- an item more behind those of a chain, as a loop needs it
+-- an item more after those of a chain, as a loop needs it
 pub parse_iter_more : {S T O F : Type 0} (run : Runs S T O) (assert_kind : Kind)
     (is_fault : Remaining T → Input T → Kind → F → Type 0) (s : S) (i : Input T)
     (outputs : List O) (u : ParseIterState S T) (item : Result O F) (t : ParseIterState S T)
@@ -93,7 +93,7 @@ parse_iter_more {T = T} {O = O} {F = F} run assert_kind is_fault s i outputs u i
           (u.parser, from) o (t.parser, to) (subst P same.1 chain) one,
     )
 
--- no item behind those of a chain: all is read
+-- no item after those of a chain: all is read
 pub parse_iter_all : {S T O F : Type 0} (run : Runs S T O) (assert_kind : Kind)
     (is_fault : Remaining T → Input T → Kind → F → Type 0) (s : S) (i : Input T)
     (outputs : List O) (u t : ParseIterState S T) → HasRead run s i outputs u
@@ -103,7 +103,7 @@ parse_iter_all {T = T} run assert_kind is_fault s i outputs u t (m, at, chain) s
     let P : Standing T → Type 0 = λ x. NothingToRead x in
     (m, chain, subst P at (parse_iter_none run assert_kind is_fault u t step).0)
 
--- The fault of the run behind items in a chain, where something was left.
+-- The fault of the run after items in a chain, where something was left.
 pub record IsRefused {S T O F : Type 0} (run : Runs S T O) (assert_kind : Kind)
     (is_fault : Remaining T → Input T → Kind → F → Type 0) (s : S) (i : Input T)
     (outputs : List O) (fault : F) : Type 0 where
@@ -112,7 +112,7 @@ pub record IsRefused {S T O F : Type 0} (run : Runs S T O) (assert_kind : Kind)
   pub input : Input T
   pub chain : Items run s i outputs parser input
   pub some : input.left.tokens ≡ [] → ⊥
-  -- the run behind them
+  -- the run after them
   pub kind : Kind
   pub behind : S
   pub at : Input T
@@ -120,7 +120,7 @@ pub record IsRefused {S T O F : Type 0} (run : Runs S T O) (assert_kind : Kind)
   -- its fault, of which the place is counted from the start
   pub is : is_fault i.left at kind fault
 
--- a fault behind the items of a chain, as a loop needs it
+-- a fault after the items of a chain, as a loop needs it
 pub parse_iter_refused : {S T O F : Type 0} (run : Runs S T O) (assert_kind : Kind)
     (is_fault : Remaining T → Input T → Kind → F → Type 0) (s : S) (i : Input T)
     (outputs : List O) (u : ParseIterState S T) (item : Result O F) (t : ParseIterState S T)

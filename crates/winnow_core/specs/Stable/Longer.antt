@@ -1,4 +1,4 @@
--- What holds of an input, and of it with more tokens behind.
+-- What holds of an input, and of it with more tokens after.
 use Rattle.std.specs.Prelude.{◌≡◌, ◌<◌, ℕ, Bool, true, List, ◌++◌, length, Option, [], ◌∷◌}
 use Rattle.std.proofs.Common.{sym, ap, subst, inl, inr, ◌∙◌, append_assoc, arith, length-append}
 use Rattle.std.proofs.Common.{refl, ◌⊎◌}
@@ -52,7 +52,7 @@ pub takes_more : {T L : Type 0} {reading : Reading T L} {front : List T} {i j : 
 takes_more more flag p =
     record { shown = p.shown; passed = passes_more more flag p.passed }
 
--- behind what is passed the input is still cut
+-- after what is passed the input is still cut
 pub passes_cut : {T L : Type 0} {reading : Reading T L} {front : List T} {i j : Input T}
     → Passes reading front i j → i.status.cut ≡ true → j.status.cut ≡ true
 passes_cut p is_cut = ap (λ s. s.cut) p.status ∙ is_cut

@@ -26,7 +26,7 @@ takes_none {T} reading slice shown = record {
   };
 }
 
--- what may stand behind no token may follow it
+-- what may stand after no token may follow it
 pub may_follow : {T : Type 0} (following : Following T) (x : T)
     → following.can_follow [] (x ∷ []) → Follows following cut_end.left (x ∷ [])
 may_follow following x follows = record { possible = refl; tokens = follows }

@@ -17,7 +17,7 @@ use winnow_core::parser::Parser;
 pub enum Turn<O, P> {
     /// The output of what stands for itself.
     Normal(O),
-    /// The output of what stands behind a control.
+    /// The output of what stands after a control.
     Escape(P),
 }
 

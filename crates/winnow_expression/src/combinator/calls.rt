@@ -82,7 +82,7 @@ impl Call {
         }
     }
 
-    /// The call behind an infix that it took, whose turn began where so many units were left, and
+    /// The call after an infix that it took, whose turn began where that many units were left, and
     /// whose power it remembers if it was a `Neither`.
     #[inline(always)]
     pub fn behind(&self, units: usize, neither: Option<i64>) -> Call

@@ -10,7 +10,7 @@ use streams::stream::Stream;
 
 /// What a prefix or a postfix operator does with its operand.
 ///
-/// The operand has been read, and `input` stands behind it. A fold may refuse, as where a sum is
+/// The operand has been read, and `input` stands after it. A fold may refuse, as where a sum is
 /// too large: its error is the expression's, and the input is left where the fold left it.
 ///
 /// ```
@@ -48,7 +48,7 @@ pub trait FoldUnary<I: Stream, O, E: ParserError<I>>: Drop {
 
 /// What an infix operator does with its operands.
 ///
-/// The operands have been read, and `input` stands behind the right one. A fold may refuse, as
+/// The operands have been read, and `input` stands after the right one. A fold may refuse, as
 /// where a sum is too large: its error is the expression's, and the input is left where the fold
 /// left it.
 ///

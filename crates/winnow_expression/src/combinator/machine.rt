@@ -30,7 +30,7 @@ pub enum Turn<O> {
     Interrupted,
 }
 
-/// Folds an operator behind its right operand, and checks that the turn of an infix consumed.
+/// Folds an operator after its right operand, and checks that the turn of an infix consumed.
 pub fn close<I: Stream, O: Drop, E: ParserError<I>, F: FoldUnary<I, O, E>, H: FoldBinary<I, O, E>>(
     operator: Operator<O, F, H>,
     turn: usize,
@@ -92,7 +92,7 @@ pub fn operand_step<
     }
 }
 
-/// Reads at the place of an operator, behind a left operand.
+/// Reads at the place of an operator, after a left operand.
 pub fn turn_step<
     I: Stream,
     O: Drop,

@@ -42,7 +42,7 @@ pub struct Postfix<F>(pub i64, pub F);
 /// An infix operator: its power, and what it does with its operands.
 ///
 /// Where operators of one power follow one another, those that are `Left` are joined from the left
-/// and those that are `Right` from the right; behind a `Neither` another infix of its power ends
+/// and those that are `Right` from the right; after a `Neither` another infix of its power ends
 /// the expression.
 ///
 /// ```

@@ -24,7 +24,7 @@ use winnow_comb::combinator::impls::Fail;
 /// is an assert error where a prefix consumes nothing, where an infix comes and nothing was
 /// consumed since the present operand began, the infix included, and where an operator with its
 /// operand consumed nothing. An open operator waits in a list of `alloc`: where that could not
-/// grow, the error is want of memory, and the input stands behind the operator.
+/// grow, the error is out of memory, and the input stands after the operator.
 ///
 /// Known as Pratt's method, or precedence climbing.
 ///

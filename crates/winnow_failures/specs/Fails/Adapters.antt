@@ -18,7 +18,8 @@ use Rattle.winnow_failures.specs.Fails.{FailsWhere, exact_of, fails_where}
 use Rattle.winnow_failures.specs.Fails.{fell_in, law_beside}
 use Rattle.winnow_failures.specs.Fails.Words.{Failure}
 
--- The part failed so, and left the input there; or the whole wants memory, where it asks for some.
+-- The part failed so, and left the input there; or the whole is out of memory, where it asks for
+-- some.
 abbrev pub PartFailed : {S T O : Type 0} → Runs S T O → S → Type 0 → Input T → Kind → Input T
     → Type 0
 PartFailed {S} run s spares i k j = ((k ≡ memory) × ¬ spares) ⊎ ((t : S) × run s i (Err k) t j)

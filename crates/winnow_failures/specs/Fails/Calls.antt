@@ -19,7 +19,7 @@ use Rattle.winnow_failures.specs.Fails.{FailsWhere, Fell}
 use Rattle.winnow_failures.specs.Fails.Words.{Failure}
 
 -- What a call tells by a grammar. It leaves an end of its input. On a whole one an output stands,
--- with what is left; an error wants memory, or says that none stands.
+-- with what is left; an error is out of memory, or says that none stands.
 pub record ReadsBy {T L O E : Type 0} (reading : Reading T L) (kind : E → Kind)
     (grammar : Grammar T O) (i : Input T) (result : Result O E) (j : Input T) : Type 0 where
   pub ends : IsEndOf reading j i
@@ -118,7 +118,7 @@ before_of view units inner_kind i j k (Refused e) (inr is) (at, kinds, back) =
 before_of view units inner_kind i j k (Incomplete needed) (inl is) at = absurd (cc)
 before_of view units inner_kind i j k (Incomplete needed) (inr is) at = absurd (cc)
 
--- the fault of a run that wants memory
+-- the fault of a run that is out of memory
 want_of : {I T X : Type 0} (view : I → Input T) (units : List T → ℕ) (inner_kind : X → Kind)
     (i j : Input T) (k : Kind) (fault : ParseFault I X Needed) → k ≡ memory
     → IsFaultAt view units inner_kind i.left j k fault → IsWant inner_kind fault

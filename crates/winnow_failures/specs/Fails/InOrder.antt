@@ -1,4 +1,4 @@
--- How parsers in order fail: as the first, or as the second behind it.
+-- How parsers in order fail: as the first, or as the second after it.
 use Rattle.std.specs.Prelude.{◌≡◌, ◌⊎◌, false, List, Ok, Err}
 use Rattle.std.proofs.Common.{refl, subst, inl, inr}
 use Rattle.streams.specs.Input.{Input}

@@ -1,4 +1,4 @@
--- How repetitions fail: as an item behind some that stand.
+-- How repetitions fail: as an item after some that stand.
 use Rattle.std.specs.Prelude.{◌≡◌, ◌≤◌, ◌<◌, ℕ, false, List, [], ◌∷◌, length, Option, None}
 use Rattle.std.specs.Prelude.{Ok, Err}
 use Rattle.std.specs.List.{FoldsTo}
@@ -29,7 +29,7 @@ below_none n e = let P : Option ℕ → Type 0 = λ g. IsBelow g n in subst P (s
 
 module _ {S T O : Type 0} {run : Runs S T O} {m : Type 0} {g : Grammar T O} {f : Failure T}
     {s : S} (p : FailsWhere s run m g f) where
-  -- the items of a chain stand one behind the other, and leave the state as it was
+  -- the items of a chain stand one after the other, and leave the state as it was
   chain_told : (outputs : List O) (i : Input T) (u : S) (a : Input T) → i.status.cut ≡ false
       → FoldsTo (λ x o y. IsItem run x o y) (s, i) outputs (u, a)
       → (u ≡ s) × (a.status.cut ≡ false) × Each g i.left.tokens outputs a.left.tokens

@@ -1,4 +1,4 @@
--- Items that stand one behind the other, up to where one backtracks, and how they fail.
+-- Items that stand one after the other, up to where one backtracks, and how they fail.
 use Rattle.std.specs.Prelude.{◌≡◌, ◌⊎◌, ◌≤◌, ◌<◌, ℕ, List, [], ◌∷◌, ◌++◌, length, Option, Some}
 use Rattle.std.proofs.Common.{refl, sym, ap, subst, inl, inr, ◌∙◌, arith}
 use Rattle.streams.specs.Equal.{same_some}
@@ -22,7 +22,7 @@ same_most e d = same_some (sym e ∙ d)
 -- ---- items beside others
 
 -- Items beside others from the same start: as many, up to the same place; or one more stands
--- behind the fewer ones.
+-- after the fewer ones.
 abbrev BesideThem : {T O : Type 0} → Grammar T O → List O → List T → List O → List T → Type 0
 BesideThem {T} {O} grammar os mid ps end =
     ((length os ≡ length ps) × (mid ≡ end))
@@ -76,11 +76,11 @@ module _ {T O : Type 0} {g : Grammar T O} where
 
 module _ {T O : Type 0} {g : Grammar T O} {f : Failure T} (bounds : Bounds)
     (unique : IsUnique g) (law : IsFailureOf g f) where
-  -- behind the last none stands, or they are as many as may be
+  -- after the last none stands, or they are as many as may be
   abbrev Stopped : ℕ → List T → Type 0
   Stopped n rest = (bounds.greatest ≡ Some n) ⊎ (IsBelow bounds.greatest n × Backs f rest)
 
-  -- no more stand behind the last: not where others stop behind more, or go on behind more
+  -- no more stand after the last: not where others stop after more, or go on after more
   none_beyond : (n m : ℕ) (rest end : List T) (o : O) (next : List T) → Stopped n rest → n < m
       → g rest o next → Stopped m end ⊎ IsBelow bounds.greatest m → ⊥
   none_beyond n m rest end o next (inr (below, (place, b))) fewer there other =
@@ -109,7 +109,7 @@ module _ {T O : Type 0} {g : Grammar T O} {f : Failure T} (bounds : Bounds)
         (beside_them unique tokens os ps rest other each too);
   }
 
-  -- ---- one that fails behind some
+  -- ---- one that fails after some
 
   among_one : (k l : Kind) (os ps : List O) (mid end rest other : List T) → f mid k rest
       → f end l other → BesideThem g os mid ps end → (k ≡ l) × (rest ≡ other)

@@ -1,4 +1,4 @@
--- How tuples of four to six parsers fail: as one of them, behind those before it.
+-- How tuples of four to six parsers fail: as one of them, after those before it.
 use Rattle.std.specs.Prelude.{◌≡◌, false, List, Ok, Err}
 use Rattle.std.proofs.Common.{refl, inl, inr}
 use Rattle.streams.specs.Input.{Input}

@@ -23,7 +23,7 @@ NeverFails tokens k rest = ⊥
 unfoldable pub NotThere : {T O : Type 0} → Grammar T O → Failure T
 NotThere grammar tokens k rest = NoneStands grammar tokens × (k ≡ backtrack) × (rest ≡ tokens)
 
--- The first fails; or it stands, and the second fails behind it.
+-- The first fails; or it stands, and the second fails after it.
 unfoldable pub FailsBehind : {T O : Type 0} → Grammar T O → Failure T → Failure T → Failure T
 FailsBehind {T} {O} grammar first second tokens k rest =
     first tokens k rest
@@ -58,7 +58,7 @@ FailsThere {T} {O} grammar failure tokens k rest =
     × (((k ≡ backtrack) × (o : O) × (end : List T) × grammar tokens o end)
     ⊎ ((k ≡ cut) × (place : List T) × failure tokens cut place))
 
--- Behind some that stand one behind the other, fewer than the greatest number, one fails: by a cut,
+-- After some that stand one after the other, fewer than the greatest number, one fails: by a cut,
 -- or where they are fewer than the least number.
 unfoldable pub FailsAmong : {T O : Type 0} → Grammar T O → Failure T → Bounds → Failure T
 FailsAmong {T} {O} grammar failure bounds tokens k rest =
@@ -83,7 +83,7 @@ MaybeThere {O = O} grammar failure tokens o rest =
 unfoldable pub BacksThere : {T : Type 0} → Failure T → Grammar T (Unit {0})
 BacksThere failure tokens o rest = Backs failure tokens × (rest ≡ tokens)
 
--- As many as stand one behind the other, within the bounds: up to the greatest number, or to where
+-- As many as stand one after the other, within the bounds: up to the greatest number, or to where
 -- one backtracks.
 unfoldable pub ManyUpTo : {T O : Type 0} → Grammar T O → Failure T → Bounds → Grammar T (List O)
 ManyUpTo grammar failure bounds tokens os rest =

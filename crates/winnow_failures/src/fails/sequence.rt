@@ -18,7 +18,7 @@ use stream_errors::parser_error::ParserError;
 use streams::stream::Stream;
 use winnow_comb::combinator::impls::{Delimited, Preceded, SeparatedPair, Terminated};
 
-/// It fails as the first, or as the second behind it.
+/// It fails as the first, or as the second after it.
 impl<P1: Fails<I, O1, E>, P2: Fails<I, O2, E>, I: Stream, O1: Drop, O2, E: ParserError<I>> Fails<
     I,
     O2,
@@ -39,7 +39,7 @@ impl<P1: Fails<I, O1, E>, P2: Fails<I, O2, E>, I: Stream, O1: Drop, O2, E: Parse
         some) };
 }
 
-/// It fails as the first, or as the second behind it.
+/// It fails as the first, or as the second after it.
 impl<
     P1: Fails<I, O1, E>,
     P2: Fails<I, O2, E>,
@@ -64,7 +64,7 @@ impl<
         (P2.takes (terminated_ignored p) is.1) some) };
 }
 
-/// It fails as its first that fails, behind those before it.
+/// It fails as its first that fails, after those before it.
 impl<
     P1: Fails<I, O1, E>,
     P2: Fails<I, O2, E>,
@@ -94,7 +94,7 @@ impl<
         (P3.takes (separated_pair_second p) is.2) some) };
 }
 
-/// It fails as its first that fails, behind those before it.
+/// It fails as its first that fails, after those before it.
 impl<
     P1: Fails<I, O1, E>,
     P2: Fails<I, O2, E>,

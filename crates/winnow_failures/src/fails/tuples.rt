@@ -14,7 +14,7 @@ use crate::fails::Fails;
 use stream_errors::parser_error::ParserError;
 use streams::stream::Stream;
 
-/// It fails as its first that fails, behind those before it.
+/// It fails as its first that fails, after those before it.
 impl<I: Stream, O1: Drop, O2, E: ParserError<I>, P1: Fails<I, O1, E>, P2: Fails<I, O2, E>> Fails<
     I,
     (O1, O2),
@@ -32,7 +32,7 @@ impl<I: Stream, O1: Drop, O2, E: ParserError<I>, P1: Fails<I, O1, E>, P2: Fails<
         (either_way (P1.takes p.0 is.0) (P2.takes p.1 is.1) some) };
 }
 
-/// It fails as its first that fails, behind those before it.
+/// It fails as its first that fails, after those before it.
 impl<
     I: Stream,
     O1: Drop,
@@ -58,7 +58,7 @@ impl<
         some) };
 }
 
-/// It fails as its first that fails, behind those before it.
+/// It fails as its first that fails, after those before it.
 impl<
     I: Stream,
     O1: Drop,
@@ -86,7 +86,7 @@ impl<
         (P3.takes p.2 is.2)) (P4.takes p.3 is.3) some) };
 }
 
-/// It fails as its first that fails, behind those before it.
+/// It fails as its first that fails, after those before it.
 impl<
     I: Stream,
     O1: Drop,
@@ -119,7 +119,7 @@ impl<
         (P3.takes p.2 is.2)) (P4.takes p.3 is.3)) (P5.takes p.4 is.4) some) };
 }
 
-/// It fails as its first that fails, behind those before it.
+/// It fails as its first that fails, after those before it.
 impl<
     I: Stream,
     O1: Drop,

@@ -5,7 +5,7 @@ use Rattle.grammars.specs.Grammar.{Grammar, IsUnique, TakesTokens}
 use Rattle.grammars.specs.Grammar.Lengths.{SaysOne, same_beginnings}
 use Rattle.winnow_integers.specs.Integer.{AreBytes}
 
--- So many bytes are first, and their value is the output.
+-- That many bytes are first, and their value is the output.
 unfoldable pub Integer : {O : Type 0} → ℕ → (List ℕ → O) → Grammar ℕ O
 Integer width value tokens o rest =
     (bytes : List ℕ) × (length bytes ≡ width) × AreBytes bytes × (tokens ≡ bytes ++ rest)

@@ -19,7 +19,7 @@ same_fronts (x ∷ front) (y ∷ taken) rest left same lengths =
     let others = same_fronts front taken rest left (same_others same) (omega (arith, lengths)) in
     (ap (λ z. z ∷ taken) (sym (same_first same)) ∙ ap (λ l. x ∷ l) others.0, others.1)
 
--- a value of so many bytes
+-- a value of that many bytes
 abbrev pub IsValueOf : {O : Type 0} → ℕ → (List ℕ → O) → O → Type 0
 IsValueOf width value o =
     (bytes : List ℕ) × (o ≡ value bytes) × (length bytes ≡ width) × AreBytes bytes

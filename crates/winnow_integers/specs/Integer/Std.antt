@@ -99,7 +99,7 @@ whole w32 = omega arith
 whole w64 = omega arith
 whole w128 = omega arith
 
--- so many bytes stand for a number of the type
+-- that many bytes stand for a number of the type
 pub fits_width : (w : Width) (bytes : List ℕ) → length bytes ≡ suc (byte_len w - 1)
     → AreBytes bytes → value_of bytes < 2 ^ bits w
 fits_width w bytes e are =

@@ -6,7 +6,7 @@ use Rattle.std.proofs.lemmas.List.Elements.{All-head, All-push, All-same, All-ta
 use Rattle.std.proofs.Math.Nat.{mul-le-mul_right, mul_assoc, add-mul, pow-succ'}
 use Rattle.winnow_integers.specs.Integer.{AreBytes, value_of}
 
--- bytes in front of others stand for so many times 256 to the number of those
+-- bytes in front of others stand for that many times 256 to the number of those
 pub value_of_append : (xs ys : List ℕ)
     → value_of (xs ++ ys) ≡ value_of xs * 256 ^ length ys + value_of ys
 value_of_append [] ys = omega arith

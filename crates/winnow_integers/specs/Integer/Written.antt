@@ -46,14 +46,14 @@ value_written (b ∷ bytes) are =
     ap (λ x. x ∷ bytes_high_first (length bytes) (value_of (b ∷ bytes))) first
     ∙ ap (λ l. b ∷ l) (lowest (length bytes) b (value_of bytes) ∙ value_written bytes others)
 
--- an unsigned number of so many bytes, the highest first, and the lowest first
+-- an unsigned number of that many bytes, the highest first, and the lowest first
 pub be_written : (width n : ℕ) (bytes : List ℕ) → n ≡ value_of bytes → length bytes ≡ width
     → AreBytes bytes → bytes_high_first width n ≡ bytes
 be_written width n bytes is as_many are =
     ap (λ w. bytes_high_first w n) (sym as_many) ∙ ap (bytes_high_first (length bytes)) is
     ∙ value_written bytes are
 
--- so many bytes of a number that these hold stand for it
+-- that many bytes of a number that these hold stand for it
 pub length_written : (k n : ℕ) → length (bytes_high_first k n) ≡ k
 length_written zero n = refl
 length_written (suc k) n = omega (arith, length_written k n)

@@ -1,4 +1,4 @@
-//! So many bytes.
+//! That many bytes.
 #![tactic(auto, using(streams::specs::Ends::ends_follow))]
 
 ghost use Rattle.std.specs.Prelude.{◌≡◌, ◌≤◌, length};
@@ -12,7 +12,7 @@ use streams::needed::Needed;
 use streams::stream::StreamIsPartial;
 use winnow_core::short::short;
 
-/// Takes so many bytes.
+/// Takes that many bytes.
 #[inline(always)]
 pub(crate) fn take_bytes<const N: usize, I: StreamIsPartial + ByteStream, E: ParserError<I>>(
     input: &mut I,
@@ -28,7 +28,7 @@ pub(crate) fn take_bytes<const N: usize, I: StreamIsPartial + ByteStream, E: Par
     Ok(next_bytes(input))
 }
 
-/// The next bytes, of which so many are left.
+/// The next bytes, of which that many are left.
 #[inline(always)]
 fn next_bytes<const N: usize, I: ByteStream>(input: &mut I) -> [u8; N]
     requires { N ≤ length (I.view input.old).left.tokens }

@@ -63,7 +63,7 @@ pub type SignedBetween<I, L, E, A> = Separated<
     A,
 >;
 
-/// Digits, each behind a byte, up to another byte.
+/// Digits, each after a byte, up to another byte.
 pub type DigitsUpTo<I, L, E, A> = RepeatTill<
     Preceded<u8, Digit1, I, u8, L, E>,
     u8,
@@ -132,7 +132,7 @@ where
         list_kept (assert_kind E.form)) }
 {}
 
-/// Digits behind a byte, up to another byte, mean turns: that byte, or, where it backtracks, the
+/// Digits after a byte, up to another byte, mean turns: that byte, or, where it backtracks, the
 /// byte before digits and these, from the same place.
 pub fn items_up_to_a_byte_mean_their_derivation<
     I: StreamIsPartial + Compare<u8>,

@@ -1,9 +1,9 @@
 //! Want of memory is never hidden: no combinator here answers a success, or runs another branch,
-//! behind a child that wants memory.
+//! after a child that is out of memory.
 //!
 //! Each law has the same form. Whatever run of a combinator answers anything but want of memory is
-//! one of its children's runs that do not want memory either. So where a child wants memory, that
-//! is the answer.
+//! one of its children's runs that do not want memory either. So where a child is out of memory,
+//! that is the answer.
 ghost use Rattle.stream_errors.specs.Form.{assert_kind};
 ghost use Rattle.winnow_comb.specs.Alt.{OrElse};
 ghost use Rattle.winnow_comb.specs.Alt.Slice.{AltSliceRuns};
@@ -25,7 +25,7 @@ use winnow_core::parser::Parser;
 use winnow_repeat::combinator::impls::{Repeat, RepeatTill};
 use winnow_separated::combinator::impls::Separated;
 
-/// No branch of a choice is run behind one that wants memory: the choice wants it too.
+/// No branch of a choice is run after one that is out of memory: the choice wants it too.
 pub fn a_choice_never_hides_want_of_memory<
     A: Parser<I, O, E>,
     B: Parser<I, O, E>,
@@ -54,13 +54,13 @@ pub fn a_choice_of_an_array_never_hides_want_of_memory<
         (AltSliceRuns (GivenMemory (P.meaning E.form)) (assert_kind E.form)) }
 {}
 
-/// A parser that may be left out is not left out where it wants memory.
+/// A parser that may be left out is not left out where it is out of memory.
 pub fn an_option_never_hides_want_of_memory<P: Parser<I, O, E>, I: Stream, O, E: ParserError<I>>()
     ensures { NeverHides (⟦<Opt<P, I, O, E> as Parser<I, Option<O>, E>>⟧.meaning E.form)
         (OptRuns (GivenMemory (P.meaning E.form))) }
 {}
 
-/// No parser of a sequence is run behind one that wants memory, and nothing is answered in its
+/// No parser of a sequence is run after one that is out of memory, and nothing is answered in its
 /// place.
 pub fn a_sequence_never_hides_want_of_memory<
     A: Parser<I, O, E>,
@@ -80,7 +80,7 @@ pub fn a_sequence_never_hides_want_of_memory<
         (TerminatedRuns (GivenMemory (A.meaning E.form)) (GivenMemory (B.meaning E.form))) }
 {}
 
-/// A repetition does not end with success at an item that wants memory.
+/// A repetition does not end with success at an item that is out of memory.
 pub fn a_repetition_never_hides_want_of_memory<
     P: Parser<I, O, E>,
     I: Stream,
@@ -93,7 +93,7 @@ pub fn a_repetition_never_hides_want_of_memory<
         (RangedRuns (GivenMemory (P.meaning E.form)) C.accumulator (assert_kind E.form)) }
 {}
 
-/// No item is tried behind a terminator that wants memory, and no terminator behind such an item.
+/// No item is tried after a terminator that is out of memory, and no terminator after such an item.
 pub fn repeat_till_never_hides_want_of_memory<
     P: Parser<I, O, E>,
     G: Parser<I, D, E>,
@@ -110,7 +110,7 @@ pub fn repeat_till_never_hides_want_of_memory<
         C.accumulator (assert_kind E.form)) }
 {}
 
-/// A separated list does not end with success at a separator or an element that wants memory.
+/// A separated list does not end with success at a separator or an element that is out of memory.
 pub fn a_separated_list_never_hides_want_of_memory<
     P: Parser<I, O, E>,
     S: Parser<I, D, E>,

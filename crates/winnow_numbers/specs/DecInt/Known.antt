@@ -19,7 +19,7 @@ use Rattle.winnow_numbers.specs.Numeral.Known.{behind, digits_are, digits_run, d
 use Rattle.winnow_numbers.specs.Numeral.Known.{leads_behind, numeral_front, passes_two}
 
 -- A number that was read: its decimal digits with their sign were passed, and no digit is left
--- behind them, but behind a lone '0'.
+-- after them, but after a lone '0'.
 pub record IntRead {K T S : Type 0} (seen : K → T) (code : K → ℕ) (reading : Reading T S)
     (fits : ℤ → Type 0) (i : Input T) (z : ℤ) (j : Input T) : Type 0 where
   pub front : List T

@@ -17,8 +17,8 @@ use Rattle.winnow_numbers.specs.Numeral.Known.{digits_are, digits_front}
 use Rattle.winnow_numbers.specs.Numeral.Known.{digits_stop, unsigned}
 use Rattle.winnow_numbers.specs.Numeral.Once.{numeral_or_none, one_miss, one_numeral}
 
--- A number that was read: its decimal digits were passed, and no digit is left behind them, but
--- behind a lone '0'.
+-- A number that was read: its decimal digits were passed, and no digit is left after them, but
+-- after a lone '0'.
 pub record UintRead {K T S : Type 0} (seen : K → T) (code : K → ℕ) (reading : Reading T S)
     (bound : ℕ) (i : Input T) (n : ℕ) (j : Input T) : Type 0 where
   pub front : List T

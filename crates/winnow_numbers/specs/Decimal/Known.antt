@@ -55,7 +55,7 @@ pub some_value : (d : ℕ) (ds : List ℕ) → AllByRecursion IsDecDigit (d ∷ 
 some_value d ds all leads =
     omega (arith, value_above d ds all.0 leads, one-le-pow (length ds) 10 (omega arith))
 
--- a greater digit stands for more than what stands behind a lesser one
+-- a greater digit stands for more than what stands after a lesser one
 lesser : (c d p v w : ℕ) → c < d → v < p → c * p + v ≡ d * p + w → ⊥
 lesser c d p v w less low same =
     omega (arith, mul-le-mul_right {m = suc c} {n = d} p less, low, same)

@@ -118,7 +118,7 @@ module _ {K T : Type 0} (seen : K → T) (code : K → ℕ) (once : SeenOnce see
         ap (λ n. n ∷ cs) (one_number x y c d first p.0 q.0) ∙ ap (λ l. d ∷ l) more.1,
       )
 
-  -- where all characters are of the class, nothing stands behind those of it that stand first
+  -- where all characters are of the class, nothing stands after those of it that stand first
   pub none_behind : (class : ℕ → Type 0) (front rest tokens : List T) → tokens ≡ front ++ rest
       → All (IsIn seen code class) tokens → NoneFirst seen code class rest → rest ≡ []
   none_behind class front rest tokens e all (inl none) = none

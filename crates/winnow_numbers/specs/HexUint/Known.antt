@@ -135,7 +135,7 @@ module _ {N K T S : Type 0} (number : N → ℕ) (most : ℕ) (seen : K → T) (
         (more.0, more.1, more.2, more.3, more.4, more.5, more.6))
 
     -- Hexadecimal digits that the type holds are read as their number, where no such digit stands
-    -- behind them, and a cut input has more behind them.
+    -- after them, and a cut input has more after them.
     pub hex_uint_must : (front : List T) (digits : List ℕ) (rest : List T) (i : Input T)
         (answer : Answer N) (j : Input T) → AllByRecursion IsHexDigit digits → 0 < length digits
         → length digits ≤ most → AreCharacters seen code front digits

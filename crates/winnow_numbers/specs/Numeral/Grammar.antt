@@ -9,7 +9,7 @@ pub mod Known
 pub mod Signed
 
 -- The decimal digits of a number below the bound, of which no '0' is the first but a lone one. No
--- digit stands behind them, but behind a lone '0'. Values have the numbers `number`.
+-- digit stands after them, but after a lone '0'. Values have the numbers `number`.
 unfoldable pub Decimal : {N K T : Type 0} → (N → ℕ) → ℕ → (K → T) → (K → ℕ) → Grammar T N
 Decimal {T = T} number bound seen code tokens n rest =
     (front : List T) × (digits : List ℕ) × (tokens ≡ front ++ rest)
@@ -17,7 +17,7 @@ Decimal {T = T} number bound seen code tokens n rest =
     × ((digits ≡ 48 ∷ []) ⊎ NoneFirst seen code IsDecDigit rest) × (number n < bound)
 
 -- The decimal digits of a number that fits, with '-' before them where it is negative, and with '+'
--- or nothing where it is positive. No digit stands behind them, but behind a lone '0'.
+-- or nothing where it is positive. No digit stands after them, but after a lone '0'.
 unfoldable pub SignedDecimal : {N K T : Type 0} → (N → ℤ) → (ℤ → Type 0) → (K → T) → (K → ℕ)
     → Grammar T N
 SignedDecimal {T = T} number fits seen code tokens n rest =

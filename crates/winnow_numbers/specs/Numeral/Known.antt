@@ -40,7 +40,7 @@ passes_none reading i j same =
       status = refl;
     })
 
--- the input behind some tokens that stand first, with these left
+-- the input after some tokens that stand first, with these left
 abbrev pub behind : {T S : Type 0} → Reading T S → List T → List T → Input T → Input T
 behind reading front rest i =
     record {
@@ -126,7 +126,7 @@ module _ {K T S : Type 0} (seen : K → T) (code : K → ℕ) (reading : Reading
         λ more f. absurd (omega (arith, leads.0, same_first (sym e ∙ f))),
       )
 
-  -- Behind a numeral no digit stands, but behind a lone '0'.
+  -- After a numeral no digit stands, but after a lone '0'.
   pub digits_stop : (naught : Bool) (i : Input T) (digits : List ℕ) (j : Input T)
       → DigitsRuns seen code reading naught i digits j
       → (digits ≡ 48 ∷ []) ⊎ NoneFirst seen code IsDecDigit j.left.tokens

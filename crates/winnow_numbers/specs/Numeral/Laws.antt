@@ -53,14 +53,14 @@ module _ {K T S : Type 0} (seen : K → T) (code : K → ℕ) (reading : Reading
       same_ends reading i j same
 
 module _ {K T L : Type 0} (seen : K → T) (code : K → ℕ) (reading : Reading T L) where
-  -- what does not stand first of some tokens does not where more stand behind
+  -- what does not stand first of some tokens does not where more stand after
   pub none_first_more : (class : ℕ → Type 0) (tokens more : List T) → (tokens ≡ [] → ⊥)
       → NoneFirst seen code class tokens → NoneFirst seen code class (tokens ++ more)
   none_first_more class tokens more some (inl nothing) = absurd (some nothing)
   none_first_more class tokens more some (inr (t, rest, is, other)) =
       inr (t, rest ++ more, ap (λ l. l ++ more) is, other)
 
-  -- some tokens are some where more stand behind
+  -- some tokens are some where more stand after
   pub more_is_some : (tokens more : List T) → (tokens ≡ [] → ⊥) → tokens ++ more ≡ [] → ⊥
   more_is_some [] more some e = some refl
   more_is_some (t ∷ ts) more some e = absurd (cc)
@@ -70,7 +70,7 @@ module _ {K T L : Type 0} (seen : K → T) (code : K → ℕ) (reading : Reading
   sign_cut signed i sign a is_cut (inl (x, may, is, passes, e)) = passes_cut passes is_cut
   sign_cut signed i sign a is_cut (inr (none, e, same)) = ap (λ x. x.status.cut) same ∙ is_cut
 
-  -- where something is left behind the sign, or behind none
+  -- where something is left after the sign, or after none
   sign_more : (signed : Bool) (more : List T) (flag : Bool) (i : Input T) (sign : List ℕ)
       (a : Input T) → (a.left.tokens ≡ [] → ⊥) → SignRuns seen code reading signed i sign a
       → SignRuns seen code reading signed (with_more i more flag) sign (with_more a more flag)
@@ -123,7 +123,7 @@ module _ {K T L : Type 0} (seen : K → T) (code : K → ℕ) (reading : Reading
         (λ nothing. absurd (more_is_some j.left.tokens more some nothing)),
       )
 
-  -- a numeral behind which the input is cut is one on a longer input
+  -- a numeral after which the input is cut is one on a longer input
   pub numeral_more : (signed : Bool) (more : List T) (flag : Bool) (i : Input T)
       (sign digits : List ℕ) (j : Input T) → i.status.cut ≡ true
       → NumeralRuns seen code reading signed i sign digits j

@@ -193,7 +193,7 @@ module _ {K T S : Type 0} (seen : K → T) (code : K → ℕ) (reading : Reading
       let P : ℕ → Type 0 = λ c. IsLeadingDigit c in
       other (subst P (once x y (same_first (sym p.tokens ∙ f))) leads)
 
-  -- what stands behind the sign of one run stands behind that of another
+  -- what stands after the sign of one run stands after that of another
   lacks_there : (signed : Bool) (i m n b : Input T) (sign other : List ℕ)
       → SignRuns seen code reading signed i sign m → SignRuns seen code reading signed i other n
       → LacksDigits seen code reading n b → LacksDigits seen code reading m b

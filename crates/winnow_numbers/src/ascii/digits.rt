@@ -11,7 +11,7 @@ use stream_sets::as_bstr::{AsBStr, SlicesAsBytes};
 use stream_sets::as_char::AsChar;
 use streams::stream::StreamIsPartial;
 
-// The greatest number behind which any digit still fits 64 bits.
+// The greatest number after which any digit still fits 64 bits.
 const MOST: u64 = 1_844_674_407_370_955_160;
 
 /// Passes the numeral that stands first, with no sign, and answers its number. It may answer none,

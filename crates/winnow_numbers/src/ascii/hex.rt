@@ -95,7 +95,7 @@ where
 }
 
 /// Whether a type that is full may yet be followed by another hexadecimal digit, since a cut input
-/// ends behind it.
+/// ends after it.
 #[inline(always)]
 fn may_overflow<I: StreamIsPartial>(input: &I, full: bool) -> bool
     ensures { MatchBool result

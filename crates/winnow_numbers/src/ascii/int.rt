@@ -152,8 +152,8 @@ impl Int for isize {
 /// `+` or a `-` may stand.
 ///
 /// It backtracks, and consumes nothing, where no such digits stand first, or the number does not
-/// fit the type. On a cut input with nothing left behind the sign, or that ends in the digits of a
-/// number that does not begin with `0`, it is incomplete, and the input stands behind the sign and
+/// fit the type. On a cut input with nothing left after the sign, or that ends in the digits of a
+/// number that does not begin with `0`, it is incomplete, and the input stands after the sign and
 /// the first digit that are there. The need is 1 unit. Under an error type with no mode it
 /// backtracks instead, and consumes nothing.
 ///
@@ -213,8 +213,8 @@ where
     with_sign(sign, number)
 }
 
-/// The number behind a sign, or behind none. It answers none where that is above `i64::MAX`, or is
-/// 0 behind a sign.
+/// The number after a sign, or after none. It answers none where that is above `i64::MAX`, or is
+/// 0 after a sign.
 #[inline(always)]
 fn with_sign(sign: Option<char>, number: u64) -> Option<i64>
     ensures { IfSome result (λ z. SignedBy sign number z) }

@@ -1,6 +1,6 @@
 //! The number of a numeral, from all its digits at once: sixteen bytes of one load.
 //!
-//! Digits are moved behind zeros into the last lanes, and neighbours are joined, to numbers below
+//! Digits are moved after zeros into the last lanes, and neighbours are joined, to numbers below
 //! 100, then below 10 000, and so on.
 ghost use Rattle.std.specs.Prelude.{◌≡◌, ◌≤◌, ◌<◌, ◌+◌, ◌-◌, ◌*◌, ◌++◌, ℕ, List, IfSome, length};
 ghost use Rattle.std.specs.Prelude.{replicate, take};
@@ -60,7 +60,7 @@ fn number_first(lanes: u8x16, count: usize) -> u64
     sixteen(moved_last(lanes, count))
 }
 
-/// The first lanes, moved behind zeros into the last.
+/// The first lanes, moved after zeros into the last.
 #[inline(always)]
 fn moved_last(lanes: u8x16, count: usize) -> u8x16
     requires { count ≤ LANES }

@@ -93,7 +93,7 @@ where
 }
 
 /// Passes a digit from 1 to 9 and the digits after it, or a zero where it may stand. Where there
-/// are none it stands behind what it looked at.
+/// are none it stands after what it looked at.
 #[inline(always)]
 fn pass_digits<I: StreamIsPartial, E: ParserError<I>>(input: &mut I, zero: bool) -> Result<(), E>
 where

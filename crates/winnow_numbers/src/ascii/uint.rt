@@ -151,7 +151,7 @@ impl Uint for usize {
 /// It backtracks, and consumes nothing, where no digit stands first, or the number does not fit the
 /// type. On a cut input with nothing left it is incomplete, and consumes nothing; on one that ends
 /// in the digits of a number that does not begin with `0` it is incomplete, and the input stands
-/// behind the first digit. The need is 1 unit. Under an error type with no mode it backtracks
+/// after the first digit. The need is 1 unit. Under an error type with no mode it backtracks
 /// instead, and consumes nothing.
 ///
 /// Known as `u8` to `u128` of `character::complete` in nom.

@@ -7,7 +7,7 @@ use Rattle.streams.specs.Kind.{Kind}
 use Rattle.stream_errors.specs.Form.{Answer}
 use Rattle.winnow_recovery.specs.RecoverableParse.{RecoverableParses}
 
--- behind others stands one
+-- after others stands one
 one_behind : {R P : Type 0} (earlier : List R) (last : R) → earlier ++ last ∷ [] ≡ [] → P
 one_behind [] last e = absurd (cc)
 one_behind (x ∷ xs) last e = absurd (cc)

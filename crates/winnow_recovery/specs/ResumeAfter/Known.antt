@@ -1,4 +1,4 @@
--- What a caller knows of one run of a parser behind which one goes on, where it answered.
+-- What a caller knows of one run of a parser after which one goes on, where it answered.
 use Rattle.std.specs.Prelude.{◌≡◌, Some, None, Ok, Err, false, true}
 use Rattle.std.proofs.Common.{inl, inr, refl, subst, sym}
 use Rattle.streams.specs.Equal.{none_is_some, same_some}

@@ -1,4 +1,4 @@
--- What holds of the runs of a parser behind which one goes on.
+-- What holds of the runs of a parser after which one goes on.
 use Rattle.std.specs.Prelude.{Bool, Ok, Err}
 use Rattle.std.proofs.Common.{inl, inr}
 use Rattle.streams.specs.Input.{is_end_of_trans}

@@ -1,5 +1,5 @@
 -- What a caller knows of the calls of an iterator: its items so far are the outputs of a chain of
--- runs that consume, and the run behind them stopped it.
+-- runs that consume, and the run after them stopped it.
 use Rattle.std.specs.Prelude.{◌≡◌, List, [], ◌∷◌, ◌++◌, Some, None, Ok, Err}
 use Rattle.std.proofs.Common.{sym, subst, inl, inr}
 use Rattle.std.proofs.lemmas.Fn.{FoldsTo-push}
@@ -34,7 +34,7 @@ iterator_stopped run assert_kind s t on (inl (o, also, r, consumes, is, goes)) =
 iterator_stopped run assert_kind s t on (inr (inl (also, stops, none))) = stops
 iterator_stopped run assert_kind s t on (inr (inr (off, none, same))) = absurd (off on)
 
--- an item more behind those of a chain
+-- an item more after those of a chain
 pub iterator_more : {S T O : Type 0} (run : Runs S T O) (assert_kind : Kind)
     (s : S) (i : Input T) (outputs : List O) (u : IteratorState S T) (o : O)
     (t : IteratorState S T) → Items run s i outputs u.parser u.input

@@ -23,7 +23,7 @@ use Rattle.winnow_repeat.specs.Repeat.{ItemsRun, RangedRuns, RepeatEnds, RepeatO
 use Rattle.winnow_repeat.specs.Repeat.{capacity_of}
 
 module _ {S T O : Type 0} {run : Runs S T O} {g : Grammar T O} {s : S} where
-  -- the items of a chain stand one behind the other, and leave the state as it was
+  -- the items of a chain stand one after the other, and leave the state as it was
   pub chain_stands : IsExact s run g → (outputs : List O) (i : Input T) (u : S) (m : Input T)
       → i.status.cut ≡ false → FoldsTo (λ p o q. IsItem run p o q) (s, i) outputs (u, m)
       → (u ≡ s) × (m.status.cut ≡ false) × Each g i.left.tokens outputs m.left.tokens

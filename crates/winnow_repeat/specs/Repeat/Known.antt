@@ -20,7 +20,7 @@ use Rattle.winnow_repeat.specs.Repeat.{RepeatEnds, RepeatRuns}
 
 -- ---- any number of items
 
--- An output of a repetition of any number: the accumulator of the items, behind which one
+-- An output of a repetition of any number: the accumulator of the items, after which one
 -- backtracked; and the input is back before that.
 pub record RepeatedAll {S T O C : Type 0} (run : Runs S T O) (into : Accumulator C O) (s : S)
     (i : Input T) (all : C) (t : S) (j : Input T) : Type 0 where
@@ -36,7 +36,7 @@ pub record RepeatedAll {S T O C : Type 0} (run : Runs S T O) (into : Accumulator
   pub takes : FoldsTo into.takes empty outputs all
   pub back : j ≡ back_at input.left last
 
--- What makes a repetition fail behind some items.
+-- What makes a repetition fail after some items.
 abbrev pub RepeatFailure : {S T O C : Type 0} → Runs S T O → Accumulator C O → Kind → S
     → Input T → Kind → S → Input T → Type 0
 RepeatFailure {S} {T} {O} {C} run into assert_kind u m k t j =

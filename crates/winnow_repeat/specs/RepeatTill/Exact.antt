@@ -39,7 +39,7 @@ taken_two {C} takes [] ps a b c e more =
 taken_two takes (o ∷ os) ps a b c (d, taken, rest) more =
     (d, taken, taken_two takes os ps d b c rest more)
 
--- behind the least number there is room for no more than the greatest
+-- after the least number there is room for no more than the greatest
 room_within : (greatest : Option ℕ) (least n : ℕ) → IsWithin greatest least
     → IsWithin (room_behind least greatest) n → IsWithin greatest (least + n)
 room_within None least n within room = tt
@@ -85,7 +85,7 @@ turn_fails e f = record {
 }
 
 module _ {S T O : Type 0} {run : Runs S T O} {g : Grammar T O} {s : S} where
-  -- runs that succeed read items, one behind the other
+  -- runs that succeed read items, one after the other
   successes_stand : IsExact s run g → (outputs : List O) (i : Input T) (u : S) (m : Input T)
       → i.status.cut ≡ false → FoldsTo (λ p o q. IsSuccess run p o q) (s, i) outputs (u, m)
       → (u ≡ s) × (m.status.cut ≡ false) × Each g i.left.tokens outputs m.left.tokens
@@ -132,8 +132,8 @@ module _ {S W T O D C : Type 0} {run : Runs S T O} {till : Runs W T D} {g : Gram
   abbrev Keeps : S × W → Input T → Type 0
   Keeps t j = (t ≡ s) × (j.status.cut ≡ false)
 
-  -- behind the least items and some turns where no terminator stands, a terminator may stand only
-  -- behind more turns, and behind an item
+  -- after the least items and some turns where no terminator stands, a terminator may stand only
+  -- after more turns, and after an item
   none_stands : (os ps : List O) (tokens a b : List T) → length os ≡ bounds.least
       → Each g tokens os a → Each (Turn g h) a ps b → NoneStands h b
       → NoneStands g b ⊎ (room_behind bounds.least bounds.greatest ≡ Some (length ps))
@@ -154,7 +154,7 @@ module _ {S W T O D C : Type 0} {run : Runs S T O} {till : Runs W T D} {g : Gram
             omega (arith, more, few)
       ]
 
-  -- what turns behind the least items read
+  -- what turns after the least items read
   turns_end : (os ps : List O) (i n m : Input T) (empty some : C) → length os ≡ bounds.least
       → FoldsTo into.takes empty (os ++ ps) some → Each g i.left.tokens os n.left.tokens
       → m.status.cut ≡ false → Each (Turn g h) n.left.tokens ps m.left.tokens

@@ -17,7 +17,7 @@ use winnow_core::parser::Parser;
 
 /// Runs `parser` on `input` for each item that is asked for: an item is the output of one run.
 ///
-/// It is iterated by `&mut`, so that [`finish`](ParserIterator::finish) can be called behind it. A
+/// It is iterated by `&mut`, so that [`finish`](ParserIterator::finish) can be called after it. A
 /// run that backtracks ends it, and the input is back before that run. A run that fails by another
 /// kind ends it, and so does one that consumes nothing, by an assert error; the input stays where
 /// that run left it. From then on it gives `None`, and nothing is run. No memory is taken.
@@ -92,7 +92,7 @@ pub fn repeat<P, I, O, C, E, A>(alloc: A, occurrences: Range, parser: P) -> Repe
 ///
 /// First the least number of items is read, without a look at `terminator`; these need not
 /// consume. Then `terminator` is tried. Where it backtracks, `parser` is run from the same place,
-/// and must consume, else it is an assert error; and so on. Behind the greatest number of items a
+/// and must consume, else it is an assert error; and so on. After the greatest number of items a
 /// `terminator` that backtracks is handed on, and the input stays where it left it; so is any other
 /// failure of it, and each failure of `parser`. A greatest count below the least is an assert
 /// error, and nothing is run. Memory is taken by the accumulator alone.
@@ -133,7 +133,7 @@ pub fn repeat_till<P, G, I, O, D, C, E, A>(
 /// answers nothing.
 ///
 /// The first error is handed on, and the input stays where that run left it: the elements before
-/// stay overwritten, that one and those behind it stay as they were. An empty buffer runs nothing.
+/// stay overwritten, that one and those after it stay as they were. An empty buffer runs nothing.
 /// An item need not consume. No memory is taken.
 ///
 /// ```

@@ -45,7 +45,7 @@ pair_link_ends reading run separator ends between s i (Err k) t j fails =
     link_fails_end reading run separator ends between s i k t j fails
 
 module _ {T : Type 0} {following : Following T} where
-  -- a separator and the element behind it
+  -- a separator and the element after it
   link_fails_grow : {S W O D : Type 0} (run : Runs S T O) (separator : Runs W T D)
       → Grows following run → Grows following separator → (more : List T) (flag : Bool)
       (s : S × W) (i : Input T) (k : Kind) (t : S × W) (j : Input T) → MayGrow following more i

@@ -45,7 +45,7 @@ module _ {S W T O D : Type 0} {run : Runs S T O} {separator : Runs W T D}
       let (same2, still) = c.kept m (Err k) t.0 j free x in
       (pair_is same2 same, still ∙ on)
 
-  -- the element of a link, behind its separator
+  -- the element of a link, after its separator
   behind : (i m n : Input T) (d e : D) (x y : Answer O) (t u : S × W) (j k : Input T)
       → NotMemory x → NotMemory y → separator s.1 i (Ok d) t.1 m → separator s.1 i (Ok e) u.1 n
       → run s.0 m x t.0 j → run s.0 n y u.0 k → AlikeAnswers alike x y × (j ≡ k)

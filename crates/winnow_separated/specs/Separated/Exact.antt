@@ -154,7 +154,7 @@ module _ {S W T O D C : Type 0} {run : Runs S T O} {separator : Runs W T D} {g :
   none_of_first tokens none some [] rest (same, least, stops) = omega (arith, least, some)
   none_of_first tokens none some (o ∷ os) rest (mid, x, each, enough, stops) = none o mid x
 
-  -- nor where too few links stand behind the first
+  -- nor where too few links stand after the first
   too_few : (tokens mid : List T) (o : O) → g tokens o mid → ((ps : List O) (rest : List T)
       → Each (Both (λ d o. o) h g) mid ps rest → length ps < bounds.least - 1)
       → NoneStands (Parted g h bounds) tokens

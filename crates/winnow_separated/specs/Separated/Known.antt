@@ -1,5 +1,5 @@
 -- What a caller knows of one run of elements with separators that answered: the first element, the
--- links behind it in a chain, and what ended them.
+-- links after it in a chain, and what ended them.
 use Rattle.std.specs.Prelude.{◌≡◌, ◌<◌, ◌≤◌, ◌-◌, ℕ, List, Option, None, Ok, Err, ◌⊎◌}
 use Rattle.std.specs.List.{FoldsTo}
 use Rattle.std.proofs.Common.{refl, subst, inl, inr, arith}

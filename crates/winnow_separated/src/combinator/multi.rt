@@ -85,7 +85,7 @@ where
 ///
 /// It ends before a separator that backtracks, or whose element backtracks. A first element that
 /// fails, and other failures, are handed on. A separator and its element must consume together,
-/// else it is an assert error. The separators and elements behind the first are kept in a list,
+/// else it is an assert error. The separators and elements after the first are kept in a list,
 /// which takes memory; `op` is called from the last separator on.
 ///
 /// Known as `chainr1` elsewhere.

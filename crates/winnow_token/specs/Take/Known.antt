@@ -7,7 +7,7 @@ use Rattle.stream_errors.specs.Form.{ErrorForm}
 use Rattle.stream_errors.specs.Form.Known.{ok_is_err, same_ok}
 use Rattle.winnow_token.specs.Take.{TakeRuns}
 
--- so many tokens were taken, and the slice shows them
+-- that many tokens were taken, and the slice shows them
 pub record TookCount {T S : Type 0} (reading : Reading T S) (count : ℕ) (i : Input T) (slice : S)
     (j : Input T) : Type 0 where
   pub taken : List T

@@ -90,7 +90,7 @@ module _ {T L : Type 0} (reading : Reading T L) (form : ErrorForm) (counts : Boo
 
 -- ---- what it reads
 
--- behind beginnings of as many tokens the same is left
+-- after beginnings of as many tokens the same is left
 same_behind : {T : Type 0} (f g rest more : List T) → length f ≡ length g → f ++ rest ≡ g ++ more
     → rest ≡ more
 same_behind [] [] rest more n e = e

@@ -147,7 +147,7 @@ pub took_all : {T : Type 0} (P : T → Type 0) (member : T → Bool → Type 0) 
 took_all P member least greatest i taken j is all =
     All-weaker (λ x. member x true) P is taken all.longest.members
 
--- behind a take with no greatest number nothing stands, or what is of Q, where the others are
+-- after a take with no greatest number nothing stands, or what is of Q, where the others are
 pub took_stops : {T : Type 0} (Q : T → Type 0) (member : T → Bool → Type 0) (least : ℕ)
     (i : Input T) (taken : List T) (j : Input T) → ((x : T) → member x false → Q x)
     → Took member least None i taken j
@@ -204,7 +204,7 @@ in_middle : {X : Type 0} (P : X → Type 0) (xs : List X) (y : X) (ys : List X)
 in_middle P [] y ys all = All-head P y ys all
 in_middle P (x ∷ xs) y ys all = in_middle P xs y ys (All-tail P x (xs ++ y ∷ ys) all)
 
--- the longest beginning of members is the front behind which a stranger stands
+-- the longest beginning of members is the front after which a stranger stands
 same_taken : {T : Type 0} (member : T → Bool → Type 0) (P : T → Type 0) (front : List T) (x : T)
     (rest tokens taken left : List T) → Tells member P → tokens ≡ front ++ x ∷ rest
     → All P front → (P x → ⊥) → IsLongest member None tokens taken left → front ≡ taken

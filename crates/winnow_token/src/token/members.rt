@@ -59,7 +59,7 @@ impl<T, S: ContainsToken<T>> TokenTest<T> for Outside<'_, S> {
     }
 }
 
-/// How many members stand first, and the offset behind them where they end there whatever more
+/// How many members stand first, and the offset after them where they end there whatever more
 /// input comes.
 #[derive(Clone, Copy)]
 struct Members {

@@ -13,7 +13,7 @@ decreases-read_array g l = l.level + l.level
 abbrev pub decreases-read_reply : goal.decreases-read_reply
 decreases-read_reply g l = l.level + l.level + 1
 
--- so many replies stand behind the size
+-- that many replies stand after the size
 abbrev pub invariant-read_array-loop : goal.invariant-read_array-loop
 invariant-read_array-loop g l =
     Stood bytes_reading bytes_follow (First (RowOf (ReplyText l.inner) l.counter))

@@ -36,7 +36,7 @@ pub stands_token_of : {X K : Type 0} (tells : X → K → Bool → Type 0) (set 
 unfolding TokenOf
 stands_token_of tells set tokens k rest is e = (is, e)
 
--- Members of a set, at least so many, with none behind them: the bytes are those and what is left.
+-- Members of a set, at least that many, with none after them: the bytes are those and what is left.
 pub record IsRun {X K : Type 0} (tells : X → K → Bool → Type 0) (set : X) (least : ℕ)
     (tokens front rest : List K) : Type 0 where
   pub splits : tokens ≡ front ++ rest

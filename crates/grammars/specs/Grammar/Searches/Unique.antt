@@ -29,7 +29,7 @@ longer {T} reading (x ∷ xs) (y ∷ ys) rest more e less =
       reading.units_add (x ∷ []) ys,
     ))
 
--- behind beginnings of as many tokens the same is left
+-- after beginnings of as many tokens the same is left
 pub same_behind : {T : Type 0} (f g rest more : List T) → length f ≡ length g
     → f ++ rest ≡ g ++ more → rest ≡ more
 same_behind [] [] rest more n e = e
@@ -38,7 +38,7 @@ same_behind (x ∷ f) [] rest more n e = absurd (omega (arith, n))
 same_behind (x ∷ f) (y ∷ g) rest more n e =
     same_behind f g rest more (omega (arith, n)) (same_others e)
 
--- a sought list stands behind the front
+-- a sought list stands after the front
 pub stands_behind : {T : Type 0} {sought : List T → Type 0} {tokens front rest : List T}
     → IsBefore sought tokens front rest
     → (hit : List T) × (more : List T) × Stands sought tokens front hit more

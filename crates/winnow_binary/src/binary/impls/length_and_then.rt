@@ -1,4 +1,4 @@
-//! A length, and a parser of so many tokens.
+//! A length, and a parser of that many tokens.
 ghost use Rattle.streams.specs.Input.{IsEndOf};
 ghost use Rattle.grammars.specs.Grammar.Lengths.{Inside, SaysOne, Sized, sized_inside_takes};
 ghost use Rattle.stream_errors.specs.Form.{answer_by, modal};
@@ -91,7 +91,7 @@ impl<
     }
 }
 
-/// Runs a parser on so many tokens, which are taken, as an input of their own to which no more
+/// Runs a parser on that many tokens, which are taken, as an input of their own to which no more
 /// comes.
 #[inline]
 fn parse_taken<P: Parser<I, O, E>, I: StreamIsPartial + UpdateSlice + Copy, O, E: ParserError<I>>(

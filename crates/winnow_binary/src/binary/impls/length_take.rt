@@ -1,4 +1,4 @@
-//! A length, and so many tokens.
+//! A length, and that many tokens.
 ghost use Rattle.grammars.specs.Grammar.{Counted};
 ghost use Rattle.grammars.specs.Grammar.Lengths.{SaysOne, Sized};
 ghost use Rattle.stream_errors.specs.Form.{modal};

@@ -1,4 +1,4 @@
-//! So many bits, which must be a number.
+//! That many bits, which must be a number.
 ghost use Rattle.std.specs.Prelude.{◌≡◌, ℕ};
 ghost use Rattle.stream_bits.specs.BitInput.{bits_follow};
 ghost use Rattle.stream_bits.specs.BitReading.{bits_alike, bits_reading};

@@ -37,7 +37,7 @@ alt_slice_ends reading run assert_kind ends s i answer t j
     is_end_of_trans (ends x m answer y j r)
     (backtracked_ends reading run ends before i ran m i.left refl backtracked)
 
--- choices among the items of slices agree, where those of their items do; the slices are behind
+-- choices among the items of slices agree, where those of their items do; the slices are after
 -- references
 pub slice_agrees : {P P' Q Q' S U T O : Type 0} (parts : P' → List P)
     (other_parts : Q' → List Q) (name : P' → ℕ) (other_name : Q' → ℕ)

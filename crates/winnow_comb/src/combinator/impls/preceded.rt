@@ -1,4 +1,4 @@
-//! A child behind one whose output is let go.
+//! A child after one whose output is let go.
 ghost use Rattle.std.specs.Prelude.{◌⊎◌};
 ghost use Rattle.grammars.specs.Grammar.{Both};
 ghost use Rattle.stream_errors.specs.Form.{modal};

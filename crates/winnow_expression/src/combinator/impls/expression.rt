@@ -108,7 +108,7 @@ impl<
         }
     }
 
-    /// Sets the parser of postfix operators. It is run behind each operand.
+    /// Sets the parser of postfix operators. It is run after each operand.
     #[inline(always)]
     pub fn postfix<Other: Parser<I, Postfix<K>, E>, K: FoldUnary<I, O, E>>(
         self,
@@ -141,7 +141,7 @@ impl<
         }
     }
 
-    /// Sets the parser of infix operators. It is run behind each operand where that of postfix
+    /// Sets the parser of infix operators. It is run after each operand where that of postfix
     /// operators backtracks.
     #[inline(always)]
     pub fn infix<Other: Parser<I, Infix<K>, E>, K: FoldBinary<I, O, E>>(

@@ -16,7 +16,7 @@ use Rattle.winnow_numbers.specs.Numeral.Grammar.{Decimal}
 abbrev pub NoDigitFirst : List ℕ → Type 0
 NoDigitFirst tokens = (d : ℕ) (more : List ℕ) → tokens ≡ d ∷ more → IsDecDigit d → ⊥
 
--- What `{}` writes of a number below the bound is first, and no digit stands behind it, but behind
+-- What `{}` writes of a number below the bound is first, and no digit stands after it, but after
 -- that of 0.
 unfoldable pub Written : {N : Type 0} → (N → ℕ) → ℕ → Grammar ℕ N
 Written number bound tokens n rest =

@@ -110,7 +110,7 @@ module _ {N : Type 0} (number : N → ℤ) (fits : ℤ → Type 0)
             minus tokens n rest front sign digits e text stops fit m is one some same
       ]
 
-  -- the digits that are written of a number, behind a sign
+  -- the digits that are written of a number, after a sign
   module _ (tokens : List ℕ) (n : N) (rest : List ℕ) (fit : fits (number n)) (sign : List ℕ) (m : ℕ)
       (e : tokens ≡ (sign ++ decimal m) ++ rest) (low : m < 10 ^ 64)
       (stops : (m ≡ 0) ⊎ NoDigitFirst rest) where

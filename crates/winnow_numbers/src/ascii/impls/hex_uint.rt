@@ -40,7 +40,7 @@ pub trait HexUint: Default {
     // The number of a value.
     ghost number: { Self → ℕ };
 
-    // So many hexadecimal digits always fit, and no more do.
+    // That many hexadecimal digits always fit, and no more do.
     ghost nibbles: { ℕ };
 
     /// How many hexadecimal digits the type holds: 2, 4, 8, 16, 32, and 16 of `usize`.

@@ -1,4 +1,4 @@
-//! Parsers behind which one goes on where they could not parse.
+//! Parsers after which one goes on where they could not parse.
 #![tactic(auto, using(streams::specs::Ends::ends_follow))]
 
 ghost use Rattle.std.specs.Prelude.{◌≡◌, true};

@@ -1,4 +1,4 @@
-//! Parsers that are tried again behind what could not be parsed.
+//! Parsers that are tried again after what could not be parsed.
 #![tactic(auto, using(streams::specs::Ends::ends_follow))]
 
 ghost use Rattle.std.specs.Prelude.{◌≡◌, true};
@@ -27,7 +27,7 @@ use winnow_core::parser::Parser;
 /// or cuts leaves the input where it failed, and there the parser that recovers is run. Where that
 /// succeeds and consumes, the error is recorded and the parser tried again. Where it fails, or
 /// consumes nothing, the input goes back to where the error arose, and that is answered; where it,
-/// or the list of errors, finds no memory, the input goes back there too, and want of memory is
+/// or the list of errors, finds no memory, the input goes back there too, and out of memory is
 /// answered. An error for want of more input, or of memory, of the parser itself is handed on.
 ///
 /// Over another stream only the parser is run.

@@ -197,7 +197,7 @@ impl<
     fn agree() {}
 }
 
-/// Folds one item or more: the value to begin with is made behind the first.
+/// Folds one item or more: the value to begin with is made after the first.
 fn fold_one<
     P: Parser<I, O, E>,
     G: FnMut() -> R,

@@ -53,7 +53,7 @@ impl<P: Parser<I, O, E>, I: Stream, O, E: ParserError<I>, A: Drop> Repeat<P, I, 
     /// Folds the outputs into a value: `init` makes it, and `op` takes each output in, in order.
     ///
     /// It ends and fails as the repetition does, and takes no memory. In the form `1..` the value
-    /// is made behind the first item, and else first. Known as `fold_many0` and `fold_many1` in
+    /// is made after the first item, and else first. Known as `fold_many0` and `fold_many1` in
     /// nom.
     ///
     /// ```
@@ -223,7 +223,7 @@ impl<
     fn agree() {}
 }
 
-/// Repeats once or more: the accumulator is made behind the first item.
+/// Repeats once or more: the accumulator is made after the first item.
 fn repeat_one<
     P: Parser<I, O, E>,
     I: Stream,

@@ -155,7 +155,7 @@ impl<
     fn agree() {}
 }
 
-/// Reads so many items into an accumulator, and lets them consume nothing.
+/// Reads that many items into an accumulator, and lets them consume nothing.
 fn least_items<
     P: Parser<I, O, E>,
     I: Stream,

@@ -1,4 +1,4 @@
-//! A separator and the element behind it.
+//! A separator and the element after it.
 ghost use Rattle.stream_errors.specs.Form.{answer_by};
 ghost use Rattle.streams.specs.Input.{IsEndOf};
 ghost use Rattle.winnow_separated.specs.Link.{LinkTried};

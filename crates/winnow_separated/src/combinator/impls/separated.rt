@@ -184,7 +184,7 @@ fn separated_many<
     }
 }
 
-/// Reads the first element and links behind it into an accumulator, at least `least` and at most
+/// Reads the first element and links after it into an accumulator, at least `least` and at most
 /// `greatest` elements.
 fn separated_elements<
     P: Parser<I, O, E>,

@@ -132,7 +132,7 @@ impl<
     fn agree() {}
 }
 
-/// Joins a first element and links behind it, from the last one on.
+/// Joins a first element and links after it, from the last one on.
 fn join_right<H: FnMut(O, D, O) -> O, O: Drop, D: Drop, A: Allocator>(
     first: O,
     links: Vec<(D, O), A>,

@@ -1,4 +1,4 @@
-//! So many tokens.
+//! That many tokens.
 ghost use Rattle.std.specs.Prelude.{◌≡◌, ℕ, ◌<◌, ⊤};
 ghost use Rattle.grammars.specs.Grammar.{Counted};
 ghost use Rattle.winnow_core.specs.Agrees.{agrees_by};

@@ -1,4 +1,4 @@
--- What was read is the frames so far, and what is held: nothing behind a frame, for which there was
+-- What was read is the frames so far, and what is held: nothing after a frame, for which there was
 -- room. The list of payloads has at least the room that it had.
 use Rattle.std.proofs.Common.{◌≡◌, ◌≤◌, ◌<◌, [], map}
 use Rattle.std.specs.Prelude.{vec_capacity}

@@ -1,4 +1,4 @@
--- What stands behind the first line feed is what stands behind the first that is left.
+-- What stands after the first line feed is what stands after the first that is left.
 use Rattle.std.proofs.Common.{◌≡◌, ◌++◌, ◌∷◌, ℕ, List, length}
 use Rattle.format_resp.specs.Parts.{NoFeed}
 use Rattle.exported.proofs.resp.places.behind_feed.Given as goal

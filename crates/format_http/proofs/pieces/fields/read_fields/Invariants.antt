@@ -1,4 +1,4 @@
--- Field lines were read, one behind the other, and an end of the input is left.
+-- Field lines were read, one after the other, and an end of the input is left.
 use Rattle.std.proofs.Common.{length, map}
 use Rattle.winnow.specs.Bytes.{bytes_input, bytes_reading}
 use Rattle.winnow.specs.Input.{IsEndOf}

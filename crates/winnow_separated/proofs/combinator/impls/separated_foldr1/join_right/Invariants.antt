@@ -2,7 +2,7 @@ use Rattle.std.proofs.Common.{List, length, ◌≡◌, ◌++◌, ◌∷◌}
 use Rattle.winnow_separated.specs.SeparatedFoldr1.{FoldsRight}
 use Rattle.winnow_separated.proofs.combinator.impls.separated_foldr1.join_right.Given as goal
 
--- The links are those still to come, the separator with the element behind it, and links that are
+-- The links are those still to come, the separator with the element after it, and links that are
 -- folded into that element.
 abbrev pub invariant-links : goal.invariant-links
 invariant-links g l =
