@@ -134,7 +134,7 @@ def signature(text, at, clauses, head):
 
 
 def lines_of_body(text, plain, at):
-    """The parts of the body of a struct or enum, a comma behind each: comment and line."""
+    """The parts of the body of a struct or enum, a comma after each: comment and line."""
     inner, stop = at + 1, closed(plain, at) - 1
     place, depth, found = inner, 0, []
     for sign in re.compile(r"[()\[\]{},]").finditer(plain, inner, stop):

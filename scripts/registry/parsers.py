@@ -25,7 +25,7 @@ def sentence(comment):
 
 
 def closing(text, at, opened, closed):
-    """Where the bracket that stands first behind `at` is closed."""
+    """Where the bracket that stands first after `at` is closed."""
     depth = 0
     for place in range(at, len(text)):
         depth += (text[place] == opened) - (text[place] == closed and text[place - 1] != "-")

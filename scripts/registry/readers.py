@@ -47,7 +47,7 @@ READERS = [
     ("JSON: extents", "format_json_extents", "no", "where a value ends, and whether bytes are a text"),
     ("JSON: by one entry", "format_json", "no",
         "`Ok` exactly where the text or the bytes are one of this value; else a place "
-        "behind which no text goes on, and what may stand there; the text of a value, over lines too"),
+        "after which no text goes on, and what may stand there; the text of a value, over lines too"),
     ("TOML 1.0, a subset", "format_toml", "yes",
         "`Ok` exactly where the text is lines of this document; what the first one lacks that is no "
         "line"),
