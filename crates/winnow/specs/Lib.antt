@@ -279,6 +279,7 @@ pub use Rattle.winnow_exact.specs.Read
 pub use Rattle.winnow_exact.specs.Rule
 pub use Rattle.winnow_exact.specs.RulePieces
 pub use Rattle.winnow_exact.specs.RunByRun
+pub use Rattle.winnow_exact.specs.Spans
 pub use Rattle.winnow_exact.specs.Steps
 pub use Rattle.winnow_exact.specs.Told
 -- Where stable parsers ask for more of a cut input.

@@ -8,5 +8,6 @@ pub mod Read
 pub mod Rule
 pub mod RulePieces
 pub mod RunByRun
+pub mod Spans
 pub mod Steps
 pub mod Told

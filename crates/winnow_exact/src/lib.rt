@@ -7,3 +7,4 @@ pub mod for_good;
 pub mod laws;
 pub mod pieces;
 pub mod rule;
+pub mod spans;

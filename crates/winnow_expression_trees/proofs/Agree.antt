@@ -23,13 +23,14 @@ use Rattle.winnow_expression.specs.declared.combinator.places.First.TheVariants.
 use Rattle.winnow_expression.specs.declared.combinator.places.Next.TheVariants.{Nothing, Postfix}
 use Rattle.winnow_expression.specs.declared.combinator.places.Next.TheVariants.{Infix as infix_read}
 use Rattle.winnow_expression_trees.specs.Reading.{Over}
-use Rattle.winnow_expression_trees.proofs.TreeCalls.{Reads, Grows}
-use Rattle.winnow_expression_trees.proofs.TreeCalls.{grows_stop, grows_block}
-use Rattle.winnow_expression_trees.proofs.TreeCalls.{grows_postfix, grows_infix, grows_ended}
-use Rattle.winnow_expression_trees.proofs.Views.{Follows, Stops, reads_as, grows_as, operand_at}
-use Rattle.winnow_expression_trees.proofs.Views.{prefix_at, stop_at, postfix_at, infix_at}
-use Rattle.winnow_expression_trees.proofs.Exact.{reads_sound}
-use Rattle.winnow_expression_trees.proofs.Unique.{clash_flag}
+use Rattle.winnow_expression_trees.specs.OneTree.TreeCalls.{Reads, Grows}
+use Rattle.winnow_expression_trees.specs.OneTree.TreeCalls.{grows_stop, grows_block}
+use Rattle.winnow_expression_trees.specs.OneTree.TreeCalls.{grows_postfix, grows_infix, grows_ended}
+use Rattle.winnow_expression_trees.specs.OneTree.Views.{Follows, Stops, reads_as, grows_as}
+use Rattle.winnow_expression_trees.specs.OneTree.Views.{operand_at}
+use Rattle.winnow_expression_trees.specs.OneTree.Views.{prefix_at, stop_at, postfix_at, infix_at}
+use Rattle.winnow_expression_trees.specs.OneTree.Exact.{reads_sound}
+use Rattle.winnow_expression_trees.specs.OneTree.Unique.{clash_flag}
 use Rattle.winnow_expression_trees.proofs.Over.{no_turn_begun, no_turn_still, no_postfix_still}
 use Rattle.winnow_expression_trees.proofs.Plain.{Plain, decided, moves, own_first, own_next}
 use Rattle.winnow_expression_trees.proofs.Plain.{no_first, no_next, no_prefix}

@@ -26,10 +26,10 @@ use Rattle.winnow_expression_trees.specs.OneTree.{KeepsOver}
 use Rattle.winnow_expression_trees.specs.Premises.{AlikePostfix, AlikePrefix, Decides}
 use Rattle.winnow_expression_trees.specs.Reading.{FirstStep, NextStep}
 use Rattle.winnow_expression_trees.specs.Tree.{Tree}
-use Rattle.winnow_expression_trees.proofs.Alike.{Decided}
+use Rattle.winnow_expression_trees.specs.OneTree.Alike.{Decided}
 use Rattle.winnow_expression_trees.proofs.Parts.{not_back}
 use Rattle.winnow_expression_trees.proofs.Plain.{first_run}
-use Rattle.winnow_expression_trees.proofs.Unique.{one_tree}
+use Rattle.winnow_expression_trees.specs.OneTree.Unique.{one_tree}
 
 ok_is : {O : Type 0} {v w : O} → ◌≡◌ {A = Answer O} (Ok v) (Ok w) → v ≡ w
 ok_is e = cc

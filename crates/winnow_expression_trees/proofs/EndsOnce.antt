@@ -17,7 +17,7 @@ use Rattle.winnow_expression_trees.specs.Failure.{Comes, EndedBy, comes_infix, c
 use Rattle.winnow_expression_trees.specs.Failure.{comes_postfix, comes_prefix, comes_start}
 use Rattle.winnow_expression_trees.specs.Premises.{FoldAlike, FoldsAlike}
 use Rattle.winnow_expression_trees.specs.Reading.{FirstStep, NextStep}
-use Rattle.winnow_expression_trees.proofs.Alike.{Decided}
+use Rattle.winnow_expression_trees.specs.OneTree.Alike.{Decided}
 use Rattle.winnow_expression_trees.proofs.Plain.{Plain, decided, no_first, no_next}
 
 true_false : {X : Type 0} → true ≡ false → X

@@ -27,7 +27,7 @@ use Rattle.winnow_expression.specs.declared.combinator.calls.Operator.TheVariant
   Infix as infix_open,
 }
 use Rattle.winnow_expression_trees.specs.Reading.{Over}
-use Rattle.winnow_expression_trees.proofs.Exact.{reads_sound}
+use Rattle.winnow_expression_trees.specs.OneTree.Exact.{reads_sound}
 use Rattle.winnow_expression_trees.proofs.Over.{over_falls}
 use Rattle.winnow_expression_trees.proofs.Closing.{clash, no_memory, resume_not}
 use Rattle.winnow_expression_trees.proofs.Plain.{Plain, decided, moves, own_first, own_next}

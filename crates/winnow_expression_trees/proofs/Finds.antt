@@ -26,10 +26,11 @@ use Rattle.winnow_expression.specs.declared.combinator.calls.Operator.TheVariant
 use Rattle.winnow_expression.specs.declared.combinator.calls.Operator.TheVariants.{
   Infix as infix_open,
 }
-use Rattle.winnow_expression_trees.proofs.TreeCalls.{Reads, Grows, reads_operand, reads_prefix}
-use Rattle.winnow_expression_trees.proofs.TreeCalls.{reads_ended, grows_stop, grows_block}
-use Rattle.winnow_expression_trees.proofs.TreeCalls.{grows_postfix, grows_infix, grows_ended}
-use Rattle.winnow_expression_trees.proofs.Views.{Follows}
+use Rattle.winnow_expression_trees.specs.OneTree.TreeCalls.{Reads, Grows, reads_operand}
+use Rattle.winnow_expression_trees.specs.OneTree.TreeCalls.{reads_prefix}
+use Rattle.winnow_expression_trees.specs.OneTree.TreeCalls.{reads_ended, grows_stop, grows_block}
+use Rattle.winnow_expression_trees.specs.OneTree.TreeCalls.{grows_postfix, grows_infix, grows_ended}
+use Rattle.winnow_expression_trees.specs.OneTree.Views.{Follows}
 use Rattle.winnow_expression_trees.proofs.Closing.{clash, same_value, none_is, some_is}
 use Rattle.winnow_expression_trees.proofs.Plain.{Plain, decided, own_first, own_next}
 use Rattle.winnow_expression_trees.specs.Premises.{FoldAlike, FoldsAlike}

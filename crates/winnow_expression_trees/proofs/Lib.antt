@@ -1,12 +1,10 @@
 pub mod Accepting
 pub mod Agree
-pub mod Alike
 pub mod AnyFolds
 pub mod Asserts
 pub mod Closing
 pub mod Decides
 pub mod EndsOnce
-pub mod Exact
 pub mod Fails
 pub mod Finds
 pub mod FourParts
@@ -17,8 +15,5 @@ pub mod Parts
 pub mod Plain
 pub mod Refusing
 pub mod Total
-pub mod TreeCalls
-pub mod Unique
-pub mod Views
 pub mod Whole
 pub mod Within

@@ -1,5 +1,5 @@
 -- What an open operator, and the end of a call, do with folds that refuse nothing.
-use Rattle.std.specs.Prelude.{◌≡◌, ◌⊎◌, ◌≤ℤ◌, ◌<ℤ◌, ℕ, ℤ, Bool, true, false, Some, None, Ok}
+use Rattle.std.specs.Prelude.{◌≡◌, ◌⊎◌, ◌≤ℤ◌, ◌<ℤ◌, ℕ, ℤ, Bool, false, Some, None, Ok}
 use Rattle.std.specs.Prelude.{Err}
 use Rattle.std.proofs.Common.{refl, sym, ◌∙◌, ap, subst, inl, inr}
 use Rattle.stream_errors.specs.Form.{Answer}
@@ -31,7 +31,7 @@ use Rattle.winnow_expression_trees.specs.Reading.{FirstStep, NextStep, Over, pow
 use Rattle.winnow_expression_trees.specs.Tree.{Tree, before, between, top_neither}
 use Rattle.winnow_expression_trees.specs.Value.{Value}
 use Rattle.winnow_expression_trees.proofs.Closing.{clash}
-use Rattle.winnow_expression_trees.proofs.Exact.{above_later}
+use Rattle.winnow_expression_trees.specs.OneTree.Exact.{above_later}
 use Rattle.winnow_expression_trees.proofs.Fails.{err_ok, err_same}
 use Rattle.winnow_expression_trees.proofs.Finds.{between_closes}
 use Rattle.winnow_expression_trees.proofs.Plain.{Plain, decided, own_next}

@@ -15,11 +15,12 @@ use Rattle.winnow_expression.specs.declared.combinator.places.Next.TheVariants.{
 use Rattle.winnow_expression.specs.declared.combinator.places.Next.TheVariants.{Infix as infix_read}
 use Rattle.winnow_expression.specs.declared.combinator.operators.Infix.{Infix}
 use Rattle.winnow_expression_trees.specs.Reading.{Over}
-use Rattle.winnow_expression_trees.proofs.TreeCalls.{Reads, Grows, reads_operand, reads_prefix}
-use Rattle.winnow_expression_trees.proofs.TreeCalls.{reads_ended, grows_stop, grows_block}
-use Rattle.winnow_expression_trees.proofs.TreeCalls.{grows_postfix, grows_infix, grows_ended}
-use Rattle.winnow_expression_trees.proofs.Alike.{Decided, alike_power}
-use Rattle.winnow_expression_trees.proofs.Unique.{clash_flag}
+use Rattle.winnow_expression_trees.specs.OneTree.TreeCalls.{Reads, Grows, reads_operand}
+use Rattle.winnow_expression_trees.specs.OneTree.TreeCalls.{reads_prefix}
+use Rattle.winnow_expression_trees.specs.OneTree.TreeCalls.{reads_ended, grows_stop, grows_block}
+use Rattle.winnow_expression_trees.specs.OneTree.TreeCalls.{grows_postfix, grows_infix, grows_ended}
+use Rattle.winnow_expression_trees.specs.OneTree.Alike.{Decided, alike_power}
+use Rattle.winnow_expression_trees.specs.OneTree.Unique.{clash_flag}
 
 -- What is read goes towards the end, stays only where nothing is consumed, and prefixes and
 -- neithers consume.

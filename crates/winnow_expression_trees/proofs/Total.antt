@@ -1,7 +1,7 @@
 -- A run is one with folds that refuse nothing, or the fold of an operator that is read refuses. So
 -- where a tree keeps the powers, a failure is a fold's.
 use Rattle.std.specs.Prelude.{◌≡◌, ◌⊎◌, ℤ, Bool, true, false, None, Ok, Err}
-use Rattle.std.proofs.Common.{refl, sym, ◌∙◌, ap, subst, inl, inr, arith}
+use Rattle.std.proofs.Common.{refl, sym, ◌∙◌, subst, inl, inr, arith}
 use Rattle.stream_errors.specs.Form.{Answer}
 use Rattle.streams.specs.Input.{Input}
 use Rattle.streams.specs.Kind.{Kind, memory}
@@ -26,9 +26,8 @@ use Rattle.winnow_expression_trees.specs.OneTree.{KeepsOver}
 use Rattle.winnow_expression_trees.specs.Premises.{FoldAlike, FoldsAlike}
 use Rattle.winnow_expression_trees.specs.Reading.{FirstStep, NextStep}
 use Rattle.winnow_expression_trees.specs.Tree.{Tree, leaf, behind}
-use Rattle.winnow_expression_trees.specs.Value.{Value}
 use Rattle.winnow_expression_trees.proofs.Agree.{call_agrees}
-use Rattle.winnow_expression_trees.proofs.Exact.{complete, reads_sound}
+use Rattle.winnow_expression_trees.specs.OneTree.Exact.{complete, reads_sound}
 use Rattle.winnow_expression_trees.proofs.Fails.{call_fails, err_ok}
 use Rattle.winnow_expression_trees.proofs.Finds.{call_tree}
 use Rattle.winnow_expression_trees.proofs.Plain.{Plain, decided, own_first, own_next}

@@ -9,8 +9,8 @@ use Rattle.winnow_expression.specs.Calls.{call_at}
 use Rattle.winnow_expression.specs.Expression.{ExpressionRuns}
 use Rattle.winnow_expression.specs.Grammar.{Grammar}
 use Rattle.winnow_expression_trees.specs.Tree.{Tree}
-use Rattle.winnow_expression_trees.proofs.Exact.{complete, reads_sound}
-use Rattle.winnow_expression_trees.proofs.Unique.{one_tree}
+use Rattle.winnow_expression_trees.specs.OneTree.Exact.{complete, reads_sound}
+use Rattle.winnow_expression_trees.specs.OneTree.Unique.{one_tree}
 use Rattle.winnow_expression_trees.proofs.Plain.{Plain, decided}
 use Rattle.winnow_expression_trees.specs.Premises.{FoldAlike, FoldsAlike}
 use Rattle.winnow_expression_trees.specs.Reading.{FirstStep, NextStep}

@@ -23,6 +23,7 @@ use Rattle.winnow_expression_trees.specs.Keeps.{Keeps}
 use Rattle.winnow_expression_trees.specs.Premises.{NotMemory}
 use Rattle.winnow_expression_trees.specs.Reading.{Over}
 use Rattle.winnow_expression_trees.specs.Tree.{Tree, leaf, before, behind, between}
+pub mod Grammar
 pub mod Laws
 pub mod Premises
 

@@ -11,6 +11,11 @@ use Rattle.winnow_expression_trees.specs.Premises.{FoldAlike, FoldsAlike, NotMem
 use Rattle.winnow_expression_trees.specs.Reading.{FirstStep, NextStep, Over}
 use Rattle.winnow_expression_trees.specs.Tree.{Tree}
 use Rattle.winnow_expression_trees.specs.Value.{Value}
+pub mod Alike
+pub mod Exact
+pub mod TreeCalls
+pub mod Unique
+pub mod Views
 
 -- A tree over a beginning of what the parts read keeps the powers at a level, and ends at j.
 abbrev pub KeepsOver : {S W T V F G H : Type 0} → Grammar S W T V F G H → S × W → ℤ → Input T

@@ -17,8 +17,13 @@ pub mod Composed
 pub mod Errors
 pub mod InOrder
 pub mod Leaves
+pub mod Numbers
+pub mod OtherErrors
+pub mod Outputs
+pub mod Refusing
 pub mod Repeat
 pub mod Repeated
+pub mod Searches
 pub mod Tuples
 pub mod Words
 

@@ -1,5 +1,5 @@
 -- The words in which it is said how parsers fail, and what they read where a part cuts.
-use Rattle.std.specs.Prelude.{◌≡◌, ◌⊎◌, ◌<◌, ◌≤◌, List, length, Option, Some, None}
+use Rattle.std.specs.Prelude.{◌≡◌, ◌⊎◌, ◌<◌, ◌≤◌, Bool, true, List, length, Option, Some, None}
 use Rattle.streams.specs.Kind.{Kind, backtrack, cut}
 use Rattle.grammars.specs.Grammar.{Each, Gathered, Grammar, NoneStands}
 use Rattle.stream_sets.specs.Range.{Bounds, IsBelow, bounds_of}
@@ -57,6 +57,17 @@ FailsThere {T} {O} grammar failure tokens k rest =
     (rest ≡ tokens)
     × (((k ≡ backtrack) × (o : O) × (end : List T) × grammar tokens o end)
     ⊎ ((k ≡ cut) × (place : List T) × failure tokens cut place))
+
+-- It fails, where a condition holds.
+unfoldable pub FailsOnlyIf : {T : Type 0} → Bool → Failure T → Failure T
+FailsOnlyIf condition failure tokens k rest = (condition ≡ true) × failure tokens k rest
+
+-- The part fails; or it stands, and nothing of the whole does: it backtracks, and takes nothing.
+unfoldable pub FailsRefusing : {T O U : Type 0} → Grammar T O → Failure T → Grammar T U → Failure T
+FailsRefusing {T} {O} grammar failure whole tokens k rest =
+    failure tokens k rest
+    ⊎ ((k ≡ backtrack) × (rest ≡ tokens) × NoneStands whole tokens
+    × (o : O) × (end : List T) × grammar tokens o end)
 
 -- After some that stand one after the other, fewer than the greatest number, one fails: by a cut,
 -- or where they are fewer than the least number.

@@ -1,8 +1,9 @@
 //! Children that may be left out, or are only looked at.
 ghost use Rattle.std.specs.Prelude.{⊤};
-ghost use Rattle.grammars.specs.Grammar.{Ahead, Never, Nothing};
+ghost use Rattle.grammars.specs.Grammar.{Ahead, Never, Nothing, When};
 ghost use Rattle.stream_errors.specs.Form.Known.{ok_is_err};
 ghost use Rattle.std.proofs.Common.{refl};
+ghost use Rattle.winnow_comb.specs.Cond.{cond_condition, cond_parser};
 ghost use Rattle.winnow_comb.specs.Empty.Laws.{empty_exact};
 ghost use Rattle.winnow_comb.specs.Fail.Laws.{fail_backs, fail_exact, never_takes};
 ghost use Rattle.winnow_comb.specs.Not.{not_parser};
@@ -11,13 +12,15 @@ ghost use Rattle.winnow_comb.specs.Peek.{peek_parser};
 ghost use Rattle.winnow_failures.specs.Fails.Basic.{not_fail, opt_fail, peek_fail};
 ghost use Rattle.winnow_failures.specs.Fails.Leaves.{fail_there, leaf_fails, leaf_told};
 ghost use Rattle.winnow_failures.specs.Fails.Leaves.{never_fails};
-ghost use Rattle.winnow_failures.specs.Fails.Words.{BacksThere, FailsThere, MaybeThere};
+ghost use Rattle.winnow_failures.specs.Fails.Outputs.{cond_fail};
+ghost use Rattle.winnow_failures.specs.Fails.Words.{BacksThere, FailsOnlyIf, FailsThere};
+ghost use Rattle.winnow_failures.specs.Fails.Words.{MaybeThere};
 ghost use Rattle.winnow_failures.specs.Fails.Words.{NeverFails, OnlyCuts, TakesNothing};
 
 use crate::fails::Fails;
 use stream_errors::parser_error::ParserError;
 use streams::stream::Stream;
-use winnow_comb::combinator::impls::{Empty, Fail, Not, Opt, Peek};
+use winnow_comb::combinator::impls::{Cond, Empty, Fail, Not, Opt, Peek};
 
 /// It fails where its part cuts, as that.
 impl<P: Fails<I, O, E>, I: Stream, O, E: ParserError<I>> Fails<I, Option<O>, E>
@@ -33,6 +36,24 @@ impl<P: Fails<I, O, E>, I: Stream, O, E: ParserError<I>> Fails<I, Option<O>, E>
     fn tell() {}
 
     ghost tells = { λ form p is. opt_fail (P.tells form (opt_parser p) is) };
+
+    ghost takes = { λ p is some. absurd some };
+}
+
+/// It fails as its part, where the condition holds.
+impl<P: Fails<I, O, E>, I: Stream, O, E: ParserError<I>> Fails<I, Option<O>, E>
+    for Cond<P, I, O, E> {
+    ghost told = { λ p. record {
+      premise = (P.told (cond_parser p)).premise;
+      spares_memory = (P.told (cond_parser p)).spares_memory;
+      consumes = ⊥;
+      grammar = When (cond_condition p) (P.told (cond_parser p)).grammar;
+      failure = FailsOnlyIf (cond_condition p) (P.told (cond_parser p)).failure;
+    } };
+
+    fn tell() {}
+
+    ghost tells = { λ form p is. cond_fail (P.tells form (cond_parser p) is) };
 
     ghost takes = { λ p is some. absurd some };
 }

@@ -9,12 +9,13 @@ use Rattle.winnow_expression.specs.declared.combinator.places.Next.TheVariants.{
 use Rattle.winnow_expression.specs.declared.combinator.places.Next.TheVariants.{Infix as infix_read}
 use Rattle.winnow_expression.specs.declared.combinator.operators.Infix.{Infix}
 use Rattle.winnow_expression_trees.specs.Reading.{Over, power_of}
-use Rattle.winnow_expression_trees.proofs.TreeCalls.{Reads, Grows, reads_operand, reads_prefix}
-use Rattle.winnow_expression_trees.proofs.TreeCalls.{reads_ended, grows_stop, grows_block}
-use Rattle.winnow_expression_trees.proofs.TreeCalls.{grows_postfix, grows_infix, grows_ended}
+use Rattle.winnow_expression_trees.specs.OneTree.TreeCalls.{Reads, Grows, reads_operand}
+use Rattle.winnow_expression_trees.specs.OneTree.TreeCalls.{reads_prefix}
+use Rattle.winnow_expression_trees.specs.OneTree.TreeCalls.{reads_ended, grows_stop, grows_block}
+use Rattle.winnow_expression_trees.specs.OneTree.TreeCalls.{grows_postfix, grows_infix, grows_ended}
 use Rattle.winnow_expression_trees.specs.Keeps.{Reaches, EdgeAbove, Binds, Meets, MeetsHere, Above}
 use Rattle.winnow_expression_trees.specs.Keeps.{Ends, Outcome, Keeps}
-use Rattle.winnow_expression_trees.proofs.Alike.{Decided, alike_power}
+use Rattle.winnow_expression_trees.specs.OneTree.Alike.{Decided, alike_power}
 
 -- completeness
 above_one : {V F G H : Type 0} (t : Tree V F G H) (p : ℤ) (x : Next G H) → power_of x ≡ Some p

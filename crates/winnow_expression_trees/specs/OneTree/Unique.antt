@@ -8,14 +8,15 @@ use Rattle.winnow_expression.specs.declared.combinator.places.First.{First}
 use Rattle.winnow_expression.specs.declared.combinator.places.Next.{Next}
 use Rattle.winnow_expression_trees.specs.Reading.{Over}
 use Rattle.winnow_expression_trees.specs.Keeps.{Keeps}
-use Rattle.winnow_expression_trees.proofs.TreeCalls.{Reads, Grows, reads_operand, reads_prefix}
-use Rattle.winnow_expression_trees.proofs.TreeCalls.{reads_ended, grows_stop, grows_block}
-use Rattle.winnow_expression_trees.proofs.TreeCalls.{grows_postfix, grows_infix, grows_ended}
-use Rattle.winnow_expression_trees.proofs.Alike.{Decided, alike_top}
+use Rattle.winnow_expression_trees.specs.OneTree.TreeCalls.{Reads, Grows, reads_operand}
+use Rattle.winnow_expression_trees.specs.OneTree.TreeCalls.{reads_prefix}
+use Rattle.winnow_expression_trees.specs.OneTree.TreeCalls.{reads_ended, grows_stop, grows_block}
+use Rattle.winnow_expression_trees.specs.OneTree.TreeCalls.{grows_postfix, grows_infix, grows_ended}
+use Rattle.winnow_expression_trees.specs.OneTree.Alike.{Decided, alike_top}
 use Rattle.winnow_expression_trees.specs.Alike.{AlikeTree}
-use Rattle.winnow_expression_trees.proofs.Views.{operand_at, prefix_at, stop_at, postfix_at}
-use Rattle.winnow_expression_trees.proofs.Views.{infix_at}
-use Rattle.winnow_expression_trees.proofs.Exact.{complete}
+use Rattle.winnow_expression_trees.specs.OneTree.Views.{operand_at, prefix_at, stop_at, postfix_at}
+use Rattle.winnow_expression_trees.specs.OneTree.Views.{infix_at}
+use Rattle.winnow_expression_trees.specs.OneTree.Exact.{complete}
 
 pub clash_flag : {X : Type 0} → false ≡ true → X
 clash_flag e = absurd (cc)
