@@ -39,8 +39,8 @@ def reads(n):
         " ".join(implicit("shown%d" % k, "O%d → List T" % k) for k in upto(n)),
         " ".join(implicit("P%d" % k, "O%d → Type 0" % k) for k in upto(n)),
     ]
-    children = " → ".join("Reads run%d known%d shown%d P%d" % (k, k, k, k) for k in upto(n))
-    whole = "Reads (%s) (λ s. %s) (λ o. %s) (λ o. %s)" % (
+    children = " → ".join("ReadsShown run%d known%d shown%d P%d" % (k, k, k, k) for k in upto(n))
+    whole = "ReadsShown (%s) (λ s. %s) (λ o. %s) (λ o. %s)" % (
         sequence,
         conjunction(["known%d s.%d" % (k, k - 1) for k in upto(n)]),
         joined(["shown%d o.%d" % (k, k - 1) for k in upto(n)]),
@@ -116,7 +116,7 @@ SEQUENCES = """-- A sequence of parsers that read does so: its output shows what
 -- {head}
 use Rattle.std.specs.Prelude.{{List, ◌++◌}}
 use Rattle.std.proofs.Common.{{ap, append_assoc, inl, inr, subst, sym, ◌∙◌}}
-use Rattle.winnow_core.specs.Reads.{{Reads}}
+use Rattle.winnow_core.specs.Reads.{{ReadsShown}}
 use Rattle.winnow_core.specs.Runs.{{Runs}}
 use Rattle.winnow_core.specs.Sequence.{{{runs}}}
 use Rattle.winnow_core.specs.Sequence.Known.{{{known}}}

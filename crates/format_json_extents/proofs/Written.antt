@@ -7,7 +7,7 @@ use Rattle.std.specs.List.{All}
 use Rattle.std.specs.Str.{all_scalars, encode_utf8_all}
 use Rattle.std.proofs.lemmas.List.Elements.{All-cons, All-head, All-tail, All-weaker}
 use Rattle.std.proofs.lemmas.Str.{encodes-append}
-use Rattle.format_json_extents.specs.Texts.{BothText, Either, IsByte, Maybe}
+use Rattle.format_json_extents.specs.Texts.{Then, Either, IsByte, Maybe}
 use Rattle.format_parts.specs.Words.{For, In, One, Run}
 use Rattle.winnow.specs.Text.{text_reading}
 use Rattle.winnow.specs.Texts.{BothText as Both, EitherText, MadeText, OptionalText, Spelled}
@@ -62,7 +62,7 @@ fit_parts cs xs ys e fits =
 
 pub then_written : {O1 O2 O : Type 0} (output : O1 → O2 → O) {P Q : List ℕ → Type 0}
     {first : Text ℕ O1} {second : Text ℕ O2} → Written P first → Written Q second
-    → Written (BothText P Q) (Both output first second)
+    → Written (Then P Q) (Both output first second)
 unfolding Both
 then_written output p q = record {
   set = λ o cs (a, b, xs, ys, x, y, e, out). record {
@@ -158,7 +158,7 @@ run_written P Q there back = record {
 }
 
 -- one at least
-pub run_one_written : (P : ℕ → Type 0) → Written (BothText (IsByte P) (All P)) (Run P 1)
+pub run_one_written : (P : ℕ → Type 0) → Written (Then (IsByte P) (All P)) (Run P 1)
 unfolding Run
 run_one_written P = record {
   set = λ slice cs (all, enough, shown). some cs all enough;
@@ -176,7 +176,7 @@ run_one_written P = record {
       );
 }
   where
-    some : (cs : List ℕ) → All P cs → 1 ≤ length cs → BothText (IsByte P) (All P) cs
+    some : (cs : List ℕ) → All P cs → 1 ≤ length cs → Then (IsByte P) (All P) cs
     some [] all enough = absurd (omega (arith, enough))
     some (c ∷ cs) all enough = record {
       first = c ∷ [];

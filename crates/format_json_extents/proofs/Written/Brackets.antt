@@ -7,7 +7,7 @@ use Rattle.std.proofs.lemmas.Str.{length-le-encodes}
 use Rattle.format_json_extents.proofs.Written.{Fits, Written, fit_parts, one_written, run_written}
 use Rattle.format_json_extents.proofs.Written.{then_written}
 use Rattle.format_json_extents.proofs.Written.Numbers.{Same}
-use Rattle.format_json_extents.specs.Texts.{BothText, Either, IsByte, List_of, Many, Maybe, before}
+use Rattle.format_json_extents.specs.Texts.{Then, Either, IsByte, List_of, Many, Maybe, before}
 use Rattle.format_json_extents.specs.Texts.{last, nothing, one_more}
 use Rattle.format_json_extents.specs.Value.{IsGap, IsSpace}
 use Rattle.format_json_texts.specs.Values.{GapText, Mark}
@@ -35,7 +35,7 @@ gap_written = run_written IsSpace IsMultispace space_white white_space
 
 -- a byte, and white space after it
 abbrev pub IsMarked : ℕ → List ℕ → Type 0
-IsMarked c = BothText (IsByte (λ b. b ≡ c)) IsGap
+IsMarked c = Then (IsByte (λ b. b ≡ c)) IsGap
 
 pub mark_written : (c : ℕ) → Written (IsMarked c) (Mark c)
 mark_written c = then_written pair (one_written c) gap_written
@@ -43,10 +43,10 @@ mark_written c = then_written pair (one_written c) gap_written
 -- ---- with commas between them
 
 abbrev pub IsFollowed : (List ℕ → Type 0) → List ℕ → Type 0
-IsFollowed B = BothText (IsMarked 44) B
+IsFollowed B = Then (IsMarked 44) B
 
 abbrev pub AreParted : (List ℕ → Type 0) → List ℕ → Type 0
-AreParted B = BothText B (Many (IsFollowed B))
+AreParted B = Then B (Many (IsFollowed B))
 
 module _ {O : Type 0} {B : List ℕ → Type 0} {text : Text ℕ O} (body : Written B text) where
   -- values, no more than there are characters
@@ -127,7 +127,7 @@ module _ {O : Type 0} {B : List ℕ → Type 0} {text : Text ℕ O} (body : Writ
 
   abbrev AreBracketed : ℕ → ℕ → List ℕ → Type 0
   AreBracketed opens closes =
-      BothText (IsMarked opens) (BothText (Maybe (AreParted B)) (IsByte (λ b. b ≡ closes)))
+      Then (IsMarked opens) (Then (Maybe (AreParted B)) (IsByte (λ b. b ≡ closes)))
 
   module _ {A : Type 0} (alloc : A) (opens closes : ℕ) where
     bracketed_set : (list : Vec O A) (cs : List ℕ)
@@ -199,9 +199,9 @@ module _ {O : Type 0} {B : List ℕ → Type 0} {text : Text ℕ O} (body : Writ
 
 -- ---- items, with the white space before them
 
-module _ (I B : List ℕ → Type 0) (there : (cs : List ℕ) → I cs → BothText IsGap B cs)
-    (back : (cs : List ℕ) → BothText IsGap B cs → I cs) where
-  list_parts : (cs : List ℕ) → List_of I cs → BothText IsGap (AreParted B) cs
+module _ (I B : List ℕ → Type 0) (there : (cs : List ℕ) → I cs → Then IsGap B cs)
+    (back : (cs : List ℕ) → Then IsGap B cs → I cs) where
+  list_parts : (cs : List ℕ) → List_of I cs → Then IsGap (AreParted B) cs
   list_parts _ (last cs is) =
       let g = there cs is in
       record {
@@ -280,20 +280,20 @@ module _ (I B : List ℕ → Type 0) (there : (cs : List ℕ) → I cs → BothT
   module _ (opens closes : ℕ) where
     abbrev Opened : List ℕ → Type 0
     Opened =
-        BothText (IsByte (λ b. b ≡ opens))
-        (Either (BothText IsGap (IsByte (λ b. b ≡ closes)))
-        (BothText (List_of I) (IsByte (λ b. b ≡ closes))))
+        Then (IsByte (λ b. b ≡ opens))
+        (Either (Then IsGap (IsByte (λ b. b ≡ closes)))
+        (Then (List_of I) (IsByte (λ b. b ≡ closes))))
 
     abbrev Spread : List ℕ → Type 0
     Spread =
-        BothText (IsMarked opens) (BothText (Maybe (AreParted B)) (IsByte (λ b. b ≡ closes)))
+        Then (IsMarked opens) (Then (Maybe (AreParted B)) (IsByte (λ b. b ≡ closes)))
 
     opened_spread : (cs : List ℕ) → Opened cs → Spread cs
     opened_spread cs is = by is.second is.is_second is.joins
       where
         by : (second : List ℕ)
-            → Either (BothText IsGap (IsByte (λ b. b ≡ closes)))
-            (BothText (List_of I) (IsByte (λ b. b ≡ closes))) second
+            → Either (Then IsGap (IsByte (λ b. b ≡ closes)))
+            (Then (List_of I) (IsByte (λ b. b ≡ closes))) second
             → cs ≡ is.first ++ second → Spread cs
         by second (inl none) e = record {
           first = is.first ++ none.first;

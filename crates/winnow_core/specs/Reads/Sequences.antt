@@ -2,7 +2,7 @@
 -- Written by scripts/families.py: do not edit.
 use Rattle.std.specs.Prelude.{List, ◌++◌}
 use Rattle.std.proofs.Common.{ap, append_assoc, inl, inr, subst, sym, ◌∙◌}
-use Rattle.winnow_core.specs.Reads.{Reads}
+use Rattle.winnow_core.specs.Reads.{ReadsShown}
 use Rattle.winnow_core.specs.Runs.{Runs}
 use Rattle.winnow_core.specs.Sequence.{SequenceRuns4, SequenceRuns5}
 use Rattle.winnow_core.specs.Sequence.Known.{sequence4_ok, sequence5_ok}
@@ -12,9 +12,10 @@ pub sequence4_reads : {S1 S2 S3 S4 T O1 O2 O3 O4 : Type 0} {run1 : Runs S1 T O1}
     {run2 : Runs S2 T O2} {run3 : Runs S3 T O3} {run4 : Runs S4 T O4} {known1 : S1 → Type 0}
     {known2 : S2 → Type 0} {known3 : S3 → Type 0} {known4 : S4 → Type 0} {shown1 : O1 → List T}
     {shown2 : O2 → List T} {shown3 : O3 → List T} {shown4 : O4 → List T} {P1 : O1 → Type 0}
-    {P2 : O2 → Type 0} {P3 : O3 → Type 0} {P4 : O4 → Type 0} → Reads run1 known1 shown1 P1
-    → Reads run2 known2 shown2 P2 → Reads run3 known3 shown3 P3 → Reads run4 known4 shown4 P4
-    → Reads (SequenceRuns4 run1 run2 run3 run4)
+    {P2 : O2 → Type 0} {P3 : O3 → Type 0} {P4 : O4 → Type 0} → ReadsShown run1 known1 shown1 P1
+    → ReadsShown run2 known2 shown2 P2 → ReadsShown run3 known3 shown3 P3
+    → ReadsShown run4 known4 shown4 P4
+    → ReadsShown (SequenceRuns4 run1 run2 run3 run4)
     (λ s. known1 s.0 × known2 s.1 × known3 s.2 × known4 s.3)
     (λ o. shown1 o.0 ++ (shown2 o.1 ++ (shown3 o.2 ++ shown4 o.3)))
     (λ o. P1 o.0 × P2 o.1 × P3 o.2 × P4 o.3)
@@ -76,10 +77,10 @@ pub sequence5_reads : {S1 S2 S3 S4 S5 T O1 O2 O3 O4 O5 : Type 0} {run1 : Runs S1
     {known1 : S1 → Type 0} {known2 : S2 → Type 0} {known3 : S3 → Type 0} {known4 : S4 → Type 0}
     {known5 : S5 → Type 0} {shown1 : O1 → List T} {shown2 : O2 → List T} {shown3 : O3 → List T}
     {shown4 : O4 → List T} {shown5 : O5 → List T} {P1 : O1 → Type 0} {P2 : O2 → Type 0}
-    {P3 : O3 → Type 0} {P4 : O4 → Type 0} {P5 : O5 → Type 0} → Reads run1 known1 shown1 P1
-    → Reads run2 known2 shown2 P2 → Reads run3 known3 shown3 P3 → Reads run4 known4 shown4 P4
-    → Reads run5 known5 shown5 P5
-    → Reads (SequenceRuns5 run1 run2 run3 run4 run5)
+    {P3 : O3 → Type 0} {P4 : O4 → Type 0} {P5 : O5 → Type 0} → ReadsShown run1 known1 shown1 P1
+    → ReadsShown run2 known2 shown2 P2 → ReadsShown run3 known3 shown3 P3
+    → ReadsShown run4 known4 shown4 P4 → ReadsShown run5 known5 shown5 P5
+    → ReadsShown (SequenceRuns5 run1 run2 run3 run4 run5)
     (λ s. known1 s.0 × known2 s.1 × known3 s.2 × known4 s.3 × known5 s.4)
     (λ o. shown1 o.0 ++ (shown2 o.1 ++ (shown3 o.2 ++ (shown4 o.3 ++ shown5 o.4))))
     (λ o. P1 o.0 × P2 o.1 × P3 o.2 × P4 o.3 × P5 o.4)

@@ -1,7 +1,7 @@
 -- What holds of the runs of takes by count.
 use Rattle.std.specs.Prelude.{◌≡◌, ℕ, Bool, Err, ◌<◌, List, length, ◌⊎◌, false, [], ◌∷◌, ◌++◌, Ok}
 use Rattle.std.proofs.Common.{inl, inr, sym, ap, subst, ◌∙◌, arith, length-append, refl}
-use Rattle.streams.specs.Input.{Input, IsEndOf, TakesTokens, takes_end}
+use Rattle.streams.specs.Input.{Input, IsEndOf, Takes, takes_end}
 use Rattle.streams.specs.Reading.{Reading}
 use Rattle.streams.specs.SameReading.{SameReading, reading_path}
 use Rattle.stream_errors.specs.Form.{Answer, ErrorForm, modal}
@@ -54,7 +54,7 @@ take_stays reading counts n more flag i answer j is_cut final (inr (k, few, shor
 
 module _ {T L : Type 0} (reading : Reading T L) (form : ErrorForm) (counts : Bool) (n : ℕ) where
   too_few : {P : Type 0} (i j : Input T) (front : List T) (slice : L) → length front ≡ n
-      → TakesTokens reading front i slice j → length i.left.tokens < n → P
+      → Takes reading front i slice j → length i.left.tokens < n → P
   too_few i j front slice many takes few =
       let whole = ap length takes.passed.tokens in
       absurd (omega (arith, many, whole, few, length-append front j.left.tokens))
@@ -64,7 +64,7 @@ module _ {T L : Type 0} (reading : Reading T L) (form : ErrorForm) (counts : Boo
   take_meet i a b j k (inl (f, v, many, takes, e)) (inl (g, w, too, takes2, d)) =
       let same = as_long_front g f k.left.tokens j.left.tokens (too ∙ sym many)
       (sym takes2.passed.tokens ∙ takes.passed.tokens) in
-      let P : List T → Type 0 = λ l. TakesTokens reading l i w k in
+      let P : List T → Type 0 = λ l. Takes reading l i w k in
       let there = subst P same takes2 in (
         both_ok (ShowSame reading) e d (f, takes.shown, there.shown),
         same_passed f takes.passed there.passed,
