@@ -7,7 +7,7 @@ use Rattle.std.specs.List.{All}
 use Rattle.std.specs.Str.{all_scalars, encode_utf8_all}
 use Rattle.std.proofs.lemmas.List.Elements.{All-cons, All-head, All-tail, All-weaker}
 use Rattle.std.proofs.lemmas.Str.{encodes-append}
-use Rattle.format_json_extents.specs.Texts.{Then, Either, IsByte, Maybe}
+use Rattle.format_json_extents.specs.Texts.{Either, IsByte, Maybe, Then}
 use Rattle.format_parts.specs.Words.{For, In, One, Run}
 use Rattle.winnow.specs.Text.{text_reading}
 use Rattle.winnow.specs.Texts.{BothText as Both, EitherText, MadeText, OptionalText, Spelled}

@@ -7,7 +7,7 @@ use Rattle.std.proofs.lemmas.Str.{length-le-encodes}
 use Rattle.format_json_extents.proofs.Written.{Fits, Written, fit_parts, one_written, run_written}
 use Rattle.format_json_extents.proofs.Written.{then_written}
 use Rattle.format_json_extents.proofs.Written.Numbers.{Same}
-use Rattle.format_json_extents.specs.Texts.{Then, Either, IsByte, List_of, Many, Maybe, before}
+use Rattle.format_json_extents.specs.Texts.{Either, IsByte, List_of, Many, Maybe, Then, before}
 use Rattle.format_json_extents.specs.Texts.{last, nothing, one_more}
 use Rattle.format_json_extents.specs.Value.{IsGap, IsSpace}
 use Rattle.format_json_texts.specs.Values.{GapText, Mark}
