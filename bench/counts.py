@@ -1,47 +1,42 @@
 #!/usr/bin/env python3
-"""Counts what a run of each workload takes: `bench/counts.py [WORDS IN A WORKLOAD'S NAME]`.
+"""Counts what a run of each workload takes:
 
-`run.sh` builds the two programs that it runs, and says how it is called. It prints a table in
-Markdown, of the library, nom and the loop by hand, in this order: instructions a byte of the text,
-by valgrind's callgrind, with those of the allocator; requests for memory, by `malloc` and
-`realloc`; and how many bytes they were for, a byte of the text. Other work on the machine changes
-none of them.
+    bench/counts.py [WORDS IN A WORKLOAD'S NAME]      prints a table in Markdown
+    bench/counts.py --write                           writes counts.txt
+    bench/counts.py --check [WORDS ..]                compares with counts.txt
+
+`run.sh` builds the two programs that it runs, and says how it is called. The table has, of the
+library, nom and the loop by hand, in this order: instructions a byte of the text, by valgrind's
+callgrind, with those of the allocator; requests for memory, by `malloc` and `realloc`; and how many
+bytes they were for, a byte of the text. Other work on the machine changes none of them.
+
+`counts.txt` has the library's instructions in each workload. A workload that takes more of them by a
+twentieth has got dearer: the check names it, with both numbers, and fails. So it does where one is in
+the file and not among the workloads, or the other way. One that got cheaper by as much is named too.
 """
 import os
 import pathlib
-import re
-import subprocess
 import sys
 from concurrent.futures import ThreadPoolExecutor
+
+from measured import instructions, requests, said_by
 
 HERE = pathlib.Path(__file__).resolve().parent
 PROGRAM = HERE / "target/release/bench"
 # The same program, which counts requests.
 COUNTING = HERE / "target/requests/release/bench"
-CALLGRIND = (
-    "valgrind --tool=callgrind --callgrind-out-file=/dev/null --collect-atstart=no "
-    "--toggle-collect=counted_run"
-).split()
+WRITTEN = HERE / "counts.txt"
 HEAD = "| Workload | instructions a byte | requests for memory | bytes asked for, a byte |"
-
-
-def number_in(pattern, said):
-    return int(re.search(pattern, said)[1])
-
-
-def run(words):
-    ran = subprocess.run(words, check=True, capture_output=True, text=True)
-    return ran.stdout + ran.stderr
+# By which part of what it took a workload may get dearer.
+PART = 20
 
 
 def counted(place, name):
-    """The instructions of a run, its requests and their bytes, and how many bytes were read."""
+    """The instructions of a run, its requests and their bytes, all but the requests for each byte."""
     words = ["run", str(place), name]
-    said = run([*CALLGRIND, PROGRAM, *words])
-    told = run([COUNTING, *words])
-    requests, size = re.search(r"requests (\d+) (\d+)", told).groups()
-    text = number_in(r"text (\d+)", told)
-    return number_in(r"Collected : (\d+)", said) / text, int(requests), int(size) / text
+    made, text, _ = instructions([PROGRAM, *words])
+    asked, size = requests([COUNTING, *words])
+    return made / text, asked, size / text
 
 
 def row(readers, name):
@@ -53,14 +48,66 @@ def row(readers, name):
     return f"| {name} | {' | '.join(cells)} |"
 
 
-def main(only):
-    listed = [line.split(" ", 1) for line in run([PROGRAM, "list"]).splitlines()]
-    print(f"{HEAD}\n|---|---|---|---|", flush=True)
+def listed(only):
+    """How many readers each workload has, and its name."""
+    lines = (line.split(" ", 1) for line in said_by([PROGRAM, "list"]).splitlines())
+    return [(int(readers), name) for readers, name in lines if only in name]
+
+
+def side_by_side(do, works):
+    """What is done of each, in order, for half as many at a time as there are processors."""
     with ThreadPoolExecutor(max(1, (os.cpu_count() or 1) // 2)) as pool:
-        rows = [pool.submit(row, int(readers), name) for readers, name in listed if only in name]
-        for it in rows:
-            print(it.result(), flush=True)
+        yield from pool.map(do, works)
+
+
+def table(only):
+    print(f"{HEAD}\n|---|---|---|---|", flush=True)
+    for line in side_by_side(lambda it: row(*it), listed(only)):
+        print(line, flush=True)
+
+
+def of_library(only):
+    """The library's instructions in each workload."""
+    works = listed(only)
+    made = side_by_side(lambda it: instructions([PROGRAM, "run", "0", it[1]])[0], works)
+    return {name: count for (_, name), count in zip(works, made)}
+
+
+def write():
+    lines = [f"{count} {name}\n" for name, count in of_library("").items()]
+    WRITTEN.write_text("".join(lines), encoding="utf-8")
+    print(f"{WRITTEN.name} has the instructions of {len(lines)} workloads")
+
+
+def check(only):
+    """Compares with what is written, and returns how many workloads got dearer or are not the same."""
+    lines = (line.split(" ", 1) for line in WRITTEN.read_text(encoding="utf-8").splitlines())
+    before = {name: int(count) for count, name in lines if only in name}
+    now, dearer = of_library(only), []
+    if not now:
+        sys.exit(f"no workload has {only!r} in its name")
+    for name in [*before, *(it for it in now if it not in before)]:
+        old, new = before.get(name), now.get(name)
+        if old is None or new is None:
+            dearer.append(f"{name}: {'not in counts.txt' if old is None else 'no workload'}")
+        elif new * PART > old * (PART + 1):
+            dearer.append(f"{name}: {old:,} instructions, and now {new:,} ({new / old:.2f})")
+        elif new * PART < old * (PART - 1):
+            print(f"cheaper: {name}: {old:,} instructions, and now {new:,} ({new / old:.2f})")
+    for line in dearer:
+        print(f"dearer: {line}")
+    print(f"{len(now)} workloads, {len(dearer)} dearer by more than a twentieth of their instructions")
+    return len(dearer)
+
+
+def main(words):
+    if words[:1] == ["--write"]:
+        write()
+    elif words[:1] == ["--check"]:
+        sys.exit(min(check("".join(words[1:2])), 1))
+    else:
+        table("".join(words[:1]))
 
 
 if __name__ == "__main__":
-    main(sys.argv[1] if len(sys.argv) > 1 else "")
+    main(sys.argv[1:])

@@ -4,13 +4,18 @@
 #
 #     bench/run.sh [TURNS] [WORDS IN A WORKLOAD'S NAME]
 #     bench/run.sh counts [WORDS IN A WORKLOAD'S NAME]
+#     bench/run.sh counts --write
+#     bench/run.sh check [WORDS IN A WORKLOAD'S NAME]
 #
-# With `counts` it prints the second table alone, which other work on the machine does not change.
-# With no words, the first is drawn too, as docs/benchmarks.svg.
+# With `counts` it prints the second table alone, which other work on the machine does not change, and
+# with `--write` it writes the library's instructions in each workload to counts.txt instead. With
+# `check` it compares with these, and fails where a workload takes more by a twentieth: that is told by
+# its name and both numbers. With no words, the first table is drawn too, as docs/benchmarks.svg.
 #
 # It installs Debian's packages of nom 7, memchr and valgrind where they are missing, and cargo
 # where there is none; lays the library with the workloads (`timed/`) above it into a folder of its
-# own; proves and builds them there; and builds and runs the program here, offline.
+# own; takes what `rt ci` proved of them on this machine, where the kit keeps that; proves and builds
+# the rest there; and builds and runs the program here, offline.
 # BENCH_CPU names the processor that both are built for: x86-64-v2 (Rattle's own choice) or
 # x86-64-v3. BENCH_ROOM names that folder, which keeps what was proved for the next run; it stands
 # outside the repository, whose gate refuses crates in another place than `crates/`.
@@ -37,6 +42,8 @@ if [ -n "${BENCH_UNPROVED:-}" ]; then
     TIMED=$room-unproved
 else
     ./lay.py "$room"
+    # What was kept was proved for the kit's own choice of a processor.
+    [ "$cpu" != x86-64-v2 ] || ../scripts/kept.py "$room" >&2
     # The flag is left out for the kit's own choice, so that what is kept for it serves here.
     words=()
     [ "$cpu" = x86-64-v2 ] || words=(--cpu "$cpu")
@@ -63,10 +70,20 @@ rustflags = ["-Ctarget-cpu=$cpu"]
 CONFIG
 cargo build --release --offline --quiet
 cargo build --release --offline --quiet --features requests --target-dir target/requests
-if [ "${1:-}" = counts ]; then
-    ./counts.py "${2:-}" | tee target/counts.md
-    exit
-fi
+case "${1:-}" in
+    check)
+        ./counts.py --check "${2:-}"
+        exit
+        ;;
+    counts)
+        if [ "${2:-}" = --write ]; then
+            ./counts.py --write
+        else
+            ./counts.py "${2:-}" | tee target/counts.md
+        fi
+        exit
+        ;;
+esac
 ./target/release/bench "$@" | tee target/table.md
 # A run of all workloads draws its picture too.
 [ $# -gt 1 ] || ./picture.py < target/table.md > ../docs/benchmarks.svg

@@ -104,16 +104,31 @@ fn list() {
     }
 }
 
-/// Times the workloads whose names have a word.
+/// How many programs ran or waited for a processor, on average over the last minute.
+fn load() -> String {
+    let said = std::fs::read_to_string("/proc/loadavg").unwrap_or_default();
+    said.split(' ').next().unwrap_or("unknown").to_string()
+}
+
+/// Times the workloads whose names have a word. The table comes at the end, when it is known how busy
+/// the machine was; what is timed is named as it begins.
 fn time(turns: usize, only: &str) {
-    println!("| Workload | beside nom 7 | beside a loop by hand | 4 MiB beside 64 KiB, a byte |");
-    println!("|---|---|---|---|");
+    let begun = load();
+    let mut rows = Vec::new();
     for workload in workloads::all().iter().filter(|w| w.name.contains(only)) {
-        println!("{}", row(workload, turns));
+        eprintln!("{}", workload.name);
+        rows.push(row(workload, turns));
     }
     if only.is_empty() {
-        println!("{}", hard_search(turns));
+        rows.push(hard_search(turns));
     }
+    let cpus = std::thread::available_parallelism().map_or(0, usize::from);
+    println!(
+        "{turns} turns on {cpus} processors, with a load average of {begun} at the begin and {} at the end.\n",
+        load()
+    );
+    println!("| Workload | beside nom 7 | beside a loop by hand | 4 MiB beside 64 KiB, a byte |");
+    println!("|---|---|---|---|\n{}", rows.join("\n"));
 }
 
 fn main() {

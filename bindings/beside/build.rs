@@ -1,6 +1,30 @@
-//! Hands the requests for memory of all that the program is linked from to `src/requests.rs`.
+//! Compiles the readers in C and C++, and links them with the libraries that they are of. `CC`, `CXX`
+//! and `AR` name other tools than `cc`, `c++` and `ar`.
+use std::env;
+use std::path::PathBuf;
+use std::process::Command;
+
+/// The processor that the library is compiled for.
+const CPU: &str = "-march=x86-64-v2";
+
+fn run(tool: &str, usual: &str, words: &[&str]) {
+    println!("cargo:rerun-if-env-changed={tool}");
+    let program = env::var(tool).unwrap_or_else(|_| usual.to_string());
+    let done = Command::new(&program).args(words).status();
+    assert!(done.is_ok_and(|it| it.success()), "{program} {words:?} failed");
+}
+
 fn main() {
-    for name in ["malloc", "calloc", "realloc"] {
-        println!("cargo:rustc-link-arg=-Wl,--wrap={name}");
+    println!("cargo:rerun-if-changed=peers");
+    let out = PathBuf::from(env::var("OUT_DIR").unwrap());
+    let place = |name: &str| out.join(name).to_str().unwrap().to_string();
+    let (c, cpp, archive) = (place("c.o"), place("cpp.o"), place("libpeers.a"));
+    run("CC", "cc", &["-std=c11", "-O3", CPU, "-Wall", "-Wextra", "-c", "peers/peers.c", "-o", &c]);
+    run("CXX", "c++", &["-std=c++17", "-O3", CPU, "-Wall", "-Wextra", "-c", "peers/peers.cpp", "-o", &cpp]);
+    run("AR", "ar", &["rcs", &archive, &c, &cpp]);
+    println!("cargo:rustc-link-search=native={}", out.display());
+    println!("cargo:rustc-link-lib=static=peers");
+    for name in ["cjson", "csv", "hiredis", "http_parser", "inih", "simdjson", "stdc++"] {
+        println!("cargo:rustc-link-lib=dylib={name}");
     }
 }

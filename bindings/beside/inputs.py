@@ -1,0 +1,267 @@
+#!/usr/bin/env python3
+"""Writes the texts that the readers of `bindings/beside` read: `inputs.py FOLDER`.
+
+Each is made from a fixed seed, so it is the same everywhere. Some are made of one form again and again;
+those of a log, statuses and a table are as long and as mixed as what is met in use. They are made once,
+and again where this script changed.
+"""
+import pathlib
+import random
+import sys
+
+AGENTS = (
+    "Mozilla/5.0 (X11; Linux x86_64; rv:109.0) Gecko/20100101 Firefox/115.0",
+    "Mozilla/5.0 (Windows NT 10.0; Win64; x64) AppleWebKit/537.36 (KHTML, like Gecko) "
+    "Chrome/118.0.0.0 Safari/537.36",
+    "Mozilla/5.0 (iPhone; CPU iPhone OS 16_6 like Mac OS X) AppleWebKit/605.1.15 (KHTML, like Gecko) "
+    "Version/16.6 Mobile/15E148 Safari/604.1",
+    "curl/7.88.1",
+    "Mozilla/5.0 (compatible; bingbot/2.0; +http://www.bing.com/bingbot.htm)",
+)
+ACCEPTED = ("*/*", "text/html,application/xml;q=0.9,*/*;q=0.8", "image/webp,*/*")
+WORDS = (
+    "the of and to in is that for it as was with be by on not he his but at are this have from or had "
+    "an they which one you were her all she there would their we him been has when who will more no if "
+    "out so said what up its about into than them can only other new some could time these two may then"
+).split()
+JAPANESE = "名前一覧今日天気電車仕事学校先生友達写真映画音楽料理朝食昼夜明日昨日時間場所お知らせです"
+HEAD = (
+    "GET /wp-content/uploads/2010/03/hello-kitty-darth-vader-pink.jpg HTTP/1.1\r\n"
+    "Host: www.kittyhell.com\r\n"
+    "User-Agent: Mozilla/5.0 (Macintosh; U; Intel Mac OS X 10.6; ja-JP-mac; rv:1.9.2.3)\r\n"
+    "Accept: text/html,application/xhtml+xml,application/xml;q=0.9,*/*;q=0.8\r\n"
+    "Accept-Language: ja,en-us;q=0.7,en;q=0.3\r\nAccept-Encoding: gzip,deflate\r\n"
+    "Accept-Charset: Shift_JIS,utf-8;q=0.7,*;q=0.7\r\nKeep-Alive: 115\r\n"
+    "Connection: keep-alive\r\nCookie: wp_ozh_wsa_visits=2; __utma=xxxxxxxxx.xxxxxxxxxx\r\n\r\n"
+)
+
+
+class Seed:
+    """Numbers and choices from a seed, by the one function that is the same in each Python."""
+
+    def __init__(self, seed):
+        self.random = random.Random(seed).random
+
+    def below(self, most):
+        return int(self.random() * most)
+
+    def one(self, things):
+        return things[self.below(len(things))]
+
+    def words(self, count):
+        return " ".join(self.one(WORDS) for _ in range(count))
+
+
+def items(_):
+    """An array of objects with numbers, strings and arrays."""
+    lines = (
+        f'{{"id": {k}, "name": "item \\u00e9 {k}", "price": {k * 7}.5e-1, '
+        f'"tags": ["a", "bc", null, true, [{k}]]}}'
+        for k in range(8000)
+    )
+    return "[" + ",\n".join(lines) + "]\n"
+
+
+def strings(seed):
+    """An array of paragraphs: nine tenths of the text stand in strings, some with escapes."""
+    lines = []
+    for _ in range(2000):
+        parts = [seed.words(4 + seed.below(12)) for _ in range(1 + seed.below(8))]
+        lines.append('"' + seed.one((". ", "\\n", " — ", ' \\"')).join(parts) + '"')
+    return "[" + ",\n".join(lines) + "]\n"
+
+
+def status(seed, indent):
+    """One status with its user, as services of short messages answer it, and its lines."""
+    text = "".join(seed.one(JAPANESE) for _ in range(20 + seed.below(60)))
+    number = 505874847260352513 - seed.below(1 << 40)
+    name = "".join(seed.one(JAPANESE) for _ in range(3 + seed.below(8)))
+    lines = [
+        "{",
+        '  "metadata": {',
+        '    "result_type": "recent",',
+        '    "iso_language_code": "ja"',
+        "  },",
+        f'  "created_at": "Sun Aug 31 00:{seed.below(60):02}:{seed.below(60):02} +0000 2014",',
+        f'  "id": {number},',
+        f'  "id_str": "{number}",',
+        f'  "text": "@{seed.one(WORDS)}\\n{text} http:\\/\\/t.co\\/{seed.below(1 << 30):x}",',
+        '  "source": "<a href=\\"http:\\/\\/twitter.com\\/download\\/iphone\\" '
+        'rel=\\"nofollow\\">Twitter for iPhone<\\/a>",',
+        f'  "truncated": {seed.one(("false", "false", "true"))},',
+        '  "in_reply_to_status_id": null,',
+        '  "user": {',
+        f'    "id": {seed.below(1 << 31)},',
+        f'    "name": "{name}",',
+        f'    "screen_name": "{seed.one(WORDS)}_{seed.below(1000)}",',
+        '    "location": "",',
+        f'    "description": "{text[:30]} ⇒ {name}",',
+        '    "url": null,',
+        f'    "followers_count": {seed.below(5000)},',
+        f'    "friends_count": {seed.below(2000)},',
+        '    "utc_offset": 32400,',
+        '    "time_zone": "Tokyo",',
+        '    "geo_enabled": false,',
+        f'    "profile_background_color": "{seed.below(1 << 24):06X}",',
+        '    "profile_image_url": "http:\\/\\/pbs.twimg.com\\/profile_images\\/'
+        f'{seed.below(1 << 40)}\\/normal.jpeg",',
+        '    "notifications": false',
+        "  },",
+        '  "geo": null,',
+        f'  "coordinates": {seed.one(("null", "null", "[139.691706, 35.689487]"))},',
+        f'  "retweet_count": {seed.below(300)},',
+        '  "entities": {',
+        '    "hashtags": [],',
+        '    "urls": [],',
+        '    "user_mentions": [',
+        "      {",
+        f'        "screen_name": "{seed.one(WORDS)}",',
+        f'        "indices": [{seed.below(9)}, {10 + seed.below(9)}]',
+        "      }",
+        "    ]",
+        "  },",
+        '  "favorited": false,',
+        '  "lang": "ja"',
+        "}",
+    ]
+    return "\n".join(indent + line for line in lines)
+
+
+def statuses(seed):
+    """Statuses as a service of short messages answers them, with their spaces and Japanese text."""
+    lines = ",\n".join(status(seed, "    ") for _ in range(400))
+    behind = '\n  ],\n  "search_metadata": {\n    "count": 400\n  }\n}\n'
+    return '{\n  "statuses": [\n' + lines + behind
+
+
+def heads(_):
+    """One head of a request, as a browser sends it, again and again."""
+    return HEAD * 1000
+
+
+def log(seed):
+    """Heads of requests of a server's log: pages, pictures, calls and searches of five agents."""
+    made = []
+    for _ in range(10000):
+        path = "/".join(seed.one(WORDS) for _ in range(1 + seed.below(4)))
+        search = f"?q={seed.one(WORDS)}&page={seed.below(40)}"
+        path += seed.one((".html", ".png", ".css", "/", search))
+        lines = [
+            f"{seed.one(('GET', 'GET', 'GET', 'GET', 'HEAD', 'OPTIONS'))} /{path} HTTP/1.1",
+            f"Host: {seed.one(('www', 'static', 'api'))}.example.com",
+            f"User-Agent: {seed.one(AGENTS)}",
+            f"Accept: {seed.one(ACCEPTED)}",
+        ]
+        if seed.below(10) < 8:
+            lines.append("Accept-Encoding: gzip, deflate, br")
+            lines.append(f"Accept-Language: {seed.one(('en-US,en;q=0.5', 'de', 'ja,en;q=0.7'))}")
+        if seed.below(10) < 5:
+            lines.append(f"Referer: https://www.example.com/{seed.one(WORDS)}/")
+        if seed.below(10) < 4:
+            session = f"{seed.below(1 << 62):016x}"
+            lines.append(f"Cookie: session={session}; theme=dark; _ga=GA1.2.{seed.below(1 << 30)}")
+        if seed.below(10) < 2:
+            lines.append(f'If-None-Match: "{seed.below(1 << 40):x}"')
+        if seed.below(10) < 3:
+            lines.append(f"X-Forwarded-For: 192.0.2.{seed.below(256)}")
+        made.append("\r\n".join(lines) + "\r\n\r\n")
+    return "".join(made)
+
+
+def records(_):
+    """Records of comma separated values, a quarter of the fields in quotes."""
+    return "".join(
+        f'{k},item {k},"a ""{k}"", b",{k * 7}.5,,"two\nlines",plain text\n' for k in range(10000)
+    )
+
+
+def table(seed):
+    """A table of a million records: numbers, a date, a word or two, and seldom a field in quotes."""
+    made = []
+    for k in range(1000000):
+        note = seed.one(WORDS)
+        if seed.below(20) == 0:
+            note = f'"{note}, ""{seed.one(WORDS)}"""'
+        made.append(
+            f"{k},2024-{1 + seed.below(12):02}-{1 + seed.below(28):02},"
+            f"{seed.one(WORDS)},{seed.below(100000) / 100},{note}\n"
+        )
+    return "".join(made)
+
+
+def small(seed):
+    """Replies of Redis as a client meets them that asks for single values."""
+    made = []
+    for _ in range(40000):
+        kind = seed.below(8)
+        if kind < 2:
+            made.append("+OK\r\n")
+        elif kind < 4:
+            made.append(f":{seed.below(100000)}\r\n")
+        elif kind < 6:
+            word = seed.one(WORDS) + str(seed.below(1 << 30))
+            made.append(f"${len(word)}\r\n{word}\r\n")
+        elif kind < 7:
+            made.append("$-1\r\n")
+        else:
+            made.append(f"*3\r\n$3\r\nkey\r\n:{seed.below(1000)}\r\n$5\r\nvalue\r\n")
+    return "".join(made)
+
+
+def large(seed):
+    """Bulk strings of 64 KiB to 192 KiB."""
+    made = []
+    for _ in range(16):
+        text = (seed.words(1000) * 64)[: (64 << 10) + seed.below(128 << 10)]
+        made.append(f"${len(text)}\r\n{text}\r\n")
+    return "".join(made)
+
+
+def array(_):
+    """An array of bulk strings."""
+    return "*100000\r\n" + "".join(f"$20\r\nvalue:{k:014}\r\n" for k in range(100000))
+
+
+def settings(seed):
+    """Settings in sections, some with a comment behind them."""
+    made = []
+    for section in range(1000):
+        made.append(f"; {seed.words(6)}\n[section {section}]\n")
+        for _ in range(4 + seed.below(24)):
+            number, path = str(seed.below(1 << 20)), "/var/lib/" + seed.one(WORDS)
+            value = seed.one((number, path, seed.words(5)))
+            comment = seed.one(("", "", " ; " + seed.words(2)))
+            made.append(f"{seed.one(WORDS)}{seed.below(100)} = {value}{comment}\n")
+        made.append("\n")
+    return "".join(made)
+
+
+FILES = {
+    "items.json": items,
+    "strings.json": strings,
+    "statuses.json": statuses,
+    "heads.http": heads,
+    "log.http": log,
+    "records.csv": records,
+    "table.csv": table,
+    "small.resp": small,
+    "large.resp": large,
+    "array.resp": array,
+    "settings.ini": settings,
+}
+
+
+def main(folder):
+    folder.mkdir(parents=True, exist_ok=True)
+    own, made_by = pathlib.Path(__file__).read_text(encoding="utf-8"), folder / "made_by"
+    if made_by.is_file() and made_by.read_text(encoding="utf-8") == own:
+        return
+    for name, make in FILES.items():
+        (folder / name).write_bytes(make(Seed(name)).encode())
+    made_by.write_text(own, encoding="utf-8")
+
+
+if __name__ == "__main__":
+    if len(sys.argv) != 2:
+        sys.exit(__doc__.strip())
+    main(pathlib.Path(sys.argv[1]))

@@ -1,0 +1,69 @@
+//! Readers of JSON. A check counts 1 for a text that is right. Of values each is counted, and its kind,
+//! from 1 on as `pergidau.h` numbers them, is added so often as it stands deep.
+use crate::text::{Outcome, Text};
+use pergidau::json::{self, Kind, Value};
+
+const LEVELS: usize = 16;
+
+pub fn check(text: &Text) -> Outcome {
+    Outcome { count: json::check(text.bytes(), LEVELS).is_ok().into(), sum: 0 }
+}
+
+pub fn check_by_serde(text: &Text) -> Outcome {
+    let read = serde_json::from_slice::<serde::de::IgnoredAny>(text.bytes());
+    Outcome { count: read.is_ok().into(), sum: 0 }
+}
+
+fn count(value: Value, depth: usize, out: &mut Outcome) {
+    let kind = match value.kind() {
+        Kind::Null => 1,
+        Kind::False => 2,
+        Kind::True => 3,
+        Kind::Number => 4,
+        Kind::String => 5,
+        Kind::Array => 6,
+        Kind::Object => 7,
+    };
+    out.add(kind * depth);
+    match value.kind() {
+        Kind::Array => value.elements().for_each(|it| count(it, depth + 1, out)),
+        Kind::Object => value.members().for_each(|(_, it)| count(it, depth + 1, out)),
+        _ => (),
+    }
+}
+
+pub fn values(text: &Text) -> Outcome {
+    let mut out = Outcome::default();
+    if let Ok(text) = std::str::from_utf8(text.bytes()) {
+        if let Ok(value) = json::parse(text, LEVELS) {
+            count(value, 1, &mut out);
+        }
+    }
+    out
+}
+
+fn count_of_serde(value: &serde_json::Value, depth: usize, out: &mut Outcome) {
+    let kind = match value {
+        serde_json::Value::Null => 1,
+        serde_json::Value::Bool(value) => 2 + usize::from(*value),
+        serde_json::Value::Number(_) => 4,
+        serde_json::Value::String(_) => 5,
+        serde_json::Value::Array(list) => {
+            list.iter().for_each(|it| count_of_serde(it, depth + 1, out));
+            6
+        }
+        serde_json::Value::Object(map) => {
+            map.values().for_each(|it| count_of_serde(it, depth + 1, out));
+            7
+        }
+    };
+    out.add(kind * depth);
+}
+
+pub fn values_by_serde(text: &Text) -> Outcome {
+    let mut out = Outcome::default();
+    if let Ok(value) = serde_json::from_slice(text.bytes()) {
+        count_of_serde(&value, 1, &mut out);
+    }
+    out
+}

@@ -1,0 +1,48 @@
+//! Readers of replies of Redis: each reply is counted, those in arrays too, and integers and the lengths
+//! of strings are added.
+use crate::text::{Outcome, Text};
+use pergidau::resp::{self, Extent, Reply};
+
+/// How many bytes come at a time, where they come in pieces: as many as a packet has.
+const PIECE: usize = 1460;
+const LEVELS: usize = 7;
+
+fn count(reply: Reply, out: &mut Outcome) {
+    match reply {
+        Reply::Simple(text) | Reply::Error(text) | Reply::Bulk(text) => out.add(text.len()),
+        Reply::Integer(value) => out.add(value as usize),
+        Reply::NullBulk | Reply::NullArray => out.add(0),
+        Reply::Array(elements) => {
+            out.add(0);
+            elements.flatten().for_each(|it| count(it, out));
+        }
+    }
+}
+
+pub fn replies(text: &Text) -> Outcome {
+    let (mut out, mut rest) = (Outcome::default(), text.bytes());
+    while let Ok((reply, behind)) = resp::reply(rest, LEVELS) {
+        count(reply, &mut out);
+        rest = behind;
+    }
+    out
+}
+
+pub fn replies_in_pieces(text: &Text) -> Outcome {
+    let (mut out, mut extent) = (Outcome::default(), Extent::new());
+    let (bytes, mut begin, mut end) = (text.bytes(), 0, 0);
+    while begin < bytes.len() {
+        match extent.advance(&bytes[begin..end]) {
+            Ok(Some(length)) => {
+                if let Ok((reply, _)) = resp::reply(&bytes[begin..][..length], LEVELS) {
+                    count(reply, &mut out);
+                }
+                begin += length;
+                extent = Extent::new();
+            }
+            Ok(None) if end < bytes.len() => end = bytes.len().min(end + PIECE),
+            _ => break,
+        }
+    }
+    out
+}

@@ -1,0 +1,89 @@
+//! What is read, and by whom.
+use crate::text::{Outcome, Text};
+use crate::{csv, http, ini, json, peers, resp};
+
+pub type Reader = fn(&Text) -> Outcome;
+
+/// A work: its name, the file that is read, and the readers, of which the library's is the first.
+pub struct Work {
+    pub name: &'static str,
+    pub file: &'static str,
+    /// Whether a half of the text is refused, with nothing read of it.
+    pub is_whole: bool,
+    pub readers: &'static [(&'static str, Reader)],
+}
+
+const fn work(
+    name: &'static str,
+    file: &'static str,
+    readers: &'static [(&'static str, Reader)],
+) -> Work {
+    Work { name, file, is_whole: false, readers }
+}
+
+const fn whole(
+    name: &'static str,
+    file: &'static str,
+    readers: &'static [(&'static str, Reader)],
+) -> Work {
+    Work { is_whole: true, ..work(name, file, readers) }
+}
+
+const CHECKS: &[(&str, Reader)] = &[
+    ("this library", json::check),
+    ("serde_json, `IgnoredAny`", json::check_by_serde),
+    ("rapidjson, `Reader`", peers::check_by_rapidjson),
+    ("simdjson, `dom`", peers::check_by_simdjson),
+];
+const VALUES: &[(&str, Reader)] = &[
+    ("this library, by calls in turn", json::values),
+    ("serde_json, `Value`", json::values_by_serde),
+    ("rapidjson, `Document`", peers::values_by_rapidjson),
+    ("cJSON", peers::values_by_cjson),
+    ("simdjson, `dom`", peers::values_by_simdjson),
+    ("simdjson, `ondemand`", peers::values_on_demand_by_simdjson),
+];
+const HEADS: &[(&str, Reader)] = &[
+    ("this library", http::heads),
+    ("httparse", http::heads_by_httparse),
+    ("http_parser", peers::heads_by_http_parser),
+];
+const HEADS_IN_PIECES: &[(&str, Reader)] = &[
+    ("this library", http::heads_in_pieces),
+    ("httparse", http::heads_in_pieces_by_httparse),
+    ("http_parser", peers::heads_in_pieces_by_http_parser),
+];
+const RECORDS: &[(&str, Reader)] = &[
+    ("this library", csv::records),
+    ("csv, into one record", csv::records_by_csv),
+    ("libcsv", peers::records_by_libcsv),
+];
+const REPLIES: &[(&str, Reader)] = &[
+    ("this library", resp::replies),
+    ("hiredis, which keeps them", peers::replies_by_hiredis),
+    ("hiredis, which tells them", peers::replies_told_by_hiredis),
+];
+const REPLIES_IN_PIECES: &[(&str, Reader)] = &[
+    ("this library, `Extent`", resp::replies_in_pieces),
+    ("hiredis, which keeps them", peers::replies_in_pieces_by_hiredis),
+    ("hiredis, which tells them", peers::replies_told_in_pieces_by_hiredis),
+];
+const PAIRS: &[(&str, Reader)] = &[("this library", ini::pairs), ("inih", peers::pairs_by_inih)];
+
+pub const WORKS: &[Work] = &[
+    whole("check of a text of JSON", "items.json", CHECKS),
+    whole("check of one that is strings for the most part", "strings.json", CHECKS),
+    whole("check of statuses", "statuses.json", CHECKS),
+    whole("all values of a text of JSON", "items.json", VALUES),
+    whole("all values of statuses", "statuses.json", VALUES),
+    work("one head of a request, 1000 times", "heads.http", HEADS),
+    work("10,000 heads of a log", "log.http", HEADS),
+    work("the same in pieces of 512 bytes", "log.http", HEADS_IN_PIECES),
+    work("10,000 records", "records.csv", RECORDS),
+    work("a table of 1,000,000 records", "table.csv", RECORDS),
+    work("40,000 small replies of Redis", "small.resp", REPLIES),
+    work("16 large replies of Redis", "large.resp", REPLIES),
+    work("an array of 100,000 strings", "array.resp", REPLIES),
+    work("the same in pieces of 1,460 bytes", "array.resp", REPLIES_IN_PIECES),
+    work("a document of INI", "settings.ini", PAIRS),
+];

@@ -1,0 +1,116 @@
+#!/usr/bin/env python3
+"""Prints the table of `bindings/beside`, in Markdown, for `run`, which builds what it calls:
+
+    table.py all [TURNS]     instructions, time and requests for memory
+    table.py counts          instructions and requests alone
+    table.py time [TURNS]    time alone
+
+Instructions are counted by valgrind's callgrind, of a reader's second run, in a process of its own,
+with those of the allocator and of all libraries that are loaded; requests for memory by what is loaded
+before these (`peers/requests.c`). Times are the best of so many turns, in which all that read one text
+take turns. Behind a number of another reader stands how many times that of it the library takes: of
+instructions, and of time. Below 1 the library takes less.
+"""
+import pathlib
+import re
+import sys
+from concurrent.futures import ThreadPoolExecutor
+
+HERE = pathlib.Path(__file__).resolve().parent
+OUT = HERE.parent / "out"
+PROGRAM, COUNTS = OUT / "cargo/release/beside", OUT / "beside/requests.so"
+sys.dont_write_bytecode = True
+sys.path.insert(0, str(HERE.parent.parent / "bench"))
+from measured import instructions, load, machine, requests, said_by  # noqa: E402
+
+TURNS = 30
+SIDE_BY_SIDE = 2
+
+
+def works():
+    """The name of each work, the size of its text, and the names of its readers."""
+    for line in said_by([PROGRAM, "list"]).splitlines():
+        name, file, *readers = line.split("\t")
+        yield name, (OUT / "beside/texts" / file).stat().st_size, readers
+
+
+def counts(runs):
+    """The instructions a byte of each run, its requests for memory and their bytes."""
+
+    def counted(run):
+        words = [PROGRAM, "run", *map(str, run)]
+        made, text, said = instructions(words)
+        found = re.search(r"found .*", said)[0]
+        return made / text, *requests(words, LD_PRELOAD=str(COUNTS)), found
+
+    with ThreadPoolExecutor(SIDE_BY_SIDE) as pool:
+        made = dict(zip(runs, pool.map(counted, runs)))
+    for run in runs:
+        if made[run][-1] != made[run[0], 0][-1]:
+            sys.exit(f"reader {run[1]} of work {run[0]} differs: {made[run][-1]}")
+    return made
+
+
+def times(turns):
+    """The speed of each reader, in megabytes a second."""
+    speeds = {}
+    for line in said_by([PROGRAM, "time", str(turns)]).splitlines():
+        work, *numbers = line.split()
+        speeds |= {(int(work), place): float(it) for place, it in enumerate(numbers)}
+    return speeds
+
+
+def cell(number, ratio):
+    """A number, and how many times it the library takes, if another reader is told of."""
+    return f"{number} ({ratio:.2f})" if ratio is not None else number
+
+
+def rows(all_works, counted, timed):
+    for at, (name, size, readers) in enumerate(all_works):
+        for place, reader in enumerate(readers):
+            cells = [f"{name}, {size // 1000:,} kB" if place == 0 else "", reader]
+            own, this = (at, 0), (at, place)
+            if counted:
+                made, asked, of_bytes, _ = counted[this]
+                cells.append(cell(f"{made:.2f}", counted[own][0] / made if place else None))
+            if timed:
+                ratio = timed[this] / timed[own] if place else None
+                cells.append(cell(f"{timed[this]:,.0f}", ratio))
+            if counted:
+                cells += [f"{asked:,}", f"{of_bytes:,}"]
+            yield f"| {' | '.join(cells)} |"
+
+
+def versions():
+    """The versions of the readers, as Debian's packages say them."""
+    packages = re.findall(r"[a-z-]+-dev", (HERE / "run").read_text(encoding="utf-8"))
+    words = ["dpkg-query", "-W", "-f", "${source:Package} ${source:Upstream-Version}\n", *packages]
+    found = {it.removeprefix("rust-").partition("+")[0] for it in said_by(words).splitlines()}
+    return ", ".join(sorted(found))
+
+
+def main(what, turns):
+    all_works = [*works()]
+    runs = [(at, place) for at, it in enumerate(all_works) for place in range(len(it[2]))]
+    counted = counts(runs) if what != "time" else None
+    begun = load()
+    timed = times(turns) if what != "counts" else None
+    print(f"{versions()}.")
+    if timed:
+        print(
+            f"Times are the best of {turns} turns on {machine()}, with a load average of {begun} at the"
+            f" begin and {load()} at the end."
+        )
+    heads = ["Work", "By"]
+    heads += ["Instructions a byte"] if counted else []
+    heads += ["Megabytes a second"] if timed else []
+    heads += ["Requests for memory", "Bytes asked for"] if counted else []
+    print(f"\n| {' | '.join(heads)} |\n|{'---|' * len(heads)}")
+    for line in rows(all_works, counted, timed):
+        print(line)
+
+
+if __name__ == "__main__":
+    if sys.argv[1:2] not in (["all"], ["counts"], ["time"]):
+        sys.exit(__doc__.strip())
+    main(sys.argv[1], int(sys.argv[2]) if len(sys.argv) > 2 else TURNS)
