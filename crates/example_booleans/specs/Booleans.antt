@@ -4,12 +4,17 @@ use Rattle.std.specs.Prelude.{nat_eq, if◌then◌else◌}
 use Rattle.example_booleans.specs.declared.booleans.Logic.{Logic}
 use Rattle.example_booleans.specs.declared.booleans.Logic.TheVariants.{And, Or, Same}
 use Rattle.example_booleans.specs.declared.booleans.Not.{Not}
+use Rattle.grammars.specs.Grammar.{Both, Grammar}
+use Rattle.streams.specs.Kind.{Kind}
+use Rattle.stream_errors.specs.Form.{marked_kind}
+use Rattle.stream_errors.specs.declared.empty.EmptyError.{EmptyError}
 use Rattle.winnow_expression.specs.declared.combinator.operators.Infix.{Infix}
 use Rattle.winnow_expression.specs.declared.combinator.operators.Infix.TheVariants.{Left, Neither}
 use Rattle.winnow_expression.specs.declared.combinator.operators.Postfix.{Postfix}
 use Rattle.winnow_expression.specs.declared.combinator.operators.Prefix.{Prefix}
 use Rattle.winnow_expression_trees.specs.Failure.{Comes}
 use Rattle.winnow_expression_trees.specs.Items.{FirstItems, Items, NextItems, NoItem}
+use Rattle.winnow_expression_trees.specs.Items.Grammar.{ReadsTree}
 pub mod Laws
 
 -- One byte that is read so.
@@ -50,3 +55,16 @@ LacksOperand start place =
     Comes (FirstItems (ByteItem operand_at) (ByteItem prefix_at))
     (NextItems (ByteItem postfix_at) (ByteItem infix_at)) start true place
     × NoItem (ByteItem operand_at) place × NoItem (ByteItem prefix_at) place
+
+-- the kind of the error of a parser that backtracks, or is out of memory
+abbrev pub empty_kind : EmptyError → Kind
+empty_kind e = marked_kind e.is_memory
+
+-- A formula: the one tree over these bytes that keeps the powers, and its truth value.
+abbrev pub IsFormula : Grammar ℕ Bool
+IsFormula = ReadsTree (ByteItem operand_at) (ByteItem prefix_at) (ByteItem postfix_at)
+    (ByteItem infix_at) not_value not_value logic_value (pos 0)
+
+-- A formula, and after it what ends it.
+abbrev pub IsEnded : {T O : Type 0} → Grammar T O → Grammar T ℕ → Grammar T O
+IsEnded formula end = Both (λ value o. value) formula end

@@ -2,5 +2,6 @@
 pub mod FirstLine
 pub mod Items
 pub mod Numerals
+pub mod Places
 pub mod Premises
 pub mod Words

@@ -12,5 +12,6 @@ pub mod numbers;
 pub mod numerals;
 pub mod percentages;
 pub mod pieces;
+pub mod places;
 pub mod premises;
 pub mod words;

@@ -1,15 +1,17 @@
 -- What holds of bytes that are items.
-use Rattle.std.specs.Prelude.{◌≡◌, ◌<◌, ℕ, Bool, true, false, if◌then◌else◌}
-use Rattle.std.specs.Prelude.{List, [], ◌∷◌, ◌++◌, length, Option, Some, None}
-use Rattle.std.specs.Prelude.{Ok, Err}
-use Rattle.std.proofs.Common.{refl, sym, ◌∙◌, ap, subst, inl, inr, arith}
+use Rattle.std.specs.Prelude.{◌≡◌, ℕ, pos, Bool, true, false, if◌then◌else◌}
+use Rattle.std.specs.Prelude.{[], ◌∷◌, length, Option, Some}
+use Rattle.std.proofs.Common.{refl, sym, ◌∙◌, ap, subst, arith}
 use Rattle.streams.specs.Bytes.{bytes_reading}
 use Rattle.streams.specs.Equal.{same_first, same_others}
 use Rattle.streams.specs.Input.{Input, IsEndOf}
 use Rattle.stream_errors.specs.Form.{Answer}
 use Rattle.winnow_expression_trees.specs.Items.{AreItems, GivesOne, ItemRuns}
 use Rattle.winnow_expression_trees.specs.Items.Premises.{item_ends}
-use Rattle.example_booleans.specs.Booleans.{ByteItem, logic_value, not_value}
+use Rattle.grammars.specs.Grammar.{IsUnique, TakesTokens}
+use Rattle.winnow_expression_trees.specs.Items.Grammar.{IsFront, tree_takes, tree_unique}
+use Rattle.example_booleans.specs.Booleans.{ByteItem, IsFormula, infix_at, logic_value, not_value}
+use Rattle.example_booleans.specs.Booleans.{operand_at, postfix_at, prefix_at}
 use Rattle.example_booleans.specs.declared.booleans.Logic.{Logic}
 use Rattle.example_booleans.specs.declared.booleans.Logic.TheVariants.{And, Or, Same}
 use Rattle.example_booleans.specs.declared.booleans.Not.{Not}
@@ -52,3 +54,22 @@ pub some_logic : (f : Logic) (v w : Bool) → (x : Bool) × logic_value f v w x
 some_logic And v w = (if v then w else false, refl)
 some_logic Or v w = (if v then true else w, refl)
 some_logic Same v w = (if v then w else (if w then false else true), refl)
+
+-- ---- formulas, as a grammar
+
+-- a byte is a beginning
+pub byte_front : {O : Type 0} (meant : ℕ → Option O) → IsFront (ByteItem meant)
+byte_front meant tokens o rest (b, splits, is) = (b ∷ [], splits)
+
+-- a formula leaves one rest
+pub formula_unique : IsUnique IsFormula
+formula_unique = tree_unique (ByteItem operand_at) (ByteItem prefix_at) (ByteItem postfix_at)
+    (ByteItem infix_at) not_value not_value logic_value (pos 0) length (byte_items operand_at)
+    (byte_items prefix_at) (byte_items postfix_at) (byte_items infix_at) (byte_front operand_at)
+    (byte_front prefix_at) (byte_front postfix_at) (byte_front infix_at)
+
+-- and takes bytes
+pub formula_takes : TakesTokens IsFormula
+formula_takes = tree_takes (ByteItem operand_at) (ByteItem prefix_at) (ByteItem postfix_at)
+    (ByteItem infix_at) not_value not_value logic_value (pos 0) (byte_items operand_at)
+    (byte_items prefix_at) (byte_items postfix_at) (byte_items infix_at)

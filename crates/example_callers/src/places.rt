@@ -1,0 +1,78 @@
+//! The place of a word in a stream: a call that reads by a grammar says between which places.
+ghost use Rattle.std.specs.Prelude.{false, ⊤, IfErr, IfOk};
+ghost use Rattle.std.specs.Prelude.{◌≡◌};
+ghost use Rattle.example_callers.specs.Places.{IsPlaced, KeyAndMark};
+ghost use Rattle.winnow.specs.AsChar.{IsAlpha};
+ghost use Rattle.winnow.specs.Exact.{IsSpared, Reads};
+ghost use Rattle.winnow.specs.Kind.{backtrack};
+ghost use Rattle.winnow.specs.Grammar.{Class, Literally};
+ghost use Rattle.winnow.specs.Once.{SeesApart};
+ghost use Rattle.winnow.specs.Spans.{IsBetween, output_alone};
+
+use std::ops::Range;
+use winnow::Parser;
+use winnow::ascii::impls::Alpha1;
+use winnow::error::ParserError;
+use winnow::exact::ReadsSpanned;
+use winnow::stream::{AsChar, Compare, LocatingSlice, Location, Stream, StreamIsPartial};
+
+/// A word and the mark `=`, of any stream of bytes.
+fn name<I, E>(input: &mut I) -> Result<(I::Slice, u8), E>
+where
+    I: StreamIsPartial + Compare<u8>,
+    I::Token: AsChar,
+    E: ParserError<I>,
+    requires seen { SeesApart I.seen_as }
+    ensures reads { Reads I.reading E.kind (KeyAndMark I.Token.code I.seen_as I.reading
+        (Literally I.reading I.spells (λ s _. s) 61)) (I.view input.old) result
+        (I.view input.new) }
+    ensures spared { IsSpared E.kind (I.view input.old) result }
+{
+    (Alpha1, b'=').read(input)
+}
+
+/// A word, and between which places, of any stream of bytes that knows its place.
+fn word_between<I, E>(input: &mut I) -> Result<(I::Slice, Range<usize>), E>
+where
+    I: StreamIsPartial + Location,
+    I::Token: AsChar,
+    E: ParserError<I>,
+    requires seen { SeesApart I.seen_as }
+    ensures reads { Reads I.reading E.kind (Class IsAlpha 1 I.Token.code I.seen_as I.reading)
+        (I.view input.old) (output_alone result) (I.view input.new) }
+    ensures between { IsBetween (I.view input.old) result (I.view input.new) }
+    ensures spared { IsSpared E.kind (I.view input.old) result }
+{
+    Alpha1.read_spanned(input)
+}
+
+/// The value of an assignment as `key=value` that is first in what is left, and between which
+/// places it is, in units from the start of the stream: bytes of bytes and of text. It fails where
+/// no assignment is first.
+///
+/// ```
+/// use example_callers::places::value_place;
+/// use winnow::error::EmptyError;
+/// use winnow::stream::LocatingSlice;
+///
+/// let mut input = LocatingSlice::new("key=valuea=b");
+/// assert_eq!(rt; value_place(&mut input), Ok::<_, EmptyError>(("valuea", 4..10)));
+/// ```
+pub fn value_place<I, E>(input: &mut LocatingSlice<I>) -> Result<(I::Slice, Range<usize>), E>
+where
+    I: StreamIsPartial + Compare<u8>,
+    I::Token: AsChar,
+    E: ParserError<LocatingSlice<I>>,
+    requires seen { SeesApart I.seen_as }
+    requires whole { (⟦<LocatingSlice<I> as Stream>⟧.view input.old).status.cut ≡ false }
+    ensures found { IfOk result (IsPlaced I.reading
+        (KeyAndMark I.Token.code I.seen_as I.reading (Literally I.reading I.spells (λ s _. s) 61))
+        (Class IsAlpha 1 I.Token.code I.seen_as I.reading)
+        (⟦<LocatingSlice<I> as Stream>⟧.view input.old).left) }
+    ensures fails { IfErr result (λ error. E.kind error ≡ backtrack) }
+{
+    match name(input) {
+        Ok(_) => word_between(input),
+        Err(error) => Err(error),
+    }
+}
