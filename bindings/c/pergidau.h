@@ -37,10 +37,10 @@ extern "C" {
  * includes this header refers to it, so that it links with no other library. Define
  * PERGIDAU_NO_LINK_CHECK before the header for a file that is not linked with the library.
  */
-extern const char pergidau_0_0_0_declared_42a25bb0;
+extern const char pergidau_0_0_0_declared_98f056c0;
 #if defined(__GNUC__) && !defined(PERGIDAU_NO_LINK_CHECK)
 __attribute__((__used__, __unused__)) static const char *const pergidau_linked =
-    &pergidau_0_0_0_declared_42a25bb0;
+    &pergidau_0_0_0_declared_98f056c0;
 #endif
 
 /* The version of the library that is linked, as PERGIDAU_VERSION is written. */
@@ -148,6 +148,11 @@ struct pergidau_record {
     size_t text;
     /* How many bytes the record has where it was read, the line end among them. */
     size_t length;
+    /*
+     * Where the bytes are refused: how many stand before the first with which no record goes
+     * on. Else 0.
+     */
+    size_t place;
 };
 
 /* The places of a field. */
@@ -298,12 +303,14 @@ enum pergidau_code pergidau_calc_value(
  *
  * PERGIDAU_DONE: the bytes of the fields, without the quotes round them and with each quote
  * once, are written into text, one field after the other, and that many places there, in
- * order. PERGIDAU_REFUSED: the bytes begin with no record. PERGIDAU_TOO_SMALL: they begin with
- * one that wants more entries or more bytes than the buffers have; how many of both is
- * written, and the buffers are left as they were. PERGIDAU_NO_MEMORY.
+ * order. PERGIDAU_REFUSED: the bytes begin with no record; written is the first place at which
+ * none goes on: what stands before it begins one, and with the byte there none begins.
+ * PERGIDAU_TOO_SMALL: they begin with one that wants more entries or more bytes than the
+ * buffers have; how many of both is written. But for PERGIDAU_DONE the buffers are left as
+ * they were.
  *
- * While it runs it holds up to 80 bytes of memory for each byte of the record, also where it
- * then answers PERGIDAU_REFUSED or PERGIDAU_TOO_SMALL.
+ * No memory is asked for. A record is passed over twice, so that nothing is written where
+ * there is no room.
  *
  * The caller owes bytes_length bytes at bytes that can be read and that nothing changes while
  * the call runs, text_length bytes at text and fields_length entries at fields that can be
@@ -323,15 +330,15 @@ enum pergidau_code pergidau_csv_record(
  * The same record where the bytes come in pieces: a record or a refusal that it answers is
  * that of all longer bytes too.
  *
- * PERGIDAU_DONE, PERGIDAU_TOO_SMALL, PERGIDAU_NO_MEMORY: as for a record that is whole.
- * PERGIDAU_INCOMPLETE: no record with its line end is there, and with three bytes more at most
- * they can begin with one. PERGIDAU_REFUSED: whatever comes after the bytes, they begin with
- * no record, and that is answered as soon as the byte is there at which none goes on: so of
- * x". More than 2^61 bytes are refused too. A field in quotes that are not closed goes on for
- * ever, so the caller bounds how many bytes are held. The last record may have no line end:
- * where no more bytes come, the call for whole ones reads it.
+ * PERGIDAU_DONE, PERGIDAU_TOO_SMALL: as for a record that is whole. PERGIDAU_INCOMPLETE: no
+ * record with its line end is there, and with three bytes more at most they can begin with
+ * one. PERGIDAU_REFUSED: whatever comes after the bytes, they begin with no record, and that
+ * is answered as soon as the byte is there at which none goes on, whose place is written: so
+ * of x", 1. A field in quotes that are not closed goes on for ever, so the caller bounds how
+ * many bytes are held. The last record may have no line end: where no more bytes come, the
+ * call for whole ones reads it.
  *
- * Each call reads from the first byte on, and holds as much memory as that for a whole record.
+ * Each call reads from the first byte on, and asks for no memory.
  *
  * The caller owes bytes_length bytes at bytes that can be read and that nothing changes while
  * the call runs, text_length bytes at text and fields_length entries at fields that can be

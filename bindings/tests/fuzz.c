@@ -274,11 +274,14 @@ static void read_record(const uint8_t *bytes, size_t length)
         HOLDS(code == PERGIDAU_DONE || (code == PERGIDAU_INCOMPLETE && out.length == length));
         HOLDS(code == PERGIDAU_INCOMPLETE || cut.length == out.length);
     } else {
-        HOLDS(code == PERGIDAU_REFUSED);
+        HOLDS(code == PERGIDAU_REFUSED && out.place <= length);
+        HOLDS(may_go_on(bytes, out.place, line_feeds));
+        HOLDS(out.place == length || !may_go_on(bytes, out.place + 1, line_feeds));
         code = pergidau_csv_record_in_pieces(bytes, length, line_feeds, text, most, places, count,
                                              &cut);
         HOLDS(code == (may_go_on(bytes, length, line_feeds) ? PERGIDAU_INCOMPLETE
                                                             : PERGIDAU_REFUSED));
+        HOLDS(cut.place == (code == PERGIDAU_REFUSED ? out.place : 0));
     }
 }
 

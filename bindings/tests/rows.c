@@ -495,7 +495,7 @@ static const struct {
 };
 
 /* With a line end behind them these are no records either; and how many of their bytes can begin
- * one: in pieces they are refused at the next. */
+ * one: in pieces they are refused at the next, and that is the place of each refusal. */
 static const struct {
     const char *text;
     uint32_t line_feeds;
@@ -526,6 +526,7 @@ static void test_record(size_t i)
     same("the length", row, (long long)out.length, (long long)(length - records[i].rest));
     same("the fields", row, (long long)out.fields, (long long)count);
     same("the bytes", row, (long long)out.text, (long long)bytes);
+    same("no place", row, (long long)out.place, 0);
     for (size_t k = 0; k < count; k++) {
         shown(row, text, places[k], records[i].fields[k]);
         same("the place", row, (long long)places[k].offset, (long long)sum);
@@ -574,6 +575,7 @@ static void test_records(void)
              pergidau_csv_record(input, length, line_feeds, text, sizeof text, places, MOST_CSV,
                                  &out),
              PERGIDAU_REFUSED);
+        same("the place", row, (long long)out.place, (long long)no_records[i].begins);
         free(input);
         for (size_t room = 0; room <= length; room++) {
             uint8_t *piece = copied(row, room);
@@ -581,6 +583,8 @@ static void test_records(void)
                  pergidau_csv_record_in_pieces(piece, room, line_feeds, text, sizeof text, places,
                                                MOST_CSV, &out),
                  room > no_records[i].begins ? PERGIDAU_REFUSED : PERGIDAU_INCOMPLETE);
+            same("the place in a piece", row, (long long)out.place,
+                 room > no_records[i].begins ? (long long)no_records[i].begins : 0);
             free(piece);
         }
     }

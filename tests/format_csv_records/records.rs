@@ -5,7 +5,7 @@ use format_csv_records::read::{RecordError, RecordFault, Refusal, read_record_in
 use format_csv_records::record::ByteRecord;
 use format_csv_records::records::{Records, behind_mark, column_of, field_of};
 
-fn dialect(delimiter: u8, ends: LineEnds, rt: &impl Abort) -> Dialect {
+pub fn dialect(delimiter: u8, ends: LineEnds, rt: &impl Abort) -> Dialect {
     match Dialect::new(delimiter, b'"', ends) {
         Ok(it) => it,
         Err(_) => panic!(rt; "no dialect"),
@@ -14,7 +14,7 @@ fn dialect(delimiter: u8, ends: LineEnds, rt: &impl Abort) -> Dialect {
 
 /// The examples of RFC 4180, section 2, items 1 to 7: a document, and its records. A bar stands
 /// between two fields, and a slash behind each record.
-const STANDARD: &[(&[u8], &[u8])] = &[
+pub const STANDARD: &[(&[u8], &[u8])] = &[
     (b"aaa,bbb,ccc\r\nzzz,yyy,xxx\r\n", b"aaa|bbb|ccc/zzz|yyy|xxx/"),
     (b"aaa,bbb,ccc\r\nzzz,yyy,xxx", b"aaa|bbb|ccc/zzz|yyy|xxx/"),
     (
@@ -59,7 +59,7 @@ fn the_examples_of_the_standard(rt: HostRuntime) {
 
 /// A line end, bytes that begin with no record, and where and why. The places are told by hand: the
 /// first byte with which what is before it begins no record.
-const REFUSED: &[(LineEnds, &[u8], usize, Refusal)] = &[
+pub const REFUSED: &[(LineEnds, &[u8], usize, Refusal)] = &[
     (LineEnds::Lf, b"a\"", 1, Refusal::QuoteInField),
     (LineEnds::Lf, b"a,b\"c\n", 3, Refusal::QuoteInField),
     (LineEnds::Lf, b"\"a\"b", 3, Refusal::ByteBehindQuote),

@@ -7,9 +7,7 @@
 //! assert_eq!(records?, [[b"a".to_vec(), b"b, c".to_vec()], [b"1".to_vec(), b"2".to_vec()]]);
 //! # Ok::<(), pergidau::Error>(())
 //! ```
-#[cfg(feature = "std")]
-use crate::Place;
-use crate::{at, exports, Error, Span, Wanted};
+use crate::{at, exports, Error, Place, Span, Wanted};
 
 /// What ends a line.
 #[derive(Clone, Copy, Debug, Default, PartialEq, Eq)]
@@ -80,14 +78,18 @@ fn read<'i, 'b>(
             places: &fields[..out.fields],
             rest: &bytes[out.length..],
         }),
-        code => Err(Error::of(code, None, Wanted { entries: out.fields, bytes: out.text })),
+        code => {
+            let refused = (code == exports::REFUSED).then(|| Place::of(bytes, out.place));
+            Err(Error::of(code, refused, Wanted { entries: out.fields, bytes: out.text }))
+        }
     }
 }
 
 /// The record of comma separated values (RFC 4180) with which the bytes begin; a line end, or the
 /// end of the bytes, stands after it. The bytes of its fields are written into `text`, and their
 /// places into `fields`; where one of them is too small, the error says how much is wanted. No bytes
-/// begin with no record. While it runs it holds up to 80 bytes of memory for each byte of the record.
+/// begin with no record. A refusal has the place of the first byte with which no record goes on. No
+/// memory is asked for.
 ///
 /// ```
 /// use pergidau::csv::{self, LineEnd};
@@ -97,6 +99,8 @@ fn read<'i, 'b>(
 /// let record = csv::record(b"a,\"b \"\"c\"\"\"\nd", LineEnd::Lf, &mut text, &mut fields)?;
 /// assert_eq!(record.fields().collect::<Vec<_>>(), [&b"a"[..], b"b \"c\""]);
 /// assert_eq!(record.rest(), b"d");
+/// let refused = csv::record(b"a,b\"c", LineEnd::Lf, &mut text, &mut fields).unwrap_err();
+/// assert_eq!(refused.to_string(), "refused at line 1, column 4");
 /// # Ok::<(), pergidau::Error>(())
 /// ```
 pub fn record<'i, 'b>(
@@ -121,7 +125,7 @@ pub fn record<'i, 'b>(
 /// let record = csv::record_in_pieces(b"a,b", LineEnd::CrLf, &mut [], &mut []);
 /// assert_eq!(record.unwrap_err(), Error::Incomplete);
 /// let never = csv::record_in_pieces(b"x\"y", LineEnd::CrLf, &mut [], &mut []);
-/// assert_eq!(never.unwrap_err(), Error::Refused(None));
+/// assert_eq!(never.unwrap_err().to_string(), "refused at line 1, column 2");
 /// ```
 pub fn record_in_pieces<'i, 'b>(
     bytes: &'i [u8],
@@ -160,10 +164,12 @@ impl Iterator for Records<'_> {
                     self.fields.resize(wanted.entries.max(self.fields.len()), Span::default());
                 }
                 Err(error) => {
-                    let place = Place::of(self.document, self.document.len() - self.left.len());
+                    let before = self.document.len() - self.left.len();
                     self.left = &[];
                     return Some(Err(match error {
-                        Error::Refused(_) => Error::Refused(Some(place)),
+                        Error::Refused(Some(place)) => {
+                            Error::Refused(Some(Place::of(self.document, before + place.offset)))
+                        }
                         error => error,
                     }));
                 }
@@ -174,7 +180,7 @@ impl Iterator for Records<'_> {
 }
 
 /// The records of a document. Where the bytes begin with no record any more, the error has the place
-/// where it is wanted.
+/// of the first byte with which none goes on.
 ///
 /// ```
 /// use pergidau::csv::{self, LineEnd};
@@ -182,7 +188,7 @@ impl Iterator for Records<'_> {
 /// let records: Result<Vec<_>, _> = csv::records(b"a,b\n\"c\nd\",\n", LineEnd::Lf).collect();
 /// assert_eq!(records?, [[b"a".to_vec(), b"b".to_vec()], [b"c\nd".to_vec(), Vec::new()]]);
 /// let refused = csv::records(b"a\nb\"\n", LineEnd::Lf).last();
-/// assert_eq!(refused.unwrap().unwrap_err().to_string(), "refused at line 2, column 1");
+/// assert_eq!(refused.unwrap().unwrap_err().to_string(), "refused at line 2, column 2");
 /// # Ok::<(), pergidau::Error>(())
 /// ```
 #[cfg(feature = "std")]

@@ -104,6 +104,9 @@ pub struct Record {
     pub text: usize,
     /// How many bytes the record has where it was read, the line end among them.
     pub length: usize,
+    /// Where the bytes are refused: how many stand before the first with which no record goes on.
+    /// Else 0.
+    pub place: usize,
 }
 
 /// The places of a field.
@@ -228,7 +231,7 @@ pub struct Position {
 
 extern "C" {
     /// Stands in a library of this version and with these declarations alone.
-    #[link_name = "pergidau_0_0_0_declared_42a25bb0"]
+    #[link_name = "pergidau_0_0_0_declared_98f056c0"]
     static VERSION_LINKED: c_char;
 
     /// The version of the library that is linked.
@@ -269,12 +272,13 @@ extern "C" {
     ///
     /// `DONE`: the bytes of the fields, without the quotes round them and with each quote once, are
     /// written into `text`, one field after the other, and that many places there, in order. `REFUSED`:
-    /// the bytes begin with no record. `TOO_SMALL`: they begin with one that wants more entries or more
-    /// bytes than the buffers have; how many of both is written, and the buffers are left as they were.
-    /// `NO_MEMORY`.
+    /// the bytes begin with no record; written is the first place at which none goes on: what stands
+    /// before it begins one, and with the byte there none begins. `TOO_SMALL`: they begin with one that
+    /// wants more entries or more bytes than the buffers have; how many of both is written. But for
+    /// `DONE` the buffers are left as they were.
     ///
-    /// While it runs it holds up to 80 bytes of memory for each byte of the record, also where it then
-    /// answers `REFUSED` or `TOO_SMALL`.
+    /// No memory is asked for. A record is passed over twice, so that nothing is written where there is
+    /// no room.
     ///
     /// The caller owes `bytes_length` bytes at `bytes` that can be read and that nothing changes while
     /// the call runs, `text_length` bytes at `text` and `fields_length` entries at `fields` that can be
@@ -293,15 +297,15 @@ extern "C" {
     /// The same record where the bytes come in pieces: a record or a refusal that it answers is that of
     /// all longer bytes too.
     ///
-    /// `DONE`, `TOO_SMALL`, `NO_MEMORY`: as for a record that is whole. `INCOMPLETE`: no record with
-    /// its line end is there, and with three bytes more at most they can begin with one. `REFUSED`:
-    /// whatever comes after the bytes, they begin with no record, and that is answered as soon as the
-    /// byte is there at which none goes on: so of `x"`. More than 2^61 bytes are refused too. A field
-    /// in quotes that are not closed goes on for ever, so the caller bounds how many bytes are held.
-    /// The last record may have no line end: where no more bytes come, the call for whole ones reads
-    /// it.
+    /// `DONE`, `TOO_SMALL`: as for a record that is whole. `INCOMPLETE`: no record with its line end is
+    /// there, and with three bytes more at most they can begin with one. `REFUSED`: whatever comes
+    /// after the bytes, they begin with no record, and that is answered as soon as the byte is there
+    /// at
+    /// which none goes on, whose place is written: so of `x"`, 1. A field in quotes that are not closed
+    /// goes on for ever, so the caller bounds how many bytes are held. The last record may have no line
+    /// end: where no more bytes come, the call for whole ones reads it.
     ///
-    /// Each call reads from the first byte on, and holds as much memory as that for a whole record.
+    /// Each call reads from the first byte on, and asks for no memory.
     ///
     /// The caller owes `bytes_length` bytes at `bytes` that can be read and that nothing changes while
     /// the call runs, `text_length` bytes at `text` and `fields_length` entries at `fields` that can be

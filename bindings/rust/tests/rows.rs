@@ -191,6 +191,14 @@ fn http_head_of_requests() {
     assert_eq!(never.unwrap_err(), Error::Refused(None));
 }
 
+/// How many bytes stand before the place of a refusal.
+fn offset_of(error: Error) -> Option<usize> {
+    match error {
+        Error::Refused(place) => place.map(|it| it.offset),
+        _ => None,
+    }
+}
+
 #[test]
 fn csv_record_of_lines() {
     let rows: [(&[u8], LineEnd, &[&[u8]], &[u8]); 6] = [
@@ -209,9 +217,11 @@ fn csv_record_of_lines() {
         assert_eq!(record.get(want.len() - 1), want.last().copied());
         assert_eq!(record.get(want.len()), None);
     }
-    for bytes in [&b""[..], b"a\"", b"\"a", b"\"a\"b", b"a\rb"] {
+    let refused: [(&[u8], usize); 5] =
+        [(b"", 0), (b"a\"", 1), (b"\"a", 2), (b"\"a\"b", 3), (b"a\rb", 2)];
+    for (bytes, offset) in refused {
         let record = csv::record(bytes, LineEnd::CrLf, &mut [], &mut []);
-        assert_eq!(record.unwrap_err(), Error::Refused(None), "{bytes:?}");
+        assert_eq!(offset_of(record.unwrap_err()), Some(offset), "{bytes:?}");
     }
     let (mut text, mut fields) = ([0; 3], [Span::default(); 2]);
     let small = csv::record(b"ab,cd", LineEnd::Lf, &mut text, &mut fields).unwrap_err();
@@ -248,8 +258,9 @@ fn csv_record_of_pieces_is_refused_where_none_goes_on() {
     for (bytes, end, begins) in rows {
         for cut in 0..=bytes.len() {
             let piece = csv::record_in_pieces(&bytes[..cut], end, &mut [], &mut []);
-            let want = if cut > begins { Error::Refused(None) } else { Error::Incomplete };
-            assert_eq!(piece.unwrap_err(), want, "{bytes:?} {cut}");
+            let error = piece.unwrap_err();
+            assert_eq!(offset_of(error), (cut > begins).then_some(begins), "{bytes:?} {cut}");
+            assert!(cut > begins || error == Error::Incomplete, "{bytes:?} {cut}");
         }
     }
 }
@@ -263,7 +274,7 @@ fn csv_records_of_a_document() {
     assert_eq!(records.unwrap(), want);
     let mut refused = csv::records(b"a\r\nb\rc\r\n", LineEnd::CrLf);
     assert_eq!(refused.next(), Some(Ok(vec![b"a".to_vec()])));
-    let place = Place { offset: 3, line: 2, column: 1 };
+    let place = Place { offset: 5, line: 2, column: 3 };
     assert_eq!(refused.next(), Some(Err(Error::Refused(Some(place)))));
     assert_eq!(refused.next(), None);
     assert_eq!(csv::records(b"", LineEnd::Lf).count(), 0);

@@ -9,4 +9,3 @@ pub mod Pieces
 pub mod Places
 pub mod Records
 pub mod Replies
-pub mod Texts

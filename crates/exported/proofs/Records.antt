@@ -1,161 +1,152 @@
--- Records: how long they are, and what is told of them.
-use Rattle.std.proofs.Common.{◌≡◌, ◌∙◌, ◌+◌, ◌≤◌, ◌++◌, ◌∷◌, [], ℕ, List, Global, ap, arith}
-use Rattle.std.proofs.Common.{append-nil, inl, inr, length, length-append, subst, sym}
-use Rattle.std.specs.declared.vec.Vec.{Vec}
-use Rattle.winnow.specs.Following.{most_bytes}
-use Rattle.format_csv.specs.Csv.{FieldText, InQuotes, IsPlain, IsRecord, RecordText, line_end}
-use Rattle.format_csv.specs.declared.LineEnd.{LineEnd}
-use Rattle.winnow.specs.Texts.{BothText, EachText, EitherText, InList, Itself, PartedText, Spelled}
-use Rattle.winnow.specs.Texts.{Text, TokenOfText}
-use Rattle.exported.specs.Csv.{CountsRecord, Fields, IsRecordForGood}
-use Rattle.exported.specs.Texts.{AreFields, text_of}
+-- What is told of records of comma separated values.
+use Rattle.std.proofs.Common.{◌≡◌, ◌∙◌, ◌+◌, ◌<◌, ◌≤◌, ◌++◌, [], ℕ, List, ap, arith, drop, false}
+use Rattle.std.proofs.Common.{inl, inr, length, refl, subst, sym, true}
+use Rattle.std.specs.Prelude.{Bool, MatchBool}
+use Rattle.std.proofs.lemmas.List.{append-nil, length-drop}
+use Rattle.std.proofs.lemmas.Bool.Decides.{leb_tells}
+use Rattle.std.proofs.Math.Dec.{leb}
+use Rattle.format_csv.specs.Early.{MayGoOn, NeverGoesOn}
+use Rattle.format_csv.proofs.Early.{read_goes_on, refused_told}
+use Rattle.format_csv_records.specs.Buffers.{IsForGood, IsSized, NoneForGood, ShowsFields}
+use Rattle.format_csv_records.specs.Buffers.{SizedAs}
+use Rattle.format_csv_records.specs.Dialects.{IsRecord}
+use Rattle.format_csv_records.specs.Refused.{IsRefused}
+use Rattle.format_csv_records.specs.declared.buffers.RecordSize.{RecordSize}
+use Rattle.format_csv_records.specs.declared.dialect.Dialect.{Dialect}
+use Rattle.format_csv_records.specs.declared.read.RecordFault.{RecordFault}
+use Rattle.format_csv_records.proofs.One.{refused_none}
+use Rattle.exported.specs.Csv.{CountsRecord, IsRefusedAt, NoRecord, ShowsRecord, WantsRecord}
+use Rattle.exported.specs.Csv.{dialect_of, ends_of}
+use Rattle.exported.specs.Span.{span_of}
 use Rattle.exported.specs.declared.csv.Record.{Record}
 use Rattle.exported.specs.declared.span.Span.{Span}
-use Rattle.exported.proofs.Pieces.{nothing_follows}
 
--- A text of one has at least one byte.
-abbrev TakesOne : Text ℕ ℕ → Type 0
-TakesOne text = (b : ℕ) (xs : List ℕ) → text b xs → 1 ≤ length xs
+-- What is told is the size of the record.
+abbrev pub Tells : Record → RecordSize → Type 0
+Tells found size = (found.fields ≡ size.fields) × (found.text ≡ size.text)
+    × (found.length ≡ size.length)
 
-row_long : (text : Text ℕ ℕ) → TakesOne text → (bytes xs : List ℕ) → EachText text bytes xs
-    → length bytes ≤ length xs
-unfolding EachText
-row_long text one [] xs e = omega arith
-row_long text one (b ∷ bytes) xs (ys, zs, is, more, e) =
-    omega (
-      arith,
-      one b ys is,
-      row_long text one bytes zs more,
-      ap length e,
-      length-append ys zs,
-    )
-
-quoted_one : TakesOne InQuotes
-unfolding EitherText BothText TokenOfText Spelled
-quoted_one b xs (inl (c, d, ys, zs, (_, e), is, f, _)) =
-    omega (arith, ap length e, ap length f, length-append ys zs)
-quoted_one b xs (inr (_, e)) = omega (arith, ap length e)
-
-plain_one : TakesOne (TokenOfText (λ b. b) IsPlain)
-unfolding TokenOfText
-plain_one b xs (_, e) = omega (arith, ap length e)
-
--- a field is no longer than its text
-field_long : (field : Vec ℕ Global) (xs : List ℕ) → FieldText field xs
-    → length field.items ≤ length xs
-unfolding EitherText BothText InList Spelled
-field_long field xs (inl (q, o, front, others, _, (p, r, inside, end, is, _, e, same), f, last)) =
-    let row = row_long InQuotes quoted_one p.items inside is in
-    omega (
-      arith,
-      row,
-      ap (λ (v : Vec ℕ Global). length v.items) last,
-      ap (λ (v : Vec ℕ Global). length v.items) same,
-      ap length e,
-      ap length f,
-      length-append inside end,
-      length-append front others,
-    )
-field_long field xs (inr is) = row_long (TokenOfText (λ b. b) IsPlain) plain_one field.items xs is
-
-others_long : (fields : List (Vec ℕ Global)) (xs : List ℕ)
-    → EachText (BothText (λ _ o. o) (Itself 44) FieldText) fields xs
-    → length (text_of fields) ≤ length xs
-unfolding EachText BothText
-others_long [] xs e = omega arith
-others_long (f ∷ fields) xs (ys, zs, (c, g, us, vs, _, is, e, same), more, d) =
-    omega (
-      arith,
-      field_long g vs is,
-      ap (λ (v : Vec ℕ Global). length v.items) same,
-      others_long fields zs more,
-      ap length e,
-      ap length d,
-      length-append us vs,
-      length-append ys zs,
-      length-append f.items (text_of fields),
-    )
-
-joined_long : (fields : List (Vec ℕ Global)) (xs : List ℕ)
-    → PartedText (Itself 44) FieldText fields xs → length (text_of fields) ≤ length xs
-unfolding PartedText
-joined_long [] xs e = omega arith
-joined_long (f ∷ fields) xs (ys, zs, is, more, e) =
-    omega (
-      arith,
-      field_long f ys is,
-      others_long fields zs more,
-      ap length e,
-      length-append ys zs,
-      length-append f.items (text_of fields),
-    )
-
-record_text_long : (fields : Fields) (xs : List ℕ) → RecordText fields xs
-    → length (text_of fields.items) ≤ length xs
-unfolding InList
-record_text_long fields xs is = joined_long fields.items xs is.0
-
--- the fields of a record and what is left after it have no more bytes than there are
-pub record_long : (ends : LineEnd) (bytes : List ℕ) (fields : Fields) (rest : List ℕ)
-    → IsRecord ends bytes fields rest
-    → length (text_of fields.items) + length rest ≤ length bytes
-unfolding IsRecord
-record_long ends bytes fields rest (some, text, is, inl e) =
-    omega (
-      arith,
-      record_text_long fields text is,
-      ap length e,
-      length-append text (line_end ends ++ rest),
-      length-append (line_end ends) rest,
-    )
-record_long ends bytes fields rest (some, text, is, inr (e, none)) =
-    omega (arith, record_text_long fields text is, ap length e, ap length none)
-
--- ---- what is told of a record
-
--- what is counted of it
-pub counted : (begins : List ℕ → Fields → List ℕ → Type 0) (input : List ℕ) (out : Record)
-    (fields : Fields) (rest : List ℕ) (shown : List (Vec ℕ Global)) (left : ℕ)
-    → begins input fields rest → shown ≡ fields.items → left ≡ length rest
-    → out.fields ≡ length shown → out.text ≡ length (text_of shown)
-    → out.length + left ≡ length input → CountsRecord begins input out fields
-counted begins input out fields rest shown left is same behind count bytes ends = record {
-  rest = rest;
+counts : (begins : List ℕ → List (List ℕ) → List ℕ → Type 0) (d : Dialect) (input : List ℕ)
+    (fields : List (List ℕ)) (size : RecordSize) (found : Record) → SizedAs d input fields size
+    → Tells found size → begins input fields (drop size.length input)
+    → CountsRecord begins input found fields
+counts begins d input fields size found it (count, total, end) is = record {
+  rest = drop size.length input;
   is_record = is;
-  count = count ∙ ap length same;
-  bytes = bytes ∙ ap (λ l. length (text_of l)) same;
-  ends = ap (λ n. out.length + n) (sym behind) ∙ ends;
+  count = count ∙ it.count;
+  bytes = total ∙ it.total;
+  ends = omega (arith, end, it.within, length-drop size.length input);
 }
 
-pub fields_as : {text : List ℕ} {places : List Span} (shown : List (Vec ℕ Global))
-    (fields : Fields) → shown ≡ fields.items → AreFields text places shown
-    → AreFields text places fields.items
-fields_as {text} {places} shown fields same are =
-    let P : List (Vec ℕ Global) → Type 0 = λ l. AreFields text places l in subst P same are
+ended : {A B : Type 0} (b : Bool) → MatchBool b A B → b ≡ true → A
+ended true it is = it
+ended false it is = cc
 
--- how long it is
-pub counted_long : (ends : LineEnd) (input : List ℕ) (fields : Fields) (rest : List ℕ)
-    (shown : List (Vec ℕ Global)) (left : ℕ) → IsRecord ends input fields rest
-    → shown ≡ fields.items → left ≡ length rest → length (text_of shown) + left ≤ length input
-counted_long ends input fields rest shown left is same behind =
-    omega (
-      arith,
-      record_long ends input fields rest is,
-      ap (λ l. length (text_of l)) same,
-      behind,
-    )
+open_still : {A B : Type 0} (b : Bool) → MatchBool b A B → b ≡ false → B
+open_still true it is = cc
+open_still false it is = it
 
--- ---- and in pieces
+module _ (d : Dialect) (line_feeds : ℕ) (same : d ≡ dialect_of line_feeds) (input : List ℕ) where
+  module _ (size : RecordSize) (found : Record) (tells : Tells found size) where
+    pub shown : (text : List ℕ) (places : List Span) → ShowsFields span_of d input size text places
+        → ShowsRecord (IsRecord (dialect_of line_feeds)) input found text places
+    shown text places (fields, it, bytes, at) =
+        let P : Dialect → Type 0 = λ x. ShowsRecord (IsRecord x) input found text places in
+        subst P same (
+          fields,
+          counts (IsRecord d) d input fields size found it tells it.is_record,
+          bytes,
+          at,
+        )
 
--- of what is a record for good, nothing need follow
-pub good_long : (ends : LineEnd) (input : List ℕ) (fields : Fields) (rest : List ℕ)
-    (shown : List (Vec ℕ Global)) (left : ℕ) → length input ≤ most_bytes
-    → IsRecordForGood ends input fields rest → shown ≡ fields.items → left ≡ length rest
-    → length (text_of shown) + left ≤ length input
-good_long ends input fields rest shown left few good same behind =
-    omega (
-      arith,
-      counted_long ends (input ++ []) fields (rest ++ []) shown left
-          (good [] (nothing_follows input few)) same (behind ∙ ap length (sym (append-nil rest))),
-      ap length (append-nil input),
-    )
+    pub wanted : IsSized d input size → WantsRecord (IsRecord (dialect_of line_feeds)) input found
+    wanted (fields, it) =
+        let P : Dialect → Type 0 = λ x. WantsRecord (IsRecord x) input found in
+        subst P same (fields, counts (IsRecord d) d input fields size found it tells it.is_record)
+
+    pub shown_for_good : size.ended ≡ true → (text : List ℕ) (places : List Span)
+        → ShowsFields span_of d input size text places
+        → ShowsRecord (IsForGood (dialect_of line_feeds)) input found text places
+    shown_for_good is text places (fields, it, bytes, at) =
+        let P : Dialect → Type 0 = λ x. ShowsRecord (IsForGood x) input found text places in
+        subst P same (
+          fields,
+          counts (IsForGood d) d input fields size found it tells (ended size.ended it.ended is),
+          bytes,
+          at,
+        )
+
+    pub wanted_for_good : size.ended ≡ true → IsSized d input size
+        → WantsRecord (IsForGood (dialect_of line_feeds)) input found
+    wanted_for_good is (fields, it) =
+        let P : Dialect → Type 0 = λ x. WantsRecord (IsForGood x) input found in
+        subst P same (
+          fields,
+          counts (IsForGood d) d input fields size found it tells (ended size.ended it.ended is),
+        )
+
+  pub refused_here : (fault : RecordFault) → IsRefused d input fault
+      → NoRecord (dialect_of line_feeds) input
+      × IsRefusedAt (dialect_of line_feeds) input fault.offset
+  refused_here fault it =
+      let P : Dialect → Type 0 = λ x. NoRecord x input × IsRefusedAt x input fault.offset in
+      subst P same
+      (λ fields rest is. refused_none d input fault fields rest it is, inr (fault.why, it))
+
+  pub nothing_here : input ≡ [] → NoRecord (dialect_of line_feeds) input
+      × IsRefusedAt (dialect_of line_feeds) input 0
+  nothing_here none =
+      (λ fields rest is. omega (arith, is.0, ap (λ l. length l) none), inl (none, refl))
+
+  pub refused_for_good : (fault : RecordFault) → IsRefused d input fault
+      → fault.offset < length input
+      → NeverGoesOn (ends_of line_feeds) input
+      × IsRefusedAt (dialect_of line_feeds) input fault.offset × (fault.offset < length input)
+  refused_for_good fault it near =
+      let told = refused_told d (ends_of line_feeds) same input fault it in
+      elim (leb_tells (length input) fault.offset) [
+        | inl (is, far) ↦ absurd (omega (arith, near, far))
+        | inr (is, _) ↦ (
+          open_still (leb (length input) fault.offset) told is,
+          (refused_here fault it).1,
+          near,
+        )
+      ]
+
+  -- ---- in pieces
+
+  none_yet : ((fields : List (List ℕ)) (rest : List ℕ) → IsRecord d input fields rest → ⊥)
+      → NoneForGood (dialect_of line_feeds) input
+  none_yet none =
+      let P : Dialect → Type 0 = λ x. NoneForGood x input in
+      subst P same (λ fields rest all.
+          let Q : List ℕ → List ℕ → Type 0 = λ l r. IsRecord d l fields r in
+          let R : List ℕ → Type 0 = λ l. Q l (rest ++ []) in
+          none fields (rest ++ []) (subst R (append-nil input) (all [])))
+
+  pub some_may : (size : RecordSize) → IsSized d input size → size.ended ≡ false
+      → NoneForGood (dialect_of line_feeds) input × MayGoOn (ends_of line_feeds) input
+  some_may size (fields, it) is =
+      let P : Dialect → Type 0 = λ x. NoneForGood x input in (
+        subst P same (open_still size.ended it.ended is),
+        read_goes_on d (ends_of line_feeds) same input true fields (drop size.length input)
+            it.is_record,
+      )
+
+  pub nothing_may : input ≡ []
+      → NoneForGood (dialect_of line_feeds) input × MayGoOn (ends_of line_feeds) input
+  nothing_may none = (
+    none_yet (λ fields rest is. omega (arith, is.0, ap (λ l. length l) none)),
+    read_goes_on d (ends_of line_feeds) same input false [] [] (none, refl, refl),
+  )
+
+  pub refused_may : (fault : RecordFault) → IsRefused d input fault → length input ≤ fault.offset
+      → NoneForGood (dialect_of line_feeds) input × MayGoOn (ends_of line_feeds) input
+  refused_may fault it far =
+      let told = refused_told d (ends_of line_feeds) same input fault it in (
+        none_yet (λ fields rest is. refused_none d input fault fields rest it is),
+        elim (leb_tells (length input) fault.offset) [
+          | inl (is, _) ↦ ended (leb (length input) fault.offset) told is
+          | inr (is, near) ↦ absurd (omega (arith, near, far))
+        ],
+      )

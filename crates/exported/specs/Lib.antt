@@ -8,4 +8,3 @@ pub mod Json
 pub mod Pieces
 pub mod Resp
 pub mod Span
-pub mod Texts

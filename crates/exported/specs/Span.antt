@@ -10,6 +10,10 @@ pub record StandsAt (input : List ℕ) (place : Span) (bytes rest : List ℕ) : 
   pub begins : place.offset ≡ length before
   pub ends : place.length ≡ length bytes
 
+-- the place of that many bytes after that many others
+abbrev pub span_of : ℕ → ℕ → Span
+span_of offset length = record { offset = offset; length = length }
+
 -- the place of nothing
 abbrev pub nowhere : Span
 nowhere = record { offset = 0; length = 0 }

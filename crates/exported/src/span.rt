@@ -3,6 +3,8 @@
 ghost use Rattle.std.specs.Prelude.{◌≡◌, ◌≤◌, ◌++◌, List, length, ℕ};
 ghost use Rattle.exported.specs.Span.{EndsWith, StandsAt};
 
+use format_csv_records::buffers::FieldPlace;
+
 /// A place in the caller's bytes: that many of them, from one on.
 #[repr(C)]
 #[derive(Clone, Copy, Drop)]
@@ -11,6 +13,17 @@ pub struct Span {
     pub offset: usize,
     /// How many bytes it has.
     pub length: usize,
+}
+
+impl FieldPlace for Span {
+    ghost use Rattle.exported.specs.Span.{span_of};
+
+    ghost made = { span_of };
+
+    #[inline(always)]
+    fn of(offset: usize, length: usize) -> Span {
+        Span { offset, length }
+    }
 }
 
 /// The place of nothing.

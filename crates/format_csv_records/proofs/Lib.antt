@@ -2,7 +2,9 @@
 pub mod Alone
 pub mod Cuts
 pub mod Ending
+pub mod ForGood
 pub mod One
+pub mod Placing
 pub mod Runs
 pub mod Whole
 pub mod Writing

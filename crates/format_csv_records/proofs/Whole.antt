@@ -87,7 +87,7 @@ done_fields d (field ∷ done) before here fields rest (text, more, t, e, others
     (done_fields d done more here fields rest others it))
 
 -- one field more
-done_more : (d : Dialect) (done : List (List ℕ)) (before field text : List ℕ)
+pub done_more : (d : Dialect) (done : List (List ℕ)) (before field text : List ℕ)
     → Done d done before → IsFieldText d field text
     → Done d (done ++ field ∷ []) (before ++ (text ++ (d.delimiter ∷ [])))
 unfolding Done

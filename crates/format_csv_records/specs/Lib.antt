@@ -1,5 +1,6 @@
 -- Written by scripts/registries.py: do not edit.
 pub mod Apart
+pub mod Buffers
 pub mod Dialects
 pub mod Named
 pub mod Parts

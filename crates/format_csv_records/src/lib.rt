@@ -5,6 +5,7 @@
 //! one buffer, and is used again for the next.
 #![tactic(auto)]
 
+pub mod buffers;
 pub mod dialect;
 pub mod laws;
 pub mod read;

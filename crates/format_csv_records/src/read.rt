@@ -89,13 +89,15 @@ impl From<AllocError> for RecordError {
     }
 }
 
-fn is_plain(dialect: Dialect, byte: u8) -> bool
+#[inline(always)]
+pub(crate) fn is_plain(dialect: Dialect, byte: u8) -> bool
     ensures { IsTrue result ↔ IsPlain dialect byte }
 {
     byte != dialect.quote && byte != dialect.delimiter && byte != b'\r' && byte != b'\n'
 }
 
 // The first bytes.
+#[inline(always)]
 pub(crate) fn front(bytes: &[u8], size: usize) -> &[u8]
     requires { size ≤ length bytes.now }
     ensures { result.now ≡ take size bytes.now }
@@ -104,6 +106,7 @@ pub(crate) fn front(bytes: &[u8], size: usize) -> &[u8]
 }
 
 // The bytes after these.
+#[inline(always)]
 pub(crate) fn behind(bytes: &[u8], size: usize) -> &[u8]
     requires { size ≤ length bytes.now }
     ensures { result.now ≡ drop size bytes.now }
@@ -112,6 +115,7 @@ pub(crate) fn behind(bytes: &[u8], size: usize) -> &[u8]
 }
 
 // How many bytes of a field without quotes stand first.
+#[inline(always)]
 pub(crate) fn plain_len(dialect: Dialect, bytes: &[u8]) -> usize
     ensures { SoMany (IsPlain dialect) bytes.now result }
 {
@@ -124,6 +128,7 @@ pub(crate) fn plain_len(dialect: Dialect, bytes: &[u8]) -> usize
 }
 
 // How many bytes stand before the first quote, or in all.
+#[inline(always)]
 pub(crate) fn unquoted_len(quote: u8, bytes: &[u8]) -> usize
     ensures run { SoMany (IsOther quote) bytes.now result }
     ensures size { length bytes.now < 2 ^ 64 }
@@ -137,6 +142,7 @@ pub(crate) fn unquoted_len(quote: u8, bytes: &[u8]) -> usize
 }
 
 // Whether this byte stands first.
+#[inline(always)]
 pub(crate) fn first_is(bytes: &[u8], byte: u8) -> bool
     ensures { MatchBool result (bytes.now ≡ byte ∷ drop 1 bytes.now)
         (NotFirst (λ b. b ≡ byte) bytes.now) }
@@ -219,6 +225,7 @@ fn read_field<A: Allocator>(
 }
 
 // Whether a line feed alone ends a record.
+#[inline(always)]
 fn by_line_feed(ends: LineEnds) -> bool
     ensures { MatchBool result (IsLineEnd ends (10 ∷ [])) (ends ≡ LineEnds.CrLf) }
 {
@@ -229,6 +236,7 @@ fn by_line_feed(ends: LineEnds) -> bool
 }
 
 // Whether a carriage return and a line feed end a record.
+#[inline(always)]
 fn by_both(ends: LineEnds) -> bool
     ensures { MatchBool result (IsLineEnd ends (13 ∷ 10 ∷ [])) (ends ≡ LineEnds.Lf) }
 {
@@ -240,7 +248,8 @@ fn by_both(ends: LineEnds) -> bool
 
 // What is left after a line end that stands first, or where there are no more bytes. Else how many
 // bytes of one stand there.
-fn read_end<'i>(ends: LineEnds, rest: &'i [u8]) -> Result<&'i [u8], usize>
+#[inline(always)]
+pub(crate) fn read_end<'i>(ends: LineEnds, rest: &'i [u8]) -> Result<&'i [u8], usize>
     ensures { MatchResult result (λ left. EndsHere ends rest.now left.now)
         (λ begun. EndsNowhere ends rest.now begun) }
 {
@@ -266,7 +275,7 @@ fn read_end<'i>(ends: LineEnds, rest: &'i [u8]) -> Result<&'i [u8], usize>
 }
 
 // Why a record neither ends nor goes on with the byte that stands first.
-fn why_not(quote: u8, bytes: &[u8]) -> Refusal
+pub(crate) fn why_not(quote: u8, bytes: &[u8]) -> Refusal
     requires { 0 < length bytes.now }
     ensures { WhyNot quote bytes.now result }
 {

@@ -1,0 +1,316 @@
+-- How the bytes of fields, and their places, come into two buffers.
+use Rattle.std.specs.Prelude.{◌≡◌, ◌≤◌, ◌<◌, ◌+◌, ◌-◌, ◌^◌, ℕ, List, [], ◌∷◌, ◌++◌, drop, length}
+use Rattle.std.specs.Prelude.{take, Bool, MatchBool}
+use Rattle.std.proofs.Common.{refl, sym, ap, subst, inl, inr, ◌∙◌, arith, append_assoc}
+use Rattle.std.proofs.Common.{length-append}
+use Rattle.std.proofs.Math.Seq.{take-add}
+use Rattle.std.proofs.lemmas.List.{append-nil, append_cancel_left, drop-drop, drop_at, drop_more}
+use Rattle.std.proofs.lemmas.List.{flat_map_more, length-drop, length-set, length-take-le}
+use Rattle.std.proofs.lemmas.List.{take-append-drop, take_more, take_more_set}
+use Rattle.std.proofs.lemmas.List.Elements.{All-append, All-cons, All-nil}
+use Rattle.std.specs.List.{All}
+use Rattle.format_csv_records.specs.Apart.{IsApart}
+use Rattle.format_csv_records.specs.Buffers.{FieldPut, IsForGood, IsSized, NoneForGood, Placed}
+use Rattle.format_csv_records.specs.Buffers.{Puts, PutsFields, ShowsFields, places_of, text_of}
+use Rattle.format_csv_records.specs.Dialects.{AreFields, EndsHere}
+use Rattle.format_csv_records.specs.Parts.{Closed, FieldFirst, IsOther, NotFirst, SoMany}
+use Rattle.format_csv_records.specs.declared.buffers.RecordSize.{RecordSize}
+use Rattle.format_csv_records.specs.declared.dialect.Dialect.{Dialect}
+use Rattle.format_csv_records.specs.declared.dialect.LineEnds.{LineEnds}
+use Rattle.format_csv_records.proofs.ForGood.{ended_so}
+use Rattle.format_csv_records.proofs.One.{fields_one}
+use Rattle.format_csv_records.proofs.Runs.{Between, closed_here, more_here, run_quote, take_quote}
+use Rattle.format_csv_records.proofs.Whole.{SoFar, first_text, so_far_ends, so_far_more}
+use Rattle.format_csv_records.proofs.Whole.{so_far_none}
+
+-- ---- bytes after bytes
+
+pub puts_none : (at : ℕ) (text : List ℕ) → Puts [] at text text at
+puts_none at text = record {
+  is_end = omega arith;
+  same = refl;
+  there = λ _. sym (append-nil (take at text));
+}
+
+pub puts_more : (xs ys : List ℕ) (at end last : ℕ) (old now new : List ℕ) → Puts xs at old now end
+    → Puts ys end now new last → Puts (xs ++ ys) at old new last
+puts_more xs ys at end last old now new it more = record {
+  is_end = omega (arith, it.is_end, more.is_end, length-append xs ys);
+  same = more.same ∙ it.same;
+  there = λ room.
+      more.there (omega (arith, room, it.same))
+      ∙ ap (λ l. l ++ ys) (it.there (omega (arith, room, more.is_end)))
+      ∙ append_assoc (take at old) xs ys;
+}
+
+-- ---- a field in quotes
+
+-- what is put of it
+pub record QuotedSoFar (quote : ℕ) (bytes rest : List ℕ) (at : ℕ) (old new : List ℕ) (end : ℕ)
+    : Type 0 where
+  pub begun : List ℕ
+  pub read : Between quote bytes rest [] begun
+  pub puts : Puts begun at old new end
+  pub less : end + length rest ≤ at + length bytes
+
+module _ (quote : ℕ) (bytes rest : List ℕ) (at : ℕ) (old now : List ℕ) (end n : ℕ)
+    (it : QuotedSoFar quote bytes rest at old now end) (run : SoMany (IsOther quote) rest n) where
+  -- the quote after it is put too
+  pub quote_behind : (n ≡ length rest → ⊥) → (mid new : List ℕ)
+      → Puts (take n rest) end now mid (end + n) → Puts (quote ∷ []) (end + n) mid new (end + n + 1)
+      → Puts (take (n + 1) rest) end now new (end + n + 1)
+  quote_behind some mid new puts more =
+      let (split, within) = run_quote quote rest n run some in
+      let taken : take (n + 1) rest ≡ take n rest ++ quote ∷ [] =
+      take_quote quote rest n (omega (arith, within))
+      (append_cancel_left (take n rest) (drop n rest) (quote ∷ drop (n + 1) rest)
+      (take-append-drop n rest ∙ split)) in
+      let P : List ℕ → Type 0 = λ l. Puts l end now new (end + n + 1) in
+      subst P (sym taken)
+      (puts_more (take n rest) (quote ∷ []) end (end + n) (end + n + 1) now mid new puts more)
+
+  pub quoted_more : (n ≡ length rest → ⊥) → (left next added new : List ℕ) (last : ℕ)
+      → left ≡ drop (n + 1) rest → left ≡ quote ∷ drop 1 left → next ≡ drop 1 left
+      → added ≡ take (n + 1) rest → Puts added end now new last
+      → QuotedSoFar quote bytes next at old new last
+  quoted_more some left next added new last is two goes adds puts = record {
+    begun = it.begun ++ added;
+    read = more_here quote bytes rest [] it.begun n it.read run some left next added
+        (it.begun ++ added) is two goes adds refl;
+    puts = puts_more it.begun added at end last old now new it.puts puts;
+    less = omega (
+      arith,
+      it.less,
+      puts.is_end,
+      ap (λ l. length l) adds,
+      length-take-le (n + 1) rest (run_quote quote rest n run some).1,
+      (run_quote quote rest n run some).1,
+      ap (λ l. length l) is,
+      length-drop (n + 1) rest,
+      ap (λ l. length l) goes,
+      length-drop 1 left,
+    );
+  }
+
+  pub quoted_closed : (n ≡ length rest → ⊥) → (left added new : List ℕ) (last : ℕ)
+      → left ≡ drop (n + 1) rest → NotFirst (λ b. b ≡ quote) left → added ≡ take n rest
+      → Puts added end now new last
+      → (field : List ℕ) × Closed quote bytes field left × FieldPut field bytes left at old new last
+  quoted_closed some left added new last is not adds puts =
+      let (field, closed, e) = closed_here quote bytes rest [] it.begun n it.read run some left
+      added (it.begun ++ added) is not adds refl in
+      let within = (run_quote quote rest n run some).1 in
+      let P : List ℕ → Type 0 = λ l. Puts l at old new last in (
+        field,
+        closed,
+        (
+          subst P e (puts_more it.begun added at end last old now new it.puts puts),
+          omega (
+            arith,
+            it.less,
+            puts.is_end,
+            ap (λ l. length l) adds,
+            length-take-le n rest (omega (arith, within)),
+            within,
+            ap (λ l. length l) is,
+            length-drop (n + 1) rest,
+          ),
+        ),
+      )
+
+-- ---- fields after fields
+
+text_more : (fields : List (List ℕ)) (field : List ℕ)
+    → text_of (fields ++ field ∷ []) ≡ text_of fields ++ field
+text_more fields field = sym (flat_map_more (λ f. f) [] fields field)
+
+places_more : {P : Type 0} (made : ℕ → ℕ → P) (offset : ℕ) (fields : List (List ℕ))
+    (field : List ℕ) → places_of made offset (fields ++ field ∷ [])
+    ≡ places_of made offset fields
+    ++ made (offset + length (text_of fields)) (length field) ∷ []
+unfolding places_of
+places_more made offset [] field =
+    let e : offset ≡ offset + 0 = omega arith in
+    ap (λ o. made o (length field) ∷ []) e
+places_more made offset (f ∷ fields) field =
+    let e : (offset + length f) + length (text_of fields) ≡ offset + length (f ++ text_of fields) =
+    omega (arith, length-append f (text_of fields)) in
+    ap (λ l. made offset (length f) ∷ l) (places_more made (offset + length f) fields field
+    ∙ ap (λ o. places_of made (offset + length f) fields ++ made o (length field) ∷ []) e)
+
+-- what is put of these fields: that many bytes, and that many places
+pub record Put {P : Type 0} (made : ℕ → ℕ → P) (fields : List (List ℕ)) (old new : List ℕ)
+    (before after : List P) (end count : ℕ) : Type 0 where
+  pub total : end ≡ length (text_of fields)
+  pub number : count ≡ length fields
+  pub same : (length new ≡ length old) × (length after ≡ length before)
+  pub text : end ≤ length old → take end new ≡ text_of fields
+  pub places : count ≤ length before → take count after ≡ places_of made 0 fields
+
+pub record FieldsSoFar {P : Type 0} (made : ℕ → ℕ → P) (d : Dialect) (bytes rest old new : List ℕ)
+    (before after : List P) (end count : ℕ) : Type 0 where
+  pub fields : List (List ℕ)
+  pub read : SoFar d bytes rest fields
+  pub put : Put made fields old new before after end count
+  pub less : end + length rest ≤ length bytes
+  pub few : count + length rest ≤ length bytes
+
+pub nothing_put : {P : Type 0} (made : ℕ → ℕ → P) (d : Dialect) (bytes text : List ℕ)
+    (places : List P) → FieldsSoFar made d bytes bytes text text places places 0 0
+unfolding places_of
+nothing_put made d bytes text places = record {
+  fields = [];
+  read = so_far_none d bytes [] refl;
+  put = record {
+    total = refl;
+    number = refl;
+    same = (refl, refl);
+    text = λ _. refl;
+    places = λ _. refl;
+  };
+  less = omega arith;
+  few = omega arith;
+}
+
+put_more : {P : Type 0} (made : ℕ → ℕ → P) (fields : List (List ℕ)) (old now new : List ℕ)
+    (before between after : List P) (end count last : ℕ)
+    → Put made fields old now before between end count → (field : List ℕ)
+    → Puts field end now new last → Placed (made end (last - end)) count between after
+    → Put made (fields ++ field ∷ []) old new before after last (count + 1)
+unfolding places_of
+put_more made fields old now new before between after end count last it field puts placed = record {
+  total = omega (
+    arith,
+    it.total,
+    puts.is_end,
+    ap (λ l. length l) (text_more fields field),
+    length-append (text_of fields) field,
+  );
+  number = omega (arith, it.number, length-append fields (field ∷ []));
+  same = (puts.same ∙ it.same.0, placed.same ∙ it.same.1);
+  text = λ room.
+      puts.there (omega (arith, room, it.same.0))
+      ∙ ap (λ l. l ++ field) (it.text (omega (arith, room, puts.is_end)))
+      ∙ sym (text_more fields field);
+  places = λ room.
+      let size : last - end ≡ length field = omega (arith, puts.is_end) in
+      let from : end ≡ 0 + length (text_of fields) = omega (arith, it.total) in
+      placed.there (omega (arith, room, it.same.1))
+      ∙ ap (λ l. l ++ made end (last - end) ∷ []) (it.places (omega (arith, room)))
+      ∙ ap (λ n. places_of made 0 fields ++ made end n ∷ []) size
+      ∙ ap (λ o. places_of made 0 fields ++ made o (length field) ∷ []) from
+      ∙ sym (places_more made 0 fields field);
+}
+
+ends_with : (ends : LineEnds) (bytes rest : List ℕ) → EndsHere ends bytes rest
+    → (front : List ℕ) × (bytes ≡ front ++ rest)
+ends_with ends bytes rest (inl (end, is, e)) = (end, e)
+ends_with ends bytes rest (inr (none, over)) = ([], none ∙ sym over)
+
+module _ {P : Type 0} (made : ℕ → ℕ → P) (d : Dialect) (apart : IsApart d.delimiter d.quote)
+    (bytes rest old now : List ℕ) (before between : List P) (end count : ℕ)
+    (it : FieldsSoFar made d bytes rest old now before between end count) (field left : List ℕ)
+    (first : FieldFirst d rest field left) (new : List ℕ) (last : ℕ)
+    (puts : FieldPut field rest left end now new last) (after : List P) (x : P)
+    (made_so : x ≡ made end (last - end)) (placed : Placed x count between after) where
+  put_here : Put made (it.fields ++ field ∷ []) old new before after last (count + 1)
+  put_here =
+      let Q : P → Type 0 = λ y. Placed y count between after in
+      put_more made it.fields old now new before between after end count last it.put field puts.0
+      (subst Q made_so placed)
+
+  pub fields_more : (next : List ℕ) → left ≡ d.delimiter ∷ drop 1 left → next ≡ drop 1 left
+      → FieldsSoFar made d bytes next old new before after last (count + 1)
+  fields_more next goes is =
+      let size : length left ≡ length (drop 1 left) + 1 =
+      omega (arith, ap (λ l. length l) goes) in
+      record {
+        fields = it.fields ++ field ∷ [];
+        read = so_far_more d apart bytes rest it.fields it.read field left first next
+            (it.fields ++ field ∷ []) refl goes is;
+        put = put_here;
+        less = omega (arith, it.less, puts.1, size, ap (λ l. length l) is);
+        few = omega (arith, it.few, puts.1, puts.0.is_end, size, ap (λ l. length l) is);
+      }
+
+  pub fields_end : (over : List ℕ) (is : Bool) → EndsHere d.ends left over
+      → MatchBool is (0 < length left) (left ≡ []) → (n : ℕ) → n ≡ length bytes - length over
+      → PutsFields made d bytes old new before after
+      (record { fields = count + 1; text = last; length = n; ended = is })
+  fields_end over is ends some n size =
+      let t = first_text d rest field left first in
+      let fields = it.fields ++ field ∷ [] in
+      let (close, e) = ends_with d.ends left over ends in
+      let front = it.read.before ++ (t.text ++ close) in
+      let split : bytes ≡ front ++ over =
+      it.read.whole ∙ ap (λ l. it.read.before ++ l) (t.split ∙ ap (λ l. t.text ++ l) e
+      ∙ sym (append_assoc t.text close over))
+      ∙ sym (append_assoc it.read.before (t.text ++ close) over) in
+      let sizes : length bytes ≡ length front + length over =
+      ap (λ l. length l) split ∙ length-append front over in
+      let dropped : drop n bytes ≡ over =
+      ap (λ l. drop n l) split ∙ drop_at front over n (omega (arith, size, sizes)) in
+      let R : List ℕ → Type 0 = λ l. AreFields d bytes fields l in
+      let Q : List ℕ → Type 0 = λ l. MatchBool is (IsForGood d bytes fields l)
+      (NoneForGood d bytes) in
+      let put = put_here in
+      record {
+        fields = fields;
+        are = subst R (sym dropped) (so_far_ends d apart bytes rest it.fields it.read field left
+            first over fields refl ends);
+        within = omega (arith, size);
+        count = put.number;
+        total = put.total;
+        ended = subst Q (sym dropped)
+              (ended_so d apart bytes rest it.fields it.read field left first
+            is over some ends);
+        same = put.same;
+        text = put.text;
+        places = put.places;
+      }
+
+-- ---- a record that was sized
+
+pub shows : {P : Type 0} (made : ℕ → ℕ → P) (d : Dialect) → IsApart d.delimiter d.quote
+    → (bytes old new : List ℕ) (before after : List P) (size found : RecordSize)
+        → IsSized d bytes size
+    → PutsFields made d bytes old new before after found → size.text ≤ length old
+    → size.fields ≤ length before
+    → ShowsFields made d bytes size (take size.text new) (take size.fields after)
+shows made d apart bytes old new before after size found (fields, it) put room many =
+    let (same, over) = fields_one d apart fields put.fields bytes (drop size.length bytes)
+    (drop found.length bytes) it.is_record.1 put.are in
+    let text : found.text ≡ size.text =
+    put.total ∙ ap (λ l. length (text_of l)) (sym same) ∙ sym it.total in
+    let count : found.fields ≡ size.fields =
+    put.count ∙ ap (λ l. length l) (sym same) ∙ sym it.count in (
+      fields,
+      it,
+      ap (λ n. take n new) (sym text) ∙ put.text (omega (arith, text, room))
+          ∙ ap (λ l. text_of l) (sym same),
+      ap (λ n. take n after) (sym count) ∙ put.places (omega (arith, count, many))
+          ∙ ap (λ l. places_of made 0 l) (sym same),
+    )
+
+-- ---- bytes of one kind, as far as there is room
+
+pub record RunSoFar (these : ℕ → Type 0) (bytes : List ℕ) (at : ℕ) (old new : List ℕ) (n : ℕ)
+    : Type 0 where
+  pub all : All these (take n bytes)
+  pub same : length new ≡ length old
+  pub there : at + n ≤ length old → take (at + n) new ≡ take at old ++ take n bytes
+
+module _ (these : ℕ → Type 0) (bytes : List ℕ) (at : ℕ) (old now : List ℕ) (n : ℕ)
+    (it : RunSoFar these bytes at old now n) where
+  -- and with those after them
+  pub run_full : (k : ℕ) → n ≡ k → k ≤ length bytes → (rest : List ℕ) → rest ≡ drop k bytes
+      → (m : ℕ) → SoMany these rest m → SoMany these bytes (k + m)
+  run_full k same within rest is m (few, all, not) =
+      let P : List ℕ → Type 0 = λ l. All these l in
+      let Q : List ℕ → Type 0 = λ l. NotFirst these l in
+      let R : ℕ → Type 0 = λ x. All these (take x bytes) in (
+        omega (arith, few, within, ap (λ l. length l) is, length-drop k bytes),
+        subst P (sym (take-add k m bytes)) (All-append these (take k bytes) (take m (drop k bytes))
+            (subst R same it.all) (subst P (ap (λ l. take m l) is) all)),
+        subst Q (ap (λ l. drop m l) is ∙ drop-drop m k bytes) not,
+      )

@@ -1,0 +1,88 @@
+-- Records whose fields are written into two buffers: their bytes, and the places of these.
+use Rattle.std.specs.Prelude.{◌≡◌, ◌≤◌, ◌<◌, ◌+◌, ℕ, List, [], ◌∷◌, ◌++◌, drop, length, take}
+use Rattle.std.specs.Prelude.{MatchBool, Option, Some, None, Result, Ok, Err}
+use Rattle.std.specs.List.{flat_map}
+use Rattle.format_csv_records.specs.Dialects.{AreFields, IsRecord}
+use Rattle.format_csv_records.specs.Refused.{IsRefused}
+use Rattle.format_csv_records.specs.declared.buffers.RecordSize.{RecordSize}
+use Rattle.format_csv_records.specs.declared.dialect.Dialect.{Dialect}
+use Rattle.format_csv_records.specs.declared.read.RecordFault.{RecordFault}
+
+-- The bytes of fields, one after the other.
+abbrev pub text_of : List (List ℕ) → List ℕ
+text_of fields = flat_map (λ f. f) fields
+
+-- The places of fields that stand one after the other from this offset on, each made of an offset
+-- and a length.
+unfoldable pub places_of : {P : Type 0} → (ℕ → ℕ → P) → ℕ → List (List ℕ) → List P
+places_of made offset [] = []
+places_of made offset (field ∷ fields) =
+    made offset (length field) ∷ places_of made (offset + length field) fields
+
+-- Whatever comes after the bytes, they begin with this record.
+abbrev pub IsForGood : Dialect → List ℕ → List (List ℕ) → List ℕ → Type 0
+IsForGood d bytes fields rest = (more : List ℕ) → IsRecord d (bytes ++ more) fields (rest ++ more)
+
+-- There is no such record.
+abbrev pub NoneForGood : Dialect → List ℕ → Type 0
+NoneForGood d bytes = (fields : List (List ℕ)) (rest : List ℕ) → IsForGood d bytes fields rest → ⊥
+
+-- The bytes begin with a record of these fields, which has that many fields, bytes of these, and
+-- bytes; and whether its line end is there, so that it is that of all longer bytes too.
+pub record SizedAs (d : Dialect) (bytes : List ℕ) (fields : List (List ℕ)) (size : RecordSize)
+    : Type 0 where
+  pub is_record : IsRecord d bytes fields (drop size.length bytes)
+  pub within : size.length ≤ length bytes
+  pub count : size.fields ≡ length fields
+  pub total : size.text ≡ length (text_of fields)
+  pub ended : MatchBool size.ended (IsForGood d bytes fields (drop size.length bytes))
+      (NoneForGood d bytes)
+
+-- So for some fields.
+abbrev pub IsSized : Dialect → List ℕ → RecordSize → Type 0
+IsSized d bytes size = (fields : List (List ℕ)) × SizedAs d bytes fields size
+
+-- What a size is of: a record, where one stands first; no bytes; or why none stands there.
+abbrev pub SizesRecord : Dialect → List ℕ → Result (Option RecordSize) RecordFault → Type 0
+SizesRecord d bytes (Ok (Some size)) = IsSized d bytes size
+SizesRecord d bytes (Ok None) = bytes ≡ []
+SizesRecord d bytes (Err fault) = IsRefused d bytes fault
+
+-- The bytes begin with a record of this size: this text is the bytes of its fields, and these are
+-- their places there, in order.
+abbrev pub ShowsFields : {P : Type 0} → (ℕ → ℕ → P) → Dialect → List ℕ → RecordSize → List ℕ
+    → List P → Type 0
+ShowsFields made d bytes size text places = (fields : List (List ℕ)) × SizedAs d bytes fields size
+    × (text ≡ text_of fields) × (places ≡ places_of made 0 fields)
+
+-- ---- what the parts do
+
+-- Bytes are put at a place of a text, if there is room for them, and this is the place after.
+pub record Puts (bytes : List ℕ) (at : ℕ) (old new : List ℕ) (end : ℕ) : Type 0 where
+  pub is_end : end ≡ at + length bytes
+  pub same : length new ≡ length old
+  pub there : end ≤ length old → take end new ≡ take at old ++ bytes
+
+-- A field is put there, and what is left after it is as much shorter.
+abbrev pub FieldPut : List ℕ → List ℕ → List ℕ → ℕ → List ℕ → List ℕ → ℕ → Type 0
+FieldPut field bytes rest at old new end =
+    Puts field at old new end × (end + length rest ≤ at + length bytes)
+
+-- A place is put at its number, if there is room for it.
+pub record Placed {P : Type 0} (place : P) (number : ℕ) (old new : List P) : Type 0 where
+  pub same : length new ≡ length old
+  pub there : number < length old → take (number + 1) new ≡ take number old ++ place ∷ []
+
+-- The fields of the record that stands first are put, as far as there is room, and their size told.
+pub record PutsFields {P : Type 0} (made : ℕ → ℕ → P) (d : Dialect) (bytes old new : List ℕ)
+    (before after : List P) (size : RecordSize) : Type 0 where
+  pub fields : List (List ℕ)
+  pub are : AreFields d bytes fields (drop size.length bytes)
+  pub within : size.length ≤ length bytes
+  pub count : size.fields ≡ length fields
+  pub total : size.text ≡ length (text_of fields)
+  pub ended : MatchBool size.ended (IsForGood d bytes fields (drop size.length bytes))
+      (NoneForGood d bytes)
+  pub same : (length new ≡ length old) × (length after ≡ length before)
+  pub text : size.text ≤ length old → take size.text new ≡ text_of fields
+  pub places : size.fields ≤ length before → take size.fields after ≡ places_of made 0 fields
