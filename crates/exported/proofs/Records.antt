@@ -120,9 +120,9 @@ module _ (d : Dialect) (line_feeds : ℕ) (same : d ≡ dialect_of line_feeds) (
   none_yet none =
       let P : Dialect → Type 0 = λ x. NoneForGood x input in
       subst P same (λ fields rest all.
-          let Q : List ℕ → List ℕ → Type 0 = λ l r. IsRecord d l fields r in
-          let R : List ℕ → Type 0 = λ l. Q l (rest ++ []) in
-          none fields (rest ++ []) (subst R (append-nil input) (all [])))
+      let Q : List ℕ → List ℕ → Type 0 = λ l r. IsRecord d l fields r in
+      let R : List ℕ → Type 0 = λ l. Q l (rest ++ []) in
+      none fields (rest ++ []) (subst R (append-nil input) (all [])))
 
   pub some_may : (size : RecordSize) → IsSized d input size → size.ended ≡ false
       → NoneForGood (dialect_of line_feeds) input × MayGoOn (ends_of line_feeds) input

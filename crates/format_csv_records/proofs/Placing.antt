@@ -262,7 +262,7 @@ module _ {P : Type 0} (made : ℕ → ℕ → P) (d : Dialect) (apart : IsApart 
         count = put.number;
         total = put.total;
         ended = subst Q (sym dropped)
-              (ended_so d apart bytes rest it.fields it.read field left first
+            (ended_so d apart bytes rest it.fields it.read field left first
             is over some ends);
         same = put.same;
         text = put.text;
@@ -273,7 +273,7 @@ module _ {P : Type 0} (made : ℕ → ℕ → P) (d : Dialect) (apart : IsApart 
 
 pub shows : {P : Type 0} (made : ℕ → ℕ → P) (d : Dialect) → IsApart d.delimiter d.quote
     → (bytes old new : List ℕ) (before after : List P) (size found : RecordSize)
-        → IsSized d bytes size
+    → IsSized d bytes size
     → PutsFields made d bytes old new before after found → size.text ≤ length old
     → size.fields ≤ length before
     → ShowsFields made d bytes size (take size.text new) (take size.fields after)

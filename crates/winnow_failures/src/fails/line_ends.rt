@@ -56,7 +56,7 @@ impl<I: StreamIsPartial + Compare<char>, E: ParserError<I>> Fails<I, char, E> fo
 impl<I: StreamIsPartial + Compare<&'static str>, E: ParserError<I>> Fails<I, I::Slice, E> for Crlf {
     ghost told = { λ p. leaf_told (SpellsByText I.spells)
         (SpelledBy I.spells (13 ∷ 10 ∷ []) [] → ⊥)
-              (LiterallyBytes I.reading I.spells (13 ∷ 10 ∷ [])) };
+        (LiterallyBytes I.reading I.spells (13 ∷ 10 ∷ [])) };
 
     fn tell() {}
 

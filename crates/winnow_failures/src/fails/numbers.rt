@@ -76,5 +76,5 @@ where
         (hex_uint_there I.seen_as I.Token.code I.reading form O.number O.nibbles) };
 
     ghost takes = { λ p is some. hexadecimal_takes I.seen_as I.Token.code I.reading O.number
-          O.nibbles };
+        O.nibbles };
 }

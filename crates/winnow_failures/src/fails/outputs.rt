@@ -74,7 +74,7 @@ impl<F: Fails<I, O, E>, I: Stream, O, E: ParserError<I>> Fails<I, (O, I::Slice),
     fn tell() {}
 
     ghost tells = { λ form p is. with_taken_fail (F.tells form (with_taken_parser p) is)
-          I.reading };
+        I.reading };
 
     ghost takes = { λ p is some. and_taken_takes I.reading
         (F.takes (with_taken_parser p) is some) };

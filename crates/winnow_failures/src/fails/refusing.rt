@@ -156,7 +156,7 @@ impl<
       failure = FailsRefusing (F.told (and_then_outer p)).grammar
           (F.told (and_then_outer p)).failure
           (Made (ReadsWithin O.view (G.claim (G.state (and_then_inner p))).grammar) tt
-                  (F.told (and_then_outer p)).grammar);
+          (F.told (and_then_outer p)).grammar);
     } };
 
     fn tell() {}
@@ -167,6 +167,6 @@ impl<
         ((G.claimed (G.state (and_then_inner p))).fails form is.1) is.3 };
 
     ghost takes = { λ p is some. made_of_takes
-          (ReadsWithin O.view (G.claim (G.state (and_then_inner p))).grammar) tt
+        (ReadsWithin O.view (G.claim (G.state (and_then_inner p))).grammar) tt
         (F.takes (and_then_outer p) is.0 some) };
 }
