@@ -63,6 +63,9 @@ READERS = [
         "the size line that bytes begin with, with its extensions, whole and in pieces"),
     ("HTTP/1.1 heads, in pieces", "format_http/pieces", "no",
         "request lines, field lines and heads in pieces, and when more bytes are asked for"),
+    ("HTTP/1.1 chunked bodies, in pieces", "format_http_chunked", "no",
+        "the content and the trailers of the body that the bytes of all calls begin, where it ends, "
+        "or the first byte with which none goes on"),
     ("DNS: headers, compressed names, questions", "format_dns", "names",
         "the header, and which part is missing; the name at a place, and questions, or why and where "
         "none is"),
@@ -75,7 +78,7 @@ BRIEF = [
     ("CSV (RFC 4180)", ["format_csv"], "exactly; first, in pieces"),
     ("DNS", ["format_dns"], "the header; the name at a place; questions"),
     ("formulas", ["format_calculator"], "exactly"),
-    ("HTTP/1.1 heads, chunk sizes", ["format_http"], "first, in pieces"),
+    ("HTTP/1.1 heads, chunked bodies", ["format_http", "format_http_chunked"], "first, in pieces"),
     ("INI", ["readers", "format_ini"], "exactly"),
     ("JSON", ["format_json"], "exactly; first, in pieces; written values read back"),
     ("JSON extents", ["format_json_extents"], "where the first value ends"),

@@ -1,0 +1,112 @@
+-- What a decoder says, of places that are due alike and after bytes that are taken.
+use Rattle.std.specs.Prelude.{◌≡◌, ◌↔◌, ◌<◌, ℕ, List, [], ◌∷◌, length, Option, Some, None, Result}
+use Rattle.std.specs.Prelude.{Ok, Err, IfErr}
+use Rattle.std.proofs.Common.{refl, subst, sym}
+use Rattle.format_http_chunked.proofs.Taking.{data_zero, taken_byte, taken_from, taken_none}
+use Rattle.format_http_chunked.proofs.Taking.{taken_then}
+use Rattle.format_http_chunked.proofs.Turns.{both_ways}
+use Rattle.format_http_chunked.specs.Dues.{IsDue, IsFramingDue}
+use Rattle.format_http_chunked.specs.Steps.{IsFault, IsNever, IsPart, IsSaid, IsTaken}
+use Rattle.format_http_chunked.specs.declared.decoder.Decoder.{Decoder}
+use Rattle.format_http_chunked.specs.declared.decoder.Fault.{Fault}
+use Rattle.format_http_chunked.specs.declared.decoder.Step.{Step}
+use Rattle.format_http_chunked.specs.declared.decoder.Step.TheVariants as step
+use Rattle.format_http_chunked.specs.declared.places.Framing.{Framing}
+use Rattle.format_http_chunked.specs.declared.places.Framing.TheVariants as framing
+use Rattle.format_http_chunked.specs.declared.places.Place.{Place}
+use Rattle.format_http_chunked.specs.declared.places.Place.TheVariants as place
+
+-- ---- places that are the same
+
+pub framing_at : (at other : Framing) (next : Place) (b : ℕ) → at ≡ other
+    → ((content trailers bytes : List ℕ) → IsFramingDue other content trailers (b ∷ bytes)
+    ↔ IsDue next content trailers bytes)
+    → (content trailers bytes : List ℕ) → IsFramingDue at content trailers (b ∷ bytes)
+    ↔ IsDue next content trailers bytes
+framing_at at other next b e =
+    let P : Framing → Type 0 = λ k. (content trailers bytes : List ℕ)
+    → IsFramingDue k content trailers (b ∷ bytes) ↔ IsDue next content trailers bytes in
+    subst P (sym e)
+
+pub fault_at : (at other : Framing) (b : ℕ) (why : Fault) → at ≡ other
+    → ((room : ℕ) → IsFault (place.Framing other) room b why)
+    → (room : ℕ) → IsFault (place.Framing at) room b why
+fault_at at other b why e =
+    let P : Framing → Type 0 = λ k. (room : ℕ) → IsFault (place.Framing k) room b why in
+    subst P (sym e)
+
+pub never_at : (at other : Place) (b : ℕ) → at ≡ other → IsNever other b → IsNever at b
+never_at at other b e = let P : Place → Type 0 = λ k. IsNever k b in subst P (sym e)
+
+-- ---- a byte
+
+pub byte_taken : (at : Place) (framing : Framing) (next : Place) (b : ℕ) (bytes rest : List ℕ)
+    → at ≡ place.Framing framing → bytes ≡ b ∷ rest
+    → ((content trailers more : List ℕ) → IsFramingDue framing content trailers (b ∷ more)
+    ↔ IsDue next content trailers more) → IsTaken at next bytes rest [] []
+byte_taken at framing next b bytes rest e f step =
+    let P : List ℕ → Type 0 = λ l. IsTaken (place.Framing framing) next l rest [] [] in
+    taken_from at (place.Framing framing) next bytes rest [] [] e
+    (subst P (sym f) (taken_byte (place.Framing framing) next b rest step))
+
+-- ---- what is said
+
+pub taken_alike : (at other new : Place) (bytes rest given fields : List ℕ)
+    → ((content trailers more : List ℕ) → IsDue at content trailers more
+    ↔ IsDue other content trailers more)
+    → IsTaken other new bytes rest given fields → IsTaken at new bytes rest given fields
+taken_alike at other new bytes rest given fields same (taken, e, f) = (
+  taken,
+  e,
+  λ content trailers more.
+      both_ways (same content trailers _) (f content trailers more),
+)
+
+pub part_alike : (old other new : Decoder) (bytes rest : List ℕ)
+    (r : Result (Option Step) Fault)
+    → ((content trailers more : List ℕ) → IsDue old.place content trailers more
+    ↔ IsDue other.place content trailers more)
+    → IsPart other new bytes rest r → IsPart old new bytes rest r
+part_alike old other new bytes rest (Ok (Some (step.Data chunk))) same (t, x) =
+    (taken_alike old.place other.place new.place bytes rest chunk.now [] same t, x)
+part_alike old other new bytes rest (Ok (Some (step.Trailers fields))) same (t, x) =
+    (taken_alike old.place other.place new.place bytes rest [] fields.now same t, x)
+part_alike old other new bytes rest (Ok (Some step.End)) same (t, x) =
+    (taken_alike old.place other.place new.place bytes rest [] [] same t, x)
+part_alike old other new bytes rest (Ok (Some step.More)) same (t, x, y) =
+    (taken_alike old.place other.place new.place bytes rest [] [] same t, x, y)
+part_alike old other new bytes rest (Ok None) same (t, x) =
+    (taken_alike old.place other.place new.place bytes rest [] [] same t, x)
+part_alike old other new bytes rest (Err why) same (t, x) =
+    (taken_alike old.place other.place new.place bytes rest [] [] same t, x)
+
+pub said_then : (old mid new : Decoder) (bytes ahead rest : List ℕ) (r : Result Step Fault)
+    → IsTaken old.place mid.place bytes ahead [] [] → IsSaid mid new ahead rest r
+    → IsSaid old new bytes rest r
+said_then old mid new bytes ahead rest (Ok (step.Data chunk)) t (u, x) =
+    (taken_then old.place mid.place new.place bytes ahead rest chunk.now [] t u, x)
+said_then old mid new bytes ahead rest (Ok (step.Trailers fields)) t (u, x) =
+    (taken_then old.place mid.place new.place bytes ahead rest [] fields.now t u, x)
+said_then old mid new bytes ahead rest (Ok step.End) t (u, x) =
+    (taken_then old.place mid.place new.place bytes ahead rest [] [] t u, x)
+said_then old mid new bytes ahead rest (Ok step.More) t (u, x, y) =
+    (taken_then old.place mid.place new.place bytes ahead rest [] [] t u, x, y)
+said_then old mid new bytes ahead rest (Err why) t (u, x) =
+    (taken_then old.place mid.place new.place bytes ahead rest [] [] t u, x)
+
+pub fault_from : (at : Place) (framing : Framing) (b : ℕ) (why : Fault)
+    → at ≡ place.Framing framing
+    → ((room : ℕ) → IsFault (place.Framing framing) room b why)
+    → (room : ℕ) → IsFault at room b why
+fault_from at framing b why e =
+    let P : Place → Type 0 = λ k. (room : ℕ) → IsFault k room b why in subst P (sym e)
+
+-- where no data is due its line end is
+pub zero_alike : (at : Place) → at ≡ place.Data 0 → (content trailers more : List ℕ)
+    → IsDue at content trailers more
+    ↔ IsDue (place.Framing framing.DataEnd) content trailers more
+zero_alike at e =
+    let P : Place → Type 0 = λ k. (content trailers more : List ℕ)
+    → IsDue k content trailers more
+    ↔ IsDue (place.Framing framing.DataEnd) content trailers more in
+    subst P (sym e) data_zero

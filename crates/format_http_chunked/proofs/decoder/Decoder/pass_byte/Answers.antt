@@ -1,0 +1,24 @@
+use Rattle.std.proofs.Common.{arith, ap, length, List, ℕ}
+use Rattle.format_http_chunked.proofs.Calls.{byte_taken, fault_from}
+use Rattle.format_http_chunked.proofs.Taking.{taken_none}
+use Rattle.format_http_chunked.proofs.decoder.Decoder.pass_byte.Goals as goal
+
+pub returns-in-Err : goal.returns-in-Err
+returns-in-Err c = (
+  taken_none c.args.self.now.place c.args.input.now.now,
+  (
+    c.in-Some.byte.now,
+    c.in-Some.rest.now,
+    c.in-Some.ensures.cases.0,
+    fault_from c.args.self.now.place c.args.at c.in-Some.byte.now c.in-Err.fault c.requires
+        c.in-Err.ensures.err c.args.self.now.room,
+  ),
+)
+
+pub returns-in-Some-room_behind : goal.returns-in-Some-room_behind
+returns-in-Some-room_behind c = (
+  byte_taken c.args.self.now.place c.args.at c.in-Ok.next c.in-Some.byte.now
+      c.args.input.now.now c.in-Some.rest.now c.requires c.in-Some.ensures.cases.0
+      c.in-Ok.ensures.ok,
+  omega (arith, ap (λ (l : List ℕ). length l) c.in-Some.ensures.cases.0),
+)

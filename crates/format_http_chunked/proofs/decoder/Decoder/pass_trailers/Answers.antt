@@ -1,0 +1,46 @@
+use Rattle.std.proofs.Common.{arith, inl, refl, ap, length, List, ℕ, []}
+use Rattle.format_http_chunked.proofs.Calls.{never_at}
+use Rattle.format_http_chunked.proofs.Taking.{fields_never, last_taken, passed_front, taken_from}
+use Rattle.format_http_chunked.proofs.Taking.{taken_none}
+use Rattle.format_http_chunked.specs.declared.places.Framing.TheVariants as framing
+use Rattle.format_http_chunked.specs.declared.places.Place.TheVariants as place
+use Rattle.format_http_chunked.proofs.decoder.Decoder.pass_trailers.Goals as goal
+
+pub returns-then-not-ends_there : goal.returns-then-not-ends_there
+returns-then-not-ends_there c = (
+  taken_none c.args.self.now.place c.args.input.now.now,
+  (
+    c.in-Some.byte.now,
+    c.in-Some.behind.now,
+    c.in-Some.ensures.cases.0,
+    (
+      inl (c.args.at, c.requires),
+      never_at c.args.self.now.place (place.Trailers c.args.at) c.in-Some.byte.now c.requires
+          (fields_never c.args.at c.in-Some.byte.now (c.in-None-field_behind.ensures.none refl)
+          c.if-not-ends_there.ensures),
+    ),
+  ),
+)
+
+pub returns-in-Some-checked_sub : goal.returns-in-Some-checked_sub
+returns-in-Some-checked_sub c =
+    let (fields, e, passed, many) = c.pass_fields-last.ensures in
+    let (taken, some) = passed_front c.args.at c.in-Some-field_behind.next
+    c.pass_fields-last.result.0 c.in-Some.byte.now c.args.input.now.now c.in-Some.behind.now
+    c.pass_fields-last.result.2.now c.front.result.now c.in-Some-field_behind.ensures.some
+    c.in-Some-field_behind.ensures.begins c.in-Some.ensures.cases.0 (fields, e, passed)
+    c.front.ensures in (
+      taken_from c.args.self.now.place (place.Trailers c.args.at)
+          (place.Trailers c.pass_fields-last.result.0) c.args.input.now.now
+          c.pass_fields-last.result.2.now [] c.front.result.now c.requires taken,
+      some,
+    )
+
+pub returns-else-not-ends_there : goal.returns-else-not-ends_there
+returns-else-not-ends_there c = (
+  taken_from c.args.self.now.place (place.Trailers c.args.at) (place.Framing framing.LastReturn)
+      c.args.input.now.now c.in-Some.behind.now [] [] c.requires
+      (last_taken c.args.at c.in-Some.byte.now c.args.input.now.now c.in-Some.behind.now
+      c.if-not-ends_there.ensures c.in-Some.ensures.cases.0),
+  omega (arith, ap (λ (l : List ℕ). length l) c.in-Some.ensures.cases.0),
+)

@@ -1,0 +1,11 @@
+use Rattle.std.proofs.Common.{◌≡◌, ◌+◌, ◌++◌, ℕ, List, length}
+use Rattle.format_http_chunked.specs.Steps.{ArePassed}
+use Rattle.format_http_chunked.proofs.fields.pass_fields.Given as goal
+
+abbrev pub invariant-bytes : goal.invariant-bytes
+invariant-bytes l =
+    (fields : List ℕ) × (l.bytes ≡ fields ++ l.rest) × ArePassed l.fn.at l.next fields
+    × (length fields + l.left ≡ l.room)
+
+abbrev pub decreases-bytes : goal.decreases-bytes
+decreases-bytes l = length l.rest

@@ -1,0 +1,31 @@
+use Rattle.std.proofs.Common.{refl}
+use Rattle.format_http_chunked.proofs.Digits.{digit_goes, digits_end, fault_large}
+use Rattle.format_http_chunked.proofs.Turns.{both_ways}
+use Rattle.format_http_chunked.proofs.framing.after_digit.Goals as goal
+
+pub returns-in-Some-behind_in_line-clause-ok : goal.returns-in-Some-behind_in_line-clause-ok
+returns-in-Some-behind_in_line-clause-ok c content trailers bytes = both_ways
+    (digits_end c.args.number c.args.byte (c.in-None.ensures.none refl) content trailers bytes)
+    (c.in-Some-behind_in_line.ensures.some content trailers bytes)
+
+pub returns-in-None-behind_in_line-clause-err : goal.returns-in-None-behind_in_line-clause-err
+returns-in-None-behind_in_line-clause-err c room = (
+  tt,
+  λ content trailers bytes x.
+      c.in-None-behind_in_line.ensures.none refl content trailers bytes
+      ((digits_end c.args.number c.args.byte (c.in-None.ensures.none refl) content trailers bytes).0
+      x),
+)
+
+pub returns-in-Some-number_after-clause-ok : goal.returns-in-Some-number_after-clause-ok
+returns-in-Some-number_after-clause-ok c = digit_goes c.args.number c.in-Some-number_after.sum
+    c.in-Some.digit c.args.byte c.in-Some.ensures.some.1 c.in-Some.ensures.some.0
+    c.in-Some-number_after.ensures.some
+
+pub returns-in-None-number_after-clause-err : goal.returns-in-None-number_after-clause-err
+returns-in-None-number_after-clause-err c room = (
+  tt,
+  fault_large c.args.number c.in-Some.digit
+      c.args.byte c.in-Some.ensures.some.1 c.in-Some.ensures.some.0
+      (c.in-None-number_after.ensures.none refl),
+)

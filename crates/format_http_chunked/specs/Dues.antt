@@ -1,0 +1,64 @@
+-- What is due at each place of a chunked body: the rest of it, in the words of its grammar.
+use Rattle.std.specs.Prelude.{◌≡◌, ◌⊎◌, ◌++◌, ◌↔◌, ℕ, List, [], ◌∷◌}
+use Rattle.std.specs.List.{AllByRecursion}
+use Rattle.std.specs.Str.Parse.{digits_value_after}
+use Rattle.format_http_chunked.specs.Bodies.{AreFields, Behind, ChunkData, Extended, Extension}
+use Rattle.format_http_chunked.specs.Bodies.{Given, IsBody, IsHexDigit, IsTokenByte, IsValueByte}
+use Rattle.format_http_chunked.specs.Bodies.{IsWhite, LineEnd, QuotedByte, Spaced, Value}
+use Rattle.format_http_chunked.specs.Words.{Byte, Many, One, Some, Star}
+use Rattle.format_http_chunked.specs.declared.places.Framing.{Framing}
+use Rattle.format_http_chunked.specs.declared.places.Framing.TheVariants as framing
+use Rattle.format_http_chunked.specs.declared.places.InField.{InField}
+use Rattle.format_http_chunked.specs.declared.places.InField.TheVariants as field
+use Rattle.format_http_chunked.specs.declared.places.InLine.{InLine}
+use Rattle.format_http_chunked.specs.declared.places.InLine.TheVariants as line
+use Rattle.format_http_chunked.specs.declared.places.Place.{Place}
+use Rattle.format_http_chunked.specs.declared.places.Place.TheVariants as place
+
+-- what is due in a size line, where after it is what `next` says
+abbrev pub DueInLine : InLine → (List ℕ → Type 0) → List ℕ → Type 0
+DueInLine line.Behind next = Extended next
+DueInLine line.White next = Extension (Extended next)
+DueInLine line.Semicolon next = Many IsWhite (Some IsTokenByte (Given (Extended next)))
+DueInLine line.Name next = Many IsTokenByte (Given (Extended next))
+DueInLine line.NameWhite next = λ bytes.
+    Spaced 61 (Value (Extended next)) bytes ⊎ Extension (Extended next) bytes
+DueInLine line.Equals next = Many IsWhite (Value (Extended next))
+DueInLine line.Token next = Many IsTokenByte (Extended next)
+DueInLine line.Quotes next = Star QuotedByte (Byte 34 (Extended next))
+DueInLine line.Escape next = One IsValueByte (Star QuotedByte (Byte 34 (Extended next)))
+DueInLine line.Return next = Byte 10 next
+
+-- what is due in the digits of a size that make this number so far
+abbrev pub DueDigits : ℕ → (ℕ → List ℕ → Type 0) → List ℕ → Type 0
+DueDigits number next bytes =
+    (digits : List ℕ) × (behind : List ℕ) × AllByRecursion IsHexDigit digits
+    × (bytes ≡ digits ++ behind) × Extended (next (digits_value_after 16 number digits)) behind
+
+-- what is due of field lines
+abbrev pub DueFields : InField → List ℕ → Type 0
+DueFields field.Start = AreFields
+DueFields field.Name = Many IsTokenByte (Byte 58 (Many IsValueByte (LineEnd AreFields)))
+DueFields field.Value = Many IsValueByte (LineEnd AreFields)
+DueFields field.Return = Byte 10 AreFields
+
+-- what is due between what is given out
+abbrev pub IsFramingDue : Framing → List ℕ → List ℕ → List ℕ → Type 0
+IsFramingDue framing.Start content trailers bytes = IsBody content trailers bytes
+IsFramingDue (framing.Digits number) content trailers bytes =
+    (n : ℕ) × DueDigits number (Behind n content trailers) bytes
+IsFramingDue (framing.Line at size) content trailers bytes =
+    (n : ℕ) × DueInLine at (Behind n content trailers size) bytes
+IsFramingDue framing.DataEnd content trailers bytes = LineEnd (IsBody content trailers) bytes
+IsFramingDue framing.DataReturn content trailers bytes = Byte 10 (IsBody content trailers) bytes
+IsFramingDue framing.LastReturn content trailers bytes =
+    (content ≡ []) × (trailers ≡ []) × (bytes ≡ 10 ∷ [])
+
+-- What is due at a place: with this content, these bytes of trailers, and these bytes in all.
+abbrev pub IsDue : Place → List ℕ → List ℕ → List ℕ → Type 0
+IsDue (place.Framing at) content trailers bytes = IsFramingDue at content trailers bytes
+IsDue (place.Data size) content trailers bytes =
+    ChunkData size (λ more. IsBody more trailers) content bytes
+IsDue (place.Trailers at) content trailers bytes =
+    (content ≡ []) × DueFields at trailers × (bytes ≡ trailers ++ 13 ∷ 10 ∷ [])
+IsDue place.Done content trailers bytes = (content ≡ []) × (trailers ≡ []) × (bytes ≡ [])

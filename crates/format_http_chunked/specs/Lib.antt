@@ -1,0 +1,6 @@
+-- Written by scripts/registries.py: do not edit.
+pub mod Bodies
+pub mod Decoded
+pub mod Dues
+pub mod Steps
+pub mod Words

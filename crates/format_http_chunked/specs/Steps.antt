@@ -1,0 +1,109 @@
+-- What a byte is to a decoder, and what it says of bytes.
+use Rattle.std.specs.Prelude.{◌≡◌, ◌⊎◌, ◌≤◌, ◌<◌, ◌^◌, ◌↔◌, ◌++◌, ⊤, ℕ, List, [], ◌∷◌, length}
+use Rattle.std.specs.Prelude.{Option, Some, None, Result, Ok, Err}
+use Rattle.format_http_chunked.specs.Bodies.{Behind}
+use Rattle.format_http_chunked.specs.Dues.{DueFields, IsDue, IsFramingDue}
+use Rattle.format_http_chunked.specs.declared.decoder.Decoder.{Decoder}
+use Rattle.format_http_chunked.specs.declared.decoder.Fault.{Fault}
+use Rattle.format_http_chunked.specs.declared.decoder.Fault.TheVariants as fault
+use Rattle.format_http_chunked.specs.declared.decoder.Step.{Step}
+use Rattle.format_http_chunked.specs.declared.decoder.Step.TheVariants as step
+use Rattle.format_http_chunked.specs.declared.lines.Turn.{Turn}
+use Rattle.format_http_chunked.specs.declared.lines.Turn.TheVariants.{Ends, Goes, Never}
+use Rattle.format_http_chunked.specs.declared.places.Framing.{Framing}
+use Rattle.format_http_chunked.specs.declared.places.Framing.TheVariants as framing
+use Rattle.format_http_chunked.specs.declared.places.InField.{InField}
+use Rattle.format_http_chunked.specs.declared.places.Place.{Place}
+use Rattle.format_http_chunked.specs.declared.places.Place.TheVariants as place
+
+-- After the byte this is due; or what is after the size line; or nothing, whatever follows.
+abbrev pub IsTurn : Framing → ℕ → ℕ → Turn → Type 0
+IsTurn at size byte (Goes next) =
+    (content trailers bytes : List ℕ) → IsFramingDue at content trailers (byte ∷ bytes)
+    ↔ IsFramingDue (framing.Line next size) content trailers bytes
+IsTurn at size byte Ends =
+    (content trailers bytes : List ℕ) → IsFramingDue at content trailers (byte ∷ bytes)
+    ↔ ((n : ℕ) × Behind n content trailers size bytes)
+IsTurn at size byte Never =
+    (content trailers bytes : List ℕ) → IsFramingDue at content trailers (byte ∷ bytes) → ⊥
+
+-- No body goes on with the byte at this place.
+abbrev pub IsNever : Place → ℕ → Type 0
+IsNever at byte = (content trailers bytes : List ℕ) → IsDue at content trailers (byte ∷ bytes) → ⊥
+
+-- Each body that goes on with the byte at this place has 2 ^ 64 bytes of content or more.
+abbrev pub IsTooLarge : Place → ℕ → Type 0
+IsTooLarge at byte = (content trailers bytes : List ℕ)
+    → IsDue at content trailers (byte ∷ bytes) → 2 ^ 64 ≤ length content
+
+-- a place in a size line
+abbrev pub IsInSizeLine : Place → Type 0
+IsInSizeLine (place.Framing framing.Start) = ⊤
+IsInSizeLine (place.Framing (framing.Digits n)) = ⊤
+IsInSizeLine (place.Framing (framing.Line at n)) = ⊤
+IsInSizeLine (place.Framing framing.DataEnd) = ⊥
+IsInSizeLine (place.Framing framing.DataReturn) = ⊥
+IsInSizeLine (place.Framing framing.LastReturn) = ⊥
+IsInSizeLine (place.Data n) = ⊥
+IsInSizeLine (place.Trailers at) = ⊥
+IsInSizeLine place.Done = ⊥
+
+-- a place at the line end of data
+abbrev pub IsAtDataEnd : Place → Type 0
+IsAtDataEnd at =
+    (at ≡ place.Framing framing.DataEnd) ⊎ (at ≡ place.Framing framing.DataReturn)
+
+-- a place in the trailer section, or at the line end after it
+abbrev pub IsInTrailers : Place → Type 0
+IsInTrailers at =
+    ((it : InField) × (at ≡ place.Trailers it)) ⊎ (at ≡ place.Framing framing.LastReturn)
+
+-- Why the byte is refused at this place, where that many bytes more are let: none goes on with it;
+-- or none of less than 2 ^ 64 bytes does; or no byte more is let, in a size line or in the
+-- trailers.
+abbrev pub IsFault : Place → ℕ → ℕ → Fault → Type 0
+IsFault at room byte fault.Size = (at ≡ place.Framing framing.Start) × IsNever at byte
+IsFault at room byte fault.SizeLine = IsInSizeLine at × IsNever at byte
+IsFault at room byte fault.SizeTooLarge = IsInSizeLine at × IsTooLarge at byte
+IsFault at room byte fault.SizeLineTooLong = IsInSizeLine at × (room ≡ 0)
+IsFault at room byte fault.DataEnd = IsAtDataEnd at × IsNever at byte
+IsFault at room byte fault.Trailers = IsInTrailers at × IsNever at byte
+IsFault at room byte fault.TrailersTooLong = IsInTrailers at × (room ≡ 0)
+
+-- Bytes of field lines are taken between two places: what was due first is due exactly where these
+-- bytes are the first of the trailers, and what is due now is after them.
+abbrev pub ArePassed : InField → InField → List ℕ → Type 0
+ArePassed old new fields = (content trailers more : List ℕ)
+    → IsDue (place.Trailers old) content trailers (fields ++ more)
+    ↔ ((others : List ℕ) × (trailers ≡ fields ++ others)
+    × IsDue (place.Trailers new) content others more)
+
+-- Of some bytes the first are taken, and others left: whatever is after those, what was due first
+-- is due exactly where what is due now is after them, with so much content and trailers less.
+abbrev pub IsTaken : Place → Place → List ℕ → List ℕ → List ℕ → List ℕ → Type 0
+IsTaken old new bytes rest given fields =
+    (taken : List ℕ) × (bytes ≡ taken ++ rest)
+    × ((content trailers more : List ℕ) → IsDue old content trailers (taken ++ more)
+    ↔ ((left : List ℕ) × (others : List ℕ) × (content ≡ given ++ left)
+    × (trailers ≡ fields ++ others) × IsDue new left others more))
+
+-- What the decoder says of the bytes that it takes.
+abbrev pub IsSaid : Decoder → Decoder → List ℕ → List ℕ → Result Step Fault → Type 0
+IsSaid old new bytes rest (Ok (step.Data chunk)) =
+    IsTaken old.place new.place bytes rest chunk.now [] × (0 < length chunk.now)
+IsSaid old new bytes rest (Ok (step.Trailers fields)) =
+    IsTaken old.place new.place bytes rest [] fields.now × (0 < length fields.now)
+IsSaid old new bytes rest (Ok step.End) =
+    IsTaken old.place new.place bytes rest [] [] × (new.place ≡ place.Done)
+IsSaid old new bytes rest (Ok step.More) =
+    IsTaken old.place new.place bytes rest [] [] × (rest ≡ []) × (new.place ≡ place.Done → ⊥)
+IsSaid old new bytes rest (Err fault) =
+    IsTaken old.place new.place bytes rest [] [] × ((byte : ℕ) × (others : List ℕ)
+    × (rest ≡ byte ∷ others) × IsFault new.place new.room byte fault)
+
+-- The same of a part of a call, which may have nothing to say as yet.
+abbrev pub IsPart : Decoder → Decoder → List ℕ → List ℕ → Result (Option Step) Fault → Type 0
+IsPart old new bytes rest (Ok (Some said)) = IsSaid old new bytes rest (Ok said)
+IsPart old new bytes rest (Ok None) =
+    IsTaken old.place new.place bytes rest [] [] × (length rest < length bytes)
+IsPart old new bytes rest (Err why) = IsSaid old new bytes rest (Err why)

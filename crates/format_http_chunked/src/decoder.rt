@@ -1,0 +1,333 @@
+//! The decoder of a chunked body (RFC 9112, section 7.1).
+//!
+//! ```
+//! use format_http_chunked::decoder::{Decoder, SAFE_LIMITS, Step};
+//!
+//! let mut decoder = Decoder::new(SAFE_LIMITS);
+//! let mut piece = b"4\r\nWi".as_slice();
+//! assert!(rt; matches!(decoder.advance(&mut piece), Ok(Step::Data(b"Wi"))));
+//! assert!(rt; matches!(decoder.advance(&mut piece), Ok(Step::More)));
+//! let mut next = b"ki\r\n0\r\n\r\nHTTP".as_slice();
+//! assert!(rt; matches!(decoder.advance(&mut next), Ok(Step::Data(b"ki"))));
+//! assert!(rt; matches!(decoder.advance(&mut next), Ok(Step::End)));
+//! assert_eq!(rt; next, b"HTTP".as_slice());
+//! ```
+#![tactic(auto)]
+
+ghost use Rattle.format_http_chunked.specs.Decoded.{IsAnswer, IsAt};
+ghost use Rattle.format_http_chunked.specs.Steps.{IsInSizeLine, IsPart, IsSaid};
+ghost use Rattle.format_http_chunked.specs.declared.places.Framing.TheVariants as framing;
+ghost use Rattle.format_http_chunked.specs.declared.places.InField.TheVariants as field;
+ghost use Rattle.format_http_chunked.specs.declared.places.Place.TheVariants as place;
+ghost use Rattle.std.specs.Prelude.{◌≡◌, ◌<◌, ◌≤◌, MatchBool, None, Ok, ℕ, List, [], length, take};
+
+use crate::fields::{field_behind, pass_fields};
+use crate::framing::{place_after, taken_of};
+use crate::places::{Framing, InField, Place};
+
+/// How many bytes a decoder takes of what a sender could make endless: zeros before a size,
+/// extensions, fields. Data has no limit here but that of its chunk, 2<sup>64</sup> - 1 bytes.
+///
+/// ```
+/// use format_http_chunked::decoder::{Decoder, Fault, Limits};
+///
+/// let mut decoder = Decoder::new(Limits { size_line: 3, trailers: 0 });
+/// assert!(rt; decoder.advance(&mut b"0;".as_slice()).is_ok());
+/// let refused = decoder.advance(&mut b"ab".as_slice());
+/// assert!(rt; matches!(refused, Err(Fault::SizeLineTooLong)));
+/// ```
+#[derive(Clone, Copy, Debug, PartialEq, Eq)]
+pub struct Limits {
+    /// Of each size line, with its extensions and its line end.
+    pub size_line: usize,
+    /// Of the trailer section, without the line end after it.
+    pub trailers: usize,
+}
+
+/// Limits for a server: 4,096 bytes of each size line, and 8,192 of the trailer section.
+///
+/// ```
+/// use format_http_chunked::decoder::SAFE_LIMITS;
+///
+/// assert_eq!(rt; SAFE_LIMITS.size_line, 4096);
+/// ```
+pub const SAFE_LIMITS: Limits = Limits {
+    size_line: 4096,
+    trailers: 8192,
+};
+
+/// Why a byte is refused: the one that the input then begins with.
+///
+/// ```
+/// use format_http_chunked::decoder::{Decoder, Fault, SAFE_LIMITS};
+///
+/// let mut input = b"1\r\nab".as_slice();
+/// let mut decoder = Decoder::new(SAFE_LIMITS);
+/// assert!(rt; decoder.advance(&mut input).is_ok());
+/// assert!(rt; matches!(decoder.advance(&mut input), Err(Fault::DataEnd)));
+/// assert_eq!(rt; input, b"b".as_slice());
+/// ```
+#[derive(Clone, Copy, Debug, PartialEq, Eq)]
+pub enum Fault {
+    /// A size line is due, and begins with no hexadecimal digit.
+    Size,
+    /// No size line goes on with it: it is in no extension, or in no line end.
+    SizeLine,
+    /// With this digit the size is 2<sup>64</sup> or more.
+    SizeTooLarge,
+    /// The size line would have more bytes than [`Limits::size_line`] lets.
+    SizeLineTooLong,
+    /// A carriage return and a line feed are due after the data of a chunk.
+    DataEnd,
+    /// No field line goes on with it, nor the line end after the trailer section.
+    Trailers,
+    /// The trailer section would have more bytes than [`Limits::trailers`] lets.
+    TrailersTooLong,
+}
+
+/// What bytes are.
+///
+/// ```
+/// use format_http_chunked::decoder::Step;
+///
+/// assert!(rt; Step::Data(b"Wiki") != Step::End);
+/// ```
+#[derive(Clone, Copy, Debug, PartialEq)]
+pub enum Step<'i> {
+    /// Data of a chunk, one byte or more.
+    Data(&'i [u8]),
+    /// Bytes of the trailer section, one or more: after one another all of them are field lines,
+    /// whole ones, each with its line end. The line end after the section is none of them.
+    Trailers(&'i [u8]),
+    /// The body is whole. What is left of the input is after it.
+    End,
+    /// All bytes are taken, and more are needed.
+    More,
+}
+
+/// How far a body was decoded. It is a few words, and holds none of the bytes: a copy of it goes on
+/// from the same place.
+///
+/// ```
+/// use format_http_chunked::decoder::{Decoder, SAFE_LIMITS, Step};
+///
+/// let mut decoder = Decoder::new(SAFE_LIMITS);
+/// let mut input = b"0\r\n".as_slice();
+/// assert!(rt; matches!(decoder.advance(&mut input), Ok(Step::More)));
+/// let mut copy = decoder;
+/// assert!(rt; matches!(copy.advance(&mut b"\r\n".as_slice()), Ok(Step::End)));
+/// ```
+#[derive(Clone, Copy, Debug, PartialEq, Eq)]
+pub struct Decoder {
+    /// Where in the body the next byte is due.
+    place: Place,
+    /// How many bytes more the size line or the trailer section may have.
+    room: usize,
+    /// How many they may have in all.
+    limits: Limits,
+}
+
+/// The first bytes.
+fn front(bytes: &[u8], size: usize) -> &[u8]
+    requires { size ≤ length bytes.now }
+    ensures { result.now ≡ take size bytes.now }
+{
+    &bytes[..size]
+}
+
+/// Whether this byte is the carriage return after the trailer section.
+fn ends_there(at: InField, byte: u8) -> bool
+    ensures { MatchBool result ((at ≡ field.Start) × (byte ≡ 13))
+        (at ≡ field.Start → byte ≡ 13 → ⊥) }
+{
+    match at {
+        InField::Start => byte == b'\r',
+        _ => false,
+    }
+}
+
+impl Decoder {
+    /// Nothing of the body is taken.
+    ///
+    /// ```
+    /// use format_http_chunked::decoder::{Decoder, SAFE_LIMITS};
+    ///
+    /// assert!(rt; Decoder::new(SAFE_LIMITS) == Decoder::new(SAFE_LIMITS));
+    /// ```
+    pub fn new(limits: Limits) -> Decoder
+        ensures { IsAt result.place [] [] [] }
+    {
+        Decoder {
+            place: Place::Framing(Framing::Start),
+            room: limits.size_line,
+            limits,
+        }
+    }
+
+    /// How many bytes more are let after a byte that led from one place to another; none where it
+    /// was not.
+    fn room_behind(&self, at: Framing, next: Place) -> Option<usize>
+        ensures none { result ≡ None → IsInSizeLine (place.Framing at) × (self.now.room ≡ 0) }
+    {
+        match at {
+            Framing::Start | Framing::Digits(_) | Framing::Line(_, _) => {
+                let less = self.room.checked_sub(1)?;
+                match next {
+                    Place::Trailers(_) => Some(self.limits.trailers),
+                    _ => Some(less),
+                }
+            }
+            Framing::DataReturn => Some(self.limits.size_line),
+            Framing::DataEnd | Framing::LastReturn => Some(self.room),
+        }
+    }
+
+    /// Takes a byte of which nothing is given out.
+    fn pass_byte<'i>(
+        &mut self,
+        at: Framing,
+        input: &mut &'i [u8],
+    ) -> Result<Option<Step<'i>>, Fault>
+        requires { self.old.place ≡ place.Framing at }
+        ensures { IsPart self.old self.new input.old.now input.new.now result }
+    {
+        match input.split_first() {
+            None => Ok(Some(Step::More)),
+            Some((byte, rest)) => match place_after(at, *byte) {
+                Err(fault) => Err(fault),
+                Ok(next) => match self.room_behind(at, next) {
+                    None => Err(Fault::SizeLineTooLong),
+                    Some(room) => {
+                        self.place = next;
+                        self.room = room;
+                        *input = rest;
+                        Ok(None)
+                    }
+                },
+            },
+        }
+    }
+
+    /// Takes data of a chunk, of which that many bytes are due.
+    fn pass_data<'i>(&mut self, size: u64, input: &mut &'i [u8]) -> Step<'i>
+        requires due { self.old.place ≡ place.Data size }
+        requires some { 0 < size }
+        ensures { IsSaid self.old self.new input.old.now input.new.now (Ok result) }
+    {
+        let all = *input;
+        if all.is_empty() {
+            return Step::More;
+        }
+        let here = taken_of(size, all.len());
+        let (data, rest) = all.split_at(here);
+        self.place = Place::Data(size - here as u64);
+        *input = rest;
+        Step::Data(data)
+    }
+
+    /// Takes bytes of the trailer section.
+    fn pass_trailers<'i>(
+        &mut self,
+        at: InField,
+        input: &mut &'i [u8],
+    ) -> Result<Option<Step<'i>>, Fault>
+        requires { self.old.place ≡ place.Trailers at }
+        ensures { IsPart self.old self.new input.old.now input.new.now result }
+    {
+        let all = *input;
+        match all.split_first() {
+            None => Ok(Some(Step::More)),
+            Some((byte, behind)) => match field_behind(at, *byte) {
+                Some(next) => match self.room.checked_sub(1) {
+                    None => Err(Fault::TrailersTooLong),
+                    Some(room) => {
+                        let (last, less, rest) = pass_fields(next, room, behind);
+                        self.place = Place::Trailers(last);
+                        self.room = less;
+                        *input = rest;
+                        Ok(Some(Step::Trailers(front(all, all.len() - rest.len()))))
+                    }
+                },
+                None => {
+                    if !ends_there(at, *byte) {
+                        return Err(Fault::Trailers);
+                    }
+                    self.place = Place::Framing(Framing::LastReturn);
+                    *input = behind;
+                    Ok(None)
+                }
+            },
+        }
+    }
+
+    /// Takes some of the bytes that are there.
+    fn part<'i>(&mut self, input: &mut &'i [u8]) -> Result<Option<Step<'i>>, Fault>
+        ensures { IsPart self.old self.new input.old.now input.new.now result }
+    {
+        match self.place {
+            Place::Done => Ok(Some(Step::End)),
+            Place::Trailers(at) => self.pass_trailers(at, input),
+            Place::Data(size) => {
+                if size == 0 {
+                    self.place = Place::Framing(Framing::DataEnd);
+                    return self.pass_byte(Framing::DataEnd, input);
+                }
+                Ok(Some(self.pass_data(size, input)))
+            }
+            Place::Framing(at) => self.pass_byte(at, input),
+        }
+    }
+
+    /// Takes the bytes that are there, up to what is to be said.
+    fn run<'i>(&mut self, input: &mut &'i [u8]) -> Result<Step<'i>, Fault>
+        ensures { IsSaid self.old self.new input.old.now input.new.now result }
+    {
+        'bytes: loop {
+            match self.part(input) {
+                Err(fault) => return Err(fault),
+                Ok(said) => match said {
+                    Some(step) => return Ok(step),
+                    None => {}
+                },
+            }
+        }
+    }
+
+    /// Takes the first bytes of the input, and says what they are: data, bytes of trailers, or the
+    /// end; or takes all, and says that more are needed. Each byte is to be passed once: after
+    /// [`Step::More`] the next input is what follows the last one.
+    ///
+    /// Of all bytes that are taken, in all calls, the data are the content of the chunked body that
+    /// they begin, in order, wherever they are cut; `End` comes where it is whole, and `More` where
+    /// it is not, and can still be. An error is for the first byte with which none goes on. That
+    /// byte
+    /// is not taken, so it is what the input then begins with, and is refused again.
+    ///
+    /// Bytes of size lines and trailers are looked at once, those of data not at all: the time is
+    /// linear in the bytes, however they are cut. Extensions are passed over, and field lines are
+    /// given out as they stand; `format_http::heads` reads them. White space may stand around the
+    /// marks of an extension (RFC 9112, section 7.1.1), and a line feed alone is no line end.
+    ///
+    /// # Errors
+    ///
+    /// A [`Fault`] says why. [`Fault::SizeTooLarge`] is for a body of 2<sup>64</sup> bytes or more,
+    /// which the standard lets, and the two that are too long are for the limits; with any other,
+    /// no
+    /// body begins with the bytes up to that one.
+    ///
+    /// ```
+    /// use format_http_chunked::decoder::{Decoder, SAFE_LIMITS, Step};
+    ///
+    /// let mut decoder = Decoder::new(SAFE_LIMITS);
+    /// let mut input = b"0;a=\"b\"\r\nName: value\r\n\r\n".as_slice();
+    /// let fields = decoder.advance(&mut input);
+    /// assert!(rt; matches!(fields, Ok(Step::Trailers(b"Name: value\r\n"))));
+    /// assert!(rt; matches!(decoder.advance(&mut input), Ok(Step::End)));
+    /// ```
+    pub fn advance<'i>(&mut self, input: &mut &'i [u8]) -> Result<Step<'i>, Fault>
+        ensures { (front given fields : List ℕ) → IsAt self.old.place front given fields
+            → IsAnswer self.new front given fields input.old.now input.new.now result }
+    {
+        self.run(input)
+    }
+}

@@ -1,0 +1,79 @@
+//! Where in the trailer section the next byte is due.
+#![tactic(auto)]
+
+ghost use Rattle.format_http_chunked.specs.Dues.{DueFields};
+ghost use Rattle.format_http_chunked.specs.Steps.{ArePassed};
+ghost use Rattle.format_http_chunked.specs.declared.places.InField.TheVariants as field;
+ghost use Rattle.std.specs.Prelude.{◌≡◌, ◌↔◌, ◌++◌, ◌∷◌, ℕ, List, None, IfSome, ◌+◌, length};
+
+use crate::bytes::{is_token, is_value};
+use crate::places::InField;
+
+/// Where in field lines the next byte is due after this one; none where no field line goes on with
+/// it.
+#[inline]
+pub(crate) fn field_behind(at: InField, byte: u8) -> Option<InField>
+    ensures some { IfSome result (λ next. (fields : List ℕ) → DueFields at (byte ∷ fields)
+        ↔ DueFields next fields) }
+    ensures begins { IfSome result (λ next. at ≡ field.Start → byte ≡ 13 → ⊥) }
+    ensures none { result ≡ None → (fields : List ℕ) → DueFields at (byte ∷ fields) → ⊥ }
+{
+    match at {
+        InField::Start => if is_token(byte) {
+            Some(InField::Name)
+        } else {
+            None
+        },
+        InField::Name => {
+            if is_token(byte) {
+                return Some(InField::Name);
+            }
+            if byte == b':' {
+                Some(InField::Value)
+            } else {
+                None
+            }
+        }
+        InField::Value => {
+            if is_value(byte) {
+                return Some(InField::Value);
+            }
+            if byte == b'\r' {
+                Some(InField::Return)
+            } else {
+                None
+            }
+        }
+        InField::Return => if byte == b'\n' {
+            Some(InField::Start)
+        } else {
+            None
+        },
+    }
+}
+
+/// Passes bytes of field lines, as many as stand first or the room lets: where the next one is due,
+/// the room that is left, and what is after them.
+pub(crate) fn pass_fields<'i>(
+    at: InField,
+    room: usize,
+    bytes: &'i [u8],
+) -> (InField, usize, &'i [u8])
+    ensures { (fields : List ℕ) × (bytes.now ≡ fields ++ result.2.now)
+        × ArePassed at result.0 fields × (length fields + result.1 ≡ room) }
+{
+    let mut next = at;
+    let mut left = room;
+    let mut rest = bytes;
+    'bytes: while let Some((byte, others)) = rest.split_first() {
+        match (field_behind(next, *byte), left.checked_sub(1)) {
+            (Some(behind), Some(less)) => {
+                next = behind;
+                left = less;
+                rest = others;
+            }
+            _ => return (next, left, rest),
+        }
+    }
+    (next, left, rest)
+}

@@ -1,0 +1,115 @@
+//! What a byte is between what is given out.
+#![tactic(auto)]
+
+ghost use Rattle.format_http_chunked.specs.Bodies.{Behind};
+ghost use Rattle.format_http_chunked.specs.Dues.{IsDue, IsFramingDue};
+ghost use Rattle.format_http_chunked.specs.Steps.{IsFault};
+ghost use Rattle.format_http_chunked.specs.declared.places.Framing.TheVariants as framing;
+ghost use Rattle.format_http_chunked.specs.declared.places.Place.TheVariants as place;
+ghost use Rattle.std.specs.Prelude.{◌≡◌, ◌↔◌, ◌≤◌, ◌+◌, ◌*◌, ◌<◌, ◌∷◌, ◌^◌, ℕ, List, IfErr};
+ghost use Rattle.std.specs.Prelude.{IfOk, IfSome, None};
+
+use crate::bytes::digit_of;
+use crate::decoder::Fault;
+use crate::lines::{Turn, turn_at};
+use crate::places::{Framing, InField, InLine, Place};
+
+/// Where the next byte is due after the size line of a chunk of this size.
+fn place_behind(size: u64) -> Place
+    ensures { (content trailers bytes : List ℕ)
+        → ((n : ℕ) × Behind n content trailers size bytes) ↔ IsDue result content trailers bytes }
+{
+    match size.checked_sub(1) {
+        None => Place::Trailers(InField::Start),
+        Some(_) => Place::Data(size),
+    }
+}
+
+/// Where the next byte is due after this one in a size line; none where no line goes on with it.
+fn behind_in_line(at: InLine, size: u64, byte: u8) -> Option<Place>
+    ensures some { IfSome result (λ next. (content trailers bytes : List ℕ)
+        → IsFramingDue (framing.Line at size) content trailers (byte ∷ bytes)
+        ↔ IsDue next content trailers bytes) }
+    ensures none { result ≡ None → (content trailers bytes : List ℕ)
+        → IsFramingDue (framing.Line at size) content trailers (byte ∷ bytes) → ⊥ }
+{
+    match turn_at(at, byte) {
+        Turn::Goes(next) => Some(Place::Framing(Framing::Line(next, size))),
+        Turn::Ends => Some(place_behind(size)),
+        Turn::Never => None,
+    }
+}
+
+/// A number with one hexadecimal digit more; none where it is past 64 bits.
+fn number_after(number: u64, digit: u64) -> Option<u64>
+    requires { digit < 16 }
+    ensures some { IfSome result (λ sum. sum ≡ number * 16 + digit) }
+    ensures none { result ≡ None → 2 ^ 64 ≤ number * 16 + digit }
+{
+    number.checked_mul(16)?.checked_add(digit)
+}
+
+/// Where the next byte is due after this one in the digits of a size.
+fn after_digit(number: u64, byte: u8) -> Result<Place, Fault>
+    ensures ok { IfOk result (λ next. (content trailers bytes : List ℕ)
+        → IsFramingDue (framing.Digits number) content trailers (byte ∷ bytes)
+        ↔ IsDue next content trailers bytes) }
+    ensures err { IfErr result (λ fault. (room : ℕ)
+        → IsFault (place.Framing (framing.Digits number)) room byte fault) }
+{
+    match digit_of(byte) {
+        None => match behind_in_line(InLine::Behind, number, byte) {
+            Some(next) => Ok(next),
+            None => Err(Fault::SizeLine),
+        },
+        Some(digit) => match number_after(number, digit) {
+            Some(sum) => Ok(Place::Framing(Framing::Digits(sum))),
+            None => Err(Fault::SizeTooLarge),
+        },
+    }
+}
+
+/// Where the next byte is due after this one, which is none that is given out.
+pub(crate) fn place_after(at: Framing, byte: u8) -> Result<Place, Fault>
+    ensures ok { IfOk result (λ next. (content trailers bytes : List ℕ)
+        → IsFramingDue at content trailers (byte ∷ bytes)
+        ↔ IsDue next content trailers bytes) }
+    ensures err { IfErr result (λ fault. (room : ℕ)
+        → IsFault (place.Framing at) room byte fault) }
+{
+    match at {
+        Framing::Start => match digit_of(byte) {
+            Some(digit) => Ok(Place::Framing(Framing::Digits(digit))),
+            None => Err(Fault::Size),
+        },
+        Framing::Digits(number) => after_digit(number, byte),
+        Framing::Line(line, size) => match behind_in_line(line, size, byte) {
+            Some(next) => Ok(next),
+            None => Err(Fault::SizeLine),
+        },
+        Framing::DataEnd => match byte {
+            b'\r' => Ok(Place::Framing(Framing::DataReturn)),
+            _ => Err(Fault::DataEnd),
+        },
+        Framing::DataReturn => match byte {
+            b'\n' => Ok(Place::Framing(Framing::Start)),
+            _ => Err(Fault::DataEnd),
+        },
+        Framing::LastReturn => match byte {
+            b'\n' => Ok(Place::Done),
+            _ => Err(Fault::Trailers),
+        },
+    }
+}
+
+/// How many bytes of those that are there are data, of which that many are due.
+pub(crate) fn taken_of(size: u64, there: usize) -> usize
+    requires some { 0 < size }
+    requires there { 0 < there }
+    ensures { (result ≤ size) × (result ≤ there) × (0 < result) }
+{
+    match usize::try_from(size) {
+        Ok(due) => due.min(there),
+        Err(_) => there,
+    }
+}

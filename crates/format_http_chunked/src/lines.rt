@@ -1,0 +1,160 @@
+//! Where in a size line the next byte is due.
+#![tactic(auto)]
+
+ghost use Rattle.format_http_chunked.specs.Steps.{IsTurn};
+ghost use Rattle.format_http_chunked.specs.declared.places.InLine.TheVariants as line;
+ghost use Rattle.format_http_chunked.specs.declared.places.Framing.TheVariants as framing;
+ghost use Rattle.std.specs.Prelude.{ℕ};
+
+use crate::bytes::{is_quoted, is_token, is_value};
+use crate::places::InLine;
+
+/// What a byte is to a size line.
+pub(crate) enum Turn {
+    /// After it the line goes on here.
+    Goes(InLine),
+    /// It ends the line.
+    Ends,
+    /// No line goes on with it.
+    Never,
+}
+
+/// What a byte is after a size or a value.
+#[inline]
+fn turn_behind(byte: u8) -> Turn
+    ensures { (size : ℕ) → IsTurn (framing.Line line.Behind size) size byte result }
+{
+    match byte {
+        b'\r' => Turn::Goes(InLine::Return),
+        b';' => Turn::Goes(InLine::Semicolon),
+        b' ' | b'\t' => Turn::Goes(InLine::White),
+        _ => Turn::Never,
+    }
+}
+
+/// What a byte is after white space that is after a size or a value.
+fn turn_white(byte: u8) -> Turn
+    ensures { (size : ℕ) → IsTurn (framing.Line line.White size) size byte result }
+{
+    match byte {
+        b';' => Turn::Goes(InLine::Semicolon),
+        b' ' | b'\t' => Turn::Goes(InLine::White),
+        _ => Turn::Never,
+    }
+}
+
+/// What a byte is after a semicolon.
+fn turn_semicolon(byte: u8) -> Turn
+    ensures { (size : ℕ) → IsTurn (framing.Line line.Semicolon size) size byte result }
+{
+    if byte == b' ' || byte == b'\t' {
+        return Turn::Goes(InLine::Semicolon);
+    }
+    if is_token(byte) {
+        return Turn::Goes(InLine::Name);
+    }
+    Turn::Never
+}
+
+/// What a byte is after a name.
+fn turn_name_white(byte: u8) -> Turn
+    ensures { (size : ℕ) → IsTurn (framing.Line line.NameWhite size) size byte result }
+{
+    match byte {
+        b'=' => Turn::Goes(InLine::Equals),
+        b';' => Turn::Goes(InLine::Semicolon),
+        b' ' | b'\t' => Turn::Goes(InLine::NameWhite),
+        _ => Turn::Never,
+    }
+}
+
+/// What a byte is in a name.
+fn turn_name(byte: u8) -> Turn
+    ensures { (size : ℕ) → IsTurn (framing.Line line.Name size) size byte result }
+{
+    if is_token(byte) {
+        return Turn::Goes(InLine::Name);
+    }
+    if byte == b'\r' {
+        return Turn::Goes(InLine::Return);
+    }
+    turn_name_white(byte)
+}
+
+/// What a byte is after an equals sign.
+fn turn_equals(byte: u8) -> Turn
+    ensures { (size : ℕ) → IsTurn (framing.Line line.Equals size) size byte result }
+{
+    if byte == b' ' || byte == b'\t' {
+        return Turn::Goes(InLine::Equals);
+    }
+    if byte == b'"' {
+        return Turn::Goes(InLine::Quotes);
+    }
+    if is_token(byte) {
+        return Turn::Goes(InLine::Token);
+    }
+    Turn::Never
+}
+
+/// What a byte is in a value that is a token.
+fn turn_token(byte: u8) -> Turn
+    ensures { (size : ℕ) → IsTurn (framing.Line line.Token size) size byte result }
+{
+    if is_token(byte) {
+        return Turn::Goes(InLine::Token);
+    }
+    turn_behind(byte)
+}
+
+/// What a byte is in quotes.
+fn turn_quotes(byte: u8) -> Turn
+    ensures { (size : ℕ) → IsTurn (framing.Line line.Quotes size) size byte result }
+{
+    if is_quoted(byte) {
+        return Turn::Goes(InLine::Quotes);
+    }
+    match byte {
+        b'"' => Turn::Goes(InLine::Behind),
+        b'\\' => Turn::Goes(InLine::Escape),
+        _ => Turn::Never,
+    }
+}
+
+/// What a byte is after a backslash in quotes.
+fn turn_escape(byte: u8) -> Turn
+    ensures { (size : ℕ) → IsTurn (framing.Line line.Escape size) size byte result }
+{
+    if is_value(byte) {
+        return Turn::Goes(InLine::Quotes);
+    }
+    Turn::Never
+}
+
+/// What a byte is after the carriage return.
+fn turn_return(byte: u8) -> Turn
+    ensures { (size : ℕ) → IsTurn (framing.Line line.Return size) size byte result }
+{
+    if byte == b'\n' {
+        return Turn::Ends;
+    }
+    Turn::Never
+}
+
+/// What a byte is at a place of a size line.
+pub(crate) fn turn_at(at: InLine, byte: u8) -> Turn
+    ensures { (size : ℕ) → IsTurn (framing.Line at size) size byte result }
+{
+    match at {
+        InLine::Behind => turn_behind(byte),
+        InLine::White => turn_white(byte),
+        InLine::Semicolon => turn_semicolon(byte),
+        InLine::Name => turn_name(byte),
+        InLine::NameWhite => turn_name_white(byte),
+        InLine::Equals => turn_equals(byte),
+        InLine::Token => turn_token(byte),
+        InLine::Quotes => turn_quotes(byte),
+        InLine::Escape => turn_escape(byte),
+        InLine::Return => turn_return(byte),
+    }
+}

@@ -1,0 +1,103 @@
+//! Bytes that no body begins with, at the first byte with which none does, and limits.
+use crate::bodies::decode;
+use format_http_chunked::decoder::{Fault, Limits, SAFE_LIMITS};
+use std::alloc::Allocator;
+use std::process::Abort;
+
+/// Bytes, how many of them begin a body, and why the next one is refused.
+const REFUSED: &[(&[u8], usize, Fault)] = &[
+    (b"\r\n", 0, Fault::Size),
+    (b"g\r\n", 0, Fault::Size),
+    (b"-1\r\n", 0, Fault::Size),
+    (b"+1\r\n", 0, Fault::Size),
+    (b" 1\r\n", 0, Fault::Size),
+    (b";a\r\n", 0, Fault::Size),
+    (b"1\n", 1, Fault::SizeLine),
+    (b"0x1\r\n", 1, Fault::SizeLine),
+    (b"1\r\r", 2, Fault::SizeLine),
+    (b"1 \r\n", 2, Fault::SizeLine),
+    (b"1;\r\n", 2, Fault::SizeLine),
+    (b"1;;", 2, Fault::SizeLine),
+    (b"1;a =\r", 5, Fault::SizeLine),
+    (b"1;a \r", 4, Fault::SizeLine),
+    (b"1;a=,", 4, Fault::SizeLine),
+    (b"1;a=\"\r", 5, Fault::SizeLine),
+    (b"1;a=\"\\\r", 6, Fault::SizeLine),
+    (b"1;a=\"b\"c", 7, Fault::SizeLine),
+    (b"1;a=b c", 6, Fault::SizeLine),
+    (b"1;a=b\"", 5, Fault::SizeLine),
+    (b"10000000000000000\r\n", 16, Fault::SizeTooLarge),
+    (b"fffffffffffffffff", 16, Fault::SizeTooLarge),
+    (b"0FFFFFFFFFFFFFFFFa", 17, Fault::SizeTooLarge),
+    (b"1\r\nab", 4, Fault::DataEnd),
+    (b"1\r\na\n", 4, Fault::DataEnd),
+    (b"1\r\na\rb", 5, Fault::DataEnd),
+    (b"1\r\na\r\n\r\n", 6, Fault::Size),
+    (b"0\r\n\n", 3, Fault::Trailers),
+    (b"0\r\n\r\r", 4, Fault::Trailers),
+    (b"0\r\n:", 3, Fault::Trailers),
+    (b"0\r\n a: b\r\n", 3, Fault::Trailers),
+    (b"0\r\na :", 4, Fault::Trailers),
+    (b"0\r\na\r\n", 4, Fault::Trailers),
+    (b"0\r\na: b\n", 7, Fault::Trailers),
+    (b"0\r\na: b\r\r", 8, Fault::Trailers),
+    (b"0\r\na: \0", 6, Fault::Trailers),
+    (b"0\r\na: b\r\n c", 9, Fault::Trailers),
+];
+
+fn refused<A: Allocator + Copy>(
+    rt: &impl Abort,
+    alloc: A,
+    limits: Limits,
+    pieces: &[&[u8]],
+    want: (usize, Fault),
+) {
+    match decode(alloc, limits, pieces) {
+        Ok(decoded) => {
+            assert_eq!(rt; decoded.taken, want.0, "{pieces:?}");
+            assert!(rt; decoded.fault == Some(want.1), "{pieces:?}");
+            assert!(rt; !decoded.ended, "{pieces:?}");
+        }
+        Err(_) => assert!(rt; false, "memory"),
+    }
+}
+
+#[test]
+fn advance_refuses_the_first_byte(rt: HostRuntime) {
+    for (text, taken, fault) in REFUSED {
+        for cut in 0..text.len() + 1 {
+            let pieces = [&text[..cut], &text[cut..]];
+            refused(&rt, rt.alloc(), SAFE_LIMITS, &pieces, (*taken, *fault));
+        }
+    }
+}
+
+/// The largest size is none that is refused.
+#[test]
+fn advance_takes_a_size_of_64_bits(rt: HostRuntime) {
+    match decode(rt.alloc(), SAFE_LIMITS, &[b"ffffffffffffffff\r\nabc"]) {
+        Ok(decoded) => {
+            assert!(rt; decoded.fault == None);
+            assert_eq!(rt; decoded.content.as_slice(), b"abc".as_slice());
+        }
+        Err(_) => assert!(rt; false, "memory"),
+    }
+}
+
+const FEW: Limits = Limits { size_line: 5, trailers: 6 };
+
+#[test]
+fn limits_are_of_each_line_and_of_all_trailers(rt: HostRuntime) {
+    let line = Fault::SizeLineTooLong;
+    let trailers = Fault::TrailersTooLong;
+    refused(&rt, rt.alloc(), FEW, &[b"000", b"001\r\n"], (5, line));
+    refused(&rt, rt.alloc(), FEW, &[b"1;abc\r\n"], (5, line));
+    refused(&rt, rt.alloc(), FEW, &[b"0000\r\n"], (5, line));
+    refused(&rt, rt.alloc(), FEW, &[b"001\r\na\r\n001\r\nb\r\n0001\r\n"], (21, line));
+    refused(&rt, rt.alloc(), FEW, &[b"0\r\na:b\r\n", b"c:\r\n\r\n"], (9, trailers));
+    refused(&rt, rt.alloc(), FEW, &[b"0\r\nabcdefg:"], (9, trailers));
+    match decode(rt.alloc(), FEW, &[b"001\r\na\r\n000\r\na:bc\r\n\r\n"]) {
+        Ok(decoded) => assert!(rt; decoded.ended && decoded.content.len() == 1),
+        Err(_) => assert!(rt; false, "memory"),
+    }
+}
