@@ -10,16 +10,14 @@ library, nom and the loop by hand, in this order: instructions a byte of the tex
 callgrind, with those of the allocator; requests for memory, by `malloc` and `realloc`; and how many
 bytes they were for, a byte of the text. Other work on the machine changes none of them.
 
-`counts.txt` has the library's instructions in each workload. A workload that takes more of them by a
-twentieth has got dearer: the check names it, with both numbers, and fails. So it does where one is in
-the file and not among the workloads, or the other way. One that got cheaper by as much is named too.
+`counts.txt` has the library's instructions in each workload; `measured.py` says what the check is.
 """
 import os
 import pathlib
 import sys
 from concurrent.futures import ThreadPoolExecutor
 
-from measured import instructions, requests, said_by
+from measured import check, instructions, requests, said_by, write
 
 HERE = pathlib.Path(__file__).resolve().parent
 PROGRAM = HERE / "target/release/bench"
@@ -27,8 +25,6 @@ PROGRAM = HERE / "target/release/bench"
 COUNTING = HERE / "target/requests/release/bench"
 WRITTEN = HERE / "counts.txt"
 HEAD = "| Workload | instructions a byte | requests for memory | bytes asked for, a byte |"
-# By which part of what it took a workload may get dearer.
-PART = 20
 
 
 def counted(place, name):
@@ -73,38 +69,12 @@ def of_library(only):
     return {name: count for (_, name), count in zip(works, made)}
 
 
-def write():
-    lines = [f"{count} {name}\n" for name, count in of_library("").items()]
-    WRITTEN.write_text("".join(lines), encoding="utf-8")
-    print(f"{WRITTEN.name} has the instructions of {len(lines)} workloads")
-
-
-def check(only):
-    """Compares with what is written, and returns how many workloads got dearer or are not the same."""
-    lines = (line.split(" ", 1) for line in WRITTEN.read_text(encoding="utf-8").splitlines())
-    before = {name: int(count) for count, name in lines if only in name}
-    now, dearer = of_library(only), []
-    if not now:
-        sys.exit(f"no workload has {only!r} in its name")
-    for name in [*before, *(it for it in now if it not in before)]:
-        old, new = before.get(name), now.get(name)
-        if old is None or new is None:
-            dearer.append(f"{name}: {'not in counts.txt' if old is None else 'no workload'}")
-        elif new * PART > old * (PART + 1):
-            dearer.append(f"{name}: {old:,} instructions, and now {new:,} ({new / old:.2f})")
-        elif new * PART < old * (PART - 1):
-            print(f"cheaper: {name}: {old:,} instructions, and now {new:,} ({new / old:.2f})")
-    for line in dearer:
-        print(f"dearer: {line}")
-    print(f"{len(now)} workloads, {len(dearer)} dearer by more than a twentieth of their instructions")
-    return len(dearer)
-
-
 def main(words):
     if words[:1] == ["--write"]:
-        write()
+        write(WRITTEN, of_library(""))
     elif words[:1] == ["--check"]:
-        sys.exit(min(check("".join(words[1:2])), 1))
+        only = "".join(words[1:2])
+        check(WRITTEN, of_library(only), only)
     else:
         table("".join(words[:1]))
 

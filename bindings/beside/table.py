@@ -1,9 +1,11 @@
 #!/usr/bin/env python3
-"""Prints the table of `bindings/beside`, in Markdown, for `run`, which builds what it calls:
+"""Measures for `run`, which builds what it calls, and prints a table in Markdown:
 
     table.py all [TURNS]     instructions, time and requests for memory
     table.py counts          instructions and requests alone
     table.py time [TURNS]    time alone
+    table.py write           writes the library's instructions to counts.txt
+    table.py check           compares with these (`bench/measured.py`)
 
 Instructions are counted by valgrind's callgrind, of a reader's second run, in a process of its own,
 with those of the allocator and of all libraries that are loaded; requests for memory by what is loaded
@@ -19,9 +21,10 @@ from concurrent.futures import ThreadPoolExecutor
 HERE = pathlib.Path(__file__).resolve().parent
 OUT = HERE.parent / "out"
 PROGRAM, COUNTS = OUT / "cargo/release/beside", OUT / "beside/requests.so"
+WRITTEN = HERE / "counts.txt"
 sys.dont_write_bytecode = True
 sys.path.insert(0, str(HERE.parent.parent / "bench"))
-from measured import instructions, load, machine, requests, said_by  # noqa: E402
+from measured import check, instructions, load, machine, requests, said_by, write  # noqa: E402
 
 TURNS = 30
 SIDE_BY_SIDE = 2
@@ -32,6 +35,17 @@ def works():
     for line in said_by([PROGRAM, "list"]).splitlines():
         name, file, *readers = line.split("\t")
         yield name, (OUT / "beside/texts" / file).stat().st_size, readers
+
+
+def of_library():
+    """The library's instructions in each work."""
+
+    def counted(at):
+        return instructions([PROGRAM, "run", str(at), "0"])[0]
+
+    names = [name for name, *_ in works()]
+    with ThreadPoolExecutor(SIDE_BY_SIDE) as pool:
+        return dict(zip(names, pool.map(counted, range(len(names)))))
 
 
 def counts(runs):
@@ -111,6 +125,12 @@ def main(what, turns):
 
 
 if __name__ == "__main__":
-    if sys.argv[1:2] not in (["all"], ["counts"], ["time"]):
+    WHAT = sys.argv[1] if len(sys.argv) > 1 else ""
+    if WHAT == "write":
+        write(WRITTEN, of_library())
+    elif WHAT == "check":
+        check(WRITTEN, of_library())
+    elif WHAT in ("all", "counts", "time"):
+        main(WHAT, int(sys.argv[2]) if len(sys.argv) > 2 else TURNS)
+    else:
         sys.exit(__doc__.strip())
-    main(sys.argv[1], int(sys.argv[2]) if len(sys.argv) > 2 else TURNS)
