@@ -4,6 +4,7 @@ use stream_errors::empty::EmptyError;
 use stream_errors::parser_error::ParserError;
 use test_support::refusing::Refusing;
 use example_booleans::booleans::truth;
+use example_booleans::statements::{formula, statement};
 
 /// A formula has this value, or none, and so much of it is left.
 const ROWS: &[(&str, Option<bool>, &str)] = &[
@@ -86,4 +87,32 @@ fn truth_wants_memory(rt: HostRuntime) {
         n += 1;
     }
     assert!(rt; n > 1);
+}
+
+/// A formula as a rule reads what a formula is, and a statement is one with a semicolon behind it.
+#[test]
+fn statements_are_formulas(rt: HostRuntime) {
+    for (text, want, left) in ROWS {
+        let mut input = text.as_bytes();
+        assert_eq!(rt; said(&rt, text, formula(rt.alloc(), &mut input)), *want, "{text:?}");
+        if want.is_some() {
+            assert_eq!(rt; input, left.as_bytes(), "{text:?}");
+        }
+    }
+    let rows: &[(&str, Option<bool>, &str)] = &[
+        ("t;", Some(true), ""),
+        ("!t|t&f'=t;f", Some(true), "f"),
+        ("t", None, ""),
+        ("t,", None, ""),
+        // a second equality is behind the formula, where the semicolon is due
+        ("t=t=f;", None, ""),
+        (";", None, ""),
+    ];
+    for (text, want, left) in rows {
+        let mut input = text.as_bytes();
+        assert_eq!(rt; said(&rt, text, statement(rt.alloc(), &mut input)), *want, "{text:?}");
+        if want.is_some() {
+            assert_eq!(rt; input, left.as_bytes(), "{text:?}");
+        }
+    }
 }

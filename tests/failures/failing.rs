@@ -1,13 +1,19 @@
 //! With which kind parsers fail, and what they leave, as winnow's documentation has it.
 use std::process::Abort;
-use winnow::ascii::impls::{Alpha1, Digit1};
+use winnow::ascii::impls::{
+    Alpha1, Crlf, DecInt, DecUint, Digit1, HexUintParser, LineEnding, Newline, Tab,
+};
+use winnow::binary::impls::{BeI32, BeU16, LeU24};
 use winnow::combinator::impls::{Empty, Fail};
-use winnow::combinator::{alt, backtrack_err, cut_err, delimited, not, opt, peek, preceded, repeat};
+use winnow::combinator::{
+    alt, backtrack_err, cond, cut_err, delimited, not, opt, peek, preceded, repeat,
+};
 use winnow::combinator::{separated_pair, terminated};
 use winnow::error::{EmptyError, ErrMode, ParseFault};
 use winnow::exact::Fails;
 use winnow::stream::Range;
-use winnow::token::{literal, take};
+use winnow::token::{literal, take, take_until};
+use winnow::Parser;
 
 /// What is seen of a call: whether it reads, backtracks or cuts, and how many bytes are left.
 #[derive(Clone, Copy, Debug, PartialEq, Eq)]
@@ -158,4 +164,57 @@ fn places(rt: HostRuntime) {
         };
         assert_eq!(rt; place, *want);
     }
+}
+
+/// Numbers, line ends, searches and integers as bytes fail where they began.
+#[test]
+fn leaves_stay(rt: HostRuntime) {
+    let rows: &[(&[u8], Seen)] = &[(b"x", Backs(1)), (b"256;", Backs(4)), (b"25;", Reads(1))];
+    check::<u8, _>(&rt, DecUint, rows);
+    let rows: &[(&[u8], Seen)] = &[(b"-", Backs(1)), (b"-129", Backs(4)), (b"-128;", Reads(1))];
+    check::<i8, _>(&rt, DecInt, rows);
+    let rows: &[(&[u8], Seen)] = &[(b"", Backs(0)), (b"0ff", Backs(3)), (b"ff;", Reads(1))];
+    check::<u8, _>(&rt, HexUintParser, rows);
+    check(&rt, Newline, &[(b"\r\n", Backs(2)), (b"\nx", Reads(1))]);
+    check(&rt, Tab, &[(b" ", Backs(1)), (b"\tx", Reads(1))]);
+    check(&rt, Crlf, &[(b"\n", Backs(1)), (b"\r", Backs(1)), (b"\r\nx", Reads(1))]);
+    check(&rt, LineEnding, &[(b"\rx", Backs(2)), (b"\nx", Reads(1)), (b"\r\nx", Reads(1))]);
+    let rows: &[(&[u8], Seen)] = &[(b"abc", Backs(3)), (b";", Backs(1)), (b"ab;c", Reads(2))];
+    check(&rt, take_until(Range::from(1..), b";".as_slice()), rows);
+    check(&rt, BeU16, &[(b"a", Backs(1)), (b"abc", Reads(1))]);
+    check(&rt, BeI32, &[(b"abc", Backs(3)), (b"abcd", Reads(0))]);
+    check(&rt, LeU24, &[(b"ab", Backs(2)), (b"abcd", Reads(1))]);
+}
+
+/// What refuses an output of its part backtracks to its start; where the part fails, it fails so.
+#[test]
+fn refusals(rt: HostRuntime) {
+    let rows: &[(&[u8], Seen)] =
+        &[(b"a;", Cuts(1)), (b";", Backs(1)), (b"a1;", Backs(3)), (b"a2;", Reads(1))];
+    let digit = || preceded(b'a', cut_err(Digit1));
+    check(&rt, digit().verify(|digits: &&[u8]| *digits != b"1".as_slice()), rows);
+    let other = |digits: &[u8]| if digits == b"1".as_slice() { None } else { Some(2u8) };
+    check(&rt, digit().verify_map(other), rows);
+    let other = |digits: &[u8]| if digits == b"1".as_slice() { Err(()) } else { Ok(2u8) };
+    check(&rt, digit().try_map(other), rows);
+    let rows: &[(&[u8], Seen)] =
+        &[(b"a;", Cuts(1)), (b";", Backs(1)), (b"a256;", Backs(5)), (b"a2;", Reads(1))];
+    check::<u8, _>(&rt, digit().parse_to(), rows);
+    // A text that the inner parser matches at its front is read.
+    let rows: &[(&[u8], Seen)] =
+        &[(b"a;", Cuts(1)), (b";", Backs(1)), (b"a12;", Backs(4)), (b"a21;", Reads(1))];
+    check(&rt, digit().and_then(literal(b"2".as_slice())), rows);
+}
+
+/// Adapters of outputs and errors fail as their part, and a condition that does not hold never.
+#[test]
+fn passed_on(rt: HostRuntime) {
+    let rows: &[(&[u8], Seen)] = &[(b"a;", Cuts(1)), (b";", Backs(1)), (b"a1;", Reads(1))];
+    let digit = || preceded(b'a', cut_err(Digit1));
+    check::<u8, _>(&rt, digit().default_value(), rows);
+    check(&rt, digit().with_taken(), rows);
+    check(&rt, digit().context(rt.alloc(), "a digit"), rows);
+    check(&rt, cond(true, digit()), rows);
+    let never: &[(&[u8], Seen)] = &[(b"a;", Reads(2)), (b"", Reads(0))];
+    check(&rt, cond(false, digit()), never);
 }

@@ -1,14 +1,13 @@
 -- A value, by what two calls in turn read and between which places.
-use Rattle.std.specs.Prelude.{◌≡◌, ◌+◌, ℕ, List, false, Result, Ok, Err, IfOk}
+use Rattle.std.specs.Prelude.{◌≡◌, ◌+◌, ℕ, false, Result, Ok, Err, IfOk}
 use Rattle.std.specs.declared.ops.Range.{Range}
-use Rattle.std.proofs.Common.{ap, sym, ◌∙◌, arith}
+use Rattle.std.proofs.Common.{ap, ◌∙◌, arith}
 use Rattle.winnow.specs.Exact.{Reads}
 use Rattle.winnow.specs.Grammar.{Grammar}
 use Rattle.winnow.specs.Input.{Input, IsEndOf}
 use Rattle.winnow.specs.Kind.{Kind}
 use Rattle.winnow.specs.Located.{located_reading}
 use Rattle.winnow.specs.Reading.{Reading}
-use Rattle.winnow.specs.Span.{places}
 use Rattle.winnow.specs.Spans.{IsBetween, output_alone}
 use Rattle.example_callers.specs.Places.{IsPlaced}
 
