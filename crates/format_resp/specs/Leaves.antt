@@ -39,7 +39,7 @@ use Rattle.format_resp.specs.declared.leaves.Mark.{Mark}
 
 -- the end of a line, as it is read
 abbrev pub EndRead : Grammar ℕ (Bor (List ℕ))
-EndRead = searches.Text bytes_reading (λ text xs. xs ≡ text.now) (13 ∷ 10 ∷ [])
+EndRead = searches.LiterallyBytes bytes_reading (λ text xs. xs ≡ text.now) (13 ∷ 10 ∷ [])
 
 -- what ends a line is after a text
 ended_of : {O : Type 0} {g : Grammar ℕ O} (text : Text ℕ O) {follow : List ℕ → Type 0}
