@@ -5,6 +5,7 @@ The code is close to that of a proved build, and need not be the same.
 """
 import os
 import pathlib
+import re
 import shutil
 import sys
 import tempfile
@@ -20,7 +21,6 @@ PROGRAM = """//! Calls each export.
 #![tactic(auto)]
 use std::io;
 use std::io::Read;
-{imports}
 
 fn main(rt: HostRuntime) -> io::Result<()> {{
     let mut bytes = Vec::new(rt.alloc());
@@ -49,28 +49,40 @@ def below(crate):
     return {name: on for name, on in lines.items() if name in found}
 
 
+def taken(text):
+    """The structs that a module takes from a crate below `exported`, and hands on."""
+    lists = re.findall(r"^pub use \w+::\w+::\{(.*?)\};", text, re.MULTILINE)
+    return [name for names in lists for name in names.split(", ")]
+
+
 def modules():
-    """The module of each export and of each struct, by its name."""
+    """The module of each export and of each struct, by its name, and of each struct that another
+    module has too, by the module and its name."""
     found = {}
     for file in sorted(SOURCE.glob("*.rt")):
         text = file.read_text(encoding="utf-8")
+        for name in taken(text):
+            found.setdefault(name, file.stem)
+            found[file.stem, name] = file.stem
         found |= {word: file.stem for word in text.replace("(", " ").split() if word.startswith("exported_")}
         found |= {it.split()[2]: file.stem for it in text.splitlines() if it.startswith("pub struct ")}
     return found
 
 
-def nothing(name, structs):
-    """A value of a type whose numbers are 0."""
+def nothing(name, structs, where, module):
+    """A value of a type whose numbers are 0, as this module has it."""
     if name not in structs:
         return "0"
-    inside = ", ".join(f"{it.name}: {nothing(it.parts[0], structs)}" for it in structs[name].parts)
-    return f"{name} {{ {inside} }}"
+    parts = [(it.name, nothing(it.parts[0], structs, where, module)) for it in structs[name].parts]
+    inside = ", ".join(f"{part}: {value}" for part, value in parts)
+    return f"exported::{where.get((module, name), where[name])}::{name} {{ {inside} }}"
 
 
 def call(export, where, structs):
     """The lines that call an export."""
     lines, given = [], []
-    source = (SOURCE / f"{where}.rt").read_text(encoding="utf-8")
+    module = where[f"exported_{export.name}"]
+    source = (SOURCE / f"{module}.rt").read_text(encoding="utf-8")
     if f"fn exported_{export.name}(alloc: Global" in source or f"fn exported_{export.name}(\n    alloc: Global" in source:
         given.append("rt.alloc()")
     for name, written in export.parts:
@@ -81,12 +93,12 @@ def call(export, where, structs):
         elif kind == "pass":
             given.append("1")
         elif kind == "write":
-            lines.append(f"    let mut {local} = [{nothing(inside, structs)}; 2];")
+            lines.append(f"    let mut {local} = [{nothing(inside, structs, where, module)}; 2];")
             given.append(f"&mut {local}")
         else:
-            lines.append(f"    let mut {local} = {nothing(inside, structs)};")
+            lines.append(f"    let mut {local} = {nothing(inside, structs, where, module)};")
             given.append(f"&mut {local}")
-    lines.append(f"    sum = sum ^ exported::{where}::exported_{export.name}({', '.join(given)});")
+    lines.append(f"    sum = sum ^ exported::{module}::exported_{export.name}({', '.join(given)});")
     return "\n".join(lines)
 
 
@@ -113,9 +125,7 @@ def lay(room, exports, structs, where):
     shutil.copyfile(TOP / "HANDLES", room / "HANDLES")
     source = room / "crates/exported_program/src"
     source.mkdir(parents=True)
-    used = sorted({f"use exported::{where[name]}::{name};" for name in structs})
-    calls = "\n".join(call(it, where[f"exported_{it.name}"], structs) for it in exports)
-    text = PROGRAM.format(imports="\n".join(used), calls=calls)
+    text = PROGRAM.format(calls="\n".join(call(it, where, structs) for it in exports))
     (source / "main.rt").write_text(text, encoding="utf-8")
 
 

@@ -9,7 +9,7 @@ FORMATS = {
     "calculator": ["format_calculator"],
     "csv": ["format_csv", "format_csv_records"],
     "dns": ["format_dns"],
-    "http": ["format_http", "format_http_chunked"],
+    "http": ["format_http", "format_http_chunked", "format_http_places"],
     "ini": ["readers", "format_ini"],
     "json": ["format_json"],
     "json_extents": ["format_json_extents"],

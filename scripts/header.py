@@ -43,6 +43,7 @@ KINDS = {
 PLAIN = {"u8": "uint8_t", "u32": "uint32_t", "i64": "int64_t", "usize": "size_t", "bool": "bool"}
 EXPORT = re.compile(r'pub extern "C" fn exported_(\w+)\(\s*(.*?)\s*\)\s*->\s*u32\b', re.DOTALL)
 CONSTANT = re.compile(r"pub const (\w+): (u32|usize) = (\d+);")
+TAKEN = re.compile(r"pub use (\w+)::(\w+)::\{(.*?)\};")
 STRUCT = re.compile(r"pub struct (\w+) \{\n(.*?)\n\}", re.DOTALL)
 
 
@@ -88,7 +89,17 @@ def documented(text):
             for kind, form in (("code", CONSTANT), ("struct", STRUCT), ("export", EXPORT)):
                 if found := form.match(rest):
                     yield kind, found, words
+            if found := TAKEN.match(rest):
+                yield from structs_of(*found.groups())
             words = []
+
+
+def structs_of(crate, module, names):
+    """The structs of these names that a module of a crate below `exported` has."""
+    text = (TOP / f"crates/{crate}/src/{module}.rt").read_text(encoding="utf-8")
+    for kind, found, words in documented(text):
+        if kind == "struct" and found[1] in names.split(", "):
+            yield kind, found, words[:words.index("```") - 1] if "```" in words else words
 
 
 def items():
@@ -101,7 +112,12 @@ def items():
                 put = codes if found[2] == "u32" else constants
                 put.append(Item(found[1], words, [found[3]]))
             elif kind == "struct":
-                structs.append(Item(found[1], words, list(fields(found[2]))))
+                made = Item(found[1], words, list(fields(found[2])))
+                of_name = [it for it in structs if it.name == made.name]
+                if any([part.parts for part in it.parts] != [part.parts for part in made.parts]
+                       for it in of_name):
+                    raise SystemExit(f"two structs {made.name} differ")
+                structs += [] if of_name else [made]
             else:
                 made = [it for it in pairs(found[2]) if it[1].rstrip(",") != "Global"]
                 exports.append(Item(found[1], words, [(n, t.rstrip(",")) for n, t in made]))

@@ -86,7 +86,7 @@ uint32_t exported_text_position(
     size_t offset,
     struct pergidau_position *out);
 
-const char pergidau_0_0_0_declared_98f056c0 = 0;
+const char pergidau_0_0_0_declared_3e8857e2 = 0;
 
 const char *pergidau_version(void)
 {

@@ -37,10 +37,10 @@ extern "C" {
  * includes this header refers to it, so that it links with no other library. Define
  * PERGIDAU_NO_LINK_CHECK before the header for a file that is not linked with the library.
  */
-extern const char pergidau_0_0_0_declared_98f056c0;
+extern const char pergidau_0_0_0_declared_3e8857e2;
 #if defined(__GNUC__) && !defined(PERGIDAU_NO_LINK_CHECK)
 __attribute__((__used__, __unused__)) static const char *const pergidau_linked =
-    &pergidau_0_0_0_declared_98f056c0;
+    &pergidau_0_0_0_declared_3e8857e2;
 #endif
 
 /* The version of the library that is linked, as PERGIDAU_VERSION is written. */
@@ -66,7 +66,7 @@ enum pergidau_code {
     PERGIDAU_NO_TEXT = 4,
     /*
      * The buffer has too few entries. How many are wanted is written, and the buffer is left
-     * as it was.
+     * as it was, where the function does not say otherwise.
      */
     PERGIDAU_TOO_SMALL = 5,
     /* More levels are asked for than PERGIDAU_MOST_LEVELS. */
@@ -176,6 +176,8 @@ struct pergidau_head {
     size_t fields;
     /* How many bytes the head has, the empty line after the fields among them. */
     size_t length;
+    /* Where the bytes are refused: how many stand before the place. Else 0. */
+    size_t place;
     /* The number before the point of the version, below 10. */
     uint8_t major;
     /* The number after the point of the version, below 10. */
@@ -359,14 +361,15 @@ enum pergidau_code pergidau_csv_record_in_pieces(
  * field lines one after the other, and an empty line. What stands after it is not looked at.
  *
  * PERGIDAU_DONE: the places of its parts are written, and of that many fields, in order.
- * PERGIDAU_REFUSED: the bytes begin with no head. PERGIDAU_TOO_SMALL: they begin with one that
- * has more fields than the buffer has entries; how many it has is written, and the buffer is
- * left as it was. PERGIDAU_NO_MEMORY.
+ * PERGIDAU_REFUSED: the bytes begin with no head; written is the first place at which none
+ * goes on, which is their end where they end within one. PERGIDAU_TOO_SMALL: they begin with
+ * one that has more fields than the buffer has entries; how many it has is written. Where it
+ * does not answer PERGIDAU_DONE, any entry of the buffer may be written: the fields are
+ * written as they are read.
  *
  * No empty line is passed before the request line: a server that is to be lenient, as section
- * 2.2 of RFC 9112 has it, passes one CRLF there itself. While it runs it holds up to 32 bytes
- * of memory for each byte of the head, also where it then answers PERGIDAU_REFUSED or
- * PERGIDAU_TOO_SMALL.
+ * 2.2 of RFC 9112 has it, passes one CRLF there itself. The bytes are read once, and no memory
+ * is asked for.
  *
  * The caller owes bytes_length bytes at bytes that can be read and that nothing changes while
  * the call runs, fields_length entries at fields that can be written, room for one head at
@@ -382,11 +385,13 @@ enum pergidau_code pergidau_http_head(
 /*
  * The same head where the bytes come in pieces: it answers as soon as the empty line is there.
  *
- * PERGIDAU_DONE, PERGIDAU_TOO_SMALL, PERGIDAU_NO_MEMORY: as for a head that is whole.
- * PERGIDAU_INCOMPLETE: the bytes begin with no head, and with more after them they can.
- * PERGIDAU_REFUSED: whatever comes after the bytes, they begin with no head.
+ * PERGIDAU_DONE, PERGIDAU_TOO_SMALL: as for a head that is whole. PERGIDAU_INCOMPLETE: the
+ * bytes begin with no head, and with more after them they can. PERGIDAU_REFUSED: whatever
+ * comes after the bytes, they begin with no head; written is the first place at which none
+ * goes on: with the bytes before it a head can begin, and with these and the byte there none
+ * does.
  *
- * Each call reads from the first byte on, and holds as much memory as that for a whole head.
+ * Each call reads from the first byte on.
  *
  * The caller owes bytes_length bytes at bytes that can be read and that nothing changes while
  * the call runs, fields_length entries at fields that can be written, room for one head at

@@ -172,13 +172,9 @@ static void read_head(const uint8_t *bytes, size_t length)
     /* The last entry ends where the room does. */
     uint8_t *start = buffer_room + PAGES * page - size;
     struct pergidau_field *fields = (struct pergidau_field *)(void *)start;
-    memset(start, 0xab, size);
     enum pergidau_code code = pergidau_http_head(bytes, length, fields, count, &out);
     if (code == PERGIDAU_TOO_SMALL) {
         HOLDS(out.fields > count);
-        for (size_t i = 0; i < size; i++) {
-            HOLDS(start[i] == 0xab);
-        }
         HOLDS(out.fields <= MOST_FIELDS);
         count = out.fields;
         fields = (struct pergidau_field *)(void *)(buffer_room + PAGES * page
@@ -209,6 +205,13 @@ static void read_head(const uint8_t *bytes, size_t length)
         HOLDS(code == PERGIDAU_REFUSED);
         code = pergidau_http_head_in_pieces(bytes, length, fields, count, &cut);
         HOLDS(code == PERGIDAU_REFUSED || code == PERGIDAU_INCOMPLETE);
+        HOLDS(out.place == (code == PERGIDAU_REFUSED ? cut.place : length));
+        /* What is before the place can become a head, and with the byte there it cannot. */
+        HOLDS(pergidau_http_head_in_pieces(bytes, out.place, fields, count, &cut)
+              == PERGIDAU_INCOMPLETE);
+        HOLDS(code == PERGIDAU_INCOMPLETE
+              || pergidau_http_head_in_pieces(bytes, out.place + 1, fields, count, &cut)
+                     == PERGIDAU_REFUSED);
     }
 }
 

@@ -409,14 +409,17 @@ static const struct {
      1},
 };
 
-/* With more behind them these are no heads either. */
-static const char *no_heads[] = {
-    "\r\nA b HTTP/1.1\r\n\r\n",          "A  b HTTP/1.1\r\n\r\n",
-    "A b HTTP/1.1\n\n",                  "A b HTTP/1.1\r\n\n",
-    "A b HTTP/1.1\r\n\r\r\n",            "A b HTTP/1.1\r\nX: 1\r\n\n",
-    "A b HTTP/1.1\r\nX: 1\n\r\n",        "A b HTTP/1.1\r\n X: 1\r\n\r\n",
-    "A b HTTP/1.1\r\nX: 1\r\n 2\r\n\r\n", "A b HTTP/1.1\r\nX : 1\r\n\r\n",
-    "A b HTTP/1.1\r\nX\r\n\r\n",         "A b HTTP/1.1\r\nX: 1\r\n: 2\r\n\r\n",
+/* With more behind them these are no heads either: what begins one, and what cannot go on there. */
+static const char *no_heads[][2] = {
+    {"", "\r\nA b HTTP/1.1\r\n\r\n"},     {"A ", " b HTTP/1.1\r\n\r\n"},
+    {"A b HTTP/1.1", "\n\n"},             {"A b HTTP/1.1\r\n", "\n"},
+    {"A b HTTP/1.1\r\n\r", "\r\n"},      {"A b HTTP/1.1\r\nX: 1\r\n", "\n"},
+    {"A b HTTP/1.1\r\nX: 1", "\n\r\n"},  {"A b HTTP/1.1\r\n", " X: 1\r\n\r\n"},
+    {"A b HTTP/1.1\r\nX: 1\r\n", " 2\r\n\r\n"},
+    {"A b HTTP/1.1\r\nX", " : 1\r\n\r\n"}, {"A b HTTP/1.1\r\nX", "\r\n\r\n"},
+    {"A b HTTP/1.1\r\nX: 1\r\n", ": 2\r\n\r\n"},
+    {"A b HTTP", " 1.1\r\n\r\n"},         {"A b HTTP/1.", "x\r\n\r\n"},
+    {"A b HTTP/1", "-1\r\n\r\n"},         {"A b HTTP/1.1\r\nX: a", "\1b\r\n\r\n"},
 };
 
 static void test_heads(void)
@@ -456,6 +459,7 @@ static void test_heads(void)
             uint8_t *front = copied(row, end);
             same("a beginning", row, pergidau_http_head(front, end, fields, count, &out),
                  PERGIDAU_REFUSED);
+            same("its end", row, (long long)out.place, (long long)end);
             same("a piece", row, pergidau_http_head_in_pieces(front, end, fields, count, &out),
                  PERGIDAU_INCOMPLETE);
             free(front);
@@ -465,12 +469,15 @@ static void test_heads(void)
     }
     for (size_t i = 0; i < sizeof no_heads / sizeof *no_heads; i++) {
         struct pergidau_field fields[4];
-        size_t length = strlen(no_heads[i]);
-        uint8_t *text = copied(no_heads[i], length);
-        same("no head", no_heads[i], pergidau_http_head(text, length, fields, 4, &out),
+        char row[64];
+        size_t place = strlen(no_heads[i][0]);
+        size_t length = (size_t)snprintf(row, sizeof row, "%s%s", no_heads[i][0], no_heads[i][1]);
+        uint8_t *text = copied(row, length);
+        same("no head", row, pergidau_http_head(text, length, fields, 4, &out), PERGIDAU_REFUSED);
+        same("the place", row, (long long)out.place, (long long)place);
+        same("no head", row, pergidau_http_head_in_pieces(text, length, fields, 4, &out),
              PERGIDAU_REFUSED);
-        same("no head", no_heads[i], pergidau_http_head_in_pieces(text, length, fields, 4, &out),
-             PERGIDAU_REFUSED);
+        same("the place", row, (long long)out.place, (long long)place);
         free(text);
     }
 }

@@ -66,6 +66,8 @@ READERS = [
     ("HTTP/1.1 chunked bodies, in pieces", "format_http_chunked", "no",
         "the content and the trailers of the body that the bytes of all calls begin, where it ends, "
         "or the first byte with which none goes on"),
+    ("HTTP/1.1 heads, as places", "format_http_places", "no",
+        "the places of the parts of a head, or where no head goes on, or that the bytes end within one"),
     ("DNS: headers, compressed names, questions", "format_dns", "names",
         "the header, and which part is missing; the name at a place, and questions, or why and where "
         "none is"),

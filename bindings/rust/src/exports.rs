@@ -19,7 +19,7 @@ pub const NO_MEMORY: u32 = 3;
 pub const NO_TEXT: u32 = 4;
 
 /// The buffer has too few entries. How many are wanted is written, and the buffer is left as it
-/// was.
+/// was, where the function does not say otherwise.
 pub const TOO_SMALL: u32 = 5;
 
 /// More levels are asked for than `MOST_LEVELS`.
@@ -132,6 +132,8 @@ pub struct Head {
     pub fields: usize,
     /// How many bytes the head has, the empty line after the fields among them.
     pub length: usize,
+    /// Where the bytes are refused: how many stand before the place. Else 0.
+    pub place: usize,
     /// The number before the point of the version, below 10.
     pub major: u8,
     /// The number after the point of the version, below 10.
@@ -231,7 +233,7 @@ pub struct Position {
 
 extern "C" {
     /// Stands in a library of this version and with these declarations alone.
-    #[link_name = "pergidau_0_0_0_declared_98f056c0"]
+    #[link_name = "pergidau_0_0_0_declared_3e8857e2"]
     static VERSION_LINKED: c_char;
 
     /// The version of the library that is linked.
@@ -325,12 +327,14 @@ extern "C" {
     /// lines one after the other, and an empty line. What stands after it is not looked at.
     ///
     /// `DONE`: the places of its parts are written, and of that many fields, in order. `REFUSED`: the
-    /// bytes begin with no head. `TOO_SMALL`: they begin with one that has more fields than the buffer
-    /// has entries; how many it has is written, and the buffer is left as it was. `NO_MEMORY`.
+    /// bytes begin with no head; written is the first place at which none goes on, which is their end
+    /// where they end within one. `TOO_SMALL`: they begin with one that has more fields than the buffer
+    /// has entries; how many it has is written. Where it does not answer `DONE`, any entry of the
+    /// buffer may be written: the fields are written as they are read.
     ///
     /// No empty line is passed before the request line: a server that is to be lenient, as section 2.2
-    /// of RFC 9112 has it, passes one CRLF there itself. While it runs it holds up to 32 bytes of
-    /// memory for each byte of the head, also where it then answers `REFUSED` or `TOO_SMALL`.
+    /// of RFC 9112 has it, passes one CRLF there itself. The bytes are read once, and no memory is
+    /// asked for.
     ///
     /// The caller owes `bytes_length` bytes at `bytes` that can be read and that nothing changes while
     /// the call runs, `fields_length` entries at `fields` that can be written, room for one head at
@@ -345,11 +349,12 @@ extern "C" {
 
     /// The same head where the bytes come in pieces: it answers as soon as the empty line is there.
     ///
-    /// `DONE`, `TOO_SMALL`, `NO_MEMORY`: as for a head that is whole. `INCOMPLETE`: the bytes begin
-    /// with no head, and with more after them they can. `REFUSED`: whatever comes after the bytes,
-    /// they begin with no head.
+    /// `DONE`, `TOO_SMALL`: as for a head that is whole. `INCOMPLETE`: the bytes begin with no head,
+    /// and with more after them they can. `REFUSED`: whatever comes after the bytes, they begin with
+    /// no head; written is the first place at which none goes on: with the bytes before it a head can
+    /// begin, and with these and the byte there none does.
     ///
-    /// Each call reads from the first byte on, and holds as much memory as that for a whole head.
+    /// Each call reads from the first byte on.
     ///
     /// The caller owes `bytes_length` bytes at `bytes` that can be read and that nothing changes while
     /// the call runs, `fields_length` entries at `fields` that can be written, room for one head at

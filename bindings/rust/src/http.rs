@@ -14,7 +14,7 @@
 pub use crate::exports::Field;
 
 use crate::exports;
-use crate::{at, Error, Wanted};
+use crate::{at, Error, Place, Wanted};
 
 /// The head of a request: its parts, as slices of the bytes that were read.
 #[derive(Clone, Copy, Debug)]
@@ -69,14 +69,17 @@ fn read<'i, 'f>(
     let code = unsafe { export(bytes.as_ptr(), bytes.len(), entries, count, &mut places) };
     match code {
         exports::DONE => Ok(Head { bytes, places, fields: &fields[..places.fields] }),
-        code => Err(Error::of(code, None, Wanted { entries: places.fields, bytes: 0 })),
+        code => {
+            let wanted = Wanted { entries: places.fields, bytes: 0 };
+            Err(Error::of(code, Some(Place::of(bytes, places.place)), wanted))
+        }
     }
 }
 
 /// The head of a request of HTTP/1.1 (RFC 9112) with which the bytes begin. The places of its fields
-/// are written into `fields`; where these are too few, the error says how many are wanted. No empty
-/// line is passed before the request line. While it runs it holds up to 32 bytes of memory for each
-/// byte of the head.
+/// are written into `fields`; where these are too few, the error says how many are wanted. Where the
+/// bytes begin with no head, the error says the first place at which none goes on. At an error any
+/// entry may be written. No empty line is passed before the request line. No memory is asked for.
 ///
 /// ```
 /// let mut fields = [pergidau::http::Field::default(); 16];
@@ -90,7 +93,8 @@ pub fn head<'i, 'f>(bytes: &'i [u8], fields: &'f mut [Field]) -> Result<Head<'i,
 }
 
 /// The same head where the bytes come in pieces: [`Error::Incomplete`] says that with more bytes
-/// after them they can begin with one, and [`Error::Refused`] that they cannot.
+/// after them they can begin with one, and [`Error::Refused`] that they cannot, and the first place
+/// at which none goes on.
 ///
 /// ```
 /// let head = pergidau::http::head_in_pieces(b"GET / HTT", &mut []);

@@ -178,7 +178,9 @@ fn http_head_of_requests() {
     for end in 0..whole {
         let piece = http::head_in_pieces(&HELLO[..end], &mut fields);
         assert_eq!(piece.unwrap_err(), Error::Incomplete, "{end}");
-        assert_eq!(http::head(&HELLO[..end], &mut fields).unwrap_err(), Error::Refused(None));
+        let place = Place::of(&HELLO[..end], end);
+        let short = http::head(&HELLO[..end], &mut fields).unwrap_err();
+        assert_eq!(short, Error::Refused(Some(place)), "{end}");
     }
     assert!(http::head_in_pieces(&HELLO[..whole], &mut fields).is_ok());
     let small = http::head(HELLO, &mut fields[..2]).unwrap_err();
@@ -188,7 +190,8 @@ fn http_head_of_requests() {
         assert_eq!(http::head_in_pieces(request, &mut []).unwrap().version(), version);
     }
     let never = http::head_in_pieces(b"GET  / HTTP/1.1\r\n", &mut fields);
-    assert_eq!(never.unwrap_err(), Error::Refused(None));
+    let place = Place { offset: 4, line: 1, column: 5 };
+    assert_eq!(never.unwrap_err(), Error::Refused(Some(place)));
 }
 
 /// How many bytes stand before the place of a refusal.

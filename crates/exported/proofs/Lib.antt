@@ -1,11 +1,8 @@
 pub mod Entries
 pub mod ErrorKinds
 pub mod Extent
-pub mod Gaps
-pub mod Heads
 pub mod Items
-pub mod Lines
 pub mod Pieces
-pub mod Places
 pub mod Records
+pub mod Refusals
 pub mod Replies

@@ -1,66 +1,23 @@
--- Where the parts of a head stand.
-use Rattle.std.specs.Prelude.{◌≡◌, ◌+◌, ℕ, List, [], ◌∷◌, ◌++◌, length}
-use Rattle.std.specs.List.{All}
-use Rattle.format_http.specs.Heads.Bytes.{IsWhite, line_end}
-use Rattle.format_http.specs.Heads.FieldLine.{BeginsBare, IsFieldLine}
-use Rattle.format_http.specs.Heads.Head.{IsHead, Pair, Request}
-use Rattle.format_http.specs.Heads.RequestLine.{digits, protocol}
-use Rattle.exported.specs.Span.{StandsAt}
-use Rattle.exported.specs.declared.http.Field.{Field}
+-- Heads of requests as callers see them.
+use Rattle.std.specs.Prelude.{◌≡◌, ◌⊎◌, ℕ, List, length}
+use Rattle.format_http.specs.Pieces.Head.{BeginsHead}
+use Rattle.format_http_places.specs.Refusals.{IsRefused, NoneRead}
+use Rattle.format_http_places.specs.declared.places.Head.{Head as Places}
 use Rattle.exported.specs.declared.http.Head.{Head}
 
--- The rest is what stands after the spaces and tabs that come first.
-pub record IsBehindGap (rest bytes : List ℕ) : Type 0 where
-  pub white : List ℕ
-  pub splits : bytes ≡ white ++ rest
-  pub is_white : All IsWhite white
-  pub bare : BeginsBare rest
+-- the places of a head
+abbrev pub places_of : Head → Places
+places_of head = record {
+  method = head.method;
+  target = head.target;
+  fields = head.fields;
+  length = head.length;
+  major = head.major;
+  minor = head.minor;
+}
 
--- what stands in a request line after the target, and then comes the rest
-abbrev pub version_on : ℕ → ℕ → List ℕ → List ℕ
-version_on major minor rest = protocol ++ (digits major minor ++ (line_end ++ rest))
-
--- The line of a field is first there, and then comes the rest. Its name and its value stand in that
--- line at these places of the input, a value that has no bytes at the end of the line.
-pub record ShowsField (input : List ℕ) (place : Field) (field : Pair) (line rest : List ℕ)
-    : Type 0 where
-  pub is_line : IsFieldLine field.0 field.1 line rest
-  pub name : StandsAt input place.name field.0
-      (58 ∷ (is_line.before ++ (field.1 ++ (is_line.behind ++ (line_end ++ rest)))))
-  pub value : StandsAt input place.value field.1 (is_line.behind ++ (line_end ++ rest))
-  pub at_end : field.1 ≡ [] → is_line.behind ≡ []
-
--- The lines are those of these fields, one after the other, and then comes the rest. Each field
--- stands in its own line, at the places of its number.
-abbrev pub AreShown : List ℕ → List ℕ → List Field → List Pair → List ℕ → Type 0
-AreShown input lines [] [] rest = lines ≡ rest
-AreShown input lines [] (f ∷ fields) rest = ⊥
-AreShown input lines (p ∷ places) [] rest = ⊥
-AreShown input lines (p ∷ places) (f ∷ fields) rest =
-    (behind : List ℕ) × ShowsField input p f lines behind
-    × AreShown input behind places fields rest
-
--- The input begins with a head, whose parts stand at these places: the method before a space and
--- the target, the target before the version, and each field in its own line, after these.
-pub record ShowsHead (input : List ℕ) (head : Head) (places : List Field) : Type 0 where
-  pub line : Request
-  pub fields : List Pair
-  pub rest : List ℕ
-  pub is_head : IsHead line fields input rest
-  pub method : StandsAt input head.method line.method
-      (32 ∷ (line.target ++ version_on line.major line.minor is_head.behind))
-  pub target : StandsAt input head.target line.target
-      (version_on line.major line.minor is_head.behind)
-  pub major : head.major ≡ line.major
-  pub minor : head.minor ≡ line.minor
-  pub count : head.fields ≡ length fields
-  pub are_shown : AreShown input is_head.behind places fields (line_end ++ rest)
-  pub ends : head.length + length rest ≡ length input
-
--- The input begins with a head of that many fields.
-pub record IsWanted (input : List ℕ) (count : ℕ) : Type 0 where
-  pub line : Request
-  pub fields : List Pair
-  pub rest : List ℕ
-  pub is_head : IsHead line fields input rest
-  pub counts : count ≡ length fields
+-- The bytes begin with no head: at this place none goes on, or it is their end, and they end
+-- within one.
+abbrev pub IsNoHead : List ℕ → ℕ → Type 0
+IsNoHead bytes place = IsRefused bytes place
+    ⊎ ((place ≡ length bytes) × BeginsHead bytes × NoneRead bytes)

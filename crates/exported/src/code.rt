@@ -16,7 +16,7 @@ pub const NO_MEMORY: u32 = 3;
 pub const NO_TEXT: u32 = 4;
 
 /// The buffer has too few entries. How many are wanted is written, and the buffer is left as it
-/// was.
+/// was, where the function does not say otherwise.
 pub const TOO_SMALL: u32 = 5;
 
 /// More levels are asked for than `MOST_LEVELS`.

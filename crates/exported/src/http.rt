@@ -1,33 +1,17 @@
 //! The heads of requests.
 
-ghost use Rattle.std.specs.Prelude.{◌≡◌, ◌⊎◌, ◌<◌, List, length, map, take, ℕ};
-ghost use Rattle.format_http.specs.Heads.Head.{IsHead, Pair, Request, pair, request};
+ghost use Rattle.std.specs.Prelude.{◌≡◌, ◌⊎◌, ◌<◌, List, length, take, ℕ};
+ghost use Rattle.format_http.specs.Heads.Head.{IsHead, Pair, Request};
 ghost use Rattle.format_http.specs.Pieces.Head.{BeginsHead, NoHead};
-ghost use Rattle.exported.specs.Code.{done, incomplete, no_memory, refused, too_small};
-ghost use Rattle.exported.specs.Http.{IsWanted, ShowsHead};
+ghost use Rattle.format_http_places.specs.Places.{IsWanted, ShowsHead};
+ghost use Rattle.format_http_places.specs.Refusals.{IsRefused};
+ghost use Rattle.exported.specs.Code.{done, incomplete, refused, too_small};
+ghost use Rattle.exported.specs.Http.{IsNoHead, places_of};
 
-pub mod places;
-
-use crate::code::{DONE, INCOMPLETE, NO_MEMORY, REFUSED, TOO_SMALL};
-use crate::http::places::{place_fields, request_at};
-use crate::span::{NOWHERE, Span};
-use format_http::heads::head;
-use format_http::heads::head::read_head;
-use format_http::pieces::head::read_head_in_pieces;
-use std::alloc::Global;
-use winnow::error::ParserError;
-use winnow::stream::Partial;
-
-/// The places of a field.
-#[repr(C)]
-#[derive(Clone, Copy, Drop)]
-pub struct Field {
-    /// The name.
-    pub name: Span,
-    /// The value, without the white space round it. One without bytes stands at the end of its
-    /// line.
-    pub value: Span,
-}
+use crate::code::{DONE, INCOMPLETE, REFUSED, TOO_SMALL};
+use format_http_places::places;
+pub use format_http_places::places::{Field, Span};
+use format_http_places::read::{HeadError, read_head_into};
 
 /// The places of the parts of a head.
 #[repr(C)]
@@ -41,138 +25,145 @@ pub struct Head {
     pub fields: usize,
     /// How many bytes the head has, the empty line after the fields among them.
     pub length: usize,
+    /// Where the bytes are refused: how many stand before the place. Else 0.
+    pub place: usize,
     /// The number before the point of the version, below 10.
     pub major: u8,
     /// The number after the point of the version, below 10.
     pub minor: u8,
 }
 
-/// The head of nothing.
-const NONE: Head = Head {
-    method: NOWHERE,
-    target: NOWHERE,
-    fields: 0,
-    length: 0,
-    major: 0,
-    minor: 0,
-};
-
-/// Writes the places of a head, after which that many bytes are left, where there is room for them.
-fn write_head(
-    bytes: &[u8],
-    found: &head::Head<'_, Global>,
-    left: usize,
-    fields: &mut [Field],
-    out: &mut Head,
-) -> u32
-    requires { (rest : List ℕ) × IsHead (request found.now.line)
-        (map pair found.now.fields.items) bytes.now rest × (length rest ≡ left) }
-    ensures head { result ≡ done → ShowsHead bytes.now out.new (take out.new.fields fields.new) }
-    ensures small { result ≡ too_small → IsWanted bytes.now out.new.fields
-        × (length fields.old < out.new.fields) × (fields.new ≡ fields.old) }
-    ensures codes { (result ≡ done) ⊎ (result ≡ too_small) }
+/// The head of nothing, with a number of fields and the place of a refusal.
+fn none(fields: usize, place: usize) -> Head
+    ensures fields { result.fields ≡ fields }
+    ensures place { result.place ≡ place }
 {
-    let count = found.fields.len();
-    out.fields = count;
-    if fields.len() < count {
-        return TOO_SMALL;
-    }
-    let (method, target, lines) = request_at(bytes, &found.line);
-    place_fields(bytes, lines, &found.fields, &mut fields[..count]);
-    *out = Head {
-        method,
-        target,
-        fields: count,
-        length: bytes.len() - left,
-        major: found.line.major,
-        minor: found.line.minor,
+    let nowhere = Span {
+        offset: 0,
+        length: 0,
     };
-    DONE
+    Head {
+        method: nowhere,
+        target: nowhere,
+        fields,
+        length: 0,
+        place,
+        major: 0,
+        minor: 0,
+    }
+}
+
+/// A head that was found.
+fn head_of(found: places::Head) -> Head
+    ensures places { places_of result ≡ found }
+    ensures place { result.place ≡ 0 }
+{
+    Head {
+        method: found.method,
+        target: found.target,
+        fields: found.fields,
+        length: found.length,
+        place: 0,
+        major: found.major,
+        minor: found.minor,
+    }
 }
 
 /// The head of a request of HTTP/1.1 (RFC 9112) with which the bytes begin: a request line, field
 /// lines one after the other, and an empty line. What stands after it is not looked at.
 ///
 /// `DONE`: the places of its parts are written, and of that many fields, in order. `REFUSED`: the
-/// bytes begin with no head. `TOO_SMALL`: they begin with one that has more fields than the buffer
-/// has entries; how many it has is written, and the buffer is left as it was. `NO_MEMORY`.
+/// bytes begin with no head; written is the first place at which none goes on, which is their end
+/// where they end within one. `TOO_SMALL`: they begin with one that has more fields than the buffer
+/// has entries; how many it has is written. Where it does not answer `DONE`, any entry of the
+/// buffer may be written: the fields are written as they are read.
 ///
 /// No empty line is passed before the request line: a server that is to be lenient, as section 2.2
-/// of RFC 9112 has it, passes one CRLF there itself. While it runs it holds up to 32 bytes of
-/// memory for each byte of the head, also where it then answers `REFUSED` or `TOO_SMALL`.
+/// of RFC 9112 has it, passes one CRLF there itself. The bytes are read once, and no memory is
+/// asked for.
 ///
 /// The caller owes `bytes_length` bytes at `bytes` that can be read and that nothing changes while
 /// the call runs, `fields_length` entries at `fields` that can be written, room for one head at
 /// `out`, each apart from the others, and 16 KiB of stack.
 #[unsafe(no_mangle)]
-pub extern "C" fn exported_http_head(
-    alloc: Global,
-    bytes: &[u8],
-    fields: &mut [Field],
-    out: &mut Head,
-) -> u32
-    ensures head { result ≡ done → ShowsHead bytes.now out.new (take out.new.fields fields.new) }
+pub extern "C" fn exported_http_head(bytes: &[u8], fields: &mut [Field], out: &mut Head) -> u32
+    ensures head { result ≡ done
+        → ShowsHead bytes.now (places_of out.new) (take out.new.fields fields.new) }
     ensures small { result ≡ too_small → IsWanted bytes.now out.new.fields
-        × (length fields.old < out.new.fields) × (fields.new ≡ fields.old) }
+        × (length fields.old < out.new.fields) }
     ensures refused { result ≡ refused → (line : Request) (pairs : List Pair) (rest : List ℕ)
         → IsHead line pairs bytes.now rest → ⊥ }
-    ensures codes { (result ≡ done) ⊎ ((result ≡ too_small) ⊎ ((result ≡ refused)
-        ⊎ (result ≡ no_memory))) }
+    ensures place { result ≡ refused → IsNoHead bytes.now out.new.place }
+    ensures nowhere { (result ≡ refused → ⊥) → out.new.place ≡ 0 }
+    ensures codes { (result ≡ done) ⊎ ((result ≡ too_small) ⊎ (result ≡ refused)) }
 {
-    *out = NONE;
-    let mut left = bytes;
-    match read_head(alloc, &mut left) {
-        Ok(found) => write_head(bytes, &found, left.len(), fields, out),
-        Err(error) => {
-            if ParserError::<&[u8]>::is_memory(&error) {
-                NO_MEMORY
-            } else {
-                REFUSED
-            }
+    match read_head_into(bytes, fields) {
+        Ok(found) => {
+            *out = head_of(found);
+            DONE
+        }
+        Err(HeadError::TooManyFields(count)) => {
+            *out = none(count, 0);
+            TOO_SMALL
+        }
+        Err(HeadError::Incomplete) => {
+            *out = none(0, bytes.len());
+            REFUSED
+        }
+        Err(HeadError::Refused(place)) => {
+            *out = none(0, place);
+            REFUSED
         }
     }
 }
 
 /// The same head where the bytes come in pieces: it answers as soon as the empty line is there.
 ///
-/// `DONE`, `TOO_SMALL`, `NO_MEMORY`: as for a head that is whole. `INCOMPLETE`: the bytes begin
-/// with no head, and with more after them they can. `REFUSED`: whatever comes after the bytes,
-/// they begin with no head.
+/// `DONE`, `TOO_SMALL`: as for a head that is whole. `INCOMPLETE`: the bytes begin with no head,
+/// and with more after them they can. `REFUSED`: whatever comes after the bytes, they begin with
+/// no head; written is the first place at which none goes on: with the bytes before it a head can
+/// begin, and with these and the byte there none does.
 ///
-/// Each call reads from the first byte on, and holds as much memory as that for a whole head.
+/// Each call reads from the first byte on.
 ///
 /// The caller owes `bytes_length` bytes at `bytes` that can be read and that nothing changes while
 /// the call runs, `fields_length` entries at `fields` that can be written, room for one head at
 /// `out`, each apart from the others, and 16 KiB of stack.
 #[unsafe(no_mangle)]
 pub extern "C" fn exported_http_head_in_pieces(
-    alloc: Global,
     bytes: &[u8],
     fields: &mut [Field],
     out: &mut Head,
 ) -> u32
-    ensures head { result ≡ done → ShowsHead bytes.now out.new (take out.new.fields fields.new) }
+    ensures head { result ≡ done
+        → ShowsHead bytes.now (places_of out.new) (take out.new.fields fields.new) }
     ensures small { result ≡ too_small → IsWanted bytes.now out.new.fields
-        × (length fields.old < out.new.fields) × (fields.new ≡ fields.old) }
+        × (length fields.old < out.new.fields) }
     ensures refused { result ≡ refused → NoHead bytes.now }
+    ensures place { result ≡ refused → IsRefused bytes.now out.new.place }
+    ensures nowhere { (result ≡ refused → ⊥) → out.new.place ≡ 0 }
     ensures incomplete { result ≡ incomplete → BeginsHead bytes.now
         × ((line : Request) (pairs : List Pair) (rest : List ℕ)
         → IsHead line pairs bytes.now rest → ⊥) }
     ensures codes { (result ≡ done) ⊎ ((result ≡ too_small) ⊎ ((result ≡ refused)
-        ⊎ ((result ≡ incomplete) ⊎ (result ≡ no_memory)))) }
+        ⊎ (result ≡ incomplete))) }
 {
-    *out = NONE;
-    let mut pieces = Partial::new(bytes);
-    match read_head_in_pieces(alloc, &mut pieces) {
-        Ok(found) => write_head(bytes, &found, pieces.into_inner().len(), fields, out),
-        Err(error) => {
-            if ParserError::<Partial<&[u8]>>::is_memory(&error) {
-                NO_MEMORY
-            } else if ParserError::<Partial<&[u8]>>::is_incomplete(&error) {
-                INCOMPLETE
-            } else {
-                REFUSED
-            }
+    match read_head_into(bytes, fields) {
+        Ok(found) => {
+            *out = head_of(found);
+            DONE
+        }
+        Err(HeadError::TooManyFields(count)) => {
+            *out = none(count, 0);
+            TOO_SMALL
+        }
+        Err(HeadError::Incomplete) => {
+            *out = none(0, 0);
+            INCOMPLETE
+        }
+        Err(HeadError::Refused(place)) => {
+            *out = none(0, place);
+            REFUSED
         }
     }
 }

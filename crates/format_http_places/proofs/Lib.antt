@@ -1,0 +1,9 @@
+pub mod Behind
+pub mod Counts
+pub mod Heads
+pub mod Lines
+pub mod Passed
+pub mod Shown
+pub mod Sixteen
+pub mod Tests
+pub mod Trimmed

@@ -1,0 +1,388 @@
+-- The lines of heads as languages.
+use Rattle.std.proofs.Common.{◌≡◌, ◌∙◌, ◌<◌, ◌+◌, ◌++◌, ◌∷◌, [], ap, ℕ, zero, suc, List}
+use Rattle.std.proofs.Common.{length, sym, subst, arith, inl, inr, refl, append_assoc}
+use Rattle.std.specs.Prelude.{⊤}
+use Rattle.std.proofs.lemmas.List.Elements.{All-append, All-weaker}
+use Rattle.std.specs.List.{All}
+use Rattle.std.proofs.lemmas.List.{append-nil}
+use Rattle.format_http.specs.Heads.Bytes.{IsDigit, IsTokenByte, IsValueByte, IsVisible, IsWhite}
+use Rattle.format_http.specs.Heads.Bytes.{line_end}
+use Rattle.format_http.specs.Heads.FieldLine.{IsFieldLine}
+use Rattle.format_http.specs.Heads.RequestLine.{IsRequestLine, digits}
+use Rattle.format_http_places.specs.Grammar.{Byte, Differs, FieldsText, HeadText, Language}
+use Rattle.format_http_places.specs.Grammar.{LineText, LinesText, NoneAt, Nothing, OneOf, Run}
+use Rattle.format_http_places.specs.Grammar.{SomeOf, Stops, Text, VersionText, protocol}
+use Rattle.format_http_places.specs.Runs.{NotFirst}
+use Rattle.format_http_places.proofs.Behind.{Behind, Live, behind_both, behind_byte, behind_one}
+use Rattle.format_http_places.proofs.Behind.{behind_run_end, behind_some_end, behind_text}
+use Rattle.format_http_places.proofs.Behind.{first_same, live_byte, live_one, live_run, live_text}
+use Rattle.format_http_places.proofs.Behind.{none_byte, none_one, not_empty, stops_at, stops_behind}
+use Rattle.format_http_places.proofs.Behind.{text_stops}
+use Rattle.format_http_places.proofs.Tests.{token_not, value_not, visible_not}
+
+pub token_no_space : IsTokenByte 32 → ⊥
+token_no_space is = token_not 32 refl is
+
+pub token_no_colon : IsTokenByte 58 → ⊥
+token_no_colon is = token_not 58 refl is
+
+token_no_return : IsTokenByte 13 → ⊥
+token_no_return is = token_not 13 refl is
+
+pub value_no_return : IsValueByte 13 → ⊥
+value_no_return is = value_not 13 refl is
+
+pub visible_no_space : IsVisible 32 → ⊥
+visible_no_space is = visible_not 32 refl is
+
+pub a_token : IsTokenByte 65
+a_token = inr (inl (omega arith, omega arith))
+
+pub a_visible : IsVisible 65
+a_visible = (omega arith, omega arith)
+
+-- ---- versions
+
+abbrev Ended : Language
+Ended = Text line_end FieldsText
+
+abbrev Minor : Language
+Minor = OneOf IsDigit Ended
+
+abbrev Pointed : Language
+Pointed = Byte 46 Minor
+
+abbrev Major : Language
+Major = OneOf IsDigit Pointed
+
+pub live_fields : Live FieldsText
+unfolding FieldsText Byte
+live_fields = record {
+  bytes = line_end;
+  is = (0, (10 ∷ [], refl, ([], refl, refl)));
+}
+
+a_digit : IsDigit 48
+a_digit = (omega arith, omega arith)
+
+pub is_digit : (n : ℕ) → n < 10 → IsDigit (48 + n)
+is_digit n less = (omega arith, omega (arith, less))
+
+live_ended : Live Ended
+live_ended = live_text line_end FieldsText live_fields
+
+live_minor : Live Minor
+live_minor = live_one IsDigit 48 Ended a_digit live_ended
+
+live_pointed : Live Pointed
+live_pointed = live_byte 46 Minor live_minor
+
+live_major : Live Major
+live_major = live_one IsDigit 48 Pointed a_digit live_pointed
+
+pub live_version : Live VersionText
+unfolding VersionText
+live_version = live_text protocol Major live_major
+
+module _ (bytes : List ℕ) (left : ℕ) where
+  pub stops_protocol : Differs protocol bytes left → Stops VersionText bytes left
+  unfolding VersionText
+  stops_protocol it = text_stops protocol bytes left Major live_major it
+
+  module _ (first : List ℕ) (at : bytes ≡ protocol ++ first) where
+    behind_protocol : Behind VersionText protocol Major
+    unfolding VersionText
+    behind_protocol = behind_text protocol [] Major
+
+    pub stops_major : NotFirst IsDigit first → left ≡ length first → Stops VersionText bytes left
+    stops_major not size =
+        stops_at VersionText Major bytes protocol first left behind_protocol live_major
+        (none_one IsDigit Pointed first not) at size
+
+    module _ (a : ℕ) (point : List ℕ) (less : a < 10) (major : first ≡ (48 + a) ∷ point) where
+      behind_major : Behind VersionText (protocol ++ (48 + a) ∷ []) Pointed
+      behind_major = behind_both VersionText Major Pointed protocol ((48 + a) ∷ [])
+          behind_protocol (behind_one IsDigit (48 + a) Pointed (is_digit a less))
+
+      at_point : bytes ≡ (protocol ++ (48 + a) ∷ []) ++ point
+      at_point = at ∙ ap (λ l. protocol ++ l) major
+
+      pub stops_point : NotFirst (λ b. b ≡ 46) point → left ≡ length point
+          → Stops VersionText bytes left
+      stops_point not size =
+          stops_at VersionText Pointed bytes (protocol ++ (48 + a) ∷ []) point left behind_major
+          live_pointed (none_byte 46 Minor point not) at_point size
+
+      module _ (second : List ℕ) (pointed : point ≡ 46 ∷ second) where
+        abbrev front : List ℕ
+        front = (protocol ++ (48 + a) ∷ []) ++ 46 ∷ []
+
+        behind_point : Behind VersionText front Minor
+        behind_point = behind_both VersionText Pointed Minor (protocol ++ (48 + a) ∷ []) (46 ∷ [])
+            behind_major (behind_byte 46 Minor)
+
+        at_second : bytes ≡ front ++ second
+        at_second = at_point ∙ ap (λ l. (protocol ++ (48 + a) ∷ []) ++ l) pointed
+
+        pub stops_minor : NotFirst IsDigit second → left ≡ length second
+            → Stops VersionText bytes left
+        stops_minor not size =
+            stops_at VersionText Minor bytes front second left behind_point live_minor
+            (none_one IsDigit Ended second not) at_second size
+
+        module _ (b : ℕ) (end : List ℕ) (small : b < 10) (minor : second ≡ (48 + b) ∷ end) where
+          pub stops_end : Differs line_end end left → Stops VersionText bytes left
+          stops_end it =
+              stops_behind VersionText Ended bytes (front ++ (48 + b) ∷ []) end left
+              (behind_both VersionText Minor Ended front ((48 + b) ∷ []) behind_point
+              (behind_one IsDigit (48 + b) Ended (is_digit b small)))
+              (at_second ∙ ap (λ l. front ++ l) minor)
+              (text_stops line_end end left FieldsText live_fields it)
+
+          pub version_at : (rest : List ℕ) → end ≡ line_end ++ rest
+              → bytes ≡ protocol ++ (digits a b ++ (line_end ++ rest))
+          version_at rest ended = at_second ∙ ap (λ l. front ++ l) (minor
+              ∙ ap (λ l. (48 + b) ∷ l) ended)
+
+-- ---- request lines
+
+abbrev Target : Language
+Target = SomeOf IsVisible 32 VersionText
+
+pub live_target : Live Target
+live_target = live_one IsVisible 65 (Run IsVisible 32 VersionText) a_visible
+    (live_run IsVisible 32 VersionText live_version)
+
+pub behind_method : (method : List ℕ) → 0 < length method → All IsTokenByte method
+    → Behind HeadText (method ++ 32 ∷ []) Target
+unfolding HeadText
+behind_method method some all =
+    behind_some_end IsTokenByte 32 Target method all token_no_space some
+
+pub behind_target : (target : List ℕ) → 0 < length target → All IsVisible target
+    → Behind Target (target ++ 32 ∷ []) VersionText
+behind_target target some all =
+    behind_some_end IsVisible 32 VersionText target all visible_no_space some
+
+behind_version : (a b : ℕ) → a < 10 → b < 10
+    → Behind VersionText (protocol ++ (digits a b ++ line_end)) FieldsText
+unfolding VersionText
+behind_version a b less small =
+    behind_both VersionText Major FieldsText protocol (digits a b ++ line_end)
+    (behind_text protocol [] Major)
+    (behind_both Major Pointed FieldsText ((48 + a) ∷ []) (46 ∷ (48 + b) ∷ line_end)
+    (behind_one IsDigit (48 + a) Pointed (is_digit a less))
+    (behind_both Pointed Minor FieldsText (46 ∷ []) ((48 + b) ∷ line_end) (behind_byte 46 Minor)
+    (behind_both Minor Ended FieldsText ((48 + b) ∷ []) line_end
+    (behind_one IsDigit (48 + b) Ended (is_digit b small))
+    (behind_text line_end [] FieldsText))))
+
+-- after a request line are fields
+pub behind_request : (m t : List ℕ) (a b : ℕ) (bytes rest : List ℕ)
+    → IsRequestLine m t a b bytes rest
+    → (front : List ℕ) × (bytes ≡ front ++ rest) × Behind HeadText front FieldsText
+behind_request m t a b bytes rest is =
+    let last = protocol ++ (digits a b ++ line_end) in (
+      (m ++ 32 ∷ []) ++ ((t ++ 32 ∷ []) ++ last),
+      is.splits
+          ∙ ap (λ l. m ++ 32 ∷ l) (sym (append_assoc t (32 ∷ []) (last ++ rest))
+          ∙ sym (append_assoc (t ++ 32 ∷ []) last rest))
+          ∙ sym (append_assoc m (32 ∷ []) (((t ++ 32 ∷ []) ++ last) ++ rest))
+          ∙ sym (append_assoc (m ++ 32 ∷ []) ((t ++ 32 ∷ []) ++ last) rest),
+      behind_both HeadText Target FieldsText (m ++ 32 ∷ []) ((t ++ 32 ∷ []) ++ last)
+          (behind_method m is.some_method is.is_method)
+          (behind_both Target VersionText FieldsText (t ++ 32 ∷ []) last
+          (behind_target t is.some_target is.is_target)
+          (behind_version a b is.is_major is.is_minor)),
+    )
+
+-- ---- field lines
+
+pub live_value : Live (Run IsValueByte 13 (Byte 10 FieldsText))
+live_value = live_run IsValueByte 13 (Byte 10 FieldsText) (live_byte 10 FieldsText live_fields)
+
+pub behind_name : (K : Language) (name : List ℕ) → 0 < length name → All IsTokenByte name
+    → Behind (LineText K) (name ++ 58 ∷ []) (Run IsValueByte 13 (Byte 10 K))
+behind_name K name some all = behind_some_end IsTokenByte 58 (Run IsValueByte 13 (Byte 10 K)) name
+    all token_no_colon some
+
+white_value : (b : ℕ) → IsWhite b → IsValueByte b
+white_value b (inl e) = inl (omega (arith, e), λ other. omega (arith, e, other))
+white_value b (inr e) = inr e
+
+-- after a field line is what is after it in its language
+module _ (name value bytes rest : List ℕ) (is : IsFieldLine name value bytes rest) where
+  abbrev text : List ℕ
+  text = is.before ++ (value ++ is.behind)
+
+  abbrev pub line_of : List ℕ
+  line_of = (name ++ 58 ∷ []) ++ (text ++ line_end)
+
+  pub line_splits : bytes ≡ line_of ++ rest
+  line_splits = is.splits
+      ∙ ap (λ l. name ++ 58 ∷ l)
+      (ap (λ l. is.before ++ l) (sym (append_assoc value is.behind (line_end ++ rest)))
+      ∙ sym (append_assoc is.before (value ++ is.behind) (line_end ++ rest))
+      ∙ sym (append_assoc text line_end rest))
+      ∙ sym (append_assoc name (58 ∷ []) ((text ++ line_end) ++ rest))
+      ∙ sym (append_assoc (name ++ 58 ∷ []) (text ++ line_end) rest)
+
+  all_value : All IsValueByte text
+  all_value = All-append IsValueByte is.before (value ++ is.behind)
+      (All-weaker IsWhite IsValueByte white_value is.before is.white_before)
+      (All-append IsValueByte value is.behind is.is_value
+      (All-weaker IsWhite IsValueByte white_value is.behind is.white_behind))
+
+  pub behind_line : (K : Language) → Behind (LineText K) line_of K
+  behind_line K =
+      let V : Language = Run IsValueByte 13 (Byte 10 K) in
+      let ends : Behind V (text ++ line_end) K =
+      let P : List ℕ → Type 0 = λ l. Behind V l K in
+      subst P (append_assoc text (13 ∷ []) (10 ∷ []))
+      (behind_both V (Byte 10 K) K (text ++ 13 ∷ []) (10 ∷ [])
+      (behind_run_end IsValueByte 13 (Byte 10 K) text all_value value_no_return)
+      (behind_byte 10 K)) in
+      behind_both (LineText K) V K (name ++ 58 ∷ []) (text ++ line_end)
+      (behind_name K name is.some_name is.is_name) ends
+
+-- ---- fields
+
+-- a field line begins with no carriage return
+pub line_first : (K : Language) (bytes rest : List ℕ) → LineText K bytes rest
+    → NotFirst (λ b. b ≡ 13) bytes
+unfolding OneOf
+line_first K [] rest it = tt
+line_first K (b ∷ bs) rest it = λ e.
+    token_no_return (subst IsTokenByte (sym (first_same b it.0 bs it.1 it.2) ∙ e) it.3)
+
+line_map : (K M : Language) (bytes rest : List ℕ) → ((more : List ℕ) → K more rest → M more rest)
+    → LineText K bytes rest → LineText M bytes rest
+unfolding OneOf Run Byte
+line_map K M bytes rest into it =
+    let name = it.4 in let value = name.4 in let feed = value.4 in (
+      it.0,
+      it.1,
+      it.2,
+      it.3,
+      (
+        name.0,
+        name.1,
+        name.2,
+        name.3,
+        (
+          value.0,
+          value.1,
+          value.2,
+          value.3,
+          (feed.0, feed.1, into feed.0 feed.2),
+        ),
+      ),
+    )
+
+pub line_fields : (bytes rest : List ℕ) → LineText FieldsText bytes rest → FieldsText bytes rest
+unfolding FieldsText OneOf Run Byte
+line_fields bytes rest it =
+    let name = it.4 in let value = name.4 in let feed = value.4 in (
+      suc feed.2.0,
+      (
+        it.0,
+        it.1,
+        it.2,
+        it.3,
+        (
+          name.0,
+          name.1,
+          name.2,
+          name.3,
+          (
+            value.0,
+            value.1,
+            value.2,
+            value.3,
+            (feed.0, feed.1, feed.2.1),
+          ),
+        ),
+      ),
+    )
+
+fields_line : (bytes rest : List ℕ) → NotFirst (λ b. b ≡ 13) bytes → FieldsText bytes rest
+    → LineText FieldsText bytes rest
+unfolding FieldsText Byte
+fields_line [] rest not (zero, it) = absurd (not_empty 13 it.0 it.1)
+fields_line (b ∷ bs) rest not (zero, it) = absurd (not (first_same b 13 bs it.0 it.1))
+fields_line bytes rest not (suc n, it) =
+    line_map (LinesText n) FieldsText bytes rest (λ more lines. (n, lines)) it
+
+not_before : (before back more : List ℕ) (b : ℕ) (P : ℕ → Type 0) → NotFirst P (before ++ b ∷ back)
+    → NotFirst P (before ++ b ∷ more)
+not_before [] back more b P not = not
+not_before (x ∷ before) back more b P not = not
+
+-- where no line goes on, no fields do
+pub fields_stop : (bytes : List ℕ) (left : ℕ) → NotFirst (λ b. b ≡ 13) bytes
+    → Stops (LineText FieldsText) bytes left → Stops FieldsText bytes left
+fields_stop bytes left not it = record {
+  before = it.before;
+  back = it.back;
+  splits = it.splits;
+  size = it.size;
+  more = it.more;
+  live = line_fields (it.before ++ it.more) [] it.live;
+  none = none it.before it.back (subst (λ l. NotFirst (λ b. b ≡ 13) l) it.splits not) it.none;
+}
+  where
+    none : (before back : List ℕ) → NotFirst (λ b. b ≡ 13) (before ++ back)
+        → NoneAt (LineText FieldsText) before back → NoneAt FieldsText before back
+    none before [] first never = λ rest fields.
+        let P : List ℕ → Type 0 = λ l. NotFirst (λ b. b ≡ 13) l in
+        never rest (fields_line before rest (subst P (append-nil before) first) fields)
+    none before (b ∷ bs) first never = λ more rest fields.
+        never more rest (fields_line (before ++ b ∷ more) rest
+        (not_before before bs more b (λ x. x ≡ 13) first) fields)
+
+-- after a field line are fields
+pub behind_field : (name value bytes rest : List ℕ) (is : IsFieldLine name value bytes rest)
+    → Behind FieldsText (line_of name value bytes rest is) FieldsText
+unfolding FieldsText Byte
+behind_field name value bytes rest is = record {
+  there = λ more left fields. (
+    suc fields.0,
+    (behind_line name value bytes rest is (LinesText fields.0)).there more left fields.1,
+  );
+  back = λ more left fields. by more left fields.0 fields.1;
+}
+  where
+    Any : Language
+    Any more left = ⊤
+
+    -- the line begins with no carriage return
+    first : (more left : List ℕ)
+        → NotFirst (λ b. b ≡ 13) (line_of name value bytes rest is ++ more)
+    first more left = line_first Any (line_of name value bytes rest is ++ more) left
+        ((behind_line name value bytes rest is Any).there more left tt)
+
+    by : (more left : List ℕ) (n : ℕ) → LinesText n (line_of name value bytes rest is ++ more) left
+        → FieldsText more left
+    by more left zero it =
+        let P : List ℕ → Type 0 = λ l. NotFirst (λ b. b ≡ 13) l in
+        absurd (subst P it.1 (first more left) refl)
+    by more left (suc n) it =
+        (n, (behind_line name value bytes rest is (LinesText n)).back more left it)
+
+-- after the carriage return of the empty line
+pub behind_return : Behind FieldsText (13 ∷ []) (Byte 10 Nothing)
+unfolding FieldsText
+behind_return = record {
+  there = λ more rest it. (0, (behind_byte 13 (Byte 10 Nothing)).there more rest it);
+  back = λ more rest it. by more rest it.0 it.1;
+}
+  where
+    by : (more rest : List ℕ) (n : ℕ) → LinesText n (13 ∷ more) rest → Byte 10 Nothing more rest
+    by more rest zero it = (behind_byte 13 (Byte 10 Nothing)).back more rest it
+    by more rest (suc n) it = absurd (line_first (LinesText n) (13 ∷ more) rest it refl)
+
+pub stops_return : (bytes end : List ℕ) (left : ℕ) → bytes ≡ 13 ∷ end
+    → NotFirst (λ b. b ≡ 10) end → left ≡ length end → Stops FieldsText bytes left
+stops_return bytes end left e not size =
+    stops_at FieldsText (Byte 10 Nothing) bytes (13 ∷ []) end left behind_return
+    (live_byte 10 Nothing (record { bytes = []; is = refl })) (none_byte 10 Nothing end not) e size

@@ -1,0 +1,10 @@
+use Rattle.std.proofs.Common.{◌-◌, length}
+use Rattle.format_http.specs.Heads.Bytes.{IsWhite}
+use Rattle.format_http_places.specs.Runs.{FirstAre}
+use Rattle.format_http_places.proofs.runs.white_len.Given as goal
+
+abbrev pub invariant-loop-at : goal.invariant-loop-at
+invariant-loop-at l = FirstAre IsWhite l.bytes l.at
+
+abbrev pub decreases-loop-at : goal.decreases-loop-at
+decreases-loop-at l = length l.bytes - l.at

@@ -1,0 +1,94 @@
+-- What a head is made of, byte by byte, and where bytes go on with it no more.
+use Rattle.std.specs.Prelude.{◌≡◌, ◌<◌, ◌⊎◌, drop, ℕ, zero, suc, List, [], ◌∷◌, ◌++◌, length}
+use Rattle.std.specs.List.{All}
+use Rattle.format_http.specs.Heads.Bytes.{IsDigit, IsTokenByte, IsValueByte, IsVisible, line_end}
+use Rattle.format_http_places.specs.Runs.{NotFirst}
+
+-- What bytes are, before the rest.
+abbrev pub Language : Type 1
+Language = List ℕ → List ℕ → Type 0
+
+-- nothing
+abbrev pub Nothing : Language
+Nothing bytes rest = bytes ≡ rest
+
+-- this byte, and then that
+unfoldable pub Byte : ℕ → Language → Language
+Byte b behind bytes rest = (more : List ℕ) × (bytes ≡ b ∷ more) × behind more rest
+
+-- one of these bytes, and then that
+unfoldable pub OneOf : (ℕ → Type 0) → Language → Language
+OneOf these behind bytes rest =
+    (b : ℕ) × (more : List ℕ) × (bytes ≡ b ∷ more) × these b × behind more rest
+
+-- some of these bytes or none, this byte, and then that
+unfoldable pub Run : (ℕ → Type 0) → ℕ → Language → Language
+Run these b behind bytes rest = (run : List ℕ) × (more : List ℕ) × (bytes ≡ run ++ b ∷ more)
+    × All these run × behind more rest
+
+-- some of these bytes, one or more, this byte, and then that
+abbrev pub SomeOf : (ℕ → Type 0) → ℕ → Language → Language
+SomeOf these b behind = OneOf these (Run these b behind)
+
+-- these bytes, and then that
+abbrev pub Text : List ℕ → Language → Language
+Text [] behind = behind
+Text (b ∷ bs) behind = Byte b (Text bs behind)
+
+-- a field line, and then that: a name, a colon, bytes of a value, and a line end
+abbrev pub LineText : Language → Language
+LineText behind = SomeOf IsTokenByte 58 (Run IsValueByte 13 (Byte 10 behind))
+
+-- that many field lines and an empty line
+abbrev pub LinesText : ℕ → Language
+LinesText zero = Text line_end Nothing
+LinesText (suc n) = LineText (LinesText n)
+
+-- field lines and an empty line
+unfoldable pub FieldsText : Language
+FieldsText bytes rest = (n : ℕ) × LinesText n bytes rest
+
+-- the bytes of HTTP and a slash
+abbrev pub protocol : List ℕ
+protocol = 72 ∷ 84 ∷ 84 ∷ 80 ∷ 47 ∷ []
+
+-- a version and a line end, and then fields
+unfoldable pub VersionText : Language
+VersionText = Text protocol (OneOf IsDigit (Byte 46 (OneOf IsDigit (Text line_end FieldsText))))
+
+-- a method and a target, and then a version
+unfoldable pub HeadText : Language
+HeadText = SomeOf IsTokenByte 32 (SomeOf IsVisible 32 VersionText)
+
+-- No bytes of this begin with these and the byte after them; or none is after them, and they are
+-- none.
+abbrev pub NoneAt : Language → List ℕ → List ℕ → Type 0
+NoneAt these before [] = (rest : List ℕ) → these before rest → ⊥
+NoneAt these before (b ∷ bs) = (more rest : List ℕ) → these (before ++ b ∷ more) rest → ⊥
+
+-- What is before the last bytes, that many, begins this, and with the next byte it does not; or no
+-- byte is left, and more are wanted.
+pub record Stops (these : Language) (bytes : List ℕ) (left : ℕ) : Type 0 where
+  pub before : List ℕ
+  pub back : List ℕ
+  pub splits : bytes ≡ before ++ back
+  pub size : length back ≡ left
+  pub more : List ℕ
+  pub live : these (before ++ more) []
+  pub none : NoneAt these before back
+
+-- The first bytes are the first of a text, and after them is not its next one.
+pub record Differs (text bytes : List ℕ) (left : ℕ) : Type 0 where
+  pub front : List ℕ
+  pub byte : ℕ
+  pub more : List ℕ
+  pub back : List ℕ
+  pub text_is : text ≡ front ++ byte ∷ more
+  pub splits : bytes ≡ front ++ back
+  pub other : NotFirst (λ b. b ≡ byte) back
+  pub size : length back ≡ left
+
+-- After that many bytes, one or more, this one is not; or there are none of these.
+abbrev pub Unended : List ℕ → ℕ → ℕ → ℕ → Type 0
+Unended bytes size byte left = ((size ≡ 0) × (left ≡ length bytes))
+    ⊎ ((0 < size) × NotFirst (λ b. b ≡ byte) (drop size bytes) × (left ≡ length (drop size bytes)))

@@ -1,0 +1,5 @@
+-- Written by scripts/registries.py: do not edit.
+pub mod Grammar
+pub mod Places
+pub mod Refusals
+pub mod Runs

@@ -1,0 +1,102 @@
+-- Where the parts of a head stand.
+use Rattle.std.specs.Prelude.{◌≡◌, ◌+◌, ℕ, List, [], ◌∷◌, ◌++◌, length}
+use Rattle.std.specs.List.{All}
+use Rattle.format_http.specs.Heads.Bytes.{IsWhite, line_end}
+use Rattle.format_http.specs.Heads.FieldLine.{BeginsBare, EndsBare, IsFieldLine}
+use Rattle.format_http.specs.Heads.Head.{IsHead, Pair, Request}
+use Rattle.format_http.specs.Heads.RequestLine.{IsRequestLine, digits, protocol}
+use Rattle.format_http_places.specs.declared.line.FieldLine.{FieldLine}
+use Rattle.format_http_places.specs.declared.line.RequestLine.{RequestLine}
+use Rattle.format_http_places.specs.declared.places.Field.{Field}
+use Rattle.format_http_places.specs.declared.places.Head.{Head}
+use Rattle.format_http_places.specs.declared.places.Span.{Span}
+
+-- These bytes stand at this place of the input, and then comes the rest: so of bytes that stand
+-- there more than once it is the place after which the rest is left.
+pub record StandsAt (input : List ℕ) (place : Span) (bytes rest : List ℕ) : Type 0 where
+  pub before : List ℕ
+  pub splits : input ≡ before ++ (bytes ++ rest)
+  pub begins : place.offset ≡ length before
+  pub ends : place.length ≡ length bytes
+
+-- what stands in a request line after the target, and then comes the rest
+abbrev pub version_on : ℕ → ℕ → List ℕ → List ℕ
+version_on major minor rest = protocol ++ (digits major minor ++ (line_end ++ rest))
+
+-- The line of a field is first there, and then comes the rest. Its name and its value stand in that
+-- line at these places of the input, a value that has no bytes at the end of the line.
+pub record ShowsField (input : List ℕ) (place : Field) (field : Pair) (line rest : List ℕ)
+    : Type 0 where
+  pub is_line : IsFieldLine field.0 field.1 line rest
+  pub name : StandsAt input place.name field.0
+      (58 ∷ (is_line.before ++ (field.1 ++ (is_line.behind ++ (line_end ++ rest)))))
+  pub value : StandsAt input place.value field.1 (is_line.behind ++ (line_end ++ rest))
+  pub at_end : field.1 ≡ [] → is_line.behind ≡ []
+
+-- The lines are those of these fields, one after the other, and then comes the rest. Each field
+-- stands in its own line, at the places of its number.
+abbrev pub AreShown : List ℕ → List ℕ → List Field → List Pair → List ℕ → Type 0
+AreShown input lines [] [] rest = lines ≡ rest
+AreShown input lines [] (f ∷ fields) rest = ⊥
+AreShown input lines (p ∷ places) [] rest = ⊥
+AreShown input lines (p ∷ places) (f ∷ fields) rest =
+    (behind : List ℕ) × ShowsField input p f lines behind
+    × AreShown input behind places fields rest
+
+-- The input begins with a head, whose parts stand at these places: the method before a space and
+-- the target, the target before the version, and each field in its own line, after these.
+pub record ShowsHead (input : List ℕ) (head : Head) (places : List Field) : Type 0 where
+  pub line : Request
+  pub fields : List Pair
+  pub rest : List ℕ
+  pub is_head : IsHead line fields input rest
+  pub method : StandsAt input head.method line.method
+      (32 ∷ (line.target ++ version_on line.major line.minor is_head.behind))
+  pub target : StandsAt input head.target line.target
+      (version_on line.major line.minor is_head.behind)
+  pub major : head.major ≡ line.major
+  pub minor : head.minor ≡ line.minor
+  pub count : head.fields ≡ length fields
+  pub are_shown : AreShown input is_head.behind places fields (line_end ++ rest)
+  pub ends : head.length + length rest ≡ length input
+
+-- The input begins with a head of that many fields.
+pub record IsWanted (input : List ℕ) (count : ℕ) : Type 0 where
+  pub line : Request
+  pub fields : List Pair
+  pub rest : List ℕ
+  pub is_head : IsHead line fields input rest
+  pub counts : count ≡ length fields
+
+-- A text without the white space at both ends stands at this place of it, at the end if it has no
+-- bytes.
+pub record IsBare (text : List ℕ) (place : Span) : Type 0 where
+  pub before : List ℕ
+  pub value : List ℕ
+  pub behind : List ℕ
+  pub splits : text ≡ before ++ (value ++ behind)
+  pub white_before : All IsWhite before
+  pub white_behind : All IsWhite behind
+  pub begins_bare : BeginsBare value
+  pub ends_bare : EndsBare value
+  pub begins : place.offset ≡ length before
+  pub ends : place.length ≡ length value
+  pub at_end : value ≡ [] → behind ≡ []
+
+-- ---- lines
+
+-- The input begins with this request line.
+pub record ShowsLine (input : List ℕ) (line : RequestLine) : Type 0 where
+  pub method : List ℕ
+  pub target : List ℕ
+  pub is_line : IsRequestLine method target line.major line.minor input line.rest.now
+  pub method_at : StandsAt input line.method method
+      (32 ∷ (target ++ version_on line.major line.minor line.rest.now))
+  pub target_at : StandsAt input line.target target
+      (version_on line.major line.minor line.rest.now)
+
+-- This field line is first in what an input of such a length ends with.
+pub record ShowsFieldLine (whole : ℕ) (bytes : List ℕ) (line : FieldLine) : Type 0 where
+  pub field : Pair
+  pub shows : (input before : List ℕ) → input ≡ before ++ bytes → length input ≡ whole
+      → ShowsField input line.field field bytes line.rest.now

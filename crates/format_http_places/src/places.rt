@@ -1,0 +1,65 @@
+//! Places in the bytes of a head.
+
+/// A place: that many bytes, from one on.
+///
+/// ```
+/// use format_http_places::places::Span;
+///
+/// let span = Span { offset: 4, length: 1 };
+/// assert_eq!(rt; span.offset + span.length, 5);
+/// ```
+#[repr(C)]
+#[derive(Clone, Copy, Debug, PartialEq, Eq, Drop)]
+pub struct Span {
+    /// How many bytes stand before it.
+    pub offset: usize,
+    /// How many bytes it has.
+    pub length: usize,
+}
+
+/// The places of a field.
+///
+/// ```
+/// use format_http_places::places::{Field, Span};
+///
+/// let name = Span { offset: 16, length: 4 };
+/// let value = Span { offset: 22, length: 1 };
+/// let field = Field { name, value };
+/// assert!(rt; field.name.offset < field.value.offset);
+/// ```
+#[repr(C)]
+#[derive(Clone, Copy, Debug, PartialEq, Eq, Drop)]
+pub struct Field {
+    /// The name.
+    pub name: Span,
+    /// The value, without the white space round it. One without bytes stands at the end of its
+    /// line.
+    pub value: Span,
+}
+
+/// The places of the parts of a head.
+///
+/// ```
+/// use format_http_places::places::{Head, Span};
+///
+/// let method = Span { offset: 0, length: 3 };
+/// let target = Span { offset: 4, length: 1 };
+/// let head = Head { method, target, fields: 0, length: 18, major: 1, minor: 1 };
+/// assert!(rt; head.target.offset < head.length);
+/// ```
+#[repr(C)]
+#[derive(Clone, Copy, Debug, PartialEq, Eq, Drop)]
+pub struct Head {
+    /// The method.
+    pub method: Span,
+    /// The request target.
+    pub target: Span,
+    /// How many fields there are.
+    pub fields: usize,
+    /// How many bytes the head has, the empty line after the fields among them.
+    pub length: usize,
+    /// The number before the point of the version, below 10.
+    pub major: u8,
+    /// The number after the point of the version, below 10.
+    pub minor: u8,
+}

@@ -1,0 +1,135 @@
+//! Heads of requests, whole and in pieces, into entries of the caller's.
+//!
+//! The bytes are looked at once, from the first on, and no memory is asked for. Runs of names,
+//! targets and values are looked at sixteen bytes at a time. These are loops over bytes and not
+//! parsers of the library.
+
+ghost use Rattle.std.specs.Prelude.{◌≡◌, ◌<◌, MatchResult, length, slice_set};
+ghost use Rattle.format_http_places.specs.Grammar.{HeadText, Stops};
+ghost use Rattle.format_http_places.specs.Refusals.{ReadsHead, ReadsParts};
+
+use crate::line::{read_field_line, read_request_line};
+use crate::places::{Field, Head};
+use crate::stop::{Stop, read_byte};
+use std::error::Error;
+use std::fmt;
+use std::fmt::{Display, Formatter};
+
+/// Why no head was read.
+///
+/// ```
+/// use format_http_places::read::HeadError;
+///
+/// assert!(rt; HeadError::Refused(3) != HeadError::Incomplete);
+/// ```
+#[derive(Clone, Copy, Debug, PartialEq, Eq)]
+pub enum HeadError {
+    /// At this place no head goes on: that many bytes stand before it, with which some head begins,
+    /// and with the byte there none does, whatever follows.
+    Refused(usize),
+    /// The bytes begin with no head, and with more after them they can.
+    Incomplete,
+    /// The bytes begin with a head of that many fields, which are more than there are entries.
+    TooManyFields(usize),
+}
+
+impl Display for HeadError {
+    fn fmt<W: fmt::Write>(&self, f: &mut Formatter<W>) -> fmt::Result {
+        match *self {
+            HeadError::Refused(place) => write!(f, "no head goes on at byte {place}"),
+            HeadError::Incomplete => f.write_str("the bytes end within a head"),
+            HeadError::TooManyFields(count) => write!(f, "there are {count} fields, too many"),
+        }
+    }
+}
+
+impl Error for HeadError {}
+
+/// Writes an entry, if there is one of this number.
+#[inline(always)]
+fn write(fields: &mut [Field], number: usize, field: Field)
+    ensures put { number < length fields.old → fields.new ≡ slice_set fields.old number field }
+    ensures same { length fields.new ≡ length fields.old }
+{
+    if number < fields.len() {
+        fields[number] = field;
+    }
+}
+
+/// The head with which the bytes begin. Its fields are written as far as there is room.
+fn read_parts(bytes: &[u8], fields: &mut [Field]) -> Result<Head, Stop>
+    ensures { MatchResult result (λ head. ReadsParts bytes.now head fields.new)
+        (λ stop. Stops HeadText bytes.now stop.left) }
+{
+    let line = read_request_line(bytes)?;
+    let whole = bytes.len();
+    let mut rest = line.rest;
+    let mut count = 0;
+    'fields: loop {
+        if let Ok(end) = read_byte(rest, b'\r') {
+            let left = read_byte(end, b'\n')?;
+            return Ok(Head {
+                method: line.method,
+                target: line.target,
+                fields: count,
+                length: whole - left.len(),
+                major: line.major,
+                minor: line.minor,
+            });
+        }
+        let found = read_field_line(whole, rest)?;
+        write(fields, count, found.field);
+        count += 1;
+        rest = found.rest;
+    }
+}
+
+/// The head of a request of HTTP/1.1 (RFC 9112, section 2.1) with which the bytes begin: a request
+/// line, field lines one after the other, and an empty line. Returned are the places of its parts,
+/// and the first entries are those of its fields, in order. What stands after the head is not
+/// looked at.
+///
+/// [`Refused`](HeadError::Refused) tells the first place at which no head goes on,
+/// [`Incomplete`](HeadError::Incomplete) that the bytes end within one: bytes that come in pieces
+/// are read again, from the first on, with more after them. Bytes that are whole begin with no
+/// head in either case. [`TooManyFields`](HeadError::TooManyFields) tells how many entries are
+/// wanted. At an error any entry may be written, since the fields are written as they are read.
+///
+/// No empty line is passed before the request line: a server that is to be lenient, as section 2.2
+/// has it, passes one there itself.
+///
+/// ```
+/// use format_http_places::places::{Field, Span};
+/// use format_http_places::read::{HeadError, read_head_into};
+///
+/// let nowhere = Span { offset: 0, length: 0 };
+/// let mut fields = [Field { name: nowhere, value: nowhere }; 2];
+/// let text = b"GET / HTTP/1.1\r\nHost: a\r\n\r\nrest".as_slice();
+/// let head = read_head_into(text, &mut fields);
+/// assert!(rt; matches!(head, Ok(head) if head.fields == 1 && head.length == 27));
+/// assert!(rt; fields[0].value == Span { offset: 22, length: 1 });
+/// let head = read_head_into(&text[..20], &mut fields);
+/// assert!(rt; head == Err(HeadError::Incomplete));
+/// let head = read_head_into(b"GET /\r\n".as_slice(), &mut fields);
+/// assert!(rt; head == Err(HeadError::Refused(5)));
+/// ```
+pub fn read_head_into(bytes: &[u8], fields: &mut [Field]) -> Result<Head, HeadError>
+    ensures { ReadsHead bytes.now result fields.new }
+{
+    match read_parts(bytes, fields) {
+        Ok(head) => {
+            if head.fields <= fields.len() {
+                Ok(head)
+            } else {
+                Err(HeadError::TooManyFields(head.fields))
+            }
+        }
+        Err(stop) => {
+            if stop.left == 0 {
+                Err(HeadError::Incomplete)
+            } else {
+                Err(HeadError::Refused(bytes.len() - stop.left))
+            }
+        }
+    }
+}

@@ -1,0 +1,5 @@
+//! The tests of heads of requests of HTTP/1.1 as places in their bytes (`format_http_places`).
+#![tactic(auto)]
+
+#[cfg(test)]
+mod heads;
