@@ -77,7 +77,7 @@ READERS = [
 # What README.md says of formats: the crates of their readers, and what is proved, in the words that
 # it explains.
 BRIEF = [
-    ("CSV (RFC 4180)", ["format_csv"], "exactly; first, in pieces"),
+    ("CSV (RFC 4180)", ["format_csv", "format_csv_records"], "exactly; first, in pieces"),
     ("DNS", ["format_dns"], "the header; the name at a place; questions"),
     ("formulas", ["format_calculator"], "exactly"),
     ("HTTP/1.1 heads, chunked bodies", ["format_http", "format_http_chunked"], "first, in pieces"),

@@ -302,10 +302,9 @@ extern "C" {
     /// `DONE`, `TOO_SMALL`: as for a record that is whole. `INCOMPLETE`: no record with its line end is
     /// there, and with three bytes more at most they can begin with one. `REFUSED`: whatever comes
     /// after the bytes, they begin with no record, and that is answered as soon as the byte is there
-    /// at
-    /// which none goes on, whose place is written: so of `x"`, 1. A field in quotes that are not closed
-    /// goes on for ever, so the caller bounds how many bytes are held. The last record may have no line
-    /// end: where no more bytes come, the call for whole ones reads it.
+    /// at which none goes on, whose place is written: so of `x"`, 1. A field in quotes that are not
+    /// closed goes on for ever, so the caller bounds how many bytes are held. The last record may have
+    /// no line end: where no more bytes come, the call for whole ones reads it.
     ///
     /// Each call reads from the first byte on, and asks for no memory.
     ///

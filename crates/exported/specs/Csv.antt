@@ -1,27 +1,26 @@
 -- Records of comma separated values, and where their fields are written.
 use Rattle.std.specs.Prelude.{◌≡◌, ◌⊎◌, ◌+◌, ℕ, List, [], ◌++◌, length, zero, suc}
-use Rattle.format_csv.specs.Instance.{commas}
-use Rattle.format_csv.specs.declared.LineEnd.{LineEnd}
-use Rattle.format_csv.specs.declared.LineEnd.TheVariants.{CrLf, Lf}
 use Rattle.format_csv_records.specs.Buffers.{places_of, text_of}
+use Rattle.format_csv_records.specs.Commas.{commas_by}
 use Rattle.format_csv_records.specs.Dialects.{IsRecord}
 use Rattle.format_csv_records.specs.Refused.{IsRefused}
 use Rattle.format_csv_records.specs.declared.dialect.Dialect.{Dialect}
+use Rattle.format_csv_records.specs.declared.dialect.LineEnds.{LineEnds}
+use Rattle.format_csv_records.specs.declared.dialect.LineEnds.TheVariants.{CrLf, Lf}
 use Rattle.format_csv_records.specs.declared.read.Refusal.{Refusal}
 use Rattle.exported.specs.Span.{span_of}
 use Rattle.exported.specs.declared.csv.Record.{Record}
 use Rattle.exported.specs.declared.span.Span.{Span}
 
 -- how lines end, for 0 and for other numbers
-abbrev pub ends_of : ℕ → LineEnd
+abbrev pub ends_of : ℕ → LineEnds
 ends_of zero = CrLf
 ends_of (suc n) = Lf
 
--- Commas, double quotes and these line ends: the law
--- `format_csv::dialects::a_record_is_one_of_commas`
--- says that its records are those of `format_csv`.
+-- Commas, double quotes and these line ends: by a law of `format_csv`, `a_record_is_one_of_commas`,
+-- its records are those that `format_csv` reads.
 abbrev pub dialect_of : ℕ → Dialect
-dialect_of line_feeds = commas (ends_of line_feeds)
+dialect_of line_feeds = commas_by (ends_of line_feeds)
 
 -- The bytes begin with no record.
 abbrev pub NoRecord : Dialect → List ℕ → Type 0

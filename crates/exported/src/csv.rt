@@ -1,13 +1,13 @@
 //! Records of comma separated values.
 
 ghost use Rattle.std.specs.Prelude.{◌≡◌, ◌≤◌, ◌<◌, ◌⊎◌, length, take};
-ghost use Rattle.format_csv.specs.Early.{MayGoOn, NeverGoesOn};
 ghost use Rattle.format_csv_records.specs.Buffers.{IsForGood, IsSized, NoneForGood};
 ghost use Rattle.format_csv_records.specs.Buffers.{ShowsFields};
 ghost use Rattle.format_csv_records.specs.Dialects.{IsRecord};
+ghost use Rattle.format_csv_records.specs.Early.{BeginsNone, GoesOn};
 ghost use Rattle.exported.specs.Code.{done, incomplete, refused, too_small};
 ghost use Rattle.exported.specs.Csv.{IsRefusedAt, NoRecord, ShowsRecord, WantsRecord};
-ghost use Rattle.exported.specs.Csv.{dialect_of, ends_of};
+ghost use Rattle.exported.specs.Csv.{dialect_of};
 ghost use Rattle.exported.specs.Span.{span_of};
 
 use crate::code::{DONE, INCOMPLETE, REFUSED, TOO_SMALL};
@@ -145,10 +145,9 @@ pub extern "C" fn exported_csv_record(
 /// `DONE`, `TOO_SMALL`: as for a record that is whole. `INCOMPLETE`: no record with its line end is
 /// there, and with three bytes more at most they can begin with one. `REFUSED`: whatever comes
 /// after the bytes, they begin with no record, and that is answered as soon as the byte is there
-/// at
-/// which none goes on, whose place is written: so of `x"`, 1. A field in quotes that are not closed
-/// goes on for ever, so the caller bounds how many bytes are held. The last record may have no line
-/// end: where no more bytes come, the call for whole ones reads it.
+/// at which none goes on, whose place is written: so of `x"`, 1. A field in quotes that are not
+/// closed goes on for ever, so the caller bounds how many bytes are held. The last record may have
+/// no line end: where no more bytes come, the call for whole ones reads it.
 ///
 /// Each call reads from the first byte on, and asks for no memory.
 ///
@@ -170,12 +169,12 @@ pub extern "C" fn exported_csv_record_in_pieces(
         → WantsRecord (IsForGood (dialect_of line_feeds)) bytes.now out.new
         × ((length fields.old < out.new.fields) ⊎ (length text.old < out.new.text)) }
     ensures kept { (result ≡ done → ⊥) → (fields.new ≡ fields.old) × (text.new ≡ text.old) }
-    ensures refused { result ≡ refused → NeverGoesOn (ends_of line_feeds) bytes.now
+    ensures refused { result ≡ refused → BeginsNone (dialect_of line_feeds) bytes.now
         × IsRefusedAt (dialect_of line_feeds) bytes.now out.new.place
         × (out.new.place < length bytes.now) }
     ensures nowhere { (result ≡ refused → ⊥) → out.new.place ≡ 0 }
     ensures incomplete { result ≡ incomplete → NoneForGood (dialect_of line_feeds) bytes.now
-        × MayGoOn (ends_of line_feeds) bytes.now }
+        × GoesOn (dialect_of line_feeds) bytes.now }
     ensures codes { (result ≡ done) ⊎ ((result ≡ too_small) ⊎ ((result ≡ refused)
         ⊎ (result ≡ incomplete))) }
 {

@@ -1,26 +1,10 @@
 -- Which bytes some more make begin with a record, and which none do.
-use Rattle.std.specs.Prelude.{◌<◌, ◌≤◌, ℕ, List, ◌++◌, length}
-use Rattle.std.specs.List.{All}
-use Rattle.format_csv_records.specs.Dialects.{IsRecord}
-use Rattle.format_csv_records.specs.declared.dialect.Dialect.{Dialect}
+use Rattle.std.specs.Prelude.{ℕ, List}
+use Rattle.format_csv_records.specs.Early.{BeginsNone, GoesOn}
 use Rattle.format_csv.specs.Instance.{commas}
 use Rattle.format_csv.specs.declared.LineEnd.{LineEnd}
 
--- With three bytes more at most they begin with a record of these fields, whatever follows.
-pub record GoesOn (d : Dialect) (bytes : List ℕ) : Type 0 where
-  pub more : List ℕ
-  pub known : All (λ b. b < 256) more
-  pub few : length more ≤ 3
-  pub fields : List (List ℕ)
-  pub rest : List ℕ
-  pub begins : (after : List ℕ) → IsRecord d ((bytes ++ more) ++ after) fields (rest ++ after)
-
--- Whatever is after them, they begin with none.
-abbrev pub BeginsNone : Dialect → List ℕ → Type 0
-BeginsNone d bytes = (more : List ℕ) (fields : List (List ℕ)) (rest : List ℕ)
-    → IsRecord d (bytes ++ more) fields rest → ⊥
-
--- so by the dialect of commas and double quotes, whose records are those here
+-- By the dialect of commas and double quotes, whose records are those here.
 abbrev pub MayGoOn : LineEnd → List ℕ → Type 0
 MayGoOn ends bytes = GoesOn (commas ends) bytes
 

@@ -6,7 +6,7 @@ use Rattle.std.specs.declared.vec.Vec.{Vec}
 use Rattle.std.proofs.Common.{refl, sym, ap, subst, inl, inr, ◌∙◌, arith, append_assoc}
 use Rattle.std.proofs.lemmas.List.{append-nil}
 use Rattle.std.proofs.lemmas.List.Elements.{All-cons, All-head, All-nil, All-tail}
-use Rattle.format_csv_records.specs.Apart.{IsApart}
+use Rattle.format_csv_records.specs.Commas.{commas_by}
 use Rattle.format_csv_records.specs.Dialects as dialects
 use Rattle.format_csv_records.specs.Dialects.{AreFields, EndsHere, IsFieldText, IsLineEnd, doubled}
 use Rattle.format_csv_records.specs.declared.dialect.Dialect.{Dialect}
@@ -25,15 +25,8 @@ abbrev pub ends_as : LineEnd → LineEnds
 ends_as CrLf = by.CrLf
 ends_as Lf = by.Lf
 
-pub commas_apart : IsApart 44 34
-commas_apart = record {
-  others = λ e. omega (arith, e);
-  delimiter_stays = (λ e. omega (arith, e), λ e. omega (arith, e));
-  quote_stays = (λ e. omega (arith, e), λ e. omega (arith, e));
-}
-
 abbrev pub commas : LineEnd → Dialect
-commas ends = record { delimiter = 44; quote = 34; ends = ends_as ends; apart = commas_apart }
+commas ends = commas_by (ends_as ends)
 
 is_end : (ends : LineEnd) → IsLineEnd (ends_as ends) (line_end ends)
 is_end CrLf = refl

@@ -1,6 +1,7 @@
 -- Written by scripts/registries.py: do not edit.
 pub mod Alone
 pub mod Cuts
+pub mod Early
 pub mod Ending
 pub mod ForGood
 pub mod One

@@ -261,9 +261,8 @@ module _ {P : Type 0} (made : ℕ → ℕ → P) (d : Dialect) (apart : IsApart 
         within = omega (arith, size);
         count = put.number;
         total = put.total;
-        ended = subst Q (sym dropped)
-            (ended_so d apart bytes rest it.fields it.read field left first
-            is over some ends);
+        ended = subst Q (sym dropped) (ended_so d apart bytes rest it.fields it.read field left
+            first is over some ends);
         same = put.same;
         text = put.text;
         places = put.places;

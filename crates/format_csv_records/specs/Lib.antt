@@ -1,7 +1,9 @@
 -- Written by scripts/registries.py: do not edit.
 pub mod Apart
 pub mod Buffers
+pub mod Commas
 pub mod Dialects
+pub mod Early
 pub mod Named
 pub mod Parts
 pub mod Records

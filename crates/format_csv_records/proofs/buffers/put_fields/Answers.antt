@@ -17,9 +17,8 @@ pub returns-in-Ok : goal.returns-in-Ok
 returns-in-Ok g c =
     let (field, first, puts) = c.in-Some.ensures in
     fields_end g.P.FieldPlace.made c.args.dialect c.args.dialect.apart _ _ _ _ _ _ _ _
-    c.fields.invariant field _ first
-    _ _ puts _ _ c.of.ensures c.put_place.ensures _ c.is_some.result c.in-Ok.ensures
-    c.is_some.ensures _ refl
+    c.fields.invariant field _ first _ _ puts _ _ c.of.ensures c.put_place.ensures _
+    c.is_some.result c.in-Ok.ensures c.is_some.ensures _ refl
 
 pub returns-in-Err : goal.returns-in-Err
 returns-in-Err g c =
@@ -32,5 +31,5 @@ pub fields-preserved : goal.fields-preserved
 fields-preserved g c =
     let (field, first, puts) = c.in-Some.ensures in
     fields_more g.P.FieldPlace.made c.args.dialect c.args.dialect.apart _ _ _ _ _ _ _ _
-    c.fields.invariant field _ first
-    _ _ puts _ _ c.of.ensures c.put_place.ensures _ c.if-not-first_is.ensures c.behind-rest.ensures
+    c.fields.invariant field _ first _ _ puts _ _ c.of.ensures c.put_place.ensures _
+    c.if-not-first_is.ensures c.behind-rest.ensures

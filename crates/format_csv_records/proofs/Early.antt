@@ -1,0 +1,217 @@
+-- A record that is not ended goes on, and one that is refused within its bytes never does.
+use Rattle.std.specs.Prelude.{◌≡◌, ◌<◌, ◌≤◌, ℕ, List, [], ◌∷◌, ◌++◌, length}
+use Rattle.std.specs.List.{All}
+use Rattle.std.proofs.Common.{refl, subst, sym, ap, inl, inr, ◌∙◌, arith, append_assoc}
+use Rattle.std.proofs.Common.{length-append}
+use Rattle.std.proofs.lemmas.List.{append-nil}
+use Rattle.std.proofs.lemmas.List.Elements.{All-append, All-cons, All-nil}
+use Rattle.format_csv_records.specs.Dialects.{AreFields, IsLineEnd, IsRecord}
+use Rattle.format_csv_records.specs.Early.{BeginsNone, GoesOn}
+use Rattle.format_csv_records.specs.Refused.{IsRefused, Lacks, NoneWith}
+use Rattle.format_csv_records.specs.declared.dialect.Dialect.{Dialect}
+use Rattle.format_csv_records.specs.declared.dialect.LineEnds.{LineEnds}
+use Rattle.format_csv_records.specs.declared.dialect.LineEnds.TheVariants.{CrLf, Lf, Either}
+use Rattle.format_csv_records.specs.declared.read.RecordFault.{RecordFault}
+use Rattle.format_csv_records.specs.declared.read.Refusal.{Refusal}
+use Rattle.format_csv_records.specs.declared.read.Refusal.TheVariants.{QuoteInField}
+use Rattle.format_csv_records.specs.declared.read.Refusal.TheVariants.{ByteBehindQuote}
+use Rattle.format_csv_records.specs.declared.read.Refusal.TheVariants.{OpenQuote, WrongLineEnd}
+
+-- ---- fields that stand, with what ends their record
+
+record Ended (d : Dialect) (bytes : List ℕ) (fields : List (List ℕ)) : Type 0 where
+  pub more : List ℕ
+  pub known : All (λ b. b < 256) more
+  pub few : length more ≤ 2
+  pub rest : List ℕ
+  pub are : (after : List ℕ) → AreFields d ((bytes ++ more) ++ after) fields (rest ++ after)
+
+one_byte : (b : ℕ) → b < 256 → All (λ b. b < 256) (b ∷ [])
+one_byte b small = All-cons (λ c. c < 256) b [] small (All-nil (λ c. c < 256))
+
+feed : All (λ b. b < 256) (10 ∷ [])
+feed = one_byte 10 (omega arith)
+
+return_feed : All (λ b. b < 256) (13 ∷ 10 ∷ [])
+return_feed = All-cons (λ b. b < 256) 13 (10 ∷ []) (omega arith) feed
+
+-- what ends a line
+record LineEndOf (ends : LineEnds) : Type 0 where
+  pub end : List ℕ
+  pub is : IsLineEnd ends end
+  pub known : All (λ b. b < 256) end
+  pub some : 0 < length end
+  pub few : length end ≤ 2
+
+line_end_of : (ends : LineEnds) → LineEndOf ends
+line_end_of CrLf = record {
+  end = 13 ∷ 10 ∷ [];
+  is = refl;
+  known = return_feed;
+  some = omega arith;
+  few = omega arith;
+}
+line_end_of Lf = record {
+  end = 10 ∷ [];
+  is = refl;
+  known = feed;
+  some = omega arith;
+  few = omega arith;
+}
+line_end_of Either = record {
+  end = 10 ∷ [];
+  is = inr refl;
+  known = feed;
+  some = omega arith;
+  few = omega arith;
+}
+
+ended : (d : Dialect) (fields : List (List ℕ)) (bytes rest : List ℕ)
+    → AreFields d bytes fields rest → Ended d bytes fields
+unfolding AreFields
+ended d [] bytes rest it = absurd it
+ended d (field ∷ []) bytes rest (text, behind, t, e, inl (end, is, f)) = record {
+  more = [];
+  known = All-nil (λ b. b < 256);
+  few = omega arith;
+  rest = rest;
+  are = λ after. (
+    text,
+    end ++ (rest ++ after),
+    t,
+    ap (λ l. l ++ after) (append-nil bytes ∙ e ∙ ap (λ l. text ++ l) f)
+        ∙ append_assoc text (end ++ rest) after
+        ∙ ap (λ l. text ++ l) (append_assoc end rest after),
+    inl (end, is, refl),
+  );
+}
+ended d (field ∷ []) bytes rest (text, behind, t, e, inr (none, left)) =
+    let z = line_end_of d.ends in
+    record {
+      more = z.end;
+      known = z.known;
+      few = z.few;
+      rest = [];
+      are = λ after. (
+        text,
+        z.end ++ after,
+        t,
+        ap (λ l. (l ++ z.end) ++ after) (e ∙ ap (λ l. text ++ l) none ∙ append-nil text)
+            ∙ append_assoc text z.end after,
+        inl (z.end, z.is, refl),
+      );
+    }
+ended d (field ∷ (next ∷ fields)) bytes rest (text, behind, t, e, them) =
+    let r = ended d (next ∷ fields) behind rest them in
+    record {
+      more = r.more;
+      known = r.known;
+      few = r.few;
+      rest = r.rest;
+      are = λ after. (
+        text,
+        (behind ++ r.more) ++ after,
+        t,
+        ap (λ l. (l ++ r.more) ++ after) e
+            ∙ ap (λ l. l ++ after) (append_assoc text (d.delimiter ∷ behind) r.more)
+            ∙ append_assoc text (d.delimiter ∷ (behind ++ r.more)) after,
+        r.are after,
+      );
+    }
+
+-- bytes with which, and one more at most, a record stands, whether its line end is there or not
+pub record_goes_on : (d : Dialect) (bytes more : List ℕ) (fields : List (List ℕ)) (rest : List ℕ)
+    → length more ≤ 1 → All (λ b. b < 256) more → IsRecord d (bytes ++ more) fields rest
+    → GoesOn d bytes
+record_goes_on d bytes more fields rest one known (some, them) =
+    let r = ended d fields (bytes ++ more) rest them in
+    let P : List ℕ → List ℕ → Type 0 =
+    λ after l. IsRecord d (l ++ after) fields (r.rest ++ after) in
+    record {
+      more = more ++ r.more;
+      known = All-append (λ b. b < 256) more r.more known r.known;
+      few = omega (arith, one, r.few, length-append more r.more);
+      fields = fields;
+      rest = r.rest;
+      begins = λ after. subst (P after) (append_assoc bytes more r.more) (
+        omega (
+          arith,
+          some,
+          length-append ((bytes ++ more) ++ r.more) after,
+          length-append (bytes ++ more) r.more,
+        ),
+        r.are after,
+      );
+    }
+
+-- no bytes: a line end is a record of one empty field
+pub none_goes_on : (d : Dialect) → GoesOn d []
+unfolding AreFields
+none_goes_on d =
+    let z = line_end_of d.ends in record {
+      more = z.end;
+      known = z.known;
+      few = omega (arith, z.few);
+      fields = [] ∷ [];
+      rest = [];
+      begins = λ after. (
+        omega (arith, z.some, length-append z.end after),
+        ([], z.end ++ after, inr (refl, All-nil _), refl, inl (z.end, z.is, refl)),
+      );
+    }
+
+-- what lacks where no byte stands
+lacks_one : (d : Dialect) → d.quote < 256 → (why : Refusal) (more : List ℕ) → Lacks d why more []
+    → (length more ≤ 1) × All (λ b. b < 256) more
+lacks_one d small QuoteInField more (is, none) = absurd none
+lacks_one d small ByteBehindQuote more (is, none) = absurd none
+lacks_one d small OpenQuote more (is, none) =
+    let P : List ℕ → Type 0 = λ l. (length l ≤ 1) × All (λ b. b < 256) l in
+    subst P (sym is) (omega arith, one_byte d.quote small)
+lacks_one d small WrongLineEnd more (inl (is, none)) = absurd none
+lacks_one d small WrongLineEnd more (inr is) =
+    let P : List ℕ → Type 0 = λ l. (length l ≤ 1) × All (λ b. b < 256) l in
+    subst P (sym is) (omega arith, feed)
+
+no_bytes : (bytes : List ℕ) → length bytes ≡ 0 → bytes ≡ []
+no_bytes [] e = refl
+no_bytes (b ∷ bytes) e = absurd (omega (arith, e))
+
+-- refused at the end of the bytes
+pub open_goes_on : (d : Dialect) → d.quote < 256 → (bytes : List ℕ) (fault : RecordFault)
+    → IsRefused d bytes fault → length bytes ≤ fault.offset → GoesOn d bytes
+open_goes_on d small bytes fault (before, back, more, fields, e, size, on, lacks, none) far =
+    let nothing : back ≡ [] = no_bytes back (omega (
+      arith,
+      far,
+      size,
+      ap (λ l. length l) e,
+      length-append before back,
+    )) in
+    let P : List ℕ → Type 0 = λ l. GoesOn d l in
+    let Q : List ℕ → Type 0 = λ l. Lacks d fault.why more l in
+    let (one, known) = lacks_one d small fault.why more (subst Q nothing lacks) in
+    subst P (sym (e ∙ ap (λ l. before ++ l) nothing ∙ append-nil before))
+    (record_goes_on d before more fields [] one known on)
+
+-- refused at one of them
+none_within : (d : Dialect) (before back : List ℕ) → (back ≡ [] → ⊥) → NoneWith d before back
+    → BeginsNone d (before ++ back)
+none_within d before [] some none more fields rest it = absurd (some refl)
+none_within d before (b ∷ bs) some none more fields rest it =
+    let P : List ℕ → Type 0 = λ l. IsRecord d l fields rest in
+    none (bs ++ more) fields rest (subst P (append_assoc before (b ∷ bs) more) it)
+
+pub never_goes_on : (d : Dialect) (bytes : List ℕ) (fault : RecordFault) → IsRefused d bytes fault
+    → fault.offset < length bytes → BeginsNone d bytes
+never_goes_on d bytes fault (before, back, more, fields, e, size, on, lacks, none) near =
+    let P : List ℕ → Type 0 = λ l. BeginsNone d l in
+    subst P (sym e) (none_within d before back
+    (λ is. omega (
+      arith,
+      near,
+      size,
+      ap (λ l. length l) e,
+      length-append before back,
+      ap (λ l. length l) is,
+    )) none)

@@ -1,0 +1,16 @@
+-- The dialects of commas and double quotes.
+use Rattle.std.proofs.Common.{arith}
+use Rattle.format_csv_records.specs.Apart.{IsApart}
+use Rattle.format_csv_records.specs.declared.dialect.Dialect.{Dialect}
+use Rattle.format_csv_records.specs.declared.dialect.LineEnds.{LineEnds}
+
+pub commas_apart : IsApart 44 34
+commas_apart = record {
+  others = λ e. omega (arith, e);
+  delimiter_stays = (λ e. omega (arith, e), λ e. omega (arith, e));
+  quote_stays = (λ e. omega (arith, e), λ e. omega (arith, e));
+}
+
+-- Commas between fields, double quotes round them, and these line ends.
+abbrev pub commas_by : LineEnds → Dialect
+commas_by ends = record { delimiter = 44; quote = 34; ends = ends; apart = commas_apart }

@@ -1,0 +1,19 @@
+-- Which bytes some more make begin with a record, and which none do.
+use Rattle.std.specs.Prelude.{◌<◌, ◌≤◌, ℕ, List, ◌++◌, length}
+use Rattle.std.specs.List.{All}
+use Rattle.format_csv_records.specs.Dialects.{IsRecord}
+use Rattle.format_csv_records.specs.declared.dialect.Dialect.{Dialect}
+
+-- With three bytes more at most they begin with a record of these fields, whatever follows.
+pub record GoesOn (d : Dialect) (bytes : List ℕ) : Type 0 where
+  pub more : List ℕ
+  pub known : All (λ b. b < 256) more
+  pub few : length more ≤ 3
+  pub fields : List (List ℕ)
+  pub rest : List ℕ
+  pub begins : (after : List ℕ) → IsRecord d ((bytes ++ more) ++ after) fields (rest ++ after)
+
+-- Whatever is after them, they begin with none.
+abbrev pub BeginsNone : Dialect → List ℕ → Type 0
+BeginsNone d bytes = (more : List ℕ) (fields : List (List ℕ)) (rest : List ℕ)
+    → IsRecord d (bytes ++ more) fields rest → ⊥
