@@ -76,17 +76,11 @@ module _ (d : Dialect) (line_feeds : ℕ) (same : d ≡ dialect_of line_feeds) (
   none_yet none =
       let P : Dialect → Type 0 = λ x. NoneForGood x input in
       subst P same (λ fields rest all.
-<<<<<<< HEAD
-      let Q : List ℕ → List ℕ → Type 0 = λ l r. IsRecord d l fields r in
-      let R : List ℕ → Type 0 = λ l. Q l (rest ++ []) in
-      none fields (rest ++ []) (subst R (append-nil input) (all [])))
-=======
       let R : List ℕ → Type 0 = λ l. IsRecord d l fields (rest ++ []) in
       none fields (rest ++ []) (subst R (append-nil input) (all [])))
 
   goes_on : GoesOn d input → GoesOn (dialect_of line_feeds) input
   goes_on it = let P : Dialect → Type 0 = λ x. GoesOn x input in subst P same it
->>>>>>> 9b5328cb (Lemmas of what may go on stand beside the records)
 
   pub some_may : (size : RecordSize) → IsSized d input size → size.ended ≡ false
       → NoneForGood (dialect_of line_feeds) input × GoesOn (dialect_of line_feeds) input
