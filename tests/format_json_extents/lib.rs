@@ -2,6 +2,8 @@
 #![tactic(auto)]
 
 #[cfg(test)]
+mod steps;
+#[cfg(test)]
 mod tokens;
 #[cfg(test)]
 mod values;

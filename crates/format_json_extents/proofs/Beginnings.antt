@@ -22,6 +22,13 @@ starts_none P Q F bytes rest starts bars it other second =
     let (b, more, begins, f) = starts bytes rest it in
     bars bytes other b more begins f second
 
+-- another byte stands first
+pub none_first : (P : List ℕ → Type 0) (F : ℕ → Type 0) (bytes : List ℕ) (b : ℕ) (more : List ℕ)
+    → Starts P F → bytes ≡ b ∷ more → (F b → ⊥) → NoneStands P bytes
+none_first P F bytes b more starts e not rest it =
+    let (c, tail, begins, f) = starts bytes rest it in
+    not (subst F (same_byte _ _ _ _ (sym begins ∙ e)).0 f)
+
 pub byte_starts : (P : ℕ → Type 0) → Starts (IsByte P) P
 byte_starts P bytes rest it = (it.is.byte, rest, byte_first P bytes rest it, it.is.is_byte)
 
@@ -70,6 +77,11 @@ this_none c bytes not rest it =
 -- nothing stands before a text that begins with a byte
 pub no_bytes : (b : ℕ) (more : List ℕ) → [] ≡ b ∷ more → ⊥
 no_bytes b more e = cc
+
+pub none_empty : (P : List ℕ → Type 0) (F : ℕ → Type 0) (bytes : List ℕ) → Starts P F → bytes ≡ []
+    → NoneStands P bytes
+none_empty P F bytes starts e rest it =
+    let (b, more, begins, f) = starts bytes rest it in no_bytes b more (sym e ∙ begins)
 
 pub start_less : (P : List ℕ → Type 0) (F : ℕ → Type 0) (bytes rest : List ℕ) → Starts P F
     → Stands P bytes rest → length rest < length bytes

@@ -5,9 +5,10 @@ pub mod Firsts
 pub mod Items
 pub mod Leading
 pub mod Numbers
+pub mod Runs
 pub mod Standard
 pub mod Standing
-pub mod Taking
+pub mod Stepping
 pub mod Texts
 pub mod Units
 pub mod Values

@@ -3,7 +3,8 @@ use Rattle.std.proofs.Common.{◌≡◌, ◌∙◌, ◌↔◌, ◌++◌, ℕ, []
 use Rattle.std.proofs.Common.{arith, false, inl, inr, length, refl, subst, suc, sym, true, zero}
 use Rattle.std.proofs.lemmas.Bool.{eq-eqb, eqb-true}
 use Rattle.std.proofs.lemmas.List.{append-nil, nil_from_length}
-use Rattle.format_json_extents.proofs.Beginnings.{Starts, no_bytes, starts_bars, starts_none}
+use Rattle.format_json_extents.proofs.Beginnings.{Starts, no_bytes, none_first, starts_bars}
+use Rattle.format_json_extents.proofs.Beginnings.{starts_none}
 use Rattle.format_json_extents.proofs.Beginnings.{this_none}
 use Rattle.format_json_extents.proofs.Firsts.{Inside, IsFirst, IsItemByte, IsOpening, This}
 use Rattle.format_json_extents.proofs.Firsts.{closing_ends}
@@ -352,6 +353,26 @@ value_none level below bytes e one two =
 pub value_lowest : (level : ℕ) (bytes : List ℕ) → level ≡ 0 → NoneStands IsScalar bytes
     → NoneStands (IsValue level) bytes
 value_lowest level bytes e none = subst (λ n. NoneStands (IsValue n) bytes) (sym e) none
+
+-- a bracket begins no scalar
+pub opening_no_scalar : (keyed : Bool) (bytes inside : List ℕ) → bytes ≡ opening keyed ∷ inside
+    → NoneStands IsScalar bytes
+opening_no_scalar keyed bytes inside e =
+    none_first IsScalar IsFirstOfScalar bytes (opening keyed) inside scalar_starts e
+    (λ is. scalar_no_bracket (opening keyed) is (bracket keyed))
+  where
+    bracket : (keyed : Bool) → IsOpening (opening keyed)
+    bracket false = inl refl
+    bracket true = inr refl
+
+-- and what begins with none is a scalar or nothing
+pub value_no_other : (level : ℕ) (bytes : List ℕ)
+    → ((keyed : Bool) (more : List ℕ) → bytes ≡ opening keyed ∷ more → ⊥)
+    → NoneStands IsScalar bytes → NoneStands (IsValue level) bytes
+value_no_other zero bytes not none = none
+value_no_other (suc level) bytes not none =
+    either_none IsScalar (IsNested (IsValue level)) bytes none
+    (not_nested (IsValue level) bytes not)
 
 -- ---- texts
 

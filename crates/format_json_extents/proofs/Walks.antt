@@ -57,7 +57,7 @@ pub nothing_marks : (bytes : List ℕ) → length bytes ≡ 0 → NoneStands (Is
 nothing_marks bytes e = byte_empty IsMark bytes (nil_from_length bytes e)
 
 -- a closing bracket and white space are apart
-closing_no_space : Apart IsClosingByte IsSpace
+pub closing_no_space : Apart IsClosingByte IsSpace
 closing_no_space b (inl is) s = let low = space_low b s in omega (arith, low, is)
 closing_no_space b (inr is) s = let low = space_low b s in omega (arith, low, is)
 
@@ -105,7 +105,7 @@ side_no_mark b (inr (inl mid)) (inr is) = omega (arith, mid, is)
 side_no_mark b (inr (inr high)) (inl is) = omega (arith, high, is)
 side_no_mark b (inr (inr high)) (inr is) = omega (arith, high, is)
 
-lead_no_first : Apart IsLeadByte IsFirst
+pub lead_no_first : Apart IsLeadByte IsFirst
 lead_no_first b (inl s) f = space_no_first b s f
 lead_no_first b (inr (inl s)) f = space_no_first b s f
 lead_no_first b (inr (inr mark)) f = side_no_mark b (first_side b f) mark

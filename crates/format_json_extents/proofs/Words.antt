@@ -1,13 +1,15 @@
 -- How words and scalars stand.
-use Rattle.std.proofs.Common.{◌≡◌, ◌∙◌, ◌++◌, ℕ, [], ◌∷◌, ◌<◌, List, ap, arith, inl, inr, refl, sym}
+use Rattle.std.proofs.Common.{◌≡◌, ◌∙◌, ◌++◌, ℕ, [], ◌∷◌, ◌<◌, ◌≤◌, List, ap, arith, inl, inr, refl}
+use Rattle.std.proofs.Common.{sym}
 use Rattle.std.proofs.lemmas.List.{append_cancel_left}
-use Rattle.format_json_extents.proofs.Beginnings.{Starts, either_starts, starts_bars, starts_none}
+use Rattle.format_json_extents.proofs.Beginnings.{Starts, either_starts, none_empty, none_first}
+use Rattle.format_json_extents.proofs.Beginnings.{starts_bars, starts_none}
 use Rattle.format_json_extents.proofs.Numbers.{number_starts}
 use Rattle.format_json_extents.proofs.Standing.{Apart, either_left, either_none, either_right}
 use Rattle.format_json_extents.proofs.Standing.{widen}
-use Rattle.format_json_extents.proofs.Texts.{string_starts}
+use Rattle.format_json_extents.proofs.Texts.{string_is, string_none, string_starts}
 use Rattle.format_json_extents.specs.Number.{IsLeading, IsMinus, IsNumber, IsNumberByte, IsZero}
-use Rattle.format_json_extents.specs.Strings.{IsQuote, IsString}
+use Rattle.format_json_extents.specs.Strings.{IsQuote, IsString, IsStringTail}
 use Rattle.format_json_extents.specs.Texts.{Either, Leaves, Never, NoneStands, Or, Stands}
 use Rattle.format_json_extents.specs.Value.{IsScalar, IsWord, Only}
 
@@ -159,3 +161,75 @@ pub scalar_none : (bytes : List ℕ) → NoneStands IsString bytes → NoneStand
 scalar_none bytes one two three =
     either_none IsString (Either IsNumber IsWord) bytes one
     (either_none IsNumber IsWord bytes two three)
+
+-- ---- scalars by their first byte
+
+pub empty_no_scalar : (bytes : List ℕ) → bytes ≡ [] → NoneStands IsScalar bytes
+empty_no_scalar bytes e = none_empty IsScalar IsFirstOfScalar bytes scalar_starts e
+
+-- below the letters begins no word
+low_no_word : (bytes : List ℕ) (b : ℕ) (more : List ℕ) → bytes ≡ b ∷ more → b ≤ 57
+    → NoneStands IsWord bytes
+low_no_word bytes b more e low =
+    none_first IsWord IsFirstLetter bytes b more word_starts e letter
+  where
+    letter : IsFirstLetter b → ⊥
+    letter (inl is) = omega (arith, is, low)
+    letter (inr (inl is)) = omega (arith, is, low)
+    letter (inr (inr is)) = omega (arith, is, low)
+
+-- and above the digits no number
+high_no_number : (bytes : List ℕ) (b : ℕ) (more : List ℕ) → bytes ≡ b ∷ more → (b ≤ 57 → ⊥)
+    → NoneStands IsNumber bytes
+high_no_number bytes b more e high =
+    none_first IsNumber IsFirstOfNumber bytes b more number_starts e first
+  where
+    first : IsFirstOfNumber b → ⊥
+    first (inl is) = high (omega (arith, is))
+    first (inr (inl is)) = high (omega (arith, is))
+    first (inr (inr is)) = high (omega (arith, is))
+
+quote_no_number : (bytes inside : List ℕ) → bytes ≡ 34 ∷ inside → NoneStands IsNumber bytes
+quote_no_number bytes inside e =
+    none_first IsNumber IsFirstOfNumber bytes 34 inside number_starts e first
+  where
+    first : IsFirstOfNumber 34 → ⊥
+    first (inl is) = omega (arith, is)
+    first (inr (inl is)) = omega (arith, is)
+    first (inr (inr is)) = omega (arith, is)
+
+other_no_string : (bytes : List ℕ) (b : ℕ) (more : List ℕ) → bytes ≡ b ∷ more → (b ≡ 34 → ⊥)
+    → NoneStands IsString bytes
+other_no_string bytes b more e not =
+    none_first IsString IsQuote bytes b more string_starts e not
+
+pub quoted_is : (bytes inside rest : List ℕ) → bytes ≡ 34 ∷ inside
+    → Leaves IsStringTail Never inside rest → Leaves IsScalar IsNumberByte bytes rest
+quoted_is bytes inside rest e it = scalar_string bytes rest (string_is bytes inside rest e it)
+
+pub quoted_none : (bytes inside : List ℕ) → bytes ≡ 34 ∷ inside → NoneStands IsStringTail inside
+    → NoneStands IsScalar bytes
+quoted_none bytes inside e none =
+    scalar_none bytes (string_none bytes inside e none) (quote_no_number bytes inside e)
+    (low_no_word bytes 34 inside e (omega arith))
+
+pub low_is : (bytes : List ℕ) (b : ℕ) (more rest : List ℕ) → bytes ≡ b ∷ more → (b ≡ 34 → ⊥)
+    → Leaves IsNumber IsNumberByte bytes rest → Leaves IsScalar IsNumberByte bytes rest
+low_is bytes b more rest e not it =
+    scalar_number bytes rest (other_no_string bytes b more e not) it
+
+pub low_none : (bytes : List ℕ) (b : ℕ) (more : List ℕ) → bytes ≡ b ∷ more → (b ≡ 34 → ⊥)
+    → b ≤ 57 → NoneStands IsNumber bytes → NoneStands IsScalar bytes
+low_none bytes b more e not low none =
+    scalar_none bytes (other_no_string bytes b more e not) none (low_no_word bytes b more e low)
+
+pub high_is : (bytes : List ℕ) (b : ℕ) (more rest : List ℕ) → bytes ≡ b ∷ more → (b ≡ 34 → ⊥)
+    → (b ≤ 57 → ⊥) → Leaves IsWord Never bytes rest → Leaves IsScalar IsNumberByte bytes rest
+high_is bytes b more rest e not high it =
+    scalar_word bytes rest (other_no_string bytes b more e not)
+    (high_no_number bytes b more e high) it
+
+pub high_none : (bytes : List ℕ) (b : ℕ) (more : List ℕ) → bytes ≡ b ∷ more → (b ≡ 34 → ⊥)
+    → (b ≤ 57 → ⊥) → NoneStands IsWord bytes → NoneStands IsScalar bytes
+high_none bytes b more e not high none =
+    scalar_none bytes (other_no_string bytes b more e not) (high_no_number bytes b more e high) none

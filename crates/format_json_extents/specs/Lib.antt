@@ -1,7 +1,7 @@
 -- Written by scripts/registries.py: do not edit.
 pub mod Number
-pub mod Ranges
 pub mod Standard
+pub mod Steps
 pub mod Strings
 pub mod Texts
 pub mod Value

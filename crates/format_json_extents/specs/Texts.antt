@@ -1,5 +1,6 @@
 -- Sets of texts, and where one of their texts stands.
 use Rattle.std.specs.Prelude.{◌≡◌, ◌<◌, ◌≤◌, ◌⊎◌, ℕ, List, [], ◌∷◌, ◌++◌, length}
+use Rattle.std.specs.List.{All}
 
 -- ---- sets of texts
 
@@ -69,6 +70,12 @@ pub record GoesOn (S : ℕ → Type 0) (more rest : List ℕ) : Type 0 where
 pub record Leaves (P : List ℕ → Type 0) (S : ℕ → Type 0) (bytes rest : List ℕ) : Type 0 where
   pub stands : Stands P bytes rest
   pub only : (other : List ℕ) → Stands P bytes other → (other ≡ rest) ⊎ GoesOn S other rest
+
+-- The first bytes, that many, are of P, and the next one is not.
+abbrev pub EndsAt : (P : ℕ → Type 0) (bytes : List ℕ) (count : ℕ) → Type 0
+EndsAt P bytes count =
+    (front : List ℕ) × (other : ℕ) × (rest : List ℕ) × (bytes ≡ front ++ other ∷ rest)
+    × (length front ≡ count) × All P front × (P other → ⊥)
 
 -- A byte of S or of T.
 abbrev pub Or : (S T : ℕ → Type 0) → ℕ → Type 0

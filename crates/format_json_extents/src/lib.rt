@@ -17,6 +17,7 @@
 pub mod laws;
 pub mod number;
 mod scalar;
+pub mod steps;
 pub mod string;
 mod tokens;
 pub mod value;

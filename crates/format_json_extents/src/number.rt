@@ -11,6 +11,7 @@ ghost use Rattle.format_json_extents.specs.Texts.{NoneStands, Or};
 use crate::tokens::{behind, behind_digits};
 
 /// What stands after one digit or several.
+#[inline(always)]
 fn behind_some_digits<'i>(bytes: &'i [u8]) -> Option<&'i [u8]>
     ensures { MatchOption result (NoneStands IsDigits bytes.now)
         (λ rest. Leaves IsDigits IsDigit bytes.now rest.now) }
@@ -24,6 +25,7 @@ fn behind_some_digits<'i>(bytes: &'i [u8]) -> Option<&'i [u8]>
 }
 
 /// What stands after a minus, if one stands first.
+#[inline(always)]
 fn behind_minus<'i>(bytes: &'i [u8]) -> &'i [u8]
     ensures { Leaves (Maybe (IsByte IsMinus)) (Or Never IsMinus) bytes.now result.now }
 {
@@ -34,6 +36,7 @@ fn behind_minus<'i>(bytes: &'i [u8]) -> &'i [u8]
 }
 
 /// What stands after a sign, if one stands first.
+#[inline(always)]
 fn behind_sign<'i>(bytes: &'i [u8]) -> &'i [u8]
     ensures { Leaves (Maybe (IsByte IsSign)) (Or Never IsSign) bytes.now result.now }
 {
@@ -50,6 +53,7 @@ fn behind_sign<'i>(bytes: &'i [u8]) -> &'i [u8]
 }
 
 /// What stands after the whole part of a number.
+#[inline(always)]
 fn behind_whole<'i>(bytes: &'i [u8]) -> Option<&'i [u8]>
     ensures { MatchOption result (NoneStands IsWhole bytes.now)
         (λ rest. Leaves IsWhole IsDigit bytes.now rest.now) }
@@ -66,6 +70,7 @@ fn behind_whole<'i>(bytes: &'i [u8]) -> Option<&'i [u8]>
 }
 
 /// What stands after a point and digits.
+#[inline(always)]
 fn behind_fraction<'i>(bytes: &'i [u8]) -> Option<&'i [u8]>
     ensures { MatchOption result (NoneStands IsFraction bytes.now)
         (λ rest. Leaves IsFraction IsDigit bytes.now rest.now) }
@@ -75,6 +80,7 @@ fn behind_fraction<'i>(bytes: &'i [u8]) -> Option<&'i [u8]>
 }
 
 /// What stands after an exponent.
+#[inline(always)]
 fn behind_exponent<'i>(bytes: &'i [u8]) -> Option<&'i [u8]>
     ensures { MatchOption result (NoneStands IsExponent bytes.now)
         (λ rest. Leaves IsExponent IsDigit bytes.now rest.now) }
@@ -88,6 +94,7 @@ fn behind_exponent<'i>(bytes: &'i [u8]) -> Option<&'i [u8]>
 }
 
 /// What stands after a fraction, if one stands first.
+#[inline(always)]
 fn behind_any_fraction<'i>(bytes: &'i [u8]) -> &'i [u8]
     ensures { Leaves (Maybe IsFraction) (Or IsDigit IsPoint) bytes.now result.now }
 {
@@ -98,6 +105,7 @@ fn behind_any_fraction<'i>(bytes: &'i [u8]) -> &'i [u8]
 }
 
 /// What stands after an exponent, if one stands first.
+#[inline(always)]
 fn behind_any_exponent<'i>(bytes: &'i [u8]) -> &'i [u8]
     ensures { Leaves (Maybe IsExponent) (Or IsDigit IsE) bytes.now result.now }
 {
@@ -108,6 +116,7 @@ fn behind_any_exponent<'i>(bytes: &'i [u8]) -> &'i [u8]
 }
 
 /// What stands after the longest number.
+#[inline(always)]
 pub fn behind_number<'i>(bytes: &'i [u8]) -> Option<&'i [u8]>
     ensures { MatchOption result (NoneStands IsNumber bytes.now)
         (λ rest. Leaves IsNumber IsNumberByte bytes.now rest.now) }

@@ -6,7 +6,7 @@ ghost use Rattle.format_json_extents.specs.Texts.{Leaves, Never, NoneStands};
 ghost use Rattle.format_json_extents.specs.Value.{IsScalar, IsWord, Only};
 
 use crate::number::behind_number;
-use crate::string::behind_string;
+use crate::string::behind_string_tail;
 
 /// What stands after this word.
 fn behind_this<'i>(word: &[u8], bytes: &'i [u8]) -> Option<&'i [u8]>
@@ -31,15 +31,19 @@ fn behind_word<'i>(bytes: &'i [u8]) -> Option<&'i [u8]>
 }
 
 /// What stands after a value that has no others in it.
+#[inline(always)]
 pub fn behind_scalar<'i>(bytes: &'i [u8]) -> Option<&'i [u8]>
     ensures { MatchOption result (NoneStands IsScalar bytes.now)
         (λ rest. Leaves IsScalar IsNumberByte bytes.now rest.now) }
 {
-    match behind_string(bytes) {
-        Some(rest) => Some(rest),
-        None => match behind_number(bytes) {
-            Some(rest) => Some(rest),
-            None => behind_word(bytes),
-        },
+    let (first, inside) = bytes.split_first()?;
+    if *first == b'"' {
+        return behind_string_tail(inside);
+    }
+    // Numbers begin with a minus or a digit, words with a letter.
+    if *first <= b'9' {
+        behind_number(bytes)
+    } else {
+        behind_word(bytes)
     }
 }

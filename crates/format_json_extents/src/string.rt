@@ -131,8 +131,9 @@ fn behind_escape<'i>(bytes: &'i [u8]) -> Option<&'i [u8]>
     }
 }
 
-/// What stands after the last quote of a string, from after its first.
-fn behind_string_tail<'i>(bytes: &'i [u8]) -> Option<&'i [u8]>
+/// The same as `behind_string_tail`, of a string with escapes.
+#[inline(never)]
+fn behind_pieces<'i>(bytes: &'i [u8]) -> Option<&'i [u8]>
     ensures { MatchOption result (NoneStands IsStringTail bytes.now)
         (λ rest. Leaves IsStringTail Never bytes.now rest.now) }
 {
@@ -149,7 +150,21 @@ fn behind_string_tail<'i>(bytes: &'i [u8]) -> Option<&'i [u8]>
     }
 }
 
+/// What stands after the last quote of a string, from after its first.
+#[inline(always)]
+pub fn behind_string_tail<'i>(bytes: &'i [u8]) -> Option<&'i [u8]>
+    ensures { MatchOption result (NoneStands IsStringTail bytes.now)
+        (λ rest. Leaves IsStringTail Never bytes.now rest.now) }
+{
+    let ahead = behind_unescaped(bytes);
+    match behind(b'"', ahead) {
+        Some(end) => Some(end),
+        None => behind_pieces(ahead),
+    }
+}
+
 /// What stands after a string.
+#[inline(always)]
 pub fn behind_string<'i>(bytes: &'i [u8]) -> Option<&'i [u8]>
     ensures { MatchOption result (NoneStands IsString bytes.now)
         (λ rest. Leaves IsString Never bytes.now rest.now) }

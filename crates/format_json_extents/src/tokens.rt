@@ -1,113 +1,152 @@
 //! Single bytes, and all bytes of a set.
 
-ghost use Rattle.winnow.specs.Once.{holds_once};
-ghost use Rattle.std.specs.Prelude.{◌≡◌, ◌↔◌, ◌∷◌, List, ℕ, IsTrue, MatchOption};
+ghost use Rattle.std.specs.Prelude.{◌≡◌, ◌≤◌, ◌↔◌, ◌∷◌, List, ℕ, IsTrue, MatchOption, drop};
+ghost use Rattle.std.specs.Prelude.{length};
 ghost use Rattle.std.specs.List.{All};
-ghost use Rattle.winnow.specs.TakeWhile.{take_while_occurrences};
 ghost use Rattle.format_json_extents.specs.Number.{IsDigit};
-ghost use Rattle.format_json_extents.specs.Ranges.{any_number};
 ghost use Rattle.format_json_extents.specs.Strings.{IsUnescaped};
-ghost use Rattle.format_json_extents.specs.Texts.{Leaves};
+ghost use Rattle.format_json_extents.specs.Texts.{EndsAt, Leaves};
 ghost use Rattle.format_json_extents.specs.Value.{IsSpace};
 
-use winnow::error::{EmptyError, ErrMode};
-use winnow::prelude::*;
-use winnow::stream::{ContainsToken, Range};
-use winnow::token::impls::TakeWhile;
-use winnow::token::take_while;
+use std::simd::prelude::*;
 
-/// The digits.
-#[derive(Clone, Copy, Drop)]
-struct Digits;
+// How many bytes one load takes.
+const LANES: usize = 16;
 
-impl ContainsToken<u8> for Digits {
-    ghost tells = { λ s b answer. IsTrue answer ↔ IsDigit b };
-
-    ghost once = { λ s is. holds_once IsDigit };
-
-    #[inline]
-    fn contains_token(&self, b: u8) -> bool {
-        b >= b'0' && b <= b'9'
-    }
-}
-
-/// White space.
-#[derive(Clone, Copy, Drop)]
-struct Spaces;
-
-impl ContainsToken<u8> for Spaces {
-    ghost tells = { λ s b answer. IsTrue answer ↔ IsSpace b };
-
-    ghost once = { λ s is. holds_once IsSpace };
-
-    #[inline]
-    fn contains_token(&self, b: u8) -> bool {
-        b == b' ' || b == b'\t' || b == b'\n' || b == b'\r'
-    }
-}
-
-/// The bytes that stand for themselves in a string.
-#[derive(Clone, Copy, Drop)]
-struct Unescaped;
-
-impl ContainsToken<u8> for Unescaped {
-    ghost tells = { λ s b answer. IsTrue answer ↔ IsUnescaped b };
-
-    ghost once = { λ s is. holds_once IsUnescaped };
-
-    #[inline]
-    fn contains_token(&self, b: u8) -> bool {
-        b >= 32 && b != b'"' && b != b'\\'
-    }
-}
-
-/// A take of bytes of a set, as many as there are.
-fn all_of<S: ContainsToken<u8> + Drop, I: StreamIsPartial<Token = u8>, E: ParserError<I>>(
-    set: S,
-) -> TakeWhile<S, I, E>
-    ensures { take_while_occurrences result ≡ any_number }
+/// Whether a byte is white space.
+#[inline(always)]
+fn is_space(byte: u8) -> bool
+    ensures { IsTrue result ↔ IsSpace byte }
 {
-    take_while(Range::from(0..), set)
+    // Most bytes are above.
+    byte <= b' ' && (byte == b' ' || byte == b'\n' || byte == b'\r' || byte == b'\t')
+}
+
+/// Whether a byte is a digit.
+#[inline(always)]
+fn is_digit(byte: u8) -> bool
+    ensures { IsTrue result ↔ IsDigit byte }
+{
+    byte >= b'0' && byte <= b'9'
+}
+
+/// Whether a byte stands for itself in a string.
+#[inline(always)]
+fn is_unescaped(byte: u8) -> bool
+    ensures { IsTrue result ↔ IsUnescaped byte }
+{
+    byte >= 32 && byte != b'"' && byte != b'\\'
 }
 
 /// What stands after all digits.
+#[inline(always)]
 pub fn behind_digits<'i>(bytes: &'i [u8]) -> &'i [u8]
     ensures { Leaves (All IsDigit) IsDigit bytes.now result.now }
 {
-    let mut input = bytes;
-    let answer: Result<&'i [u8], ErrMode<EmptyError>> = all_of(Digits).parse_next(&mut input);
-    match answer {
-        Ok(_text) => input,
-        // A take of any number of bytes never fails.
-        Err(_) => bytes,
+    let mut rest = bytes;
+    'digits: loop {
+        match rest.split_first() {
+            Some((first, more)) => {
+                if is_digit(*first) {
+                    rest = more;
+                } else {
+                    return rest;
+                }
+            }
+            None => return rest,
+        }
     }
 }
 
 /// What stands after all white space.
+#[inline(always)]
 pub fn behind_gap<'i>(bytes: &'i [u8]) -> &'i [u8]
     ensures { Leaves (All IsSpace) IsSpace bytes.now result.now }
 {
-    let mut input = bytes;
-    let answer: Result<&'i [u8], ErrMode<EmptyError>> = all_of(Spaces).parse_next(&mut input);
-    match answer {
-        Ok(_text) => input,
-        Err(_) => bytes,
+    let mut rest = bytes;
+    'spaces: loop {
+        match rest.split_first() {
+            Some((first, more)) => {
+                if is_space(*first) {
+                    rest = more;
+                } else {
+                    return rest;
+                }
+            }
+            None => return rest,
+        }
     }
 }
 
+/// What stands after that many bytes.
+#[inline(always)]
+fn behind_many<'i>(count: usize, bytes: &'i [u8]) -> &'i [u8]
+    requires { count ≤ length bytes.now }
+    ensures { result.now ≡ drop count bytes.now }
+{
+    &bytes[count..]
+}
+
+/// How many lanes stand before the first that does not stand for itself in a string; none where
+/// all do.
+#[inline(always)]
+fn unescaped_first(lanes: u8x16) -> Option<usize>
+    ensures { MatchOption result (All IsUnescaped lanes)
+        (λ count. EndsAt IsUnescaped lanes count) }
+{
+    // Quotes and backslashes become lower than a space, as control characters are.
+    let none = u8x16::splat(0);
+    let unquoted = lanes.simd_eq(u8x16::splat(b'"')).select(none, lanes);
+    let plain = lanes.simd_eq(u8x16::splat(b'\\')).select(none, unquoted);
+    let others = plain.simd_lt(u8x16::splat(32)).to_bitmask();
+    if others == 0 {
+        return None;
+    }
+    Some(others.trailing_zeros() as usize)
+}
+
 /// What stands after all bytes that stand for themselves in a string.
+#[inline(always)]
 pub fn behind_unescaped<'i>(bytes: &'i [u8]) -> &'i [u8]
     ensures { Leaves (All IsUnescaped) IsUnescaped bytes.now result.now }
 {
-    let mut input = bytes;
-    let answer: Result<&'i [u8], ErrMode<EmptyError>> = all_of(Unescaped).parse_next(&mut input);
-    match answer {
-        Ok(_text) => input,
-        Err(_) => bytes,
+    if bytes.len() >= LANES {
+        match unescaped_first(u8x16::from_slice(bytes)) {
+            Some(count) => return behind_many(count, bytes),
+            None => {}
+        }
+    }
+    behind_more_unescaped(bytes)
+}
+
+/// The same, in longer strings and at the end of the bytes.
+#[inline(never)]
+fn behind_more_unescaped<'i>(bytes: &'i [u8]) -> &'i [u8]
+    ensures { Leaves (All IsUnescaped) IsUnescaped bytes.now result.now }
+{
+    let mut rest = bytes;
+    'lanes: while rest.len() >= LANES {
+        match unescaped_first(u8x16::from_slice(rest)) {
+            Some(count) => return behind_many(count, rest),
+            None => rest = behind_many(LANES, rest),
+        }
+    }
+    'last: loop {
+        match rest.split_first() {
+            Some((first, more)) => {
+                if is_unescaped(*first) {
+                    rest = more;
+                } else {
+                    return rest;
+                }
+            }
+            None => return rest,
+        }
     }
 }
 
 /// What stands after a byte.
+#[inline(always)]
 pub fn behind<'i>(byte: u8, bytes: &'i [u8]) -> Option<&'i [u8]>
     ensures { MatchOption result ((more : List ℕ) → bytes.now ≡ byte ∷ more → ⊥)
         (λ rest. bytes.now ≡ byte ∷ rest.now) }

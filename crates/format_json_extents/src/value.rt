@@ -15,6 +15,7 @@ use crate::string::behind_string;
 use crate::tokens::{behind, behind_gap};
 
 /// What stands after an opening bracket, and whether names stand after it.
+#[inline(always)]
 fn behind_opening<'i>(bytes: &'i [u8]) -> Option<(bool, &'i [u8])>
     ensures { MatchOption result
         ((keyed : Bool) (more : List ℕ) → bytes.now ≡ opening keyed ∷ more → ⊥)
@@ -29,6 +30,7 @@ fn behind_opening<'i>(bytes: &'i [u8]) -> Option<(bool, &'i [u8])>
 }
 
 /// What stands after the closing bracket.
+#[inline(always)]
 fn behind_closing<'i>(keyed: bool, bytes: &'i [u8]) -> Option<&'i [u8]>
     ensures { MatchOption result ((more : List ℕ) → bytes.now ≡ closing keyed ∷ more → ⊥)
         (λ rest. bytes.now ≡ closing keyed ∷ rest.now) }
@@ -41,6 +43,7 @@ fn behind_closing<'i>(keyed: bool, bytes: &'i [u8]) -> Option<&'i [u8]>
 }
 
 /// What stands after the closing bracket of what has nothing in it.
+#[inline(always)]
 fn behind_empty<'i>(keyed: bool, bytes: &'i [u8]) -> Option<&'i [u8]>
     ensures { MatchOption result (NoneStands (IsEmptyTail keyed) bytes.now)
         (λ rest. Leaves (IsEmptyTail keyed) Never bytes.now rest.now) }
@@ -49,6 +52,7 @@ fn behind_empty<'i>(keyed: bool, bytes: &'i [u8]) -> Option<&'i [u8]>
 }
 
 /// What stands after a name and its colon, where names stand.
+#[inline(always)]
 fn behind_name<'i>(keyed: bool, bytes: &'i [u8]) -> Option<&'i [u8]>
     ensures { MatchOption result (NoneStands (IsName keyed) bytes.now)
         (λ rest. Leaves (IsName keyed) Never bytes.now rest.now) }
@@ -63,6 +67,7 @@ fn behind_name<'i>(keyed: bool, bytes: &'i [u8]) -> Option<&'i [u8]>
 
 /// What stands after the closing bracket, from before the first item.
 #[cycle(nesting)]
+#[inline(never)]
 fn behind_items<'i>(keyed: bool, level: usize, bytes: &'i [u8]) -> Option<&'i [u8]>
     ensures { MatchOption result (NoneStands (IsItemsTail keyed (IsValue level)) bytes.now)
         (λ rest. Leaves (IsItemsTail keyed (IsValue level)) Never bytes.now rest.now) }
@@ -81,22 +86,22 @@ fn behind_items<'i>(keyed: bool, level: usize, bytes: &'i [u8]) -> Option<&'i [u
 
 /// What stands after the longest value.
 #[cycle(nesting)]
+#[inline(always)]
 fn behind_value<'i>(level: usize, bytes: &'i [u8]) -> Option<&'i [u8]>
     ensures { MatchOption result (NoneStands (IsValue level) bytes.now)
         (λ rest. Leaves (IsValue level) IsNumberByte bytes.now rest.now) }
 {
-    match behind_scalar(bytes) {
-        Some(rest) => Some(rest),
-        None => {
+    match behind_opening(bytes) {
+        Some((keyed, inside)) => {
             if level == 0 {
                 return None;
             }
-            let (keyed, inside) = behind_opening(bytes)?;
             match behind_empty(keyed, inside) {
                 Some(rest) => Some(rest),
                 None => behind_items(keyed, level - 1, inside),
             }
         }
+        None => behind_scalar(bytes),
     }
 }
 

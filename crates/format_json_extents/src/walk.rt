@@ -66,7 +66,8 @@ fn is_closing(byte: u8) -> bool
 }
 
 /// What stands after white space, a comma or a colon at most, and the white space after that.
-fn behind_lead<'i>(bytes: &'i [u8]) -> &'i [u8]
+#[inline(always)]
+pub fn behind_lead<'i>(bytes: &'i [u8]) -> &'i [u8]
     ensures { Leaves IsLead IsLeadByte bytes.now result.now }
 {
     let ahead = behind_gap(bytes);

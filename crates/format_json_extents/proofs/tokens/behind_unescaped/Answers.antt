@@ -1,12 +1,14 @@
-use Rattle.std.proofs.Common.{refl, rules}
-use Rattle.format_json_extents.proofs.Taking.{all_fails, all_read}
+use Rattle.std.proofs.Common.{subst, sym}
+use Rattle.std.specs.List.{All}
+use Rattle.format_json_extents.proofs.Runs.{lanes_stop, lanes_within, run_here}
 use Rattle.format_json_extents.specs.Strings.{IsUnescaped}
+use Rattle.format_json_extents.specs.Texts.{Leaves}
 use Rattle.format_json_extents.proofs.tokens.behind_unescaped.Goals as goal
 
-pub returns-in-Ok : goal.returns-in-Ok
-returns-in-Ok c =
-    all_read IsUnescaped _ _ c.in-Ok._text _ _ (search rules) refl c.in-Ok.ensures.ran
+pub behind_many-requires : goal.behind_many-requires
+behind_many-requires c = lanes_within IsUnescaped _ _ c.in-Some.ensures
 
-pub returns-in-Err : goal.returns-in-Err
-returns-in-Err c =
-    all_fails IsUnescaped _ _ _ _ _ (search rules) refl c.in-Err.ensures.ran
+pub returns-in-Some : goal.returns-in-Some
+returns-in-Some c =
+    subst (Leaves (All IsUnescaped) IsUnescaped c.args.bytes.now) (sym c.behind_many.ensures)
+    (lanes_stop IsUnescaped _ _ _ (run_here IsUnescaped c.args.bytes.now) c.in-Some.ensures)

@@ -6,9 +6,9 @@ use Rattle.format_json_extents.proofs.Values.{item_no_name, item_no_value, item_
 use Rattle.format_json_extents.proofs.Values.{items_less}
 use Rattle.format_json_extents.proofs.Values.{items_more, items_none, items_stop, nested_is}
 use Rattle.format_json_extents.proofs.Values.{nested_none}
-use Rattle.format_json_extents.proofs.Values.{not_nested, tail_empty, tail_items, tail_none}
-use Rattle.format_json_extents.proofs.Values.{value_lowest}
-use Rattle.format_json_extents.proofs.Values.{value_nested, value_none, value_scalar}
+use Rattle.format_json_extents.proofs.Values.{opening_no_scalar, tail_empty, tail_items, tail_none}
+use Rattle.format_json_extents.proofs.Values.{value_lowest, value_nested, value_no_other}
+use Rattle.format_json_extents.proofs.Values.{value_none, value_scalar}
 use Rattle.format_json_extents.specs.Texts.{Never}
 use Rattle.format_json_extents.specs.Value.{IsItemsTail, IsValue}
 use Rattle.format_json_extents.proofs.value.+nesting.Goals as goal
@@ -67,38 +67,36 @@ behind_items-items-smaller t c =
 
 pub behind_value-returns-then-level-eq0 : goal.behind_value-returns-then-level-eq0
 behind_value-returns-then-level-eq0 t c =
-    value_lowest c.args.level c.args.bytes.now c.if-level-eq0.true c.in-None.ensures
+    value_lowest c.args.level c.args.bytes.now c.if-level-eq0.true
+    (opening_no_scalar c.in-Some.keyed _ _ c.in-Some.ensures)
 
-pub behind_value-returns-in_err-keyed-in-None : goal.behind_value-returns-in_err-keyed-in-None
-behind_value-returns-in_err-keyed-in-None t c =
-    let above : c.args.level ≡ suc (c.args.level - 1) = omega arith in
-    let none = value_none c.args.level (c.args.level - 1) c.args.bytes.now above c.in-None.ensures
-    (not_nested (IsValue (c.args.level - 1)) c.args.bytes.now c.in_err-keyed-in-None.ensures) in
-    search rules
-
-pub behind_value-returns-in-Some : goal.behind_value-returns-in-Some
-behind_value-returns-in-Some t c =
-    value_scalar c.args.level c.args.bytes.now _ c.in-Some.ensures
+pub behind_value-returns-in-None : goal.behind_value-returns-in-None
+behind_value-returns-in-None t c =
+    match_on _ _ _ _ c.behind_scalar.result
+    (λ none. value_no_other c.args.level c.args.bytes.now c.in-None.ensures none)
+    (λ rest it. value_scalar c.args.level c.args.bytes.now rest.now it) c.behind_scalar.ensures
 
 pub behind_value-returns-in-Some-behind_empty : goal.behind_value-returns-in-Some-behind_empty
 behind_value-returns-in-Some-behind_empty t c =
     let below = c.args.level - 1 in
-    let keyed = c.in_ok-keyed-in-None.keyed in
+    let keyed = c.in-Some.keyed in
     let above : c.args.level ≡ suc (c.args.level - 1) = omega arith in
-    value_nested c.args.level below c.args.bytes.now _ above c.in-None.ensures
-    (nested_is keyed (IsValue below) c.args.bytes.now _ _ c.in_ok-keyed-in-None.ensures
+    value_nested c.args.level below c.args.bytes.now _ above
+    (opening_no_scalar keyed _ _ c.in-Some.ensures)
+    (nested_is keyed (IsValue below) c.args.bytes.now _ _ c.in-Some.ensures
     (tail_empty keyed (IsValue below) _ _ (value_starts below) c.in-Some-behind_empty.ensures))
 
 pub behind_value-returns-in-None-behind_empty : goal.behind_value-returns-in-None-behind_empty
 behind_value-returns-in-None-behind_empty t c =
     let below = c.args.level - 1 in
-    let keyed = c.in_ok-keyed-in-None.keyed in
+    let keyed = c.in-Some.keyed in
     let above : c.args.level ≡ suc (c.args.level - 1) = omega arith in
+    let scalar = opening_no_scalar keyed _ _ c.in-Some.ensures in
     match_on _ _ _ _ c.behind_items.result
-    (λ none. value_none c.args.level below c.args.bytes.now above c.in-None.ensures
-    (nested_none keyed (IsValue below) c.args.bytes.now _ c.in_ok-keyed-in-None.ensures
+    (λ none. value_none c.args.level below c.args.bytes.now above scalar
+    (nested_none keyed (IsValue below) c.args.bytes.now _ c.in-Some.ensures
     (tail_none keyed (IsValue below) _ c.in-None-behind_empty.ensures none)))
-    (λ rest it. value_nested c.args.level below c.args.bytes.now rest.now above c.in-None.ensures
-    (nested_is keyed (IsValue below) c.args.bytes.now _ rest.now c.in_ok-keyed-in-None.ensures
+    (λ rest it. value_nested c.args.level below c.args.bytes.now rest.now above scalar
+    (nested_is keyed (IsValue below) c.args.bytes.now _ rest.now c.in-Some.ensures
     (tail_items keyed (IsValue below) _ rest.now c.in-None-behind_empty.ensures it)))
     c.behind_items.ensures

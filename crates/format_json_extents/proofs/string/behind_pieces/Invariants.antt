@@ -2,7 +2,7 @@
 use Rattle.std.proofs.Common.{length}
 use Rattle.format_json_extents.proofs.Leading.{Leads}
 use Rattle.format_json_extents.specs.Strings.{IsStringTail}
-use Rattle.format_json_extents.proofs.string.behind_string_tail.Given as goal
+use Rattle.format_json_extents.proofs.string.behind_pieces.Given as goal
 
 abbrev pub invariant-pieces : goal.invariant-pieces
 invariant-pieces l = Leads IsStringTail l.bytes l.rest

@@ -1,0 +1,12 @@
+-- Digits stand before here.
+use Rattle.std.proofs.Common.{length}
+use Rattle.std.specs.List.{All}
+use Rattle.format_json_extents.specs.Number.{IsDigit}
+use Rattle.format_json_extents.specs.Texts.{Stands}
+use Rattle.format_json_extents.proofs.tokens.behind_digits.Given as goal
+
+abbrev pub invariant-digits : goal.invariant-digits
+invariant-digits l = Stands (All IsDigit) l.bytes l.rest
+
+abbrev pub decreases-digits : goal.decreases-digits
+decreases-digits l = length l.rest

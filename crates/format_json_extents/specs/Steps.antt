@@ -1,0 +1,44 @@
+-- What stands in a text, from its start to its end, one after the other.
+use Rattle.std.specs.Prelude.{◌≡◌, ◌⊎◌, ℕ, List, [], ◌∷◌, ◌++◌}
+use Rattle.format_json_extents.specs.Number.{IsNumber}
+use Rattle.format_json_extents.specs.Strings.{IsString}
+use Rattle.format_json_extents.specs.Texts.{Either, IsByte, IsLongest, Stands, Then}
+use Rattle.format_json_extents.specs.Value.{IsColon, IsGap, IsScalar, Only}
+use Rattle.format_json_extents.specs.Walk.{IsClosingByte, IsLead}
+use Rattle.format_json_extents.specs.declared.steps.Step.{Step}
+use Rattle.format_json_extents.specs.declared.steps.Step.TheVariants as steps
+
+-- an opening bracket, or a closing one
+abbrev pub IsBracket : ℕ → Type 0
+IsBracket b = ((b ≡ 91) ⊎ (b ≡ 123)) ⊎ IsClosingByte b
+
+-- A bracket, or a value that has no others in it.
+abbrev pub IsToken : List ℕ → Type 0
+IsToken = Either (IsByte IsBracket) IsScalar
+
+-- After white space stands a colon.
+abbrev pub IsBeforeColon : List ℕ → Type 0
+IsBeforeColon bytes = (rest : List ℕ) × Stands (Then IsGap (IsByte IsColon)) bytes rest
+
+-- A text that is this step, and what stands after it.
+abbrev pub IsOfStep : Step → List ℕ → List ℕ → Type 0
+IsOfStep steps.Null text rest = Only (110 ∷ 117 ∷ 108 ∷ 108 ∷ []) text
+IsOfStep steps.False text rest = Only (102 ∷ 97 ∷ 108 ∷ 115 ∷ 101 ∷ []) text
+IsOfStep steps.True text rest = Only (116 ∷ 114 ∷ 117 ∷ 101 ∷ []) text
+IsOfStep steps.Number text rest = IsNumber text
+IsOfStep steps.String text rest = IsString text × (IsBeforeColon rest → ⊥)
+IsOfStep steps.Name text rest = IsString text × IsBeforeColon rest
+IsOfStep steps.BeginArray text rest = text ≡ 91 ∷ []
+IsOfStep steps.EndArray text rest = text ≡ 93 ∷ []
+IsOfStep steps.BeginObject text rest = text ≡ 123 ∷ []
+IsOfStep steps.EndObject text rest = text ≡ 125 ∷ []
+
+-- After what stands before it, the input has this text, which is the longest of its kind there and
+-- is this step, and then the rest.
+pub record IsNextStep (step : Step) (text bytes rest : List ℕ) : Type 0 where
+  pub lead : List ℕ
+  pub start : List ℕ
+  pub is_lead : IsLead lead
+  pub splits : bytes ≡ lead ++ start
+  pub longest : IsLongest IsToken text start rest
+  pub is_step : IsOfStep step text rest

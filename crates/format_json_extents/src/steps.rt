@@ -1,0 +1,153 @@
+//! What stands in a text of JSON from its start to its end, one after the other: brackets, names,
+//! and the values that have no others in them. So each byte is read once, however deep it stands.
+
+ghost use Rattle.std.specs.Prelude.{◌≡◌, ◌↔◌, List, ℕ, IfNone, IfSome, IsTrue, MatchOption};
+ghost use Rattle.format_json_extents.specs.Number.{IsNumberByte};
+ghost use Rattle.format_json_extents.specs.Steps.{IsBeforeColon, IsBracket, IsNextStep, IsOfStep};
+ghost use Rattle.format_json_extents.specs.Steps.{IsToken};
+ghost use Rattle.format_json_extents.specs.Strings.{IsString};
+ghost use Rattle.format_json_extents.specs.Texts.{Leaves, NoneStands, Then};
+ghost use Rattle.format_json_extents.specs.Value.{IsGap};
+ghost use Rattle.format_json_extents.specs.Walk.{IsLead};
+
+use crate::scalar::behind_scalar;
+use crate::tokens::{behind, behind_gap};
+use crate::walk::behind_lead;
+
+/// What stands next in a text.
+#[derive(Clone, Copy, Debug, PartialEq, Eq)]
+pub enum Step {
+    /// The word null.
+    Null,
+    /// The word false.
+    False,
+    /// The word true.
+    True,
+    /// A number.
+    Number,
+    /// A string that is a value.
+    String,
+    /// A string that is the name of a member: a colon stands after it.
+    Name,
+    /// The bracket before what an array has in it.
+    BeginArray,
+    /// The bracket after it.
+    EndArray,
+    /// The bracket before what an object has in it.
+    BeginObject,
+    /// The bracket after it.
+    EndObject,
+}
+
+/// Whether a byte is a bracket.
+#[inline(always)]
+fn is_bracket(byte: u8) -> bool
+    ensures { IsTrue result ↔ IsBracket byte }
+{
+    (byte == b'[' || byte == b'{') || (byte == b']' || byte == b'}')
+}
+
+/// What stands after a bracket, or after a value that has no others in it.
+#[inline(always)]
+fn behind_token<'i>(bytes: &'i [u8]) -> Option<&'i [u8]>
+    ensures { MatchOption result (NoneStands IsToken bytes.now)
+        (λ rest. Leaves IsToken IsNumberByte bytes.now rest.now) }
+{
+    let (first, more) = bytes.split_first()?;
+    if is_bracket(*first) {
+        Some(more)
+    } else {
+        behind_scalar(bytes)
+    }
+}
+
+/// Whether a colon stands after white space.
+#[inline(always)]
+fn is_before_colon(bytes: &[u8]) -> bool
+    ensures { IsTrue result ↔ IsBeforeColon bytes.now }
+{
+    match behind(b':', behind_gap(bytes)) {
+        Some(_) => true,
+        None => false,
+    }
+}
+
+/// Which step a string is.
+#[inline(always)]
+fn of_string(rest: &[u8]) -> Step
+    ensures { (text : List ℕ) → IsString text → IsOfStep result text rest.now }
+{
+    if is_before_colon(rest) {
+        Step::Name
+    } else {
+        Step::String
+    }
+}
+
+/// Which step a text is, by its first byte.
+#[inline(always)]
+fn of_text(text: &[u8], rest: &[u8]) -> Step
+    ensures { IsToken text.now → IsOfStep result text.now rest.now }
+{
+    match text.split_first() {
+        Some((b'"', _)) => of_string(rest),
+        Some((b'[', _)) => Step::BeginArray,
+        Some((b']', _)) => Step::EndArray,
+        Some((b'{', _)) => Step::BeginObject,
+        Some((b'}', _)) => Step::EndObject,
+        Some((b'n', _)) => Step::Null,
+        Some((b'f', _)) => Step::False,
+        Some((b't', _)) => Step::True,
+        _ => Step::Number,
+    }
+}
+
+/// The next step, with its text: what stands after white space, a comma or a colon at most, and
+/// white space. The input then stands after it. So a text that [`crate::value::is_text`] accepts
+/// is read from its start to its end, each byte once; how many brackets are open is for the caller
+/// to count. Of bytes that were not checked as a text more is read than JSON allows, as a comma
+/// before the first value.
+///
+/// `None` exactly where no bracket and no value stands there; then nothing is read. At the end of a
+/// text [`is_over`] holds.
+///
+/// ```
+/// use format_json_extents::steps::{Step, is_over, read_step};
+///
+/// let mut input = b"{\"a\": [1]}".as_slice();
+/// let begin = b"{".as_slice();
+/// assert!(rt; read_step(&mut input).is_some_and(|it| it == (Step::BeginObject, begin)));
+/// let name = b"\"a\"".as_slice();
+/// assert!(rt; read_step(&mut input).is_some_and(|it| it == (Step::Name, name)));
+/// assert!(rt; read_step(&mut input).is_some_and(|it| it.0 == Step::BeginArray));
+/// assert!(rt; read_step(&mut input).is_some_and(|it| it.0 == Step::Number));
+/// assert!(rt; read_step(&mut input).is_some_and(|it| it.0 == Step::EndArray));
+/// assert!(rt; read_step(&mut input).is_some_and(|it| it.0 == Step::EndObject));
+/// assert!(rt; is_over(input));
+/// ```
+pub fn read_step<'i>(input: &mut &'i [u8]) -> Option<(Step, &'i [u8])>
+    ensures found { IfSome result (λ it.
+        IsNextStep it.0 it.1.now input.old.now input.new.now) }
+    ensures none { IfNone result (NoneStands (Then IsLead IsToken) input.old.now) }
+    ensures kept { IfNone result (input.new.now ≡ input.old.now) }
+{
+    let start = behind_lead(*input);
+    let rest = behind_token(start)?;
+    let text = &start[..start.len() - rest.len()];
+    *input = rest;
+    Some((of_text(text, rest), text))
+}
+
+/// Whether white space is all that is left.
+///
+/// ```
+/// use format_json_extents::steps::is_over;
+///
+/// assert!(rt; is_over(b" \n".as_slice()) && is_over(b"".as_slice()));
+/// assert!(rt; !is_over(b" ]".as_slice()));
+/// ```
+pub fn is_over(bytes: &[u8]) -> bool
+    ensures { IsTrue result ↔ IsGap bytes.now }
+{
+    behind_gap(bytes).is_empty()
+}
