@@ -84,19 +84,19 @@ fn advance_takes_a_size_of_64_bits(rt: HostRuntime) {
     }
 }
 
-const FEW: Limits = Limits { size_line: 5, trailers: 6 };
+const FEW: Limits = Limits { size_line: 7, trailers: 6 };
 
 #[test]
-fn limits_are_of_each_line_and_of_all_trailers(rt: HostRuntime) {
+fn limits_are_between_data_and_of_all_trailers(rt: HostRuntime) {
     let line = Fault::SizeLineTooLong;
     let trailers = Fault::TrailersTooLong;
-    refused(&rt, rt.alloc(), FEW, &[b"000", b"001\r\n"], (5, line));
-    refused(&rt, rt.alloc(), FEW, &[b"1;abc\r\n"], (5, line));
-    refused(&rt, rt.alloc(), FEW, &[b"0000\r\n"], (5, line));
-    refused(&rt, rt.alloc(), FEW, &[b"001\r\na\r\n001\r\nb\r\n0001\r\n"], (21, line));
+    refused(&rt, rt.alloc(), FEW, &[b"000", b"00001\r\n"], (7, line));
+    refused(&rt, rt.alloc(), FEW, &[b"1;abcde\r\n"], (7, line));
+    refused(&rt, rt.alloc(), FEW, &[b"000000\r\n"], (7, line));
+    refused(&rt, rt.alloc(), FEW, &[b"00001\r\na\r\n001\r\nb\r\n0001\r\n"], (23, line));
     refused(&rt, rt.alloc(), FEW, &[b"0\r\na:b\r\n", b"c:\r\n\r\n"], (9, trailers));
     refused(&rt, rt.alloc(), FEW, &[b"0\r\nabcdefg:"], (9, trailers));
-    match decode(rt.alloc(), FEW, &[b"001\r\na\r\n000\r\na:bc\r\n\r\n"]) {
+    match decode(rt.alloc(), FEW, &[b"001\r\na\r\n0\r\na:bc\r\n\r\n"]) {
         Ok(decoded) => assert!(rt; decoded.ended && decoded.content.len() == 1),
         Err(_) => assert!(rt; false, "memory"),
     }

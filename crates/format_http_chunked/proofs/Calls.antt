@@ -1,14 +1,16 @@
 -- What a decoder says, of places that are due alike and after bytes that are taken.
 use Rattle.std.specs.Prelude.{◌≡◌, ◌↔◌, ◌<◌, ℕ, List, [], ◌∷◌, length, Option, Some, None, Result}
 use Rattle.std.specs.Prelude.{Ok, Err, IfErr}
-use Rattle.std.proofs.Common.{refl, subst, sym}
+use Rattle.std.proofs.Common.{ap, arith, refl, subst, sym, ◌∙◌}
 use Rattle.format_http_chunked.proofs.Taking.{data_zero, taken_byte, taken_from, taken_none}
 use Rattle.format_http_chunked.proofs.Taking.{taken_then}
 use Rattle.format_http_chunked.proofs.Turns.{both_ways}
 use Rattle.format_http_chunked.specs.Dues.{IsDue, IsFramingDue}
+use Rattle.format_http_chunked.specs.Room.{IsSpent, PartSpends, Spends}
 use Rattle.format_http_chunked.specs.Steps.{IsFault, IsNever, IsPart, IsSaid, IsTaken}
 use Rattle.format_http_chunked.specs.declared.decoder.Decoder.{Decoder}
 use Rattle.format_http_chunked.specs.declared.decoder.Fault.{Fault}
+use Rattle.format_http_chunked.specs.declared.decoder.Limits.{Limits}
 use Rattle.format_http_chunked.specs.declared.decoder.Step.{Step}
 use Rattle.format_http_chunked.specs.declared.decoder.Step.TheVariants as step
 use Rattle.format_http_chunked.specs.declared.places.Framing.{Framing}
@@ -29,10 +31,10 @@ framing_at at other next b e =
     subst P (sym e)
 
 pub fault_at : (at other : Framing) (b : ℕ) (why : Fault) → at ≡ other
-    → ((room : ℕ) → IsFault (place.Framing other) room b why)
-    → (room : ℕ) → IsFault (place.Framing at) room b why
+    → ((room left : ℕ) → IsFault (place.Framing other) room left b why)
+    → (room left : ℕ) → IsFault (place.Framing at) room left b why
 fault_at at other b why e =
-    let P : Framing → Type 0 = λ k. (room : ℕ) → IsFault (place.Framing k) room b why in
+    let P : Framing → Type 0 = λ k. (room left : ℕ) → IsFault (place.Framing k) room left b why in
     subst P (sym e)
 
 pub never_at : (at other : Place) (b : ℕ) → at ≡ other → IsNever other b → IsNever at b
@@ -96,10 +98,10 @@ said_then old mid new bytes ahead rest (Err why) t (u, x) =
 
 pub fault_from : (at : Place) (framing : Framing) (b : ℕ) (why : Fault)
     → at ≡ place.Framing framing
-    → ((room : ℕ) → IsFault (place.Framing framing) room b why)
-    → (room : ℕ) → IsFault at room b why
+    → ((room left : ℕ) → IsFault (place.Framing framing) room left b why)
+    → (room left : ℕ) → IsFault at room left b why
 fault_from at framing b why e =
-    let P : Place → Type 0 = λ k. (room : ℕ) → IsFault k room b why in subst P (sym e)
+    let P : Place → Type 0 = λ k. (room left : ℕ) → IsFault k room left b why in subst P (sym e)
 
 -- where no data is due its line end is
 pub zero_alike : (at : Place) → at ≡ place.Data 0 → (content trailers more : List ℕ)
@@ -110,3 +112,39 @@ zero_alike at e =
     → IsDue k content trailers more
     ↔ IsDue (place.Framing framing.DataEnd) content trailers more in
     subst P (sym e) data_zero
+
+-- ---- room
+
+-- what is spent does not depend on the place
+pub spends_alike : (old : Decoder) (at : Place) (new : Decoder) (bytes rest : List ℕ)
+    (r : Result (Option Step) Fault)
+    → PartSpends (record {
+      place = at;
+      room = old.room;
+      trailer_room = old.trailer_room;
+      limits = old.limits;
+    }) new bytes rest r → PartSpends old new bytes rest r
+spends_alike old at new bytes rest (Ok (Some (step.Data chunk))) x = x
+spends_alike old at new bytes rest (Ok (Some (step.Trailers fields))) x = x
+spends_alike old at new bytes rest (Ok (Some step.End)) x = x
+spends_alike old at new bytes rest (Ok (Some step.More)) x = x
+spends_alike old at new bytes rest (Ok None) x = x
+spends_alike old at new bytes rest (Err why) x = x
+
+pub spent_then : (old mid new : Decoder) (bytes ahead rest : List ℕ) (n : ℕ)
+    → IsSpent old mid bytes ahead 0 → IsSpent mid new ahead rest n → IsSpent old new bytes rest n
+spent_then old mid new bytes ahead rest n (e, f, g) (h, i, j) =
+    (h ∙ e, omega (arith, f, i), omega (arith, g, j))
+
+pub spends_then : (old mid new : Decoder) (bytes ahead rest : List ℕ) (r : Result Step Fault)
+    → IsSpent old mid bytes ahead 0 → Spends mid new ahead rest r → Spends old new bytes rest r
+spends_then old mid new bytes ahead rest (Ok (step.Data chunk)) (e, f, g) (h, i, j) =
+    (h ∙ e, i ∙ ap (λ (l : Limits). l.size_line) e, omega (arith, g, j))
+spends_then old mid new bytes ahead rest (Ok (step.Trailers fields)) x y =
+    spent_then old mid new bytes ahead rest (length fields.now) x y
+spends_then old mid new bytes ahead rest (Ok step.End) x y =
+    spent_then old mid new bytes ahead rest 0 x y
+spends_then old mid new bytes ahead rest (Ok step.More) x y =
+    spent_then old mid new bytes ahead rest 0 x y
+spends_then old mid new bytes ahead rest (Err why) x y =
+    spent_then old mid new bytes ahead rest 0 x y

@@ -288,18 +288,15 @@ passed_on at mid next b bytes fields ahead rest step plain passed e f =
     subst P (sym (e ∙ ap (λ l. b ∷ l) f)) (taken_fields at next (b ∷ fields) rest
     (passed_then at mid next (b ∷ []) fields (passed_byte at mid b step plain) passed))
 
-pub field_more : (at mid next : InField) (b less left room : ℕ) (bytes fields rest others : List ℕ)
-    → bytes ≡ fields ++ rest → ArePassed at mid fields → length fields + left ≡ room
-    → rest ≡ b ∷ others
+pub field_more : (at mid next : InField) (b : ℕ) (bytes fields rest others : List ℕ)
+    → bytes ≡ fields ++ rest → ArePassed at mid fields → rest ≡ b ∷ others
     → ((more : List ℕ) → DueFields mid (b ∷ more) ↔ DueFields next more)
-    → (mid ≡ field.Start → b ≡ 13 → ⊥) → left ≡ less + 1
+    → (mid ≡ field.Start → b ≡ 13 → ⊥)
     → (some : List ℕ) × (bytes ≡ some ++ others) × ArePassed at next some
-    × (length some + less ≡ room)
-field_more at mid next b less left room bytes fields rest others e passed many f step plain one = (
+field_more at mid next b bytes fields rest others e passed f step plain = (
   fields ++ b ∷ [],
   e ∙ ap (λ l. fields ++ l) f ∙ sym (append_assoc fields (b ∷ []) others),
   passed_then at mid next fields (b ∷ []) passed (passed_byte mid next b step plain),
-  omega (arith, many, one, length-append fields (b ∷ [])),
 )
 
 pub last_taken : (at : InField) (b : ℕ) (bytes rest : List ℕ) → (at ≡ field.Start) × (b ≡ 13)

@@ -112,7 +112,8 @@ module _ (front given fields : List ℕ) where
         )
 
   refused : (decoder : Decoder) → IsAt decoder.place front given fields → (b : ℕ) (why : Fault)
-      → IsFault decoder.place decoder.room b why → IsRefusal decoder (front ++ b ∷ []) why
+      → IsFault decoder.place decoder.room decoder.trailer_room b why
+      → IsRefusal decoder (front ++ b ∷ []) why
   refused decoder is b fault.Size f = none_goes_on decoder.place is b f.1
   refused decoder is b fault.SizeLine f = none_goes_on decoder.place is b f.1
   refused decoder is b fault.SizeTooLarge f = large decoder.place is b f.1

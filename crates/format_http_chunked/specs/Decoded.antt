@@ -3,7 +3,7 @@ use Rattle.std.specs.Prelude.{◌≡◌, ◌≤◌, ◌<◌, ◌^◌, ◌↔◌,
 use Rattle.std.specs.Prelude.{Result, Ok, Err}
 use Rattle.format_http_chunked.specs.Bodies.{IsBody}
 use Rattle.format_http_chunked.specs.Dues.{IsDue}
-use Rattle.format_http_chunked.specs.Steps.{IsInSizeLine, IsInTrailers}
+use Rattle.format_http_chunked.specs.Steps.{IsInTrailers}
 use Rattle.format_http_chunked.specs.declared.decoder.Decoder.{Decoder}
 use Rattle.format_http_chunked.specs.declared.decoder.Fault.{Fault}
 use Rattle.format_http_chunked.specs.declared.decoder.Fault.TheVariants as fault
@@ -30,19 +30,18 @@ abbrev pub IsNone : List ℕ → Type 0
 IsNone bytes = (content trailers more : List ℕ) → IsBody content trailers (bytes ++ more) → ⊥
 
 -- What a refusal says of the bytes up to the one that is refused: that no body begins with them; or
--- none that has less than 2 ^ 64 bytes of content; or that a size line or the trailer section had
--- as many bytes as it may.
+-- none that has less than 2 ^ 64 bytes of content; or that as many bytes as may be are between
+-- data, or are of trailers.
 abbrev pub IsRefusal : Decoder → List ℕ → Fault → Type 0
 IsRefusal decoder bytes fault.Size = IsNone bytes
 IsRefusal decoder bytes fault.SizeLine = IsNone bytes
 IsRefusal decoder bytes fault.SizeTooLarge = (content trailers more : List ℕ)
     → IsBody content trailers (bytes ++ more) → 2 ^ 64 ≤ length content
-IsRefusal decoder bytes fault.SizeLineTooLong =
-    IsInSizeLine decoder.place × (decoder.room ≡ 0)
+IsRefusal decoder bytes fault.SizeLineTooLong = decoder.room ≡ 0
 IsRefusal decoder bytes fault.DataEnd = IsNone bytes
 IsRefusal decoder bytes fault.Trailers = IsNone bytes
 IsRefusal decoder bytes fault.TrailersTooLong =
-    IsInTrailers decoder.place × (decoder.room ≡ 0)
+    IsInTrailers decoder.place × (decoder.trailer_room ≡ 0)
 
 -- the content and the bytes of trailers that a call gives out
 abbrev pub content_of : Result Step Fault → List ℕ

@@ -2,5 +2,6 @@
 pub mod Bodies
 pub mod Decoded
 pub mod Dues
+pub mod Room
 pub mod Steps
 pub mod Words

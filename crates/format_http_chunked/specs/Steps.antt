@@ -58,17 +58,17 @@ abbrev pub IsInTrailers : Place → Type 0
 IsInTrailers at =
     ((it : InField) × (at ≡ place.Trailers it)) ⊎ (at ≡ place.Framing framing.LastReturn)
 
--- Why the byte is refused at this place, where that many bytes more are let: none goes on with it;
--- or none of less than 2 ^ 64 bytes does; or no byte more is let, in a size line or in the
--- trailers.
-abbrev pub IsFault : Place → ℕ → ℕ → Fault → Type 0
-IsFault at room byte fault.Size = (at ≡ place.Framing framing.Start) × IsNever at byte
-IsFault at room byte fault.SizeLine = IsInSizeLine at × IsNever at byte
-IsFault at room byte fault.SizeTooLarge = IsInSizeLine at × IsTooLarge at byte
-IsFault at room byte fault.SizeLineTooLong = IsInSizeLine at × (room ≡ 0)
-IsFault at room byte fault.DataEnd = IsAtDataEnd at × IsNever at byte
-IsFault at room byte fault.Trailers = IsInTrailers at × IsNever at byte
-IsFault at room byte fault.TrailersTooLong = IsInTrailers at × (room ≡ 0)
+-- Why the byte is refused at this place, where that many bytes more are let between pieces of data,
+-- and that many of trailers: none goes on with it; or none of less than 2 ^ 64 bytes does; or it is
+-- one too many.
+abbrev pub IsFault : Place → ℕ → ℕ → ℕ → Fault → Type 0
+IsFault at room left byte fault.Size = (at ≡ place.Framing framing.Start) × IsNever at byte
+IsFault at room left byte fault.SizeLine = IsInSizeLine at × IsNever at byte
+IsFault at room left byte fault.SizeTooLarge = IsInSizeLine at × IsTooLarge at byte
+IsFault at room left byte fault.SizeLineTooLong = room ≡ 0
+IsFault at room left byte fault.DataEnd = IsAtDataEnd at × IsNever at byte
+IsFault at room left byte fault.Trailers = IsInTrailers at × IsNever at byte
+IsFault at room left byte fault.TrailersTooLong = IsInTrailers at × (left ≡ 0)
 
 -- Bytes of field lines are taken between two places: what was due first is due exactly where these
 -- bytes are the first of the trailers, and what is due now is after them.
@@ -99,7 +99,7 @@ IsSaid old new bytes rest (Ok step.More) =
     IsTaken old.place new.place bytes rest [] [] × (rest ≡ []) × (new.place ≡ place.Done → ⊥)
 IsSaid old new bytes rest (Err fault) =
     IsTaken old.place new.place bytes rest [] [] × ((byte : ℕ) × (others : List ℕ)
-    × (rest ≡ byte ∷ others) × IsFault new.place new.room byte fault)
+    × (rest ≡ byte ∷ others) × IsFault new.place new.room new.trailer_room byte fault)
 
 -- The same of a part of a call, which may have nothing to say as yet.
 abbrev pub IsPart : Decoder → Decoder → List ℕ → List ℕ → Result (Option Step) Fault → Type 0

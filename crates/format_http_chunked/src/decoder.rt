@@ -15,7 +15,8 @@
 #![tactic(auto)]
 
 ghost use Rattle.format_http_chunked.specs.Decoded.{IsAnswer, IsAt};
-ghost use Rattle.format_http_chunked.specs.Steps.{IsInSizeLine, IsPart, IsSaid};
+ghost use Rattle.format_http_chunked.specs.Room.{PartSpends, Spends};
+ghost use Rattle.format_http_chunked.specs.Steps.{IsPart, IsSaid};
 ghost use Rattle.format_http_chunked.specs.declared.places.Framing.TheVariants as framing;
 ghost use Rattle.format_http_chunked.specs.declared.places.InField.TheVariants as field;
 ghost use Rattle.format_http_chunked.specs.declared.places.Place.TheVariants as place;
@@ -38,13 +39,14 @@ use crate::places::{Framing, InField, Place};
 /// ```
 #[derive(Clone, Copy, Debug, PartialEq, Eq)]
 pub struct Limits {
-    /// Of each size line, with its extensions and its line end.
+    /// Between data, and before and after all of them: of a size line with its extensions, and of
+    /// the line ends beside it.
     pub size_line: usize,
     /// Of the trailer section, without the line end after it.
     pub trailers: usize,
 }
 
-/// Limits for a server: 4,096 bytes of each size line, and 8,192 of the trailer section.
+/// Limits for a server: 4,096 bytes for each size line, and 8,192 of the trailer section.
 ///
 /// ```
 /// use format_http_chunked::decoder::SAFE_LIMITS;
@@ -75,7 +77,7 @@ pub enum Fault {
     SizeLine,
     /// With this digit the size is 2<sup>64</sup> or more.
     SizeTooLarge,
-    /// The size line would have more bytes than [`Limits::size_line`] lets.
+    /// More bytes than [`Limits::size_line`] lets would stand before the next data, or the end.
     SizeLineTooLong,
     /// A carriage return and a line feed are due after the data of a chunk.
     DataEnd,
@@ -121,8 +123,10 @@ pub enum Step<'i> {
 pub struct Decoder {
     /// Where in the body the next byte is due.
     place: Place,
-    /// How many bytes more the size line or the trailer section may have.
+    /// How many bytes more may stand before the next data.
     room: usize,
+    /// How many bytes more the trailer section may have.
+    trailer_room: usize,
     /// How many they may have in all.
     limits: Limits,
 }
@@ -155,30 +159,15 @@ impl Decoder {
     /// assert!(rt; Decoder::new(SAFE_LIMITS) == Decoder::new(SAFE_LIMITS));
     /// ```
     pub fn new(limits: Limits) -> Decoder
-        ensures { IsAt result.place [] [] [] }
+        ensures told { IsAt result.place [] [] [] }
+        ensures room { (result.limits ≡ limits) × (result.room ≡ limits.size_line)
+            × (result.trailer_room ≡ limits.trailers) }
     {
         Decoder {
             place: Place::Framing(Framing::Start),
             room: limits.size_line,
+            trailer_room: limits.trailers,
             limits,
-        }
-    }
-
-    /// How many bytes more are let after a byte that led from one place to another; none where it
-    /// was not.
-    fn room_behind(&self, at: Framing, next: Place) -> Option<usize>
-        ensures none { result ≡ None → IsInSizeLine (place.Framing at) × (self.now.room ≡ 0) }
-    {
-        match at {
-            Framing::Start | Framing::Digits(_) | Framing::Line(_, _) => {
-                let less = self.room.checked_sub(1)?;
-                match next {
-                    Place::Trailers(_) => Some(self.limits.trailers),
-                    _ => Some(less),
-                }
-            }
-            Framing::DataReturn => Some(self.limits.size_line),
-            Framing::DataEnd | Framing::LastReturn => Some(self.room),
         }
     }
 
@@ -189,13 +178,14 @@ impl Decoder {
         input: &mut &'i [u8],
     ) -> Result<Option<Step<'i>>, Fault>
         requires { self.old.place ≡ place.Framing at }
-        ensures { IsPart self.old self.new input.old.now input.new.now result }
+        ensures told { IsPart self.old self.new input.old.now input.new.now result }
+        ensures spent { PartSpends self.old self.new input.old.now input.new.now result }
     {
         match input.split_first() {
             None => Ok(Some(Step::More)),
             Some((byte, rest)) => match place_after(at, *byte) {
                 Err(fault) => Err(fault),
-                Ok(next) => match self.room_behind(at, next) {
+                Ok(next) => match self.room.checked_sub(1) {
                     None => Err(Fault::SizeLineTooLong),
                     Some(room) => {
                         self.place = next;
@@ -212,7 +202,8 @@ impl Decoder {
     fn pass_data<'i>(&mut self, size: u64, input: &mut &'i [u8]) -> Step<'i>
         requires due { self.old.place ≡ place.Data size }
         requires some { 0 < size }
-        ensures { IsSaid self.old self.new input.old.now input.new.now (Ok result) }
+        ensures told { IsSaid self.old self.new input.old.now input.new.now (Ok result) }
+        ensures spent { Spends self.old self.new input.old.now input.new.now (Ok result) }
     {
         let all = *input;
         if all.is_empty() {
@@ -221,6 +212,7 @@ impl Decoder {
         let here = taken_of(size, all.len());
         let (data, rest) = all.split_at(here);
         self.place = Place::Data(size - here as u64);
+        self.room = self.limits.size_line;
         *input = rest;
         Step::Data(data)
     }
@@ -232,18 +224,19 @@ impl Decoder {
         input: &mut &'i [u8],
     ) -> Result<Option<Step<'i>>, Fault>
         requires { self.old.place ≡ place.Trailers at }
-        ensures { IsPart self.old self.new input.old.now input.new.now result }
+        ensures told { IsPart self.old self.new input.old.now input.new.now result }
+        ensures spent { PartSpends self.old self.new input.old.now input.new.now result }
     {
         let all = *input;
         match all.split_first() {
             None => Ok(Some(Step::More)),
             Some((byte, behind)) => match field_behind(at, *byte) {
-                Some(next) => match self.room.checked_sub(1) {
+                Some(next) => match self.trailer_room.checked_sub(1) {
                     None => Err(Fault::TrailersTooLong),
                     Some(room) => {
                         let (last, less, rest) = pass_fields(next, room, behind);
                         self.place = Place::Trailers(last);
-                        self.room = less;
+                        self.trailer_room = less;
                         *input = rest;
                         Ok(Some(Step::Trailers(front(all, all.len() - rest.len()))))
                     }
@@ -252,9 +245,15 @@ impl Decoder {
                     if !ends_there(at, *byte) {
                         return Err(Fault::Trailers);
                     }
-                    self.place = Place::Framing(Framing::LastReturn);
-                    *input = behind;
-                    Ok(None)
+                    match self.room.checked_sub(1) {
+                        None => Err(Fault::SizeLineTooLong),
+                        Some(room) => {
+                            self.place = Place::Framing(Framing::LastReturn);
+                            self.room = room;
+                            *input = behind;
+                            Ok(None)
+                        }
+                    }
                 }
             },
         }
@@ -262,7 +261,8 @@ impl Decoder {
 
     /// Takes some of the bytes that are there.
     fn part<'i>(&mut self, input: &mut &'i [u8]) -> Result<Option<Step<'i>>, Fault>
-        ensures { IsPart self.old self.new input.old.now input.new.now result }
+        ensures told { IsPart self.old self.new input.old.now input.new.now result }
+        ensures spent { PartSpends self.old self.new input.old.now input.new.now result }
     {
         match self.place {
             Place::Done => Ok(Some(Step::End)),
@@ -280,7 +280,8 @@ impl Decoder {
 
     /// Takes the bytes that are there, up to what is to be said.
     fn run<'i>(&mut self, input: &mut &'i [u8]) -> Result<Step<'i>, Fault>
-        ensures { IsSaid self.old self.new input.old.now input.new.now result }
+        ensures told { IsSaid self.old self.new input.old.now input.new.now result }
+        ensures spent { Spends self.old self.new input.old.now input.new.now result }
     {
         'bytes: loop {
             match self.part(input) {
@@ -325,7 +326,8 @@ impl Decoder {
     /// assert!(rt; matches!(decoder.advance(&mut input), Ok(Step::End)));
     /// ```
     pub fn advance<'i>(&mut self, input: &mut &'i [u8]) -> Result<Step<'i>, Fault>
-        ensures { (front given fields : List ℕ) → IsAt self.old.place front given fields
+        ensures spent { Spends self.old self.new input.old.now input.new.now result }
+        ensures told { (front given fields : List ℕ) → IsAt self.old.place front given fields
             → IsAnswer self.new front given fields input.old.now input.new.now result }
     {
         self.run(input)

@@ -59,8 +59,9 @@ pub(crate) fn pass_fields<'i>(
     room: usize,
     bytes: &'i [u8],
 ) -> (InField, usize, &'i [u8])
-    ensures { (fields : List ℕ) × (bytes.now ≡ fields ++ result.2.now)
-        × ArePassed at result.0 fields × (length fields + result.1 ≡ room) }
+    ensures spent { length bytes.now + result.1 ≡ length result.2.now + room }
+    ensures passed { (fields : List ℕ) × (bytes.now ≡ fields ++ result.2.now)
+        × ArePassed at result.0 fields }
 {
     let mut next = at;
     let mut left = room;

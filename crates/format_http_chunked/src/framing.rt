@@ -54,8 +54,8 @@ fn after_digit(number: u64, byte: u8) -> Result<Place, Fault>
     ensures ok { IfOk result (λ next. (content trailers bytes : List ℕ)
         → IsFramingDue (framing.Digits number) content trailers (byte ∷ bytes)
         ↔ IsDue next content trailers bytes) }
-    ensures err { IfErr result (λ fault. (room : ℕ)
-        → IsFault (place.Framing (framing.Digits number)) room byte fault) }
+    ensures err { IfErr result (λ fault. (room left : ℕ)
+        → IsFault (place.Framing (framing.Digits number)) room left byte fault) }
 {
     match digit_of(byte) {
         None => match behind_in_line(InLine::Behind, number, byte) {
@@ -74,8 +74,8 @@ pub(crate) fn place_after(at: Framing, byte: u8) -> Result<Place, Fault>
     ensures ok { IfOk result (λ next. (content trailers bytes : List ℕ)
         → IsFramingDue at content trailers (byte ∷ bytes)
         ↔ IsDue next content trailers bytes) }
-    ensures err { IfErr result (λ fault. (room : ℕ)
-        → IsFault (place.Framing at) room byte fault) }
+    ensures err { IfErr result (λ fault. (room left : ℕ)
+        → IsFault (place.Framing at) room left byte fault) }
 {
     match at {
         Framing::Start => match digit_of(byte) {

@@ -9,7 +9,7 @@ returns-in-Some-behind_in_line-clause-ok c content trailers bytes = both_ways
     (c.in-Some-behind_in_line.ensures.some content trailers bytes)
 
 pub returns-in-None-behind_in_line-clause-err : goal.returns-in-None-behind_in_line-clause-err
-returns-in-None-behind_in_line-clause-err c room = (
+returns-in-None-behind_in_line-clause-err c room left = (
   tt,
   λ content trailers bytes x.
       c.in-None-behind_in_line.ensures.none refl content trailers bytes
@@ -23,7 +23,7 @@ returns-in-Some-number_after-clause-ok c = digit_goes c.args.number c.in-Some-nu
     c.in-Some-number_after.ensures.some
 
 pub returns-in-None-number_after-clause-err : goal.returns-in-None-number_after-clause-err
-returns-in-None-number_after-clause-err c room = (
+returns-in-None-number_after-clause-err c room left = (
   tt,
   fault_large c.args.number c.in-Some.digit
       c.args.byte c.in-Some.ensures.some.1 c.in-Some.ensures.some.0

@@ -16,15 +16,15 @@ returns-in-Some-clause-ok c = framing_at c.args.at framing.Start
 
 pub returns-in-None-clause-err : goal.returns-in-None-clause-err
 returns-in-None-clause-err c = fault_at c.args.at framing.Start c.args.byte fault.Size
-    c.in-Start.is (λ room. (refl, size_never c.args.byte (c.in-None.ensures.none refl)))
+    c.in-Start.is (λ room left. (refl, size_never c.args.byte (c.in-None.ensures.none refl)))
 
 pub returns-in-Digits-clause-err : goal.returns-in-Digits-clause-err
 returns-in-Digits-clause-err c =
     let P : Framing → Type 0 = λ a. IfErr c.after_digit.result
-    (λ why. (room : ℕ) → IsFault (place.Framing a) room c.args.byte why) in
+    (λ why. (room left : ℕ) → IsFault (place.Framing a) room left c.args.byte why) in
     subst P (sym c.in-Digits.is) c.after_digit.ensures.err
 
 pub returns-in-None-behind_in_line-clause-err : goal.returns-in-None-behind_in_line-clause-err
 returns-in-None-behind_in_line-clause-err c =
     fault_at c.args.at (framing.Line c.in-Line.line c.in-Line.size) c.args.byte fault.SizeLine
-    c.in-Line.is (λ room. (tt, c.in-None-behind_in_line.ensures.none refl))
+    c.in-Line.is (λ room left. (tt, c.in-None-behind_in_line.ensures.none refl))

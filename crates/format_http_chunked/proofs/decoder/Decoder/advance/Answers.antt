@@ -1,6 +1,6 @@
 use Rattle.format_http_chunked.proofs.Told.{told}
 use Rattle.format_http_chunked.proofs.decoder.Decoder.advance.Goals as goal
 
-pub returns : goal.returns
-returns c = told c.args.self.now c.run.new.self c.args.input.now.now c.run.new.input.now
-    c.run.result c.run.ensures
+pub returns-clause-told : goal.returns-clause-told
+returns-clause-told c = told c.args.self.now c.run.new.self c.args.input.now.now c.run.new.input.now
+    c.run.result c.run.ensures.told

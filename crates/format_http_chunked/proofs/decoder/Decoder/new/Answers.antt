@@ -1,5 +1,5 @@
 use Rattle.format_http_chunked.proofs.Told.{begins}
 use Rattle.format_http_chunked.proofs.decoder.Decoder.new.Goals as goal
 
-pub returns : goal.returns
-returns c = begins
+pub returns-clause-told : goal.returns-clause-told
+returns-clause-told c = begins

@@ -1,14 +1,20 @@
 use Rattle.std.proofs.Common.{ap, ◌∙◌}
-use Rattle.format_http_chunked.proofs.Calls.{part_alike, zero_alike}
+use Rattle.format_http_chunked.proofs.Calls.{part_alike, spends_alike, zero_alike}
 use Rattle.format_http_chunked.specs.declared.places.Framing.TheVariants as framing
 use Rattle.format_http_chunked.specs.declared.places.Place.TheVariants as place
 use Rattle.format_http_chunked.proofs.decoder.Decoder.part.Goals as goal
 
-pub returns-then-size-eq0 : goal.returns-then-size-eq0
-returns-then-size-eq0 c = part_alike c.args.self.now (record {
+pub returns-then-size-eq0-clause-told : goal.returns-then-size-eq0-clause-told
+returns-then-size-eq0-clause-told c = part_alike c.args.self.now (record {
   place = place.Framing framing.DataEnd;
   room = c.args.self.now.room;
+  trailer_room = c.args.self.now.trailer_room;
   limits = c.args.self.now.limits;
 }) c.pass_byte.new.self c.args.input.now.now c.pass_byte.new.input.now c.pass_byte.result
     (zero_alike c.args.self.now.place
-    (c.in-Data.is ∙ ap (λ n. place.Data n) c.if-size-eq0.true)) c.pass_byte.ensures
+    (c.in-Data.is ∙ ap (λ n. place.Data n) c.if-size-eq0.true)) c.pass_byte.ensures.told
+
+pub returns-then-size-eq0-clause-spent : goal.returns-then-size-eq0-clause-spent
+returns-then-size-eq0-clause-spent c = spends_alike c.args.self.now
+    (place.Framing framing.DataEnd) c.pass_byte.new.self c.args.input.now.now
+    c.pass_byte.new.input.now c.pass_byte.result c.pass_byte.ensures.spent

@@ -3,20 +3,20 @@ use Rattle.format_http_chunked.proofs.Calls.{byte_taken, fault_from}
 use Rattle.format_http_chunked.proofs.Taking.{taken_none}
 use Rattle.format_http_chunked.proofs.decoder.Decoder.pass_byte.Goals as goal
 
-pub returns-in-Err : goal.returns-in-Err
-returns-in-Err c = (
+pub returns-in-Err-clause-told : goal.returns-in-Err-clause-told
+returns-in-Err-clause-told c = (
   taken_none c.args.self.now.place c.args.input.now.now,
   (
     c.in-Some.byte.now,
     c.in-Some.rest.now,
     c.in-Some.ensures.cases.0,
     fault_from c.args.self.now.place c.args.at c.in-Some.byte.now c.in-Err.fault c.requires
-        c.in-Err.ensures.err c.args.self.now.room,
+        c.in-Err.ensures.err c.args.self.now.room c.args.self.now.trailer_room,
   ),
 )
 
-pub returns-in-Some-room_behind : goal.returns-in-Some-room_behind
-returns-in-Some-room_behind c = (
+pub returns-in-Some-checked_sub-clause-told : goal.returns-in-Some-checked_sub-clause-told
+returns-in-Some-checked_sub-clause-told c = (
   byte_taken c.args.self.now.place c.args.at c.in-Ok.next c.in-Some.byte.now
       c.args.input.now.now c.in-Some.rest.now c.requires c.in-Some.ensures.cases.0
       c.in-Ok.ensures.ok,

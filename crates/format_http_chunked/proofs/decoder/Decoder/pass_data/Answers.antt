@@ -4,8 +4,8 @@ use Rattle.format_http_chunked.proofs.Taking.{taken_chunk, taken_from}
 use Rattle.format_http_chunked.specs.declared.places.Place.TheVariants as place
 use Rattle.format_http_chunked.proofs.decoder.Decoder.pass_data.Goals as goal
 
-pub returns : goal.returns
-returns c = (
+pub returns-clause-told : goal.returns-clause-told
+returns-clause-told c = (
   taken_from c.args.self.now.place (place.Data c.args.size)
       (place.Data (c.args.size - c.taken_of-here.result)) c.args.input.now.now
       c.split_at.result.1.now c.split_at.result.0.now [] c.requires.due

@@ -6,8 +6,8 @@ use Rattle.format_http_chunked.specs.declared.places.Framing.TheVariants as fram
 use Rattle.format_http_chunked.specs.declared.places.Place.TheVariants as place
 use Rattle.format_http_chunked.proofs.decoder.Decoder.pass_trailers.Goals as goal
 
-pub returns-then-not-ends_there : goal.returns-then-not-ends_there
-returns-then-not-ends_there c = (
+pub returns-then-not-ends_there-clause-told : goal.returns-then-not-ends_there-clause-told
+returns-then-not-ends_there-clause-told c = (
   taken_none c.args.self.now.place c.args.input.now.now,
   (
     c.in-Some.byte.now,
@@ -22,9 +22,9 @@ returns-then-not-ends_there c = (
   ),
 )
 
-pub returns-in-Some-checked_sub : goal.returns-in-Some-checked_sub
-returns-in-Some-checked_sub c =
-    let (fields, e, passed, many) = c.pass_fields-last.ensures in
+pub returns-in-Some-checked_sub-clause-told : goal.returns-in-Some-checked_sub-clause-told
+returns-in-Some-checked_sub-clause-told c =
+    let (fields, e, passed) = c.pass_fields-last.ensures.passed in
     let (taken, some) = passed_front c.args.at c.in-Some-field_behind.next
     c.pass_fields-last.result.0 c.in-Some.byte.now c.args.input.now.now c.in-Some.behind.now
     c.pass_fields-last.result.2.now c.front.result.now c.in-Some-field_behind.ensures.some
@@ -36,8 +36,8 @@ returns-in-Some-checked_sub c =
       some,
     )
 
-pub returns-else-not-ends_there : goal.returns-else-not-ends_there
-returns-else-not-ends_there c = (
+pub returns-in-Some-checked_sub-2-clause-told : goal.returns-in-Some-checked_sub-2-clause-told
+returns-in-Some-checked_sub-2-clause-told c = (
   taken_from c.args.self.now.place (place.Trailers c.args.at) (place.Framing framing.LastReturn)
       c.args.input.now.now c.in-Some.behind.now [] [] c.requires
       (last_taken c.args.at c.in-Some.byte.now c.args.input.now.now c.in-Some.behind.now
