@@ -4,6 +4,8 @@
 #[cfg(test)]
 mod accepted;
 #[cfg(test)]
+mod date_times;
+#[cfg(test)]
 mod deep;
 #[cfg(test)]
 mod lines;

@@ -2,6 +2,9 @@
 pub mod Added
 pub mod Answer
 pub mod Calls
+pub mod DateParts
+pub mod DateTimeParts
+pub mod Dates
 pub mod Filled
 pub mod Holds
 pub mod Keys
@@ -15,3 +18,4 @@ pub mod Paths
 pub mod Places
 pub mod Rules
 pub mod Runs
+pub mod TimeParts

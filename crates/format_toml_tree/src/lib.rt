@@ -11,6 +11,8 @@
 //!   definition refuses, and why. `Tree::root`, `Node::get` and `Node::value` are proved to find
 //!   what the tree has at a path, and so are `as_str`, `as_i64`, `as_bool`, `as_float` and
 //!   `as_date_time`; `is_table`, `is_array`, `as_table` and `as_array` tell what that is.
+//! - `date_time` is proved to answer the parts of the date, the time or both that bytes are, and
+//!   nothing exactly where they are none, by `specs/Dates.antt`, if there is memory.
 //! - Tested alone, and proved to be safe, is the rest of `Node`: `at`, `len` and `name`, so the
 //!   order of entries, and `get_path`.
 //!
@@ -22,7 +24,10 @@
 #![tactic(auto)]
 
 pub mod build;
+pub mod date_times;
+mod dates;
 pub mod node;
 pub mod roles;
+mod times;
 pub mod tree;
 pub mod value;

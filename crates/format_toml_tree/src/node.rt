@@ -1,5 +1,6 @@
 //! What there is in the tree of a document.
 ghost use Rattle.format_toml_tree.specs.Nodes.{Answers, AnswersAs, AnswersText, Finds, IsTop};
+ghost use Rattle.format_toml_tree.specs.declared.value.DateTime.{DateTime as DateTimeOf};
 ghost use Rattle.format_toml_tree.specs.declared.value.Float.{Float as FloatOf};
 ghost use Rattle.format_toml_tree.specs.declared.value.Value.TheVariants as values;
 ghost use Rattle.format_toml_tree.specs.Holds.{node_of};
@@ -213,12 +214,12 @@ impl<'d, 't, A: Allocator + Copy> Node<'d, 't, A> {
     }
 
     /// The date, the time or both, where it is such.
-    pub fn as_date_time(&self) -> Option<DateTime>
-        ensures { AnswersAs (λ d. values.DateTime d) self.now result }
+    pub fn as_date_time(&self) -> Option<&'t DateTime<A>>
+        ensures { AnswersAs (λ (d : Bor (DateTimeOf A)). values.DateTime d.now) self.now result }
     {
         let value = self.value()?;
         match value {
-            Value::DateTime(date_time) => Some(*date_time),
+            Value::DateTime(date_time) => Some(date_time),
             _ => None,
         }
     }

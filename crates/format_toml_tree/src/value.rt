@@ -17,49 +17,49 @@ pub struct Float<A: Allocator> {
 }
 
 /// A day of the calendar.
-#[derive(Debug, Clone, Copy, PartialEq)]
+#[derive(Debug, Clone, Copy, PartialEq, Eq)]
 pub struct Date {
     /// The year, from 0 to 9999.
     pub year: u16,
-    /// The month, from 1.
+    /// The month, from 1 to 12.
     pub month: u8,
-    /// The day of the month, from 1.
+    /// The day of the month, from 1 to its last.
     pub day: u8,
 }
 
 /// A time of day.
-#[derive(Debug, Clone, Copy, PartialEq)]
-pub struct Time {
-    /// The hour, from 0.
+#[derive(Debug, Drop, PartialEq)]
+pub struct Time<A: Allocator> {
+    /// The hour, from 0 to 23.
     pub hour: u8,
-    /// The minute, from 0.
+    /// The minute, from 0 to 59.
     pub minute: u8,
-    /// The second, from 0.
+    /// The second, from 0 to 60, which is a leap second.
     pub second: u8,
-    /// The nanosecond, from 0.
-    pub nanosecond: u32,
+    /// The digits of the fraction of the second, as written; none where there is no fraction.
+    pub fraction: String<A>,
 }
 
-/// Minutes east of UTC; `Z` is told apart.
-#[derive(Debug, Clone, Copy, PartialEq)]
+/// How far a time is ahead of UTC.
+#[derive(Debug, Clone, Copy, PartialEq, Eq)]
 pub enum Offset {
     /// The letter `Z`.
     Zulu,
-    /// The minutes, below zero to the west.
+    /// That many minutes, below zero to the west.
     Minutes(i16),
 }
 
 /// A date, a time, or both.
-#[derive(Debug, Clone, Copy, PartialEq)]
-pub enum DateTime {
+#[derive(Debug, Drop, PartialEq)]
+pub enum DateTime<A: Allocator> {
     /// A date and a time at an offset from UTC.
-    Offset(Date, Time, Offset),
+    Offset(Date, Time<A>, Offset),
     /// A date and a time with no offset.
-    Local(Date, Time),
+    Local(Date, Time<A>),
     /// A date alone.
     Date(Date),
     /// A time alone.
-    Time(Time),
+    Time(Time<A>),
 }
 
 /// A value.
@@ -74,7 +74,7 @@ pub enum Value<A: Allocator> {
     /// The word `true` or `false`.
     Boolean(bool),
     /// A date, a time, or both.
-    DateTime(DateTime),
+    DateTime(DateTime<A>),
     /// The values of an array, in order.
     Array(Vec<Value<A>, A>),
     /// The keys and values of an inline table, as written.

@@ -42,6 +42,14 @@ table_less {A = A} t v es e xs f d =
     let same : most (size_of A) xs ≡ most (size_of A) es.items = ap (most (size_of A)) f in
     omega (arith, d, size, same)
 
+element_less : {A : Type 0} (t : ℕ) (vs : List (Value A)) (k : ℕ) (v : Value A) → k < length vs
+    → v ≡ get_or vs k v → 3 * most (size-Value A) vs + 1 ≡ t → 3 * size-Value A v < t
+element_less {A = A} t vs k v w is d =
+    let same : size-Value A v ≡ size-Value A (get_or vs k v) = ap (size-Value A) is in
+    let less : size-Value A (get_or vs k v) ≤ most (size-Value A) vs =
+    the_most (size-Value A) vs k v w in
+    omega (arith, d, same, less)
+
 entry_less : {A : Type 0} (t : ℕ) (es : List (Key A × Value A)) (k : ℕ) (e : Key A × Value A)
     → k < length es → e ≡ get_or es k e → 3 * most (size_of A) es + 2 ≡ t
     → 3 * size_of A e + 1 < t
@@ -122,8 +130,11 @@ fill_elements-fill-requires g t c κs l =
     let (tree, path, holds, within) = c.requires.stands in
     let (next, f, keeps, goes) = c.loop-part.invariant tree path holds in
     let (was, at) = some_there c.loop-part.self.slots.items c.args.place goes.within in
-    let added = c.in_ok-below.ensures next goes.paths was goes.holds at in
-    (search (rules, the_lemmas), (search rules, (_, added.paths, added.holds, added.within)))
+    let added = c.in_ok-below.ensures next goes.paths was goes.holds at in (
+      element_less t c.args.parts.now c.loop-part.part-index c.part-item.result
+          c.loop-part-test.true c.part-item.is c.decreases,
+      (search rules, (_, added.paths, added.holds, added.within)),
+    )
 
 pub fill_elements-returns-in_err-fill : goal.fill_elements-returns-in_err-fill
 fill_elements-returns-in_err-fill g t c =

@@ -1,0 +1,12 @@
+use Rattle.format_toml_tree.specs.Dates.{Finds}
+use Rattle.format_toml_tree.specs.DateTimeParts.{dated, if_ok, undated}
+use Rattle.format_toml_tree.proofs.date_times.date_time.Goals as goal
+
+pub returns-in-Some : goal.returns-in-Some
+unfolding Finds
+returns-in-Some g c =
+    if_ok _ _ c.behind_date.result (λ o. dated _ _ _ _ o c.in-Some.ensures) c.behind_date.ensures
+
+pub returns-in-None : goal.returns-in-None
+returns-in-None g c =
+    if_ok _ _ c.time_alone.result (λ o. undated _ _ o c.in-None.ensures) c.time_alone.ensures

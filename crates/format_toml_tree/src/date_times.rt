@@ -1,0 +1,112 @@
+//! Dates, times and both (TOML 1.0: Offset Date-Time, Local Date-Time, Local Date, Local Time),
+//! from their bytes.
+ghost use Rattle.std.specs.List.{All};
+ghost use Rattle.std.specs.Prelude.{◌≡◌, IfOk, string_bytes};
+ghost use Rattle.format_toml_tree.specs.Dates.{IsAlone, IsBehind, IsDateTime, IsDigit};
+ghost use Rattle.format_toml_tree.specs.Dates.{IsTimeOf, Tells};
+
+use crate::dates::date;
+use crate::times::parts;
+use crate::value::{Date, DateTime, Time};
+use std::alloc::{AllocError, Allocator};
+
+/// The text of some digits.
+fn text_of<A: Allocator>(alloc: A, digits: &[u8]) -> Result<String<A>, AllocError>
+    requires { All IsDigit digits.now }
+    ensures { IfOk result (λ s. string_bytes s ≡ digits.now) }
+{
+    let mut text = String::new(alloc);
+    for digit in digits {
+        text.push(char::from(*digit))?;
+    }
+    Ok(text)
+}
+
+/// The time of some parts.
+fn time_of<A: Allocator>(
+    alloc: A,
+    clock: (u8, u8, u8),
+    digits: &[u8],
+) -> Result<Time<A>, AllocError>
+    requires { All IsDigit digits.now }
+    ensures { IfOk result (λ t. IsTimeOf t clock digits.now) }
+{
+    let (hour, minute, second) = clock;
+    let fraction = text_of(alloc, digits)?;
+    Ok(Time {
+        hour,
+        minute,
+        second,
+        fraction,
+    })
+}
+
+/// A date with what stands after it: nothing, or a delimiter and a time.
+fn behind_date<A: Allocator>(
+    alloc: A,
+    date: Date,
+    text: &[u8],
+) -> Result<Option<DateTime<A>>, AllocError>
+    ensures { IfOk result (λ o. Tells (λ d. IsBehind date d text.now) o) }
+{
+    let Some((delimiter, rest)) = text.split_first() else {
+        return Ok(Some(DateTime::Date(date)));
+    };
+    let delimiter = *delimiter;
+    if delimiter != b'T' && delimiter != b't' && delimiter != b' ' {
+        return Ok(None);
+    }
+    let Some((clock, digits, offset)) = parts(rest) else {
+        return Ok(None);
+    };
+    let time = time_of(alloc, clock, digits)?;
+    match offset {
+        Some(offset) => Ok(Some(DateTime::Offset(date, time, offset))),
+        None => Ok(Some(DateTime::Local(date, time))),
+    }
+}
+
+/// The time with no date that a text is.
+fn time_alone<A: Allocator>(alloc: A, text: &[u8]) -> Result<Option<DateTime<A>>, AllocError>
+    ensures { IfOk result (λ o. Tells (λ d. IsAlone d text.now) o) }
+{
+    let Some((clock, digits, offset)) = parts(text) else {
+        return Ok(None);
+    };
+    match offset {
+        Some(_offset) => Ok(None),
+        None => {
+            let time = time_of(alloc, clock, digits)?;
+            Ok(Some(DateTime::Time(time)))
+        }
+    }
+}
+
+/// The date, the time, or both that a text is, as its parts; nothing where it is none of them.
+///
+/// It is one by the grammar of TOML 1.0, which is that of RFC 3339 (section 5.6) with a time or an
+/// offset left out, and with a space for the letter `T`. A month has the days that it has in its
+/// year. A second of 60 is read at each minute: which minutes have one is announced half a year
+/// before, so no grammar tells it. An offset of `-00:00` is that of `+00:00`.
+///
+/// An error is for a request for memory that was refused, for the digits of a fraction.
+///
+/// ```
+/// use format_toml_tree::date_times::date_time;
+/// use format_toml_tree::value::{Date, DateTime};
+///
+/// let wanted = Date { year: 1979, month: 5, day: 27 };
+/// let found = date_time(alloc, b"1979-05-27");
+/// assert!(rt; matches!(found, Ok(Some(DateTime::Date(date))) if date == wanted));
+/// assert!(rt; matches!(date_time(alloc, b"1979-02-29"), Ok(None)));
+/// let both = date_time(alloc, b"1979-05-27T07:32:00.5Z");
+/// assert!(rt; matches!(both, Ok(Some(DateTime::Offset(_, time, _))) if time.hour == 7));
+/// ```
+pub fn date_time<A: Allocator>(alloc: A, text: &[u8]) -> Result<Option<DateTime<A>>, AllocError>
+    ensures { IfOk result (λ o. Tells (λ d. IsDateTime d text.now) o) }
+{
+    match date(text) {
+        Some((date, rest)) => behind_date(alloc, date, rest),
+        None => time_alone(alloc, text),
+    }
+}
