@@ -75,8 +75,13 @@ text_line : (K : Language) (bytes rest : List ℕ) → LineText K bytes rest
     → (name : List ℕ) × (value : List ℕ) × (behind : List ℕ) × IsFieldLine name value bytes behind
     × K behind rest
 unfolding OneOf Run Byte
-text_line K bytes rest (b, more, e, is,
-    (run, text, f, all, (value, feed, g, values, (behind, h, it)))) =
+text_line K bytes rest (
+  b,
+  more,
+  e,
+  is,
+  (run, text, f, all, (value, feed, g, values, (behind, h, it))),
+) =
     let name = b ∷ run in
     let line = name ++ 58 ∷ (value ++ line_end) in
     let found = field_line_some name value line refl (omega arith)
