@@ -68,9 +68,9 @@ READERS = [
         "or the first byte with which none goes on"),
     ("HTTP/1.1 heads, as places", "format_http_places", "no",
         "the places of the parts of a head, or where no head goes on, or that the bytes end within one"),
-    ("DNS: headers, compressed names, questions", "format_dns", "names",
-        "the header, and which part is missing; the name at a place, and questions, or why and where "
-        "none is"),
+    ("DNS: headers, compressed names, questions, records", "format_dns", "names",
+        "the header, and which part is missing; the name at a place, questions, and records with "
+        "their data by types, or why and where none is"),
     ("INI", "readers", "no", "`Ok` exactly where the bytes are a document of these sections"),
     ("formulas", "format_calculator", "no", "`Ok(v)` exactly where the one tree has this value"),
 ]
@@ -78,7 +78,7 @@ READERS = [
 # it explains.
 BRIEF = [
     ("CSV (RFC 4180)", ["format_csv", "format_csv_records"], "exactly; first, in pieces"),
-    ("DNS", ["format_dns"], "the header; the name at a place; questions"),
+    ("DNS", ["format_dns"], "the header; the name at a place; questions; records"),
     ("formulas", ["format_calculator"], "exactly"),
     ("HTTP/1.1 heads, chunked bodies", ["format_http", "format_http_chunked"], "first, in pieces"),
     ("INI", ["readers", "format_ini"], "exactly"),

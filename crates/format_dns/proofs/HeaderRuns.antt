@@ -21,6 +21,7 @@ use Rattle.winnow.specs.Kind.{Kind}
 use Rattle.winnow.specs.Reading.{Reading}
 use Rattle.winnow.specs.Runs.{Runs}
 use Rattle.winnow.specs.Sequence.{SequenceRuns3}
+use Rattle.format_dns.specs.Fields.{IsField}
 use Rattle.format_dns.specs.Header.{HasTooMany, IsHighByte, IsLowByte, IsNumber, LacksPart}
 use Rattle.format_dns.proofs.BitRuns.{BoolMeans, ReadsBits, TakeMeans, bool_reads, byte_fails}
 use Rattle.format_dns.proofs.BitRuns.{byte_must, byte_read, short_of, take_reads}
@@ -133,14 +134,14 @@ pub low_fails : {L : Type 0} (reading : Reading ℕ L) (s : ⊤ × ℕ × ℕ)
 low_fails reading s i k t j is is' ran =
     byte_fails reading _ s _ _ (low_bits_read (bits_reading reading) s is is') i k t j ran
 
--- ---- numbers of two bytes
+-- ---- numbers
 
-pub number_read : {L : Type 0} (reading : Reading ℕ L) (form : ErrorForm) (i : Input ℕ) (o : ℕ)
-    (j : Input ℕ) → IntegerRuns 2 value_of reading form i (Ok o) j
-    → IsNumber o i.left.tokens j.left.tokens
-number_read reading form i o j ran =
-    let read = integer_ok 2 value_of reading form i o j ran in
-    let written = be_written 2 o read.bytes read.value_is read.as_many read.are in
+pub field_read : {L : Type 0} (width : ℕ) (reading : Reading ℕ L) (form : ErrorForm) (i : Input ℕ)
+    (o : ℕ) (j : Input ℕ) → IntegerRuns width value_of reading form i (Ok o) j
+    → IsField width o i.left.tokens j.left.tokens
+field_read width reading form i o j ran =
+    let read = integer_ok width value_of reading form i o j ran in
+    let written = be_written width o read.bytes read.value_is read.as_many read.are in
     record {
       splits = read.passes.tokens ∙ ap (λ l. l ++ j.left.tokens) (sym written);
       fits = omega (
@@ -150,6 +151,13 @@ number_read reading form i o j ran =
         ap (λ w. 256 ^ w) read.as_many,
       );
     }
+
+pub number_read : {L : Type 0} (reading : Reading ℕ L) (form : ErrorForm) (i : Input ℕ) (o : ℕ)
+    (j : Input ℕ) → IntegerRuns 2 value_of reading form i (Ok o) j
+    → IsNumber o i.left.tokens j.left.tokens
+number_read reading form i o j ran =
+    let read = field_read 2 reading form i o j ran in
+    record { splits = read.splits; fits = read.fits }
 
 pub number_left : (n : ℕ) (bytes rest : List ℕ) → IsNumber n bytes rest
     → length bytes ≡ 2 + length rest

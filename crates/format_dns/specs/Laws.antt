@@ -14,7 +14,7 @@ use Rattle.winnow.specs.Grammar.{TokenOf}
 use Rattle.winnow.specs.Grammar.Known.{slice_for}
 use Rattle.winnow.specs.Grammar.Lengths.{SaysOne, Sized, same_beginnings}
 use Rattle.format_dns.specs.Names.{GoesNot, GoesOn, IsCut}
-use Rattle.format_dns.specs.Names.{IsLabel, IsPointer, IsRoot, Label}
+use Rattle.format_dns.specs.Names.{IsLabel, IsPointer, IsRoot, IsSized, Label}
 use Rattle.format_dns.specs.Names.{EndingTold, NoEnding}
 use Rattle.format_dns.specs.declared.fault.Fault.{Fault}
 use Rattle.format_dns.specs.declared.fault.Fault.TheVariants.{Ends}
@@ -23,12 +23,13 @@ use Rattle.format_dns.specs.declared.name.Ending.TheVariants.{Pointer, Root}
 
 -- ---- labels
 
--- bytes after a byte that a set of 1 to 63 has are labels
-pub same_label : {X : Type 0} (tells : X → ℕ → Bool → Type 0) (set : X)
-    → ((n : ℕ) → tells set n true ↔ ((1 ≤ n) × (n ≤ 63)))
-    → Same (Sized (λ n. n) (Counted counted_reading) (TokenOf (λ b. b) tells set)) IsLabel
+-- bytes after a byte that a set has are those of a length that it has
+pub same_sized : {X : Type 0} {least most : ℕ} (tells : X → ℕ → Bool → Type 0) (set : X)
+    → ((n : ℕ) → tells set n true ↔ ((least ≤ n) × (n ≤ most)))
+    → Same (Sized (λ n. n) (Counted counted_reading) (TokenOf (λ b. b) tells set))
+    (IsSized least most)
 unfolding Sized Counted TokenOf
-same_label tells set is = record {
+same_sized {least = first} {most = last} tells set is = record {
   there = λ tokens label rest (n, mid, (told, e), (front, size, shown, d)).
       let (least, most) = (is n).0 told in
       let same = ap (λ l. length l) shown ∙ size in (
@@ -45,9 +46,9 @@ same_label tells set is = record {
   );
 }
 
--- what a range that tells of 1 to 63 tells
-pub in_range : {start end n : ℕ} → start ≡ 1 → end ≡ 63
-    → (IsTrue true ↔ ((start ≤ n) × (n ≤ end))) ↔ ((1 ≤ n) × (n ≤ 63))
+-- what a range tells
+pub in_range : {start end n least most : ℕ} → start ≡ least → end ≡ most
+    → (IsTrue true ↔ ((start ≤ n) × (n ≤ end))) ↔ ((least ≤ n) × (n ≤ most))
 in_range least most = (
   λ told. let (a, b) = told.0 refl in (omega (arith, a, least), omega (arith, b, most)),
   λ (a, b). (λ yes. (omega (arith, a, least), omega (arith, b, most)), λ both. refl),
@@ -59,13 +60,16 @@ pub one_says : {X : Type 0} (tells : X → ℕ → Bool → Type 0) (set : X)
 unfolding TokenOf
 one_says tells set tokens n m rest other (told, e) (also, f) = same_first (sym e ∙ f)
 
-pub label_unique : IsUnique IsLabel
-label_unique = record {
+pub sized_unique : {first last : ℕ} → IsUnique (IsSized first last)
+sized_unique = record {
   ends = λ tokens label rest (least, most, e). (length label.now ∷ label.now, e);
   one = λ tokens label other rest more (least, most, e) (least2, most2, f).
       let same = sym e ∙ f in
       (same_beginnings label.now other.now rest more (same_first same) (same_others same)).1;
 }
+
+pub label_unique : IsUnique IsLabel
+label_unique = sized_unique
 
 -- where none is the bytes after its length are too few
 pub label_cut : (n : ℕ) (bytes : List ℕ) → 1 ≤ n → n ≤ 63 → NoneStands IsLabel (n ∷ bytes)

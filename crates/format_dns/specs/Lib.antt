@@ -1,5 +1,7 @@
 -- Written by scripts/registries.py: do not edit.
 pub mod Alike
+pub mod Data
+pub mod DataLaws
 pub mod FieldLaws
 pub mod Fields
 pub mod Header
@@ -9,3 +11,5 @@ pub mod Names
 pub mod Octets
 pub mod PartLaws
 pub mod Questions
+pub mod RecordLaws
+pub mod Records

@@ -26,7 +26,7 @@ use Rattle.format_dns.specs.Laws.{LabelsRead, goes_one, label_unique, root_point
 -- ---- one name, or a fault
 
 module _ (message : List ℕ) where
-  one_place : {place : ℕ} {tokens others : List ℕ} → At message place tokens
+  pub one_place : {place : ℕ} {tokens others : List ℕ} → At message place tokens
       → At message place others → tokens ≡ others
   one_place {place} {tokens} {others} (front, size, e) (other, size2, f) =
       (same_beginnings front other tokens others (size ∙ sym size2) (sym e ∙ f)).1

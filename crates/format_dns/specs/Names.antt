@@ -15,11 +15,19 @@ use Rattle.format_dns.specs.declared.name.Ending.TheVariants.{Pointer, Root}
 abbrev pub Label : Type 0
 Label = Bor (List ℕ)
 
--- A label: its length, from 1 to 63, in a byte, and that many bytes.
-abbrev pub IsLabel : Grammar ℕ Label
-IsLabel tokens label rest =
-    (1 ≤ length label.now) × (length label.now ≤ 63)
+-- A length within these bounds in a byte, and that many bytes.
+abbrev pub IsSized : ℕ → ℕ → Grammar ℕ Label
+IsSized least most tokens label rest =
+    (least ≤ length label.now) × (length label.now ≤ most)
     × (tokens ≡ length label.now ∷ (label.now ++ rest))
+
+-- A label: its length, from 1 to 63, and that many bytes.
+abbrev pub IsLabel : Grammar ℕ Label
+IsLabel = IsSized 1 63
+
+-- A character string: its length and that many bytes (section 3.3).
+abbrev pub IsString : Grammar ℕ Label
+IsString = IsSized 0 255
 
 -- How many octets labels are on the wire: of each its length, and its bytes.
 abbrev pub octets : List Label → ℕ

@@ -9,9 +9,12 @@
 /// ```
 #[derive(Clone, Copy, Debug, PartialEq, Eq)]
 pub enum Fault {
-    /// The message ends within what begins here: a label, a pointer, the end of a name, fields of a
-    /// fixed length, or data.
+    /// The message, or a record's data by their length, end within what begins here: a label, a
+    /// pointer, the end of a name, fields of a fixed length, a character string, or data.
     Ends(usize),
+    /// From here on octets of a record's data are left, after what its type has (RFC 1035, section
+    /// 3.2.1).
+    Trailing(usize),
     /// The byte here has one alone of its two highest bits: such labels are reserved (RFC 1035,
     /// section 4.1.4).
     Reserved(usize),

@@ -1,5 +1,5 @@
 //! Labels, one after the other.
-ghost use Rattle.format_dns.specs.Names.{IsLabel};
+ghost use Rattle.format_dns.specs.Names.{IsLabel, IsString};
 ghost use Rattle.std.specs.Prelude.{◌≡◌, Some};
 ghost use Rattle.winnow.specs.Range.{from_to};
 ghost use Rattle.winnow.specs.Bytes.{bytes_input, bytes_reading};
@@ -51,4 +51,18 @@ pub fn read_labels<'i, A: Allocator + Copy>(
         (bytes_input input.old.now) result (bytes_input input.new.now) }
 {
     read_sized(alloc, most, one_of(1..=63), input)
+}
+
+/// The character strings that the bytes begin with, each after its length in one byte: as many as
+/// stand, up to `most`.
+pub fn read_strings<'i, A: Allocator + Copy>(
+    alloc: A,
+    most: usize,
+    input: &mut &'i [u8],
+) -> Result<Vec<&'i [u8], A>, ErrMode<EmptyError>>
+    ensures { Reads bytes_reading ⟦<ErrMode<EmptyError> as HasKind>⟧.kind
+        (Gathered (λ list strings. list.items ≡ strings) (Many IsString (from_to 0 (Some most))))
+        (bytes_input input.old.now) result (bytes_input input.new.now) }
+{
+    read_sized(alloc, most, one_of(0..=255), input)
 }

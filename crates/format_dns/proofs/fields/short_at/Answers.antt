@@ -1,0 +1,11 @@
+use Rattle.format_dns.specs.PartLaws.{at_from}
+use Rattle.format_dns.proofs.fields.short_at.Goals as goal
+
+pub returns-in-Ok : goal.returns-in-Ok
+returns-in-Ok c =
+    let (enough, end, is, size) = c.in-Some.ensures.lookup.0 in (
+      c.in-Some.rest.now,
+      c.short.new.input.now,
+      at_from c.args.message.now c.args.place enough is,
+      c.in-Ok.ensures.number,
+    )

@@ -1,0 +1,102 @@
+-- Where a fault is no record stands.
+use Rattle.std.specs.Prelude.{◌≡◌, ◌+◌, ◌-◌, ℕ, List, take, slice_range}
+use Rattle.std.specs.Int.{bytes_high_first}
+use Rattle.std.proofs.Common.{sym, ap, subst, inl, inr, ◌∙◌, arith}
+use Rattle.winnow.specs.Grammar.Lengths.{same_beginnings}
+use Rattle.winnow.specs.Integer.{value_of}
+use Rattle.winnow.specs.Integer.Written.{length_written, written_value}
+use Rattle.format_dns.specs.Data.{NoForm, form_for}
+use Rattle.format_dns.specs.DataLaws.{no_form}
+use Rattle.format_dns.specs.FieldLaws.{record_length}
+use Rattle.format_dns.specs.Fields.{AreRecordFields, IsField}
+use Rattle.format_dns.specs.NameLaws.{no_name, one_behind, one_place}
+use Rattle.format_dns.specs.Names.{At}
+use Rattle.format_dns.specs.PartLaws.{at_length, rows_none}
+use Rattle.format_dns.specs.Records.{AreRecords, HasNoRecord, HaveNoRecords, IsRecord}
+use Rattle.format_dns.specs.declared.fault.Fault.{Fault}
+use Rattle.format_dns.specs.declared.record.Record.{Record}
+use Rattle.format_dns.specs.declared.record.Records.{Records}
+
+-- what stands before a place
+pub whole_is : {whole : List ℕ} (message : List ℕ) (place end : ℕ)
+    → whole ≡ slice_range message 0 place → place ≡ end → whole ≡ take end message
+whole_is message place end is e =
+    let same : place - 0 ≡ end = omega (arith, e) in is ∙ ap (λ n. take n message) same
+
+-- ---- one number in a field
+
+one_field : {width n m : ℕ} {bytes others rest more : List ℕ} → bytes ≡ others
+    → IsField width n bytes rest → IsField width m others more → (n ≡ m) × (rest ≡ more)
+one_field {width} {n} {m} {rest = rest} {more = more} e a b =
+    let alike = same_beginnings (bytes_high_first width n) (bytes_high_first width m) rest more
+    (length_written width n ∙ sym (length_written width m)) (sym a.splits ∙ e ∙ b.splits) in (
+      sym (written_value width n a.fits) ∙ ap value_of alike.0 ∙ written_value width m b.fits,
+      alike.1,
+    )
+
+one_fields : {k k2 c c2 t t2 n n2 : ℕ} {bytes others rest more : List ℕ} → bytes ≡ others
+    → AreRecordFields k c t n bytes rest → AreRecordFields k2 c2 t2 n2 others more
+    → (k ≡ k2) × (c ≡ c2) × (n ≡ n2)
+one_fields e a b =
+    let kind = one_field e a.kind b.kind in
+    let class = one_field kind.1 a.class b.class in
+    let time = one_field class.1 a.time_to_live b.time_to_live in
+    let size = one_field time.1 a.size_field b.size_field in (kind.0, class.0, size.0)
+
+module _ (message : List ℕ) (level : ℕ) where
+  pub no_record : {A : Type 0} (start : ℕ) (fault : Fault) (it : Record A)
+      → HasNoRecord message level start fault → IsRecord message level start it → ⊥
+  no_record start fault it (inl none) r =
+      no_name message level 254 start fault none it.name.labels.items it.name.behind r.name.0
+      r.name.1
+  no_record start fault it (inr (labels, behind, name, inl (is, short))) r =
+      omega (
+        arith,
+        short,
+        at_length r.fields_at,
+        record_length r.fields,
+        one_behind message level start labels it.name.labels.items behind it.name.behind name.0
+            r.name.0,
+      )
+  no_record start fault it
+      (inr (labels, behind, name, inr (k, c, t, n, tokens, rest, at, fields, why))) r =
+      let there = one_behind message level start labels it.name.labels.items behind
+      it.name.behind name.0 r.name.0 in
+      let At2 : ℕ → Type 0 = λ b. At message b tokens in
+      let same = one_place message (subst At2 there at) r.fields_at in
+      let (kind, class, size) = one_fields same fields r.fields in
+      let end : behind + 10 + n ≡ it.behind = omega (arith, there, size, r.behind) in
+      elim why [
+        | inl (is, short) ↦ omega (arith, short, end, r.fits)
+        | inr (enough, none) ↦
+            let P : ℕ → Type 0 = λ e. NoForm (take e message) level (behind + 10)
+            (form_for k c) fault in
+            let Q : ℕ → Type 0 = λ b. NoForm (take it.behind message) level (b + 10)
+            (form_for k c) fault in
+            let R : ℕ → Type 0 = λ x. NoForm (take it.behind message) level
+            (it.name.behind + 10) (form_for x c) fault in
+            let S : ℕ → Type 0 = λ x. NoForm (take it.behind message) level
+            (it.name.behind + 10) (form_for it.kind x) fault in
+            no_form (take it.behind message) level (it.name.behind + 10)
+            (form_for it.kind it.class) fault it.data
+            (subst S class (subst R kind (subst Q there (subst P end none)))) r.held
+      ]
+
+  pub one_record : {A : Type 0} (start : ℕ) (x y : Record A)
+      → IsRecord message level start x → IsRecord message level start y → x.behind ≡ y.behind
+  one_record start x y a b =
+      let there = one_behind message level start x.name.labels.items y.name.labels.items
+      x.name.behind y.name.behind a.name.0 b.name.0 in
+      let At2 : ℕ → Type 0 = λ n. At message n a.tokens in
+      let same = one_place message (subst At2 there a.fields_at) b.fields_at in
+      let (kind, class, size) = one_fields same a.fields b.fields in
+      omega (arith, a.behind, b.behind, there, size)
+
+  pub no_records : {A : Type 0} (start count : ℕ) (fault : Fault) (records : Records A)
+      → HaveNoRecords message level A start count fault
+      → AreRecords message level start count records → ⊥
+  no_records {A} start count fault records fails (rows, many) =
+      rows_none (λ place (it : Record A). IsRecord message level place it)
+      (λ it. it.behind) (λ place x y. one_record place x y)
+      (HasNoRecord message level) (λ place f x. no_record place f x) start count fault fails
+      records.list.items records.behind rows many

@@ -1,0 +1,61 @@
+-- Resource records in a message (RFC 1035, sections 3.2 and 4.1.3).
+use Rattle.std.specs.Prelude.{◌≡◌, ◌⊎◌, ◌≤◌, ◌<◌, ◌+◌, ℕ, List, length, take, Result}
+use Rattle.format_dns.specs.Data.{IsOfForm, NoForm, form_for}
+use Rattle.format_dns.specs.Fields.{AreRecordFields}
+use Rattle.format_dns.specs.Names.{At, HasNoName, Label}
+use Rattle.format_dns.specs.Questions.{HasName, IsShort, PartTold, Rows, RowsFail}
+use Rattle.format_dns.specs.declared.fault.Fault.{Fault}
+use Rattle.format_dns.specs.declared.fault.Fault.TheVariants.{Ends}
+use Rattle.format_dns.specs.declared.record.Record.{Record}
+use Rattle.format_dns.specs.declared.record.Records.{Records}
+
+module _ (message : List ℕ) (level : ℕ) where
+  -- At a place stands a name, after it a type, a class, a time to live and the length of the data,
+  -- and after these the data of the type and the class, in the message up to their end.
+  pub record IsRecord {A : Type 0} (start : ℕ) (it : Record A) : Type 0 where
+    pub name : HasName message level start it.name
+    pub tokens : List ℕ
+    pub rest : List ℕ
+    pub fields_at : At message it.name.behind tokens
+    pub size : ℕ
+    pub fields : AreRecordFields it.kind it.class it.time_to_live size tokens rest
+    pub behind : it.behind ≡ it.name.behind + 10 + size
+    pub fits : it.behind ≤ length message
+    pub held : IsOfForm (take it.behind message) level (it.name.behind + 10)
+        (form_for it.kind it.class) it.data
+
+  -- The data of that many octets are not there: the message ends within them, or they are none of
+  -- the type and the class.
+  abbrev pub HasNoData : ℕ → ℕ → ℕ → ℕ → Fault → Type 0
+  HasNoData kind class start size fault =
+      ((fault ≡ Ends start) × (length message < start + size))
+      ⊎ ((start + size ≤ length message)
+      × NoForm (take (start + size) message) level start (form_for kind class) fault)
+
+  -- Why no record is at a place: there is no name, or the message ends within the fields after it,
+  -- or the data are not there.
+  abbrev pub HasNoRecord : ℕ → Fault → Type 0
+  HasNoRecord start fault =
+      HasNoName message level 254 start fault
+      ⊎ ((labels : List Label) × (behind : ℕ) × IsShort message level start labels behind
+      × (((fault ≡ Ends behind) × (length message < behind + 10))
+      ⊎ ((kind : ℕ) × (class : ℕ) × (time : ℕ) × (size : ℕ) × (tokens : List ℕ) × (rest : List ℕ)
+      × At message behind tokens × AreRecordFields kind class time size tokens rest
+      × HasNoData kind class (behind + 10) size fault)))
+
+  -- That many records stand one after the other from a place on.
+  abbrev pub AreRecords : {A : Type 0} → ℕ → ℕ → Records A → Type 0
+  AreRecords {A} start count records =
+      Rows (λ place (it : Record A). IsRecord place it) (λ it. it.behind) start records.list.items
+      records.behind
+      × (length records.list.items ≡ count)
+
+  -- Why not that many do: fewer do, and after them is no record, for this reason.
+  abbrev pub HaveNoRecords : Type 0 → ℕ → ℕ → Fault → Type 0
+  HaveNoRecords A =
+      RowsFail (λ place (it : Record A). IsRecord place it) (λ it. it.behind) HasNoRecord
+
+  -- what is told of that many records
+  abbrev pub RecordsTold : {A : Type 0} → ℕ → ℕ → Result (Records A) Fault → Type 0
+  RecordsTold {A} start count =
+      PartTold (AreRecords start count) (HaveNoRecords A start count)

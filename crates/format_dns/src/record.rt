@@ -1,0 +1,116 @@
+//! Resource records (RFC 1035, sections 3.2 and 4.1.3).
+ghost use Rattle.format_dns.specs.Questions.{PartTold};
+ghost use Rattle.format_dns.specs.Records.{HasNoRecord, IsRecord, RecordsTold};
+
+use crate::data::{Data, form_of, read_data};
+use crate::fault::Fault;
+use crate::fields::record_fields_at;
+use crate::name::{Name, read_name};
+use std::alloc::Allocator;
+
+/// A resource record of a message `'m`.
+#[derive(Drop)]
+pub struct Record<'m, A: Allocator> {
+    /// The name of the node to which the record pertains.
+    pub name: Name<'m, A>,
+    /// The number of its type.
+    pub kind: u16,
+    /// The number of its class; 1 is the Internet.
+    pub class: u16,
+    /// For how many seconds it may be cached, as it stands: a time to live above 2 to the 31, less
+    /// one, is to be taken as zero (RFC 2181, section 8).
+    pub time_to_live: u32,
+    /// Its data, by the type and the class.
+    pub data: Data<'m, A>,
+    /// The place in the message, in bytes, after the record.
+    pub behind: usize,
+}
+
+/// The record that begins at a place of a message, in bytes from its start. Of pointers no more
+/// than `level` are followed, one after the other, as by [`read_name`], for its name and for each
+/// in its data. The data go as far as their length says, and what their type has must end there.
+///
+/// An error says that no record begins there, and where it fails first: in its name, in the fields
+/// after it, or in the data; or that memory is wanting.
+///
+/// ```
+/// use format_dns::data::Data;
+/// use format_dns::record::read_record;
+///
+/// let message = b"\x03com\x00\xc0\x00\x00\x02\x00\x01\x00\x00\x0e\x10\x00\x04\x01a\xc0\x00";
+/// let record = read_record(alloc, 1, message, 5);
+/// assert!(rt; matches!(&record, Ok(record) if record.kind == 2 && record.behind == 21));
+/// assert!(rt; matches!(&record, Ok(record) if matches!(&record.data, Data::Name(_))));
+/// assert!(rt; read_record(alloc, 1, &message[..20], 5).is_err());
+/// ```
+pub fn read_record<'m, A: Allocator + Copy>(
+    alloc: A,
+    level: usize,
+    message: &'m [u8],
+    place: usize,
+) -> Result<Record<'m, A>, Fault>
+    ensures { PartTold (IsRecord message.now level place) (HasNoRecord message.now level place)
+        result }
+{
+    let name = read_name(alloc, level, message, place)?;
+    let fields = record_fields_at(message, name.behind)?;
+    let start = name.behind + 10;
+    let behind = start + usize::from(fields.length);
+    let Some(whole) = message.get(..behind) else {
+        return Err(Fault::Ends(start));
+    };
+    let form = form_of(fields.kind, fields.class);
+    let data = read_data(alloc, level, form, whole, start)?;
+    Ok(Record {
+        name,
+        kind: fields.kind,
+        class: fields.class,
+        time_to_live: fields.time_to_live,
+        data,
+        behind,
+    })
+}
+
+/// Records of a message `'m`, one after the other.
+#[derive(Drop)]
+pub struct Records<'m, A: Allocator> {
+    /// The records, in the order in which they stand.
+    pub list: Vec<Record<'m, A>, A>,
+    /// The place in the message, in bytes, after the last.
+    pub behind: usize,
+}
+
+/// That many records from a place of a message on, in bytes from its start, as [`read_record`]
+/// reads each: of a whole message from the place after its questions on, section by section.
+///
+/// An error says why the first that is not there is not, and where; or that memory is wanting.
+/// Memory is asked for as records are read, whatever the count is.
+///
+/// ```
+/// use format_dns::record::read_records;
+///
+/// let message = b"\x00\x00\x0a\x00\x01\x00\x00\x00\x00\x00\x00".as_slice();
+/// let records = read_records(alloc, 0, message, 0, 1);
+/// assert!(rt; matches!(records, Ok(read) if read.list.len() == 1 && read.behind == 11));
+/// assert!(rt; read_records(alloc, 0, message, 0, 2).is_err());
+/// ```
+pub fn read_records<'m, A: Allocator + Copy>(
+    alloc: A,
+    level: usize,
+    message: &'m [u8],
+    place: usize,
+    count: u16,
+) -> Result<Records<'m, A>, Fault>
+    ensures { RecordsTold message.now level place count result }
+{
+    let mut list = Vec::new(alloc);
+    let mut behind = place;
+    while list.len() < usize::from(count) {
+        let record = read_record(alloc, level, message, behind)?;
+        behind = record.behind;
+        if list.push(record).is_err() {
+            return Err(Fault::NoMemory);
+        }
+    }
+    Ok(Records { list, behind })
+}
