@@ -78,7 +78,7 @@ READERS = [
 # it explains.
 BRIEF = [
     ("CSV (RFC 4180)", ["format_csv", "format_csv_records"], "exactly; first, in pieces"),
-    ("DNS", ["format_dns"], "the header; the name at a place; questions; records"),
+    ("DNS", ["format_dns"], "headers, names, questions, records"),
     ("formulas", ["format_calculator"], "exactly"),
     ("HTTP/1.1 heads, chunked bodies", ["format_http", "format_http_chunked"], "first, in pieces"),
     ("INI", ["readers", "format_ini"], "exactly"),
