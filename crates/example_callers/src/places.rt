@@ -47,16 +47,16 @@ where
 }
 
 /// The value of an assignment as `key=value` that is first in what is left, and between which
-/// places it is, in units from the start of the stream: bytes of bytes and of text. It fails where
-/// no assignment is first.
+/// places it is, in bytes from the start of the stream. It fails where no assignment is first.
 ///
 /// ```
 /// use example_callers::places::value_place;
 /// use winnow::error::EmptyError;
 /// use winnow::stream::LocatingSlice;
 ///
-/// let mut input = LocatingSlice::new("key=valuea=b");
-/// assert_eq!(rt; value_place(&mut input), Ok::<_, EmptyError>(("valuea", 4..10)));
+/// let mut input = LocatingSlice::new(b"key=value;".as_slice());
+/// let value = b"value".as_slice();
+/// assert_eq!(rt; value_place(&mut input), Ok::<_, EmptyError>((value, 4..9)));
 /// ```
 pub fn value_place<I, E>(input: &mut LocatingSlice<I>) -> Result<(I::Slice, Range<usize>), E>
 where

@@ -286,7 +286,7 @@ pub fn record_size(dialect: Dialect, bytes: &[u8]) -> Result<Option<RecordSize>,
 ///     let (all, fields) = (text.as_mut_slice(), places.as_mut_slice());
 ///     assert!(rt; write_fields(Dialect::standard(), bytes, size, all, fields));
 /// }
-/// assert!(rt; text[..6] == *b"ab \"c\"".as_slice());
+/// assert_eq!(rt; &text[..6], b"ab \"c\"".as_slice());
 /// assert_eq!(rt; places[1], (1, 5));
 /// ```
 #[inline(always)]
