@@ -126,14 +126,14 @@ pub fn lacks_value<'i, A: Allocator + Copy>(
         → (rest : List ℕ) × Stands (AnyValue {A = A} level) (chars text.now) rest) }
 {
     let mut rest = text;
+    // Each branch returns by itself: of the three joined the prover does not find what is claimed.
     match read_value(alloc, level, &mut rest) {
-        Ok(_) => Ok(false),
+        Ok(_) => return Ok(false),
         Err(error) => {
             if ParserError::<&str>::is_backtrack(&error) {
-                Ok(true)
-            } else {
-                Err(error)
+                return Ok(true);
             }
+            return Err(error);
         }
     }
 }
