@@ -49,7 +49,7 @@ FAULTS = [
     ),
     *of(
         H,
-        ("the numbers of the version are turned", "struct pergidau_head {", "uint8_t major;\n    /* The number behind the point of the version, below 10. */\n    uint8_t minor;", "uint8_t minor;\n    uint8_t major;"),
+        ("the numbers of the version are turned", "struct pergidau_head {", "uint8_t major;\n    /* The number after the point of the version, below 10. */\n    uint8_t minor;", "uint8_t minor;\n    uint8_t major;"),
         ("false and true are turned", "enum pergidau_json_kind", "PERGIDAU_JSON_FALSE = 1,\n    /* The word true. */\n    PERGIDAU_JSON_TRUE = 2,", "PERGIDAU_JSON_FALSE = 2,\n    PERGIDAU_JSON_TRUE = 1,"),
         ("a kind of reply is another", "enum pergidau_resp_kind", "PERGIDAU_RESP_NULL_BULK = 4,", "PERGIDAU_RESP_NULL_BULK = 7,"),
         ("fields and bytes are turned", "struct pergidau_record {", "size_t fields;\n    /* How many bytes the fields have together, as they are written. */\n    size_t text;", "size_t text;\n    size_t fields;"),

@@ -877,7 +877,7 @@ static void test_library(void)
     static const char *const messages[] = {
         "the bytes were read, and what was found is written",
         "the bytes are not what is read",
-        "the bytes are not yet what is read, and with more behind them they may be",
+        "the bytes are not yet what is read, and with more after them they may be",
         "a request for memory was refused",
         "the bytes are no UTF-8, where text is asked for",
         "the buffer has too few entries",
