@@ -282,8 +282,6 @@ const NONE: &[(&str, usize)] = &[
     ("[a.]", 0),
     ("[a\n]", 0),
     ("[a] [b]", 4),
-    // What the standard has, and this does not.
-    ("a = 1979-05-27", 0),
 ];
 
 fn same(rt: &impl Abort, row: &str, got: &str, want: &str) {

@@ -2,6 +2,8 @@
 #![tactic(auto)]
 
 #[cfg(test)]
+mod dates;
+#[cfg(test)]
 mod documents;
 #[cfg(test)]
 mod floats;
@@ -15,5 +17,7 @@ mod messages;
 mod refused;
 #[cfg(test)]
 mod shown;
+#[cfg(test)]
+mod starts;
 #[cfg(test)]
 mod strings;

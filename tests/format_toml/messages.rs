@@ -46,6 +46,11 @@ fn explain_says_what_is_expected_and_where(rt: HostRuntime) {
         ("[a] b", "line 1, column 5: expected the end of the line"),
         ("# \u{1}", "line 1, column 3: expected the end of the line"),
         ("a = 1\rb = 2", "line 1, column 6: expected the end of the line"),
+        ("a = 1979-02-30", "line 1, column 5: expected a value"),
+        ("a = 1979-05-27 07:32", "line 1, column 5: expected a value"),
+        ("a = 1979-05-27 7:32:00", "line 1, column 16: expected the end of the line"),
+        ("a = 07:32:00 1979-05-27", "line 1, column 14: expected the end of the line"),
+        ("a = 80 90", "line 1, column 8: expected the end of the line"),
         ("a = [1, 2]\r\n", ""),
     ];
     for (text, wanted) in rows {

@@ -4,7 +4,7 @@ use test_support::refusing::Refusing;
 use format_toml::lines::parse_lines;
 use winnow::error::{ParseFault, ParserError};
 
-const TEXT: &str = "[a]\nb.'c' = ['c', \"d\", {e = 1}, 1.5] # e\n";
+const TEXT: &str = "[a]\nb.'c' = ['c', \"d\", {e = 1}, 1.5, 07:32:00.5] # e\n";
 
 #[test]
 fn parse_lines_refused_memory(rt: HostRuntime) {

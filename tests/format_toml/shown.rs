@@ -1,6 +1,6 @@
 //! Documents as text, for rows of tests.
 use std::alloc::{AllocError, Allocator, Global};
-use format_toml_tree::value::{Item, Key, Value};
+use format_toml_tree::value::{Date, DateTime, Item, Key, Offset, Time, Value};
 
 /// Writes a text between quotes, as it is.
 fn show_text(text: &str, into: &mut String<Global>) -> Result<(), AllocError> {
@@ -39,6 +39,58 @@ fn show_key<A: Allocator>(key: &Key<A>, into: &mut String<Global>) -> Result<(),
     Ok(())
 }
 
+/// Writes three numbers with a mark between each two of them, with no zeros before them.
+fn show_three(numbers: (u16, u8, u8), mark: &str, into: &mut String<Global>)
+    -> Result<(), AllocError> {
+    show_number(i64::from(numbers.0), into)?;
+    into.push_str(mark)?;
+    show_number(i64::from(numbers.1), into)?;
+    into.push_str(mark)?;
+    show_number(i64::from(numbers.2), into)
+}
+
+fn show_date(date: &Date, into: &mut String<Global>) -> Result<(), AllocError> {
+    show_three((date.year, date.month, date.day), "-", into)
+}
+
+/// Writes a time, and the digits of its fraction behind a point.
+fn show_time<A: Allocator>(time: &Time<A>, into: &mut String<Global>) -> Result<(), AllocError> {
+    show_three((u16::from(time.hour), time.minute, time.second), ":", into)?;
+    if !time.fraction.is_empty() {
+        into.push_str(".")?;
+    }
+    into.push_str(time.fraction.as_str())
+}
+
+/// Writes a date, a time or both, with a `T` between them, and an offset as `Z` or as `@` and
+/// minutes.
+fn show_date_time<A: Allocator>(
+    both: &DateTime<A>,
+    into: &mut String<Global>,
+) -> Result<(), AllocError> {
+    match both {
+        DateTime::Offset(date, time, offset) => {
+            show_date(date, into)?;
+            into.push_str("T")?;
+            show_time(time, into)?;
+            match offset {
+                Offset::Zulu => into.push_str("Z"),
+                Offset::Minutes(minutes) => {
+                    into.push_str("@")?;
+                    show_number(i64::from(*minutes), into)
+                }
+            }
+        }
+        DateTime::Local(date, time) => {
+            show_date(date, into)?;
+            into.push_str("T")?;
+            show_time(time, into)
+        }
+        DateTime::Date(date) => show_date(date, into),
+        DateTime::Time(time) => show_time(time, into),
+    }
+}
+
 /// Writes a value with no white space, and a comma behind each of an array or an inline table.
 fn show_value<A: Allocator>(
     value: &Value<A>,
@@ -67,7 +119,7 @@ fn show_value<A: Allocator>(
             into.push_str("}")
         }
         Value::Float(float) => into.push_str(float.text.as_str()),
-        Value::DateTime(_) => into.push_str("?"),
+        Value::DateTime(both) => show_date_time(both, into),
     }
 }
 

@@ -1,5 +1,5 @@
 -- TOML 1.0: what parsers read of keys, values and lines.
-use Rattle.std.specs.Prelude.{◌≡◌, ⊤, ℕ, zero, suc, Bool, true, false, List, Option, None}
+use Rattle.std.specs.Prelude.{◌≡◌, ⊤, ℕ, zero, suc, Bool, true, false, List, Option, None, Some}
 use Rattle.std.specs.declared.string.String.{String}
 use Rattle.std.specs.declared.vec.Vec.{Vec}
 use Rattle.winnow.specs.Text.{text_reading}
@@ -14,14 +14,15 @@ use Rattle.format_toml.specs.Toml.{IsTable, IsTables, IsText, IsWide, PlainText,
 use Rattle.format_toml.specs.Toml.{false_word, true_word}
 use Rattle.format_toml.specs.declared.characters.Characters.{Characters}
 use Rattle.format_toml.specs.declared.characters.Characters.TheVariants.{Bare, Basic, Comment}
-use Rattle.format_toml.specs.declared.characters.Characters.TheVariants.{Literal, Unquoted}
+use Rattle.format_toml.specs.declared.characters.Characters.TheVariants.{Digit, Literal, Unquoted}
 use Rattle.format_toml.specs.declared.characters.Characters.TheVariants.{White}
 use Rattle.format_toml_tree.specs.declared.value.Item.{Item}
 use Rattle.format_toml_tree.specs.declared.value.Key.{Key}
 use Rattle.format_toml_tree.specs.declared.value.Value.{Value}
 use Rattle.winnow.specs.Grammar.{Both, Either, Gathered, Grammar, Longest, Many, Nothing, Optional}
-use Rattle.winnow.specs.Grammar.{Parted, Three, Token, TokenOf}
+use Rattle.winnow.specs.Grammar.{Parted, Taken, Three, Token, TokenOf}
 use Rattle.winnow.specs.Grammar.Meaning.{Meaning}
+use Rattle.winnow.specs.Grammar.Tuples.{Four}
 use Rattle.winnow.specs.Accumulator.Holds.{HasCharacters}
 
 -- ---- white space
@@ -113,9 +114,19 @@ BasicPart = Part 34 BasicContent Skips
 abbrev pub LiteralPart : Grammar ℕ ℕ
 LiteralPart = Part 39 LiteralContent NoSkips
 
--- as many characters of numbers, dates and times as stand, one at least
+-- as many characters of numbers, dates and times as stand, that many at least
+abbrev pub UnquotedRun : ℕ → Grammar ℕ Slice
+UnquotedRun least = Longest text_reading (λ c. c) Tells Unquoted (from_to least None)
+
+-- a space, two digits and a colon, and as many of these as stand after it
+abbrev pub SpacedTime : Grammar ℕ (ℕ × Slice × ℕ × Slice)
+SpacedTime =
+    Four (Char 32) (Longest text_reading (λ c. c) Tells Digit (from_to 2 (Some 2))) (Char 58)
+    (UnquotedRun 0)
+
+-- as many of these as stand, one at least, with this after them if it stands there
 abbrev pub Unquoteds : Grammar ℕ Slice
-Unquoteds = Longest text_reading (λ c. c) Tells Unquoted (from_to 1 None)
+Unquoteds = Taken text_reading (Both pair (UnquotedRun 1) (Optional SpacedTime))
 
 module _ {A : Type 0} where
   abbrev pub AnyCharacters : Characters → ℕ → Grammar ℕ (String A)

@@ -3,7 +3,7 @@ use Rattle.std.specs.Prelude.{◌≡◌, ◌⊎◌, ◌<◌, ℕ, List, [], None
 use Rattle.std.proofs.Common.{refl, inl, inr, arith}
 use Rattle.winnow.specs.AsChar.{IsSpace}
 use Rattle.winnow.specs.Range.{from_to}
-use Rattle.format_parts.specs.Words.{Between, For, One, between_of, char_of, for_front, for_of}
+use Rattle.format_parts.specs.Words.{Between, One, between_of, char_of, for_front, for_of}
 use Rattle.format_parts.specs.Words.{former, latter, pair}
 use Rattle.format_toml.specs.Grammars.{AnyCharacters, AnyKey, DoubleHeader, Header, LiteralString}
 use Rattle.format_toml.specs.Grammars.{Name, Names, Pair, Table}
@@ -15,16 +15,15 @@ use Rattle.format_toml.specs.Strings.{basic_string_begins, basic_string_of, char
 use Rattle.format_toml.specs.Strings.{characters_of, literal_string_begins, literal_string_of}
 use Rattle.format_toml.specs.Toml.{CharactersText, HeaderText, IsBare, IsKey, IsTable, IsTables}
 use Rattle.format_toml.specs.Toml.{KeyText, LiteralText, MarkText, NameText, PairText, Spaced}
-use Rattle.format_toml.specs.Toml.{TableText}
+use Rattle.format_toml.specs.Toml.{TableText, WsText}
 use Rattle.format_toml.specs.declared.characters.Characters.TheVariants.{Bare}
 use Rattle.format_toml_tree.specs.declared.value.Value.{Value}
 use Rattle.winnow.specs.Grammar.{Grammar}
-use Rattle.winnow.specs.Grammar.Meaning.{Meaning}
 use Rattle.winnow.specs.Texts.{Anything, AtLeast, Begins, BeginsIn, EitherText, InFront, InList}
 use Rattle.winnow.specs.Texts.{IsGrammarOf, NotFirst, PartedText, Text}
 use Rattle.winnow.specs.Texts.Fronts.{begins_wider, both_front, either_front, front_any}
 use Rattle.winnow.specs.Texts.Fronts.{front_begins, in_list_front, may_begin, none_begins}
-use Rattle.winnow.specs.Texts.Fronts.{spelled_begins}
+use Rattle.winnow.specs.Texts.Fronts.{not_first, spelled_begins}
 use Rattle.winnow.specs.Texts.Parts.{behind_less, three_of}
 use Rattle.winnow.specs.Texts.Rows.{list_of, parted_of}
 
@@ -73,6 +72,11 @@ ends_point : (c : ℕ) → EndsKey c → c ≡ 46 → ⊥
 ends_point c (inl e) f = absurd (omega (arith, e, f))
 ends_point c (inr e) f = absurd (omega (arith, e, f))
 
+-- white space after a name
+before_space : InFront WsText (Past IsBare) (NotFirst IsBare)
+before_space = ws_front space_bare
+    (not_first IsBare (λ c. IsSpace c ⊎ IsBare c) (λ c bare. inr bare))
+
 module _ {A : Type 0} where
   after_basic_of : IsGrammarOf (Led (λ c. c ≡ 39) (LiteralString {A = A}) (AnyCharacters Bare 1))
       (EitherText LiteralText (CharactersText Bare 1)) (NotFirst IsBare)
@@ -107,7 +111,7 @@ module _ {A : Type 0} where
   names_of : IsGrammarOf (Names {A = A}) (InList (AtLeast 1 (PartedText (MarkText 46)
       (Spaced NameText)))) (Begins EndsKey)
   names_of =
-      list_of (parted_of (spaced_of space_bare name_of) (mark_of 46)
+      list_of (parted_of (spaced_of before_space name_of) (mark_of 46)
       (both_front pair (front_begins
       (past IsBare 46 (omega arith) (λ bare. (bare_is 46 bare).2 refl))
       (spelled_begins 46 [] 46)) front_any)

@@ -1,4 +1,5 @@
 -- Written by scripts/registries.py: do not edit.
+pub mod DateFronts
 pub mod Digits
 pub mod Escapes
 pub mod Expected
@@ -24,10 +25,13 @@ pub mod Nested
 pub mod Numbers
 pub mod Places
 pub mod Plain
+pub mod PlainAnswers
 pub mod Rows
 pub mod Scalars
 pub mod Spaces
+pub mod Starts
 pub mod Strings
+pub mod Times
 pub mod Toml
 pub mod Unique
 pub mod UniqueLong

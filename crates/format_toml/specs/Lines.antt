@@ -7,7 +7,7 @@ use Rattle.format_parts.specs.Words.{between_of, char_of, for_front, for_of, lat
 use Rattle.format_toml.specs.Grammars.{AnyItem, Document, Line}
 use Rattle.format_toml.specs.Keys.{OpensKey, opens_key_is, pair_begins, table_of}
 use Rattle.format_toml.specs.Led.{led_of}
-use Rattle.format_toml.specs.Scalars.{Goes, GoesOn, space_goes, tail_goes}
+use Rattle.format_toml.specs.Scalars.{Goes, GoesOn, tail_goes, white_front}
 use Rattle.format_toml.specs.Spaces.{IsBreak, IsTail, comment_begins, maybe_comment_of}
 use Rattle.format_toml.specs.Spaces.{newline_begins, newline_of, no_space, spaced_begins}
 use Rattle.format_toml.specs.Spaces.{spaced_of, tail_is, ws_of}
@@ -55,8 +55,8 @@ module _ {A : Type 0} (level : ℕ) where
   line_of =
       between_of ws_of
       (optional_of (behind_less (may_begin_more IsTail (λ c. IsSpace c ⊎ GoesOn c → ⊥) tail_past)
-      (spaced_of space_goes item_of))
-      (λ rest b. none_begins (spaced_of space_goes item_of) item_begins rest
+      (spaced_of white_front item_of))
+      (λ rest b. none_begins (spaced_of white_front item_of) item_begins rest
       (may_begin_more IsTail (λ c. OpensItem c → ⊥) tail_opens rest b)))
       maybe_comment_of
       (front_behind (may_begin_more IsTail (λ c. IsSpace c → ⊥) (λ c is. (tail_is c is).1))

@@ -23,7 +23,7 @@ use Rattle.winnow.specs.{Position}
 
 -- ---- what is lacking is lacking before an end of the text
 
-abbrev IsEnd : List ℕ → List ℕ → Type 0
+abbrev pub IsEnd : List ℕ → List ℕ → Type 0
 IsEnd tokens rest = (front : List ℕ) × (tokens ≡ front ++ rest)
 
 left_end : {O : Type 0} {g : Grammar ℕ O} → IsUnique g → {tokens rest : List ℕ}
@@ -61,7 +61,7 @@ module _ (A : Type 0) (level : ℕ) where
       end_of_end (left_end (key_unique {A = A}) k) (left_end (mark_unique 61) s)
   entry_end text what rest never = absurd never
 
-  lack_end : (line : List ℕ) (what : Expected) (rest : List ℕ) → Lacks A level line what rest
+  pub lack_end : (line : List ℕ) (what : Expected) (rest : List ℕ) → Lacks A level line what rest
       → IsEnd line rest
   lack_end line what rest (end, s, some, none, inl (text, w, inl it)) =
       end_of_end (left_end ws_unique w) (table_end A text what rest it)
@@ -71,7 +71,7 @@ module _ (A : Type 0) (level : ℕ) where
       let (front, d) = left_end (line_unique {A = A} level) s in
       (front, d ∙ ap (λ l. front ++ l) (sym e))
 
-  line_end : (n : ℕ) (text line : List ℕ) → LinesBefore A level n text line → IsEnd text line
+  pub line_end : (n : ℕ) (text line : List ℕ) → LinesBefore A level n text line → IsEnd text line
   line_end zero text line e = ([], sym e)
   line_end (suc n) text line (former, before, (end, s, c)) =
       end_of_end (line_end n text former before)

@@ -1,43 +1,33 @@
--- The grammar of values without quotes is that of what is written; and what is answered of a text.
+-- The grammar of values without quotes is that of what is written.
 use Rattle.std.specs.Char.{digit_value}
-use Rattle.std.specs.Prelude.{◌≡◌, ◌⊎◌, ◌≤◌, ◌<◌, ℕ, ℤ, zero, suc, List, [], ◌∷◌, ◌++◌, length}
-use Rattle.std.specs.Prelude.{None, Some, Result, Ok, Err, IsAscii, encode_utf8_all}
-use Rattle.std.specs.Prelude.{FitsSigned}
-use Rattle.std.specs.Int.{w64}
+use Rattle.std.specs.Prelude.{◌≡◌, ◌⊎◌, ◌≤◌, ◌<◌, ℕ, ℤ, zero, suc, List, [], ◌∷◌, ◌++◌, Option}
+use Rattle.std.specs.Prelude.{encode_utf8_all}
 use Rattle.std.specs.List.{All}
-use Rattle.std.proofs.Common.{refl, sym, ap, subst, inl, inr, ◌∙◌, arith, length-append}
+use Rattle.std.proofs.Common.{refl, sym, subst, inl, inr, ◌∙◌, arith, append-nil}
 use Rattle.std.proofs.lemmas.Bool.Decides.{nat_tests}
-use Rattle.std.proofs.lemmas.List.Elements.{All-tail}
 use Rattle.std.proofs.lemmas.Str.{encodes-IsAscii}
 use Rattle.std.proofs.lemmas.Str.Parse.{digit_from_value}
-use Rattle.format_parts.specs.Words.{For, Slice, for_front, for_of}
+use Rattle.format_parts.specs.Words.{Slice, for_front, for_of}
+use Rattle.format_toml.specs.DateFronts.{date_begins, date_unquoted}
 use Rattle.format_toml.specs.FloatFronts.{Are, IsNumeric, float_are, float_begins, more_of}
 use Rattle.format_toml.specs.FloatFronts.{more_are, no_tokens}
-use Rattle.format_toml.specs.Floats.{FloatText, IsFloat}
+use Rattle.format_toml.specs.Floats.{FloatText}
 use Rattle.format_toml.specs.Digits.{first, next}
-use Rattle.format_toml.specs.Grammars.{IsPlain, Plain, Unquoteds}
+use Rattle.format_toml.specs.Grammars.{IsPlain, Plain}
 use Rattle.format_toml.specs.Integers.{sort}
-use Rattle.format_toml.specs.Numbers.{BehindZero, IntegerText, IsIntegerOf}
+use Rattle.format_toml.specs.Numbers.{BehindZero, IntegerText}
 use Rattle.format_toml.specs.Numbers.{NextText, NumberText, UnsignedText}
-use Rattle.format_toml.specs.Toml.{IsInteger, IsOf, IsUnquoted, MeansFloat, PlainText}
-use Rattle.format_toml.specs.Toml.{Tells}
-use Rattle.format_toml.specs.UniqueSpaces.{members_unique}
-use Rattle.format_toml.specs.declared.characters.Characters.TheVariants.{Unquoted}
+use Rattle.format_toml.specs.Times.{EndsPlain, UnquotedText, unquoted_ascii, unquoted_made}
+use Rattle.format_toml.specs.Times.{unquoteds_of}
+use Rattle.format_toml.specs.Toml.{IsInteger, IsUnquoted, MeansDateTime, MeansFloat, PlainText}
+use Rattle.format_toml_tree.specs.Dates.{IsDateTime, IsDigit}
 use Rattle.format_toml_tree.specs.declared.value.Value.{Value}
-use Rattle.format_toml_tree.specs.declared.value.Value as values
-use Rattle.winnow.specs.Equal.{same_first, same_others}
-use Rattle.winnow.specs.Exact.{Reads}
-use Rattle.winnow.specs.Grammar.{Longest, Made}
-use Rattle.winnow.specs.Input.{Input}
-use Rattle.winnow.specs.Kind.{Kind, backtrack, memory}
-use Rattle.winnow.specs.Range.{from_to}
-use Rattle.winnow.specs.Read.{reads_meaning}
+use Rattle.winnow.specs.Equal.{same_others}
 use Rattle.winnow.specs.Text.{text_reading}
 use Rattle.winnow.specs.Texts.{Begins, BeginsIn, EachText, EitherText, IsGrammarOf, MadeText}
-use Rattle.winnow.specs.Texts.{Members, NotFirst}
+use Rattle.winnow.specs.Texts.{TakenText}
 use Rattle.winnow.specs.Texts.Fronts.{either_front}
 use Rattle.winnow.specs.Texts.Parts.{text_of}
-use Rattle.winnow.specs.Texts.Tokens.{divides_seen, divides_where, longest_of}
 
 -- ---- characters
 
@@ -153,137 +143,59 @@ integer_begins = record {
       ];
 }
 
--- ---- as bytes
+-- with nothing after them
+alone : (tokens : List ℕ) → Are tokens
+    → (o : Slice × Option (ℕ × Slice × ℕ × Slice)) × UnquotedText o tokens
+alone tokens (all, some) =
+    unquoted_made tokens [] tokens all some (inl refl) (sym (append-nil tokens))
 
-unquoted_low : (c : ℕ) → IsUnquoted c → c < 128
-unquoted_low c (inl e) = omega (arith, e)
-unquoted_low c (inr (inl e)) = omega (arith, e)
-unquoted_low c (inr (inr (inl e))) = omega (arith, e)
-unquoted_low c (inr (inr (inr (inl e)))) = omega (arith, e)
-unquoted_low c (inr (inr (inr (inr (inl e))))) = omega (arith, e)
-unquoted_low c (inr (inr (inr (inr (inr e))))) = omega (arith, e)
-
-pub ascii : (tokens : List ℕ) → All IsUnquoted tokens → IsAscii tokens
-ascii [] all zero = omega arith
-ascii [] all (suc i) = omega arith
-ascii (x ∷ xs) all zero = unquoted_low x (all 0 x (omega arith))
-ascii (x ∷ xs) all (suc i) = ascii xs (All-tail IsUnquoted x xs all) i
-
-encoded : (tokens : List ℕ) → All IsUnquoted tokens → encode_utf8_all tokens ≡ tokens
-encoded tokens all = encodes-IsAscii tokens (ascii tokens all)
-
-unquoteds_of : IsGrammarOf Unquoteds (Members text_reading IsUnquoted 1) (NotFirst IsUnquoted)
-unquoteds_of =
-    longest_of text_reading (λ c. c) Tells Unquoted (from_to 1 None) 1 refl
-    (divides_seen (Tells Unquoted) (divides_where (IsOf Unquoted)))
+-- ---- what is read is what is written
 
 module _ {A : Type 0} where
   float_begins_so : BeginsIn IsNumeric (FloatText {A = A})
   unfolding FloatText
   float_begins_so = record { makes = λ f tokens rest (x, b) any. float_begins tokens rest x }
 
-  plain_are : (v : Value A) (tokens : List ℕ) → PlainText v tokens → Are tokens
+  date_begins_so : BeginsIn IsNumeric (IsDateTime {A = A})
+  date_begins_so = record {
+    makes = λ d tokens rest x any. begun tokens rest
+        (date_begins d tokens x);
+  }
+    where
+      begun : (tokens rest : List ℕ) → Begins IsDigit tokens → Begins IsNumeric (tokens ++ rest)
+      begun [] rest never = absurd never
+      begun (c ∷ cs) rest is = inl (omega (arith, is))
+
+  -- one at least of these characters, and a time after a space or none
+  plain_unquoted : (v : Value A) (tokens : List ℕ) → PlainText v tokens
+      → (o : Slice × Option (ℕ × Slice × ℕ × Slice)) × UnquotedText o tokens
   unfolding MadeText EitherText FloatText
-  plain_are v tokens (inl (n, x, e)) = integer_are n tokens x
-  plain_are v tokens (inr (f, (x, b), e)) = float_are tokens x
+  plain_unquoted v tokens (inl (n, x, e)) = alone tokens (integer_are n tokens x)
+  plain_unquoted v tokens (inr (inl (f, (x, b), e))) = alone tokens (float_are tokens x)
+  plain_unquoted v tokens (inr (inr (d, x, e))) = date_unquoted d tokens x
 
   pub plain_begins : BeginsIn IsNumeric (PlainText {A = A})
   plain_begins =
-      either_front (for_front IsInteger integer_begins) (for_front MeansFloat float_begins_so)
+      either_front (for_front IsInteger integer_begins)
+      (either_front (for_front MeansFloat float_begins_so) (for_front MeansDateTime date_begins_so))
 
-  pub plain_of : IsGrammarOf (Plain {A = A}) PlainText (NotFirst IsUnquoted)
-  unfolding MadeText Members
+  pub plain_of : IsGrammarOf (Plain {A = A}) PlainText EndsPlain
+  unfolding MadeText TakenText
   plain_of = text_of there back (for_of IsPlain unquoteds_of)
     where
       there : (v : Value A) (tokens : List ℕ)
-          → (slice : Slice) × Members text_reading IsUnquoted 1 slice tokens × IsPlain slice v
+          → (slice : Slice) × TakenText text_reading UnquotedText slice tokens × IsPlain slice v
           → PlainText v tokens
-      there v tokens (slice, (all, least, shown), is) =
-          subst (λ l. PlainText v l) (shown ∙ encoded tokens all) is
+      there v tokens (slice, (o, x, shown), is) =
+          subst (λ l. PlainText v l)
+          (shown ∙ encodes-IsAscii tokens (unquoted_ascii o tokens x)) is
 
       back : (v : Value A) (tokens : List ℕ) → PlainText v tokens
-          → (slice : Slice) × Members text_reading IsUnquoted 1 slice tokens × IsPlain slice v
+          → (slice : Slice) × TakenText text_reading UnquotedText slice tokens × IsPlain slice v
       back v tokens x =
-          let (all, least) = plain_are v tokens x in (
+          let (o, written) = plain_unquoted v tokens x in (
             record { ref_ptr = (0, 0); now = encode_utf8_all tokens },
-            (all, least, refl),
-            subst (λ l. PlainText v l) (sym (encoded tokens all)) x,
+            (o, written, refl),
+            subst (λ l. PlainText v l)
+                (sym (encodes-IsAscii tokens (unquoted_ascii o tokens written))) x,
           )
-
--- ---- what is answered
-
--- the value of the bytes; or an error, where they are none
-unfoldable pub IsPlainAnswer : {A E : Type 0} → (E → Kind) → List ℕ → Result (Value A) E → Type 0
-IsPlainAnswer kind bytes (Ok v) = PlainText v bytes
-IsPlainAnswer {A} kind bytes (Err e) =
-    (kind e ≡ memory) ⊎ ((kind e ≡ backtrack) × ((v : Value A) → PlainText v bytes → ⊥))
-
--- The float of the bytes; or an error, where they are none, or memory was refused for one.
-unfoldable pub IsFloatAnswer : {A E : Type 0} → (E → Kind) → List ℕ → Result (Value A) E → Type 0
-IsFloatAnswer kind bytes (Ok v) = For MeansFloat FloatText v bytes
-IsFloatAnswer kind bytes (Err e) =
-    ((kind e ≡ memory) × IsFloat bytes) ⊎ ((kind e ≡ backtrack) × (IsFloat bytes → ⊥))
-
-pub integer_told : (A : Type 0) (n : ℤ) (v : Value A) (bytes : List ℕ) → IsIntegerOf bytes (Some n)
-    → (FitsSigned w64 n → v ≡ values.Integer n) → PlainText v bytes
-unfolding MadeText IsIntegerOf IntegerText EitherText
-integer_told A n v bytes is same = inl (n, is, same is.1)
-
-pub float_told : {A E : Type 0} (kind : E → Kind) (bytes : List ℕ) (result : Result (Value A) E)
-    → IsIntegerOf bytes None → IsFloatAnswer kind bytes result → IsPlainAnswer kind bytes result
-unfolding MadeText IsIntegerOf EitherText FloatText IsFloatAnswer IsPlainAnswer
-float_told kind bytes (Ok v) none x = inr x
-float_told kind bytes (Err e) none (inl (m, is)) = inl m
-float_told {A} kind bytes (Err e) none (inr (b, not)) = inr (b, no)
-  where
-    no : (v : Value A) → PlainText v bytes → ⊥
-    no v (inl (n, x, e)) = none n x
-    no v (inr (f, (x, _), e)) = not x
-
-same_front : (f g rest : List ℕ) → f ++ rest ≡ g ++ rest → f ≡ g
-same_front [] [] rest e = refl
-same_front [] (y ∷ g) rest e =
-    absurd (omega (arith, ap (λ l. length l) e, length-append (y ∷ g) rest))
-same_front (x ∷ f) [] rest e =
-    absurd (omega (arith, ap (λ l. length l) e, length-append (x ∷ f) rest))
-same_front (x ∷ f) (y ∷ g) rest e =
-    ap (λ c. c ∷ f) (same_first e) ∙ ap (λ l. y ∷ l) (same_front f g rest (same_others e))
-
--- those that stand are shown by one text
-one_text : (tokens : List ℕ) (slice other : Slice) (rest more : List ℕ)
-    → Unquoteds tokens slice rest → Unquoteds tokens other more → slice.now ≡ other.now
-unfolding Longest
-one_text tokens slice other rest more x y =
-    let left = (members_unique Unquoted 1).one tokens slice other rest more x y in
-    fronts x.0 y.0 x.1.splits y.1.splits left x.3 y.3
-  where
-    fronts : (f g : List ℕ) → tokens ≡ f ++ rest → tokens ≡ g ++ more → rest ≡ more
-        → slice.now ≡ encode_utf8_all f → other.now ≡ encode_utf8_all g → slice.now ≡ other.now
-    fronts f g d e left shown told =
-        let same = same_front f g more (ap (λ l. f ++ l) (sym left) ∙ sym d ∙ e) in
-        shown ∙ ap encode_utf8_all same ∙ sym told
-
-module _ {A E : Type 0} {kind : E → Kind} {i j : Input ℕ} {text : Slice} where
-  plain_err : {e : E} → Reads text_reading kind Unquoteds i (Ok text) j
-      → IsPlainAnswer {A = A} kind text.now (Err e)
-      → Reads text_reading kind (Plain {A = A}) i (Err e) j
-  unfolding IsPlainAnswer Made
-  plain_err {e} r told = record {
-    ends = r.ends;
-    stands = λ whole. tt;
-    none = λ whole. elim told [
-      | inl m ↦ inl m
-      | inr (b, none) ↦ inr (
-        b,
-        λ v rest (slice, x, is).
-            let same = one_text i.left.tokens slice text rest j.left.tokens x (r.stands whole) in
-            none v (subst (λ l. PlainText v l) same is),
-      )
-    ];
-  }
-
-  pub plain_reads : (result : Result (Value A) E) → Reads text_reading kind Unquoteds i (Ok text) j
-      → IsPlainAnswer kind text.now result → Reads text_reading kind Plain i result j
-  unfolding IsPlainAnswer
-  plain_reads (Ok v) r told = reads_meaning IsPlain r told
-  plain_reads (Err e) r told = plain_err r told

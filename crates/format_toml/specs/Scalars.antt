@@ -1,22 +1,29 @@
 -- The grammars of values that have no others in them are those of what is written.
-use Rattle.std.specs.Prelude.{◌≡◌, ◌⊎◌, ◌<◌, ℕ, Bool, true, false, List, ◌∷◌, ◌++◌}
-use Rattle.std.proofs.Common.{refl, ap, inl, inr, arith}
+use Rattle.std.specs.Prelude.{◌≡◌, ◌⊎◌, ◌<◌, ℕ, Bool, true, false, List, [], ◌∷◌, ◌++◌}
+use Rattle.std.specs.List.{All}
+use Rattle.std.proofs.Common.{refl, sym, ap, subst, inl, inr, arith}
+use Rattle.std.proofs.lemmas.List.Elements.{All-tail}
 use Rattle.winnow.specs.AsChar.{IsSpace}
-use Rattle.format_parts.specs.Words.{For, Word, for_front, for_of}
+use Rattle.format_parts.specs.Words.{For, Run, Word, for_front, for_of}
 use Rattle.format_toml.specs.Grammars.{AnyBasic, AnyBoolean, AnyLiteral, Plain, Scalar}
 use Rattle.format_toml.specs.Led.{Led, led_of}
 use Rattle.format_toml.specs.FloatFronts.{numeric_is}
 use Rattle.format_toml.specs.LongKinds.{any_basic_begins, any_basic_of, any_literal_begins}
 use Rattle.format_toml.specs.LongKinds.{any_literal_of}
-use Rattle.format_toml.specs.Spaces.{IsTail, no_space}
-use Rattle.format_toml.specs.Toml.{AnyBasicText, AnyLiteralText, BooleanText, IsBoolean, IsUnquoted}
+use Rattle.format_toml.specs.Spaces.{IsTail, OpensGap, Past, WidePast, ended_begins, gap_front}
+use Rattle.format_toml.specs.Spaces.{no_space, tail_is}
+use Rattle.format_toml.specs.Times.{EndsPlain, NoTime}
+use Rattle.format_toml.specs.Toml.{AnyBasicText, AnyLiteralText, BooleanText, GapPartText, GapText}
 use Rattle.format_toml.specs.Plain.{plain_begins, plain_of}
-use Rattle.format_toml.specs.Toml.{IsText}
-use Rattle.format_toml.specs.Toml.{PlainText, ScalarText, false_word, true_word}
+use Rattle.format_toml.specs.Toml.{IsBoolean, IsText, IsUnquoted}
+use Rattle.format_toml.specs.Toml.{PlainText, ScalarText, WsText, false_word, true_word}
+use Rattle.winnow.specs.Equal.{same_others}
 use Rattle.winnow.specs.Grammar.Meaning.{Meaning}
-use Rattle.winnow.specs.Texts.{BeginsIn, EitherText, IsGrammarOf, NotFirst, Spelled}
-use Rattle.winnow.specs.Texts.Fronts.{begins_wider, either_front, front_begins, not_first}
-use Rattle.winnow.specs.Texts.Fronts.{spelled_begins}
+use Rattle.winnow.specs.Texts.{Begins, BeginsIn, EitherText, InFront, IsGrammarOf, NotFirst}
+use Rattle.winnow.specs.Texts.{Spelled}
+use Rattle.winnow.specs.Texts.{TokenOfText}
+use Rattle.winnow.specs.Texts.Fronts.{begins_wider, either_front, front_begins, front_behind}
+use Rattle.winnow.specs.Texts.Fronts.{may_begin, not_first, spelled_begins}
 use Rattle.winnow.specs.Texts.Parts.{behind_less}
 
 -- ---- what goes on with a word or a number
@@ -36,9 +43,11 @@ goes_is c (inl (inr (inr (inr (inr (inr e)))))) = omega (arith, e)
 goes_is c (inr (inl e)) = omega (arith, e)
 goes_is c (inr (inr e)) = omega (arith, e)
 
--- none of these is after a value
+-- What may stand after a value: none of these is first, nor a space with a time after it, with
+-- which
+-- a date goes on.
 abbrev pub Goes : List ℕ → Type 0
-Goes = NotFirst GoesOn
+Goes rest = NotFirst GoesOn rest × NoTime rest
 
 pub space_goes : (c : ℕ) → IsSpace c → GoesOn c → ⊥
 space_goes c s g =
@@ -49,15 +58,75 @@ tail_goes c (inl e) g = (goes_is c g).4 e
 tail_goes c (inr (inl e)) g = absurd (omega (arith, e, (goes_is c g).0))
 tail_goes c (inr (inr e)) g = absurd (omega (arith, e, (goes_is c g).0))
 
--- what ends a number or a string
-goes_plain : (rest : List ℕ) → Goes rest → NotFirst IsUnquoted rest
-goes_plain = not_first IsUnquoted GoesOn (λ c u. inl u)
+-- what ends a number, a date or a string
+goes_plain : (rest : List ℕ) → Goes rest → EndsPlain rest
+goes_plain rest goes = (not_first IsUnquoted GoesOn (λ c u. inl u) rest goes.0, goes.1)
 
 goes_basic : (rest : List ℕ) → Goes rest → NotFirst (λ c. c ≡ 34) rest
-goes_basic = not_first (λ c. c ≡ 34) GoesOn (λ c e. inr (inl e))
+goes_basic rest goes = not_first (λ c. c ≡ 34) GoesOn (λ c e. inr (inl e)) rest goes.0
 
 goes_literal : (rest : List ℕ) → Goes rest → NotFirst (λ c. c ≡ 39) rest
-goes_literal = not_first (λ c. c ≡ 39) GoesOn (λ c e. inr (inr e))
+goes_literal rest goes = not_first (λ c. c ≡ 39) GoesOn (λ c e. inr (inr e)) rest goes.0
+
+-- ---- white space after a value
+
+-- no time is there where no space is first
+no_time : (rest : List ℕ) → NotFirst IsSpace rest → NoTime rest
+no_time rest not a b more one other e =
+    let P : List ℕ → Type 0 = λ l. NotFirst IsSpace l in subst P e not (inl refl)
+
+-- nor after white space
+space_more : (c : ℕ) (rest : List ℕ) → IsSpace c → Goes rest → Goes (c ∷ rest)
+space_more c rest is goes = (
+  space_goes c is,
+  λ a b more one other e.
+      let P : List ℕ → Type 0 = λ l. NotFirst GoesOn l in
+      subst P (same_others e) goes.0 (inl (inl (omega (arith, one)))),
+)
+
+past_goes : (rest : List ℕ) → Past GoesOn rest → Goes rest
+past_goes rest past = (
+  not_first GoesOn (λ c. IsSpace c ⊎ GoesOn c) (λ c g. inr g) rest past,
+  no_time rest (not_first IsSpace (λ c. IsSpace c ⊎ GoesOn c) (λ c s. inl s) rest past),
+)
+
+wide_goes : (rest : List ℕ) → WidePast GoesOn rest → Goes rest
+wide_goes rest past = (
+  not_first GoesOn (λ c. OpensGap c ⊎ GoesOn c) (λ c g. inr g) rest past,
+  no_time rest (not_first IsSpace (λ c. OpensGap c ⊎ GoesOn c) (λ c s. inl (inl s)) rest past),
+)
+
+tail_more : (tokens : List ℕ) → Begins IsTail tokens → Goes tokens
+tail_more tokens begins = (
+  may_begin IsTail (λ c. GoesOn c → ⊥) tail_goes tokens begins,
+  no_time tokens (may_begin IsTail (λ c. IsSpace c → ⊥) (λ c is. (tail_is c is).1) tokens begins),
+)
+
+-- it may be on the line
+pub white_front : InFront WsText (Past GoesOn) Goes
+unfolding Run
+white_front = record { makes = λ slice xs rest x past. first xs rest x.0 past }
+  where
+    first : (xs rest : List ℕ) → All IsSpace xs → Past GoesOn rest → Goes (xs ++ rest)
+    first [] rest all past = past_goes rest past
+    first (x ∷ xs) rest all past =
+        space_more x (xs ++ rest) (all 0 x (omega arith))
+        (first xs rest (All-tail IsSpace x xs all) past)
+
+part_front : InFront GapPartText Goes Goes
+unfolding EitherText TokenOfText
+part_front = record { makes = makes }
+  where
+    makes : (c : ℕ) (xs rest : List ℕ) → GapPartText c xs → Goes rest → Goes (xs ++ rest)
+    makes c xs rest (inl (is, e)) goes =
+        let P : List ℕ → Type 0 = λ l. Goes (l ++ rest) in
+        subst P (sym e) (space_more c rest is goes)
+    makes c xs rest (inr ended) goes =
+        tail_more (xs ++ rest) (ended_begins.makes c xs rest ended tt)
+
+-- or over lines
+pub wide_front : InFront GapText (WidePast GoesOn) Goes
+wide_front = front_behind wide_goes (gap_front part_front)
 
 -- ---- values that have no others in them
 

@@ -13,7 +13,7 @@ use Rattle.format_toml.specs.Toml.{CommentText, GapPartText, GapText, Gapped, Is
 use Rattle.format_toml.specs.Toml.{NewlineText, Spaced, Tells, WideMarkText, WsText}
 use Rattle.format_toml.specs.declared.characters.Characters.TheVariants.{Comment, White}
 use Rattle.winnow.specs.Grammar.{Both, Grammar, Optional}
-use Rattle.winnow.specs.Texts.{Anything, Begins, BeginsIn, BothText, InFront, IsGrammarOf, MayBegin}
+use Rattle.winnow.specs.Texts.{Anything, BeginsIn, BothText, InFront, IsGrammarOf, MayBegin}
 use Rattle.winnow.specs.Texts.{NotFirst, OptionalText, Text}
 use Rattle.winnow.specs.Texts.Fronts.{begins_wider, both_front, each_front, either_front, front_any}
 use Rattle.winnow.specs.Texts.Fronts.{front_begins, front_behind, gathered_front, may_begin_more}
@@ -56,12 +56,11 @@ abbrev pub Past : (ℕ → Type 0) → List ℕ → Type 0
 Past these = NotFirst (λ c. IsSpace c ⊎ these c)
 
 pub spaced_of : {O : Type 0} {g : Grammar ℕ O} {text : Text ℕ O} {these : ℕ → Type 0}
-    → ((c : ℕ) → IsSpace c → these c → ⊥) → IsGrammarOf g text (NotFirst these)
+    {follow : List ℕ → Type 0} → InFront WsText (Past these) follow → IsGrammarOf g text follow
     → IsGrammarOf (SpacedOut g) (Spaced text) (Past these)
-spaced_of {these = these} apart is =
+spaced_of {these = these} front is =
     both_of former is (behind_less
-    (not_first IsSpace (λ c. IsSpace c ⊎ these c) (λ c s. inl s)) ws_of)
-    (ws_front apart (not_first these (λ c. IsSpace c ⊎ these c) (λ c t. inr t)))
+    (not_first IsSpace (λ c. IsSpace c ⊎ these c) (λ c s. inl s)) ws_of) front
 
 pub spaced_begins : {O : Type 0} {text : Text ℕ O} {these : ℕ → Type 0} → BeginsIn these text
     → BeginsIn these (Spaced text)
@@ -147,7 +146,7 @@ ended_of : IsGrammarOf (Both latter (Optional AnyComment) Newline)
     (BothText latter (OptionalText CommentText) NewlineText) Anything
 ended_of = both_of latter maybe_comment_of newline_of (front_begins (λ c is. is) newline_begins)
 
-ended_begins : BeginsIn IsTail (BothText latter (OptionalText CommentText) NewlineText)
+pub ended_begins : BeginsIn IsTail (BothText latter (OptionalText CommentText) NewlineText)
 ended_begins =
     both_front latter (optional_front (front_behind (λ rest b. tt)
     (begins_wider (λ c e. inl e) comment_begins))) (begins_wider (λ c is. inr is) newline_begins)
@@ -175,12 +174,10 @@ gap_of =
     gathered_of (λ (all : ⊤) parts. ⊤) (many_of gap_part_of (from_to 0 None) 0 refl front_any
     (λ rest b. tt) (λ rest b. none_begins gap_part_of gap_part_begins rest b))
 
-pub gap_front : {these : ℕ → Type 0} {behind : List ℕ → Type 0}
-    → ((c : ℕ) → OpensGap c → these c → ⊥) → ((rest : List ℕ) → behind rest → NotFirst these rest)
-    → InFront GapText behind (NotFirst these)
-gap_front apart not =
-    front_behind not (gathered_front (λ (all : ⊤) parts. ⊤)
-    (each_front (front_begins apart gap_part_begins)))
+-- what holds behind white space over lines holds before it, if it does of each part
+pub gap_front : {behind : List ℕ → Type 0} → InFront GapPartText behind behind
+    → InFront GapText behind behind
+gap_front front = gathered_front (λ (all : ⊤) parts. ⊤) (each_front front)
 
 pub wide_mark_of : (c : ℕ) → IsGrammarOf (WideMark c) (WideMarkText c) (NotFirst OpensGap)
 wide_mark_of c = both_of pair (char_of c) gap_of front_any
@@ -193,12 +190,11 @@ abbrev pub WidePast : (ℕ → Type 0) → List ℕ → Type 0
 WidePast these = NotFirst (λ c. OpensGap c ⊎ these c)
 
 pub gapped_of : {O : Type 0} {g : Grammar ℕ O} {text : Text ℕ O} {these : ℕ → Type 0}
-    → ((c : ℕ) → OpensGap c → these c → ⊥) → IsGrammarOf g text (NotFirst these)
+    {follow : List ℕ → Type 0} → InFront GapText (WidePast these) follow → IsGrammarOf g text follow
     → IsGrammarOf (GappedOut g) (Gapped text) (WidePast these)
-gapped_of {these = these} apart is =
+gapped_of {these = these} front is =
     both_of former is (behind_less
-    (not_first OpensGap (λ c. OpensGap c ⊎ these c) (λ c s. inl s)) gap_of)
-    (gap_front apart (not_first these (λ c. OpensGap c ⊎ these c) (λ c t. inr t)))
+    (not_first OpensGap (λ c. OpensGap c ⊎ these c) (λ c s. inl s)) gap_of) front
 
 pub gapped_begins : {O : Type 0} {text : Text ℕ O} {these : ℕ → Type 0} → BeginsIn these text
     → BeginsIn these (Gapped text)

@@ -10,8 +10,10 @@ use Rattle.format_parts.specs.Hexadecimal.{IsAlone, UnitText}
 use Rattle.format_parts.specs.Words.{Between, For, One, Run, Slice, Whichever, former, latter, pair}
 use Rattle.format_toml.specs.declared.characters.Characters.{Characters}
 use Rattle.format_toml.specs.declared.characters.Characters.TheVariants.{Bare, Basic, Comment}
-use Rattle.format_toml.specs.declared.characters.Characters.TheVariants.{Literal, Unquoted}
+use Rattle.format_toml.specs.declared.characters.Characters.TheVariants.{Digit, Literal, Unquoted}
 use Rattle.format_toml.specs.declared.characters.Characters.TheVariants.{White}
+use Rattle.format_toml_tree.specs.Dates.{IsDateTime, IsDigit}
+use Rattle.format_toml_tree.specs.declared.value.DateTime.{DateTime}
 use Rattle.format_toml_tree.specs.declared.value.Float.{Float}
 use Rattle.format_toml_tree.specs.declared.value.Item.{Item}
 use Rattle.format_toml_tree.specs.declared.value.Item.TheVariants as items
@@ -44,7 +46,7 @@ IsUnquoted c =
     ⊎ ((c ≡ 43) ⊎ (((45 ≤ c) × (c ≤ 46)) ⊎ (c ≡ 95)))))
 
 -- the characters of a bare key, of a comment, of a literal string, those of a basic string that
--- stand for themselves, white space, and those of numbers, dates and times
+-- stand for themselves, white space, those of numbers, dates and times, and digits
 abbrev pub IsOf : Characters → ℕ → Type 0
 IsOf Bare c = IsBare c
 IsOf Comment c = IsShown c
@@ -52,6 +54,7 @@ IsOf Literal c = IsShown c × (c ≡ 39 → ⊥)
 IsOf Basic c = IsShown c × ((c ≡ 34 → ⊥) × (c ≡ 92 → ⊥))
 IsOf White c = IsSpace c
 IsOf Unquoted c = IsUnquoted c
+IsOf Digit c = IsDigit c
 
 -- escape-seq-char: the character after a backslash, and that for which both stand; of b a
 -- backspace, of t a tab, of n a line feed, of f a form feed, of r a carriage return, of " and \
@@ -84,6 +87,9 @@ module _ {A : Type 0} where
 
   abbrev pub MeansFloat : Float A → Value A → Type 0
   MeansFloat float v = v ≡ values.Float float
+
+  abbrev pub MeansDateTime : DateTime A → Value A → Type 0
+  MeansDateTime both v = v ≡ values.DateTime both
 
   abbrev pub IsBoolean : Bool → Value A → Type 0
   IsBoolean is v = v ≡ values.Boolean is
@@ -196,9 +202,17 @@ module _ {A : Type 0} where
   abbrev pub BooleanText : List ℕ → Bool → Text ℕ (Value A)
   BooleanText word is = For IsBoolean (Spelled word is)
 
-  -- an integer, for its value, or a float
+  -- date-time = offset-date-time / local-date-time / local-date / local-time
+  abbrev pub DateTimeText : Text ℕ (Value A)
+  DateTimeText = For MeansDateTime IsDateTime
+
+  -- float / date-time
+  abbrev pub OtherText : Text ℕ (Value A)
+  OtherText = EitherText (For MeansFloat FloatText) DateTimeText
+
+  -- integer, for its value, or one of these
   abbrev pub PlainText : Text ℕ (Value A)
-  PlainText = EitherText (For IsInteger IntegerText) (For MeansFloat FloatText)
+  PlainText = EitherText (For IsInteger IntegerText) OtherText
 
   -- ml-basic-string, with mlb-content = mlb-char / newline / mlb-escaped-nl
   abbrev pub LongBasicText : Text ℕ (String A)

@@ -8,15 +8,14 @@ use Rattle.format_toml.specs.Grammars.{AnyCharacters, AnyItem, AnyKey, AnyValue,
 use Rattle.format_toml.specs.Grammars.{Entry, Header, Inline, IsPlain, Line, LiteralString, Name}
 use Rattle.format_toml.specs.Grammars.{Names, Pair, Scalar, Table}
 use Rattle.format_toml.specs.Led.{led_unique}
+use Rattle.format_toml.specs.Times.{unquoteds_unique}
 use Rattle.format_toml.specs.Toml.{IsArray, IsBoolean, IsEntry, IsInline, IsKey}
 use Rattle.format_toml.specs.Toml.{IsTable, IsTables, IsText, Tells, false_word, true_word}
 use Rattle.format_toml.specs.UniqueLong.{long_basic_unique, long_literal_unique}
 use Rattle.format_toml.specs.UniqueSpaces.{comment_unique, gapped_unique, mark_unique}
-use Rattle.format_toml.specs.UniqueSpaces.{members_unique}
 use Rattle.format_toml.specs.UniqueSpaces.{spaced_unique, wide_mark_unique, ws_unique}
 use Rattle.format_toml.specs.declared.characters.Characters.{Characters}
 use Rattle.format_toml.specs.declared.characters.Characters.TheVariants.{Bare, Literal}
-use Rattle.format_toml.specs.declared.characters.Characters.TheVariants.{Unquoted}
 use Rattle.format_toml_tree.specs.declared.value.Value.{Value}
 use Rattle.winnow.specs.Grammar.{Grammar, IsUnique}
 use Rattle.winnow.specs.Grammar.Meaning.{meaning_unique}
@@ -47,7 +46,7 @@ module _ {A : Type 0} where
       (led_unique _ (meaning_unique IsText (either_unique long_literal_unique literal_unique))
       (led_unique _ (meaning_unique IsBoolean (word_unique true_word true))
       (led_unique _ (meaning_unique IsBoolean (word_unique false_word false))
-      (meaning_unique IsPlain (members_unique Unquoted 1)))))
+      (meaning_unique IsPlain unquoteds_unique))))
 
   pub name_unique : IsUnique (Name {A = A})
   name_unique = led_unique _ basic_unique (led_unique _ literal_unique (characters_unique Bare 1))

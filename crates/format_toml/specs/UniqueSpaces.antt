@@ -1,8 +1,8 @@
 -- What stands by the grammars of white space, comments and line ends leaves one rest.
-use Rattle.std.specs.Prelude.{◌≡◌, ⊤, ℕ, None}
+use Rattle.std.specs.Prelude.{⊤, ℕ, None}
 use Rattle.winnow.specs.Text.{text_reading}
 use Rattle.winnow.specs.AsChar.{IsSpace}
-use Rattle.winnow.specs.Range.{from_to}
+use Rattle.winnow.specs.Range.{Bounds, from_to}
 use Rattle.format_parts.specs.Unique.{char_unique, run_unique}
 use Rattle.format_parts.specs.Words.{former, latter, pair}
 use Rattle.format_toml.specs.Grammars.{AnyComment, Gap, GapPart, GappedOut, Mark, Newline}
@@ -30,14 +30,14 @@ newline_unique =
     either_unique (char_unique 10) (both_unique latter (char_unique 13) (char_unique 10))
 
 -- characters of a set, as they stand in the text
-pub members_unique : (set : Characters) (least : ℕ)
-    → IsUnique (Longest text_reading (λ c. c) Tells set (from_to least None))
-members_unique set least =
-    longest_unique text_reading (λ c. c) Tells set (from_to least None)
+pub members_unique : (set : Characters) (bounds : Bounds)
+    → IsUnique (Longest text_reading (λ c. c) Tells set bounds)
+members_unique set bounds =
+    longest_unique text_reading (λ c. c) Tells set bounds
     (seen_once (λ c. c) (Tells set) (λ c d e. e) (holds_once (IsOf set)))
 
 pub comment_unique : IsUnique AnyComment
-comment_unique = both_unique latter (char_unique 35) (members_unique Comment 0)
+comment_unique = both_unique latter (char_unique 35) (members_unique Comment (from_to 0 None))
 
 gap_part_unique : IsUnique GapPart
 gap_part_unique =

@@ -10,19 +10,17 @@ use Rattle.format_toml.specs.Grammars.{SpacedOut, WideMark}
 use Rattle.format_toml.specs.Keys.{OpensKey, opens_key_is, pair_begins, pair_of}
 use Rattle.format_toml.specs.Led.{led_of}
 use Rattle.format_toml.specs.Rows.{joined_begins, parted_ends_of}
-use Rattle.format_toml.specs.Scalars.{Goes, GoesOn, goes_is, scalar_begins, scalar_of, space_goes}
-use Rattle.format_toml.specs.Scalars.{tail_goes}
+use Rattle.format_toml.specs.Scalars.{Goes, GoesOn, goes_is, scalar_begins, scalar_of, white_front}
+use Rattle.format_toml.specs.Scalars.{wide_front}
 use Rattle.format_toml.specs.Spaces.{OpensGap, Past, WidePast, gap_is, gapped_begins, gapped_of}
 use Rattle.format_toml.specs.Spaces.{mark_begins, mark_of, no_space, past, spaced_begins}
 use Rattle.format_toml.specs.Spaces.{spaced_of, wide_mark_begins, wide_mark_of, wide_past}
-use Rattle.format_toml.specs.Spaces.{IsTail, tail_is}
 use Rattle.format_toml.specs.Toml.{ArrayText, ArrayValuesText, Gapped, InlineText, IsArray}
 use Rattle.format_toml.specs.Toml.{IsInline, MarkText, PairText, Spaced, ValueText, WideMarkText}
 use Rattle.format_toml.specs.UniqueSpaces.{wide_mark_unique}
 use Rattle.format_toml_tree.specs.declared.value.Value.{Value}
 use Rattle.winnow.specs.Grammar.{Both, Grammar, NoneStands}
-use Rattle.winnow.specs.Grammar.Meaning.{Meaning}
-use Rattle.winnow.specs.Texts.{Anything, AtLeast, Begins, BeginsIn, InFront, InList, IsGrammarOf}
+use Rattle.winnow.specs.Texts.{Anything, Begins, BeginsIn, InFront, InList, IsGrammarOf}
 use Rattle.winnow.specs.Texts.{NotFirst, OptionalText, PartedText, Text}
 use Rattle.winnow.specs.Texts.Fronts.{begins_wider, both_front, either_front, front_any}
 use Rattle.winnow.specs.Texts.Fronts.{front_begins, front_behind, in_list_front, may_begin}
@@ -43,16 +41,12 @@ opens_gap c o g = absurd (no_gap c o g)
     no_gap c o (inr (inr (inl e))) = absurd (omega (arith, o.0, e))
     no_gap c o (inr (inr (inr e))) = absurd (omega (arith, o.0, e))
 
-gap_goes : (c : ℕ) → OpensGap c → GoesOn c → ⊥
-gap_goes c (inl s) goes = space_goes c s goes
-gap_goes c (inr t) goes = tail_goes c t goes
-
 -- ---- arrays
 
 module _ {A : Type 0} {g : Grammar ℕ (Value A)} {value : Text ℕ (Value A)}
     (of : IsGrammarOf g value Goes) (opens : BeginsIn Opens value) where
   element_of : IsGrammarOf (GappedOut g) (Gapped value) (WidePast GoesOn)
-  element_of = gapped_of gap_goes of
+  element_of = gapped_of wide_front of
 
   element_begins : BeginsIn Opens (Gapped value)
   element_begins = gapped_begins opens
@@ -156,7 +150,7 @@ module _ {A : Type 0} {g : Grammar ℕ (Value A)} {value : Text ℕ (Value A)}
     (of : IsGrammarOf g value Goes) (opens : BeginsIn Opens value) where
   spaced_pair_of : IsGrammarOf (SpacedOut (Pair g)) (Spaced (PairText value)) (Past GoesOn)
   spaced_pair_of =
-      spaced_of space_goes
+      spaced_of white_front
       (pair_of of (front_begins (λ c o. no_space c (omega (arith, o.0))) opens))
 
   inline_of : IsGrammarOf (Inline g) (InlineText value) Anything

@@ -17,6 +17,7 @@ use winnow::stream::ContainsToken;
 /// assert!(rt; !Characters::Literal.contains_token('\''));
 /// assert!(rt; Characters::Basic.contains_token('\t'));
 /// assert!(rt; !Characters::Unquoted.contains_token(','));
+/// assert!(rt; Characters::Digit.contains_token('7'));
 /// ```
 #[derive(Clone, Copy, Drop)]
 pub enum Characters {
@@ -32,6 +33,8 @@ pub enum Characters {
     White,
     /// Those of numbers, dates and times: letters and digits of ASCII, `+`, `-`, `.`, `:` and `_`.
     Unquoted,
+    /// Digits of ASCII.
+    Digit,
 }
 
 /// Whether it is one of a bare key.
@@ -77,6 +80,7 @@ impl ContainsToken<char> for Characters {
             Characters::Basic => is_shown(token) && token != '"' && token != '\\',
             Characters::White => token == ' ' || token == '\t',
             Characters::Unquoted => is_unquoted(token),
+            Characters::Digit => '0' <= token && token <= '9',
         }
     }
 }

@@ -1,4 +1,4 @@
-//! Documents of TOML 1.0 (toml.io/en/v1.0.0), a subset, read from text by parsers.
+//! Documents of TOML 1.0 (toml.io/en/v1.0.0), read from text by parsers.
 //!
 //! [`parse_lines`](lines::parse_lines) reads what the lines of a document say.
 //! [`build`](format_toml_tree::build::build) makes the tree of these lines, which borrows from
@@ -20,15 +20,16 @@
 //! assert!(rt; matches!(server, Some(server) if server.len() == 2));
 //! ```
 //!
-//! Where this differs from the standard:
+//! All that the standard's grammar has is read. What it leaves to a parser is so:
 //!
 //! - A line end in a string over lines is a line feed, also where it is written as a carriage
-//!   return and a line feed: the standard lets a parser choose.
-//! - Dates and times are not read. Integers are of 64 bits. A float is its text, with no
+//!   return and a line feed.
+//! - Integers are of 64 bits: a text with another is none. A float is its text, with no
 //!   underscores.
-//! - Arrays and inline tables are nested to a level, which the caller gives.
-//!
-//! The standard has no byte order mark, so a text that begins with one is none.
+//! - All digits of a fraction of a second are kept. A second of 60 is read at each minute.
+//! - Arrays and inline tables are nested to a level, which the caller gives: the standard has no
+//!   greatest one.
+//! - The standard has no byte order mark, so a text that begins with one is none.
 #![tactic(auto)]
 
 pub mod characters;
@@ -46,6 +47,7 @@ mod parts;
 mod passed;
 mod plain;
 mod scalars;
+pub mod starts;
 mod strings;
 mod units;
 pub mod value;

@@ -7,7 +7,8 @@ ghost use Rattle.std.specs.Prelude.{◌≡◌, ⊤, false, None};
 ghost use Rattle.winnow.specs.Range.{from_to};
 ghost use Rattle.winnow.specs.Exact.{Reads};
 ghost use Rattle.winnow.specs.Exact.Whole.{ReadsAll};
-ghost use Rattle.winnow.specs.Grammar.{Both, Either, Gathered, Many, Optional, Parted, Three};
+ghost use Rattle.winnow.specs.Grammar.{Both, Either, Gathered, Many, Optional, Parted, Taken};
+ghost use Rattle.winnow.specs.Grammar.{Three};
 ghost use Rattle.winnow.specs.Rule.{CallsRead};
 
 use format_parts::marks::Marks;
@@ -335,4 +336,29 @@ where
         (from_to 1 None))) (I.view input).left.tokens result }
 {
     separated(alloc, Range::from(1..), line, newline).read_all(input)
+}
+
+/// Reads one, and another after it or none, for all that they read.
+pub fn read_both_taken<I, E, O1, O2, P, Q>(
+    first: P,
+    second: Q,
+    input: &mut I,
+) -> Result<I::Slice, E>
+where
+    I: Stream,
+    E: ParserError<I>,
+    O1: Drop,
+    O2: Drop,
+    P: Parser<I, O1, E> + Drop,
+    Q: Parser<I, O2, E> + Drop,
+    requires first { P.can_parse first × (P.claim (P.state first)).premise
+        × (P.claim (P.state first)).backtracks }
+    requires second { Q.can_parse second × (Q.claim (Q.state second)).premise
+        × (Q.claim (Q.state second)).backtracks }
+    ensures { Reads I.reading E.kind
+        (Taken I.reading (Both pair (P.claim (P.state first)).grammar
+        (Optional (Q.claim (Q.state second)).grammar)))
+        (I.view input.old) result (I.view input.new) }
+{
+    (first, opt(second)).take().read(input)
 }

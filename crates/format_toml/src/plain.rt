@@ -1,51 +1,79 @@
-//! Values without quotes (TOML 1.0: Integer, Float).
+//! Values without quotes (TOML 1.0: Integer, Float, Offset Date-Time, Local Date-Time, Local Date,
+//! Local Time).
+ghost use Rattle.format_toml.specs.Floats.{IsFloat};
 ghost use Rattle.format_toml.specs.Grammars.{Plain, Unquoteds};
-ghost use Rattle.format_toml.specs.Plain.{IsFloatAnswer, IsPlainAnswer};
+ghost use Rattle.format_toml.specs.PlainAnswers.{IsAnswer, IsFloatAnswer};
+ghost use Rattle.format_toml.specs.Toml.{DateTimeText, OtherText, PlainText};
 ghost use Rattle.winnow.specs.Exact.{Reads};
 ghost use Rattle.winnow.specs.Text.{text_input, text_reading};
 
 use crate::characters::Characters;
 use crate::floats::{is_float, without_underscores};
 use crate::integers::integer;
+use crate::parts::read_both_taken;
+use format_toml_tree::date_times::date_time;
 use format_toml_tree::value::{Float, Value};
 use std::alloc::Allocator;
-use winnow::Parser;
 use winnow::error::{EmptyError, ErrMode, HasKind, ParserError};
 use winnow::stream::Range;
 use winnow::token::take_while;
 
-/// As many characters of numbers as stand, one at least.
+/// As many characters of numbers, dates and times as stand, one at least. A space is one too where
+/// two digits and a colon are after it, since a date may stand before a time so.
 fn read_unquoted<'i>(input: &mut &'i str) -> Result<&'i str, ErrMode<EmptyError>>
     ensures { Reads text_reading ⟦<ErrMode<EmptyError> as HasKind>⟧.kind Unquoteds
         (text_input input.old.now) result (text_input input.new.now) }
 {
-    take_while(Range::from(1..), Characters::Unquoted).read(input)
+    let first = take_while(Range::from(1..), Characters::Unquoted);
+    let hour = take_while(Range::from(2), Characters::Digit);
+    let others = take_while(Range::from(0..), Characters::Unquoted);
+    read_both_taken(first, (' ', hour, ':', others), input)
 }
 
-/// The float that a text is.
+/// The value of a float.
 fn float_value<A: Allocator>(alloc: A, text: &[u8]) -> Result<Value<A>, ErrMode<EmptyError>>
+    requires { IsFloat text.now }
     ensures { IsFloatAnswer ⟦<ErrMode<EmptyError> as HasKind>⟧.kind text.now result }
 {
-    if is_float(text) {
-        return match without_underscores(alloc, text) {
-            Ok(kept) => Ok(Value::Float(Float { text: kept })),
-            Err(_) => Err(ErrMode::no_memory(&text)),
-        };
+    match without_underscores(alloc, text) {
+        Ok(kept) => Ok(Value::Float(Float { text: kept })),
+        Err(_) => Err(ErrMode::no_memory(&text)),
     }
-    Err(ErrMode::from_input(&text))
+}
+
+/// The date, the time or both that a text is.
+fn date_value<A: Allocator>(alloc: A, text: &[u8]) -> Result<Value<A>, ErrMode<EmptyError>>
+    ensures { IsAnswer DateTimeText ⟦<ErrMode<EmptyError> as HasKind>⟧.kind text.now result }
+{
+    match date_time(alloc, text) {
+        Ok(Some(found)) => Ok(Value::DateTime(found)),
+        Ok(None) => Err(ErrMode::from_input(&text)),
+        Err(_) => Err(ErrMode::no_memory(&text)),
+    }
+}
+
+/// The value that a text is which is no integer, of those without quotes.
+fn other_value<A: Allocator>(alloc: A, text: &[u8]) -> Result<Value<A>, ErrMode<EmptyError>>
+    ensures { IsAnswer OtherText ⟦<ErrMode<EmptyError> as HasKind>⟧.kind text.now result }
+{
+    if is_float(text) {
+        return float_value(alloc, text);
+    }
+    date_value(alloc, text)
 }
 
 /// The value that a text is, of those without quotes.
 fn plain_value<A: Allocator>(alloc: A, text: &[u8]) -> Result<Value<A>, ErrMode<EmptyError>>
-    ensures { IsPlainAnswer ⟦<ErrMode<EmptyError> as HasKind>⟧.kind text.now result }
+    ensures { IsAnswer PlainText ⟦<ErrMode<EmptyError> as HasKind>⟧.kind text.now result }
 {
     match integer(text) {
         Some(number) => Ok(Value::Integer(number)),
-        None => float_value(alloc, text),
+        None => other_value(alloc, text),
     }
 }
 
-/// The value without quotes that stands first: it takes all characters of numbers.
+/// The value without quotes that stands first: it takes all characters of numbers, dates and times,
+/// and a time after a space.
 pub fn read_plain<A: Allocator>(alloc: A, input: &mut &str) -> Result<Value<A>, ErrMode<EmptyError>>
     ensures { Reads text_reading ⟦<ErrMode<EmptyError> as HasKind>⟧.kind Plain
         (text_input input.old.now) result (text_input input.new.now) }

@@ -1,0 +1,232 @@
+-- Characters of numbers, dates and times, with a time after a space or none: what is read of them
+-- is
+-- what is written.
+use Rattle.std.specs.Prelude.{◌≡◌, ◌⊎◌, ◌≤◌, ◌<◌, ℕ, List, [], ◌∷◌, ◌++◌, length, Option, Some}
+use Rattle.std.specs.Prelude.{None}
+use Rattle.std.specs.Prelude.{IsAscii}
+use Rattle.std.specs.List.{All}
+use Rattle.std.specs.Str.{encode_utf8_all}
+use Rattle.std.proofs.Common.{refl, sym, ap, subst, inl, inr, ◌∙◌, arith}
+use Rattle.std.proofs.lemmas.List.Elements.{All-cons, All-nil, All-tail}
+use Rattle.std.proofs.lemmas.Str.{IsAscii-append}
+use Rattle.std.proofs.lemmas.Str.Ascii.{IsAscii-cons, IsAscii-nil}
+use Rattle.format_parts.specs.Unique.{char_unique}
+use Rattle.format_parts.specs.Words.{Char, FourTexts, One, Slice, char_of, four_same, pair, to_four}
+use Rattle.format_toml.specs.Grammars.{SpacedTime, UnquotedRun, Unquoteds}
+use Rattle.format_toml.specs.Toml.{IsOf, IsUnquoted, Tells}
+use Rattle.format_toml.specs.UniqueSpaces.{members_unique}
+use Rattle.format_toml.specs.declared.characters.Characters.TheVariants.{Digit, Unquoted}
+use Rattle.format_toml_tree.specs.Dates.{IsDigit}
+use Rattle.winnow.specs.Grammar.{IsUnique, Longest, NoneStands}
+use Rattle.winnow.specs.Grammar.Sequences.{four_unique}
+use Rattle.winnow.specs.Grammar.Unique.{both_unique, optional_unique, taken_unique}
+use Rattle.winnow.specs.Range.{from_to}
+use Rattle.winnow.specs.Text.{text_reading}
+use Rattle.winnow.specs.Texts.{Anything, BeginsIn, BothText, InFront, IsGrammarOf, Members}
+use Rattle.winnow.specs.Texts.{NotFirst}
+use Rattle.winnow.specs.Texts.{OptionalText, SoManyOf, Spelled, TakenText, Text}
+use Rattle.winnow.specs.Texts.Fronts.{both_front, front_any, front_begins, front_behind}
+use Rattle.winnow.specs.Texts.Fronts.{optional_front, spelled_begins}
+use Rattle.winnow.specs.Texts.Parts.{behind_less, both_of, optional_of, same_of, taken_of}
+use Rattle.winnow.specs.Texts.Tokens.{divides_seen, divides_where, exactly_of, longest_of}
+
+-- ---- what may stand after them
+
+-- Not first are a space, two digits and a colon, with which a time begins after its date.
+abbrev pub NoTime : List ℕ → Type 0
+NoTime tokens =
+    (a : ℕ) (b : ℕ) (more : List ℕ) → IsDigit a → IsDigit b → tokens ≡ 32 ∷ a ∷ b ∷ 58 ∷ more → ⊥
+
+-- neither one of these characters, nor a time
+abbrev pub EndsPlain : List ℕ → Type 0
+EndsPlain rest = NotFirst IsUnquoted rest × NoTime rest
+
+-- ---- characters
+
+pub unquoted_is : (c : ℕ) → IsUnquoted c → (42 < c) × (c < 128)
+unquoted_is c (inl e) = omega (arith, e)
+unquoted_is c (inr (inl e)) = omega (arith, e)
+unquoted_is c (inr (inr (inl e))) = omega (arith, e)
+unquoted_is c (inr (inr (inr (inl e)))) = omega (arith, e)
+unquoted_is c (inr (inr (inr (inr (inl e))))) = omega (arith, e)
+unquoted_is c (inr (inr (inr (inr (inr e))))) = omega (arith, e)
+
+-- all of them are of ASCII
+pub ascii : (tokens : List ℕ) → All IsUnquoted tokens → IsAscii tokens
+ascii [] all = IsAscii-nil
+ascii (x ∷ xs) all =
+    IsAscii-cons x xs (unquoted_is x (all 0 x (omega arith))).1
+    (ascii xs (All-tail IsUnquoted x xs all))
+
+-- as many as stand
+run_of : (least : ℕ) → IsGrammarOf (UnquotedRun least) (Members text_reading IsUnquoted least)
+    (NotFirst IsUnquoted)
+run_of least =
+    longest_of text_reading (λ c. c) Tells Unquoted (from_to least None) least refl
+    (divides_seen (Tells Unquoted) (divides_where (IsOf Unquoted)))
+
+-- ---- a time after a space
+
+abbrev Hour : List ℕ → Slice → List ℕ → Type 0
+Hour = Longest text_reading (λ c. c) Tells Digit (from_to 2 (Some 2))
+
+hour_of : IsGrammarOf Hour (SoManyOf text_reading IsDigit 2) Anything
+hour_of =
+    exactly_of text_reading (λ c. c) Tells Digit (from_to 2 (Some 2)) 2 refl
+    (divides_seen (Tells Digit) (divides_where (IsOf Digit)))
+
+-- what is written of it
+abbrev pub SpacedTimeText : Text ℕ (ℕ × Slice × ℕ × Slice)
+SpacedTimeText =
+    FourTexts (One 32) (SoManyOf text_reading IsDigit 2) (One 58)
+    (Members text_reading IsUnquoted 0)
+
+time_of : IsGrammarOf SpacedTime SpacedTimeText (NotFirst IsUnquoted)
+time_of =
+    same_of (four_same (Char 32) Hour (Char 58) (UnquotedRun 0))
+    (both_of to_four (char_of 32)
+    (both_of pair hour_of (both_of pair (char_of 58) (run_of 0) front_any) front_any) front_any)
+
+time_begins : BeginsIn (λ c. c ≡ 32) SpacedTimeText
+time_begins = both_front to_four (spelled_begins 32 [] 32) front_any
+
+-- a space, two digits, a colon, and some of these characters
+abbrev pub IsSpacedTime : List ℕ → Type 0
+IsSpacedTime tokens =
+    (a : ℕ) × (b : ℕ) × (more : List ℕ) × IsDigit a × IsDigit b × All IsUnquoted more
+    × (tokens ≡ 32 ∷ a ∷ b ∷ 58 ∷ more)
+
+two_of : (tokens : List ℕ) → All IsDigit tokens → length tokens ≡ 2
+    → (a : ℕ) × (b : ℕ) × IsDigit a × IsDigit b × (tokens ≡ a ∷ b ∷ [])
+two_of [] all two = absurd (omega (arith, two))
+two_of (a ∷ []) all two = absurd (omega (arith, two))
+two_of (a ∷ b ∷ []) all two = (a, b, all 0 a (omega arith), all 1 a (omega arith), refl)
+two_of (a ∷ b ∷ c ∷ cs) all two = absurd (omega (arith, two))
+
+time_is : (o : ℕ × Slice × ℕ × Slice) (tokens : List ℕ) → SpacedTimeText o tokens
+    → IsSpacedTime tokens
+unfolding BothText Spelled SoManyOf Members
+time_is o tokens (
+  s,
+  q,
+  xs,
+  ys,
+  (is, e),
+  (
+    ds,
+    r,
+    zs,
+    ws,
+    (digits, two, shows),
+    (m, t, us, vs, (colon, f), (all, least, shown), g, p),
+    h,
+    n,
+  ),
+  d,
+  k,
+) =
+    let (a, b, one, other, j) = two_of zs digits two in (
+      a,
+      b,
+      vs,
+      one,
+      other,
+      all,
+      d ∙ ap (λ l. l ++ ys) e ∙ ap (λ l. 32 ∷ l) (h ∙ ap (λ l. l ++ ws) j)
+          ∙ ap (λ l. 32 ∷ a ∷ b ∷ l) (g ∙ ap (λ l. l ++ vs) f),
+    )
+
+abbrev slice_of : List ℕ → Slice
+slice_of tokens = record { ref_ptr = (0, 0); now = encode_utf8_all tokens }
+
+time_made : (tokens : List ℕ) → IsSpacedTime tokens
+    → (o : ℕ × Slice × ℕ × Slice) × SpacedTimeText o tokens
+unfolding BothText Spelled SoManyOf Members
+time_made tokens (a, b, more, one, other, all, e) =
+    let two = a ∷ b ∷ [] in
+    let hour = slice_of two in
+    let others = slice_of more in
+    let digits = All-cons IsDigit a (b ∷ []) one (All-cons IsDigit b [] other (All-nil IsDigit))
+    in (
+      (32, hour, 58, others),
+      (
+        32,
+        (hour, (58, others)),
+        32 ∷ [],
+        two ++ 58 ∷ more,
+        (refl, refl),
+        (
+          hour,
+          (58, others),
+          two,
+          58 ∷ more,
+          (digits, refl, refl),
+          (58, others, 58 ∷ [], more, (refl, refl), (all, omega arith, refl), refl, refl),
+          refl,
+          refl,
+        ),
+        e,
+        refl,
+      ),
+    )
+
+-- none stands where none may follow
+none_time : (rest : List ℕ) → NoTime rest → NoneStands SpacedTime rest
+none_time rest never o left x =
+    let (front, e, t) = time_of.there rest o left x in
+    let (a, b, more, one, other, all, f) = time_is o front t in
+    never a b (more ++ left) one other (e ∙ ap (λ l. l ++ left) f)
+
+-- ---- all of it
+
+-- what is written: these characters, one at least, and a time after a space or none
+abbrev pub UnquotedText : Text ℕ (Slice × Option (ℕ × Slice × ℕ × Slice))
+UnquotedText = BothText pair (Members text_reading IsUnquoted 1) (OptionalText SpacedTimeText)
+
+time_front : InFront (OptionalText SpacedTimeText) EndsPlain (NotFirst IsUnquoted)
+time_front =
+    front_behind (λ rest b. b.0)
+    (optional_front (front_begins
+    (λ c e is. absurd (omega (arith, e, (unquoted_is c is).0))) time_begins))
+
+pub unquoteds_of : IsGrammarOf Unquoteds (TakenText text_reading UnquotedText) EndsPlain
+unquoteds_of =
+    taken_of text_reading
+    (both_of pair (run_of 1)
+    (optional_of (behind_less (λ rest b. b.0) time_of) (λ rest b. none_time rest b.1)) time_front)
+
+pub unquoteds_unique : IsUnique Unquoteds
+unquoteds_unique =
+    taken_unique text_reading
+    (both_unique pair (members_unique Unquoted (from_to 1 None))
+    (optional_unique (four_unique (char_unique 32) (members_unique Digit (from_to 2 (Some 2)))
+    (char_unique 58) (members_unique Unquoted (from_to 0 None)))))
+
+-- it is of ASCII
+pub unquoted_ascii : (o : Slice × Option (ℕ × Slice × ℕ × Slice)) (tokens : List ℕ)
+    → UnquotedText o tokens → IsAscii tokens
+unfolding BothText OptionalText Members
+unquoted_ascii o tokens (s, t, xs, ys, (all, least, shown), x, e, out) =
+    subst (λ l. IsAscii l) (sym e) (IsAscii-append xs ys (ascii xs all) (behind t ys x))
+  where
+    behind : (t : Option (ℕ × Slice × ℕ × Slice)) (ys : List ℕ) → OptionalText SpacedTimeText t ys
+        → IsAscii ys
+    behind None ys e = subst (λ l. IsAscii l) (sym e) IsAscii-nil
+    behind (Some t) ys x =
+        let (a, b, more, one, other, all, e) = time_is t ys x in
+        subst (λ l. IsAscii l) (sym e)
+        (IsAscii-cons 32 (a ∷ b ∷ 58 ∷ more) (omega arith)
+        (IsAscii-cons a (b ∷ 58 ∷ more) (omega (arith, one))
+        (IsAscii-cons b (58 ∷ more) (omega (arith, other))
+        (IsAscii-cons 58 more (omega arith) (ascii more all)))))
+
+-- characters with nothing after them, or with a time
+pub unquoted_made : (xs ys tokens : List ℕ) → All IsUnquoted xs → 1 ≤ length xs
+    → (ys ≡ []) ⊎ IsSpacedTime ys → tokens ≡ xs ++ ys
+    → (o : Slice × Option (ℕ × Slice × ℕ × Slice)) × UnquotedText o tokens
+unfolding BothText OptionalText Members
+unquoted_made xs ys tokens all some (inl none) e =
+    ((slice_of xs, None), (slice_of xs, None, xs, ys, (all, some, refl), none, e, refl))
+unquoted_made xs ys tokens all some (inr time) e =
+    let (t, x) = time_made ys time in
+    ((slice_of xs, Some t), (slice_of xs, Some t, xs, ys, (all, some, refl), x, e, refl))

@@ -1,0 +1,2 @@
+-- Written by scripts/registries.py: do not edit.
+pub mod Fault

@@ -1,0 +1,34 @@
+//! TOML 1.0 (toml.io/en/v1.0.0) by one entry: from a text or bytes to the tree of its document.
+//!
+//! [`from_text`] and [`from_bytes`] answer a [`Tree`], which is looked into by
+//! [`root`](Tree::root), [`get`](Node::get), [`get_path`](Node::get_path), [`at`](Node::at),
+//! [`as_str`](Node::as_str) and their like. The tree borrows from a [`Document`], for which the
+//! caller has a place. Else a [`Fault`] says where the text is no document of TOML, and why, and
+//! [`shown`](Fault::shown) shows it as compilers do.
+//!
+//! ```
+//! use format_toml_document::{Document, SAFE_LEVEL, from_text};
+//!
+//! let mut document = Document::new(alloc);
+//! let text = "[server]\nhost = \"a\"\nports = [80, 443]\n";
+//! let Ok(tree) = from_text(alloc, SAFE_LEVEL, text, &mut document) else {
+//!     return;
+//! };
+//! let ports = tree.root().get_path(&["server", "ports"]);
+//! assert!(rt; matches!(ports, Some(ports) if ports.len() == 2));
+//! ```
+//!
+//! What is read, and what the standard leaves open, is as `format_toml` and `format_toml_tree` say.
+#![tactic(auto)]
+
+pub mod fault;
+pub mod read;
+
+pub use fault::{Fault, Location, Shown};
+pub use format_toml::expected::Expected;
+pub use format_toml::values::SAFE_LEVEL;
+pub use format_toml_tree::node::Node;
+pub use format_toml_tree::roles::Refusal;
+pub use format_toml_tree::tree::Tree;
+pub use format_toml_tree::value::{Date, DateTime, Float, Offset, Time, Value};
+pub use read::{Document, from_bytes, from_text};

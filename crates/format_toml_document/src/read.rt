@@ -1,0 +1,119 @@
+//! Documents from text and from bytes.
+ghost use Rattle.std.specs.Prelude.{◌≡◌, [], IfErr, IfOk, IsTrue};
+ghost use Rattle.std.specs.Str.{IsUtf8};
+ghost use Rattle.format_toml_document.specs.Fault.{IsDocument, Tells};
+ghost use Rattle.winnow.specs.Exact.Whole.{IsWant};
+
+use crate::fault::{Fault, fault_of_build, fault_of_bytes, fault_of_text};
+use format_toml::lines::parse_lines;
+use format_toml_tree::build::build;
+use format_toml_tree::tree::Tree;
+use format_toml_tree::value::Item;
+use std::alloc::Allocator;
+use std::str;
+use winnow::error::{EmptyError, ErrMode, ParseFault, ParserError};
+
+/// A place for what the lines of a text say, from which its [`Tree`] borrows.
+///
+/// ```
+/// use format_toml_document::{Document, from_text};
+///
+/// let mut document = Document::new(alloc);
+/// assert!(rt; from_text(alloc, 1, "a = 1", &mut document).is_ok());
+/// assert!(rt; from_text(alloc, 1, "a = 2", &mut document).is_ok());
+/// ```
+#[derive(Drop)]
+pub struct Document<A: Allocator> {
+    lines: Vec<Option<Item<A>>, A>,
+}
+
+impl<A: Allocator + Copy> Document<A> {
+    /// A place with nothing in it, for which no memory is asked.
+    pub fn new(alloc: A) -> Document<A>
+        ensures { result.lines.items ≡ [] }
+    {
+        Document {
+            lines: Vec::new(alloc),
+        }
+    }
+}
+
+/// Whether a fault says that a request for memory was refused.
+fn wants_memory<'i>(fault: &ParseFault<&'i str, EmptyError>) -> bool
+    ensures { IsWant ⟦<ErrMode<EmptyError> as ParserError<&'i str>>⟧.inner_kind fault.now
+        → IsTrue result }
+{
+    match fault {
+        ParseFault::Refused(error) => ParserError::<&str>::is_memory(error.inner()),
+        ParseFault::Incomplete(_) => false,
+    }
+}
+
+/// The tree of a text that is a document of TOML, which borrows from what is put into the caller's
+/// place. In values no more than that many arrays and inline tables stand in one another. Each
+/// level takes some of the stack: up to [`SAFE_LEVEL`](crate::SAFE_LEVEL) two megabytes suffice.
+///
+/// Else the [`Fault`] says where the first line is that is none of TOML, and what it lacks there;
+/// or which line the standard refuses for what those before it say, and why; or that a request for
+/// memory was refused. To find the place the text is read once more.
+///
+/// ```
+/// use format_toml_document::{Document, Expected, Fault, from_text};
+///
+/// let mut document = Document::new(alloc);
+/// assert!(rt; matches!(
+///     from_text(alloc, 1, "[a]\nb = 2\n", &mut document),
+///     Ok(tree) if tree.root().len() == 1));
+/// let fault = from_text(alloc, 1, "[a]\nb 2\n", &mut document);
+/// assert!(rt; matches!(fault, Err(Fault::Unexpected { at, expected: Expected::EqualsSign })
+///     if at.line == 2 && at.column == 3));
+/// ```
+pub fn from_text<'l, A: Allocator + Copy>(
+    alloc: A,
+    level: usize,
+    text: &str,
+    document: &'l mut Document<A>,
+) -> Result<Tree<'l, A>, Fault>
+    ensures tree { IfOk result (λ tree. IsDocument A level text.now tree) }
+    ensures fault { IfErr result (λ fault. Tells A level text.now fault) }
+{
+    match parse_lines(alloc, level, text) {
+        Ok(lines) => document.lines = lines,
+        Err(fault) => {
+            if wants_memory(&fault) {
+                return Err(Fault::OutOfMemory);
+            }
+            return Err(fault_of_text(alloc, level, text));
+        }
+    }
+    match build(alloc, document.lines.as_slice()) {
+        Ok(tree) => Ok(tree),
+        Err(fault) => Err(fault_of_build(alloc, level, text, fault)),
+    }
+}
+
+/// As [`from_text`], of bytes that are to be UTF-8. Where they are none, the [`Fault`] says where
+/// the longest front ends that is.
+///
+/// ```
+/// use format_toml_document::{Document, Fault, from_bytes};
+///
+/// let mut document = Document::new(alloc);
+/// assert!(rt; from_bytes(alloc, 1, b"a = '\xc3\xa9'\n", &mut document).is_ok());
+/// let fault = from_bytes(alloc, 1, b"\na = '\xe9'\n", &mut document);
+/// assert!(rt; matches!(fault, Err(Fault::NotUtf8 { at }) if at.line == 2 && at.column == 6));
+/// ```
+pub fn from_bytes<'l, A: Allocator + Copy>(
+    alloc: A,
+    level: usize,
+    bytes: &[u8],
+    document: &'l mut Document<A>,
+) -> Result<Tree<'l, A>, Fault>
+    ensures tree { IfOk result (λ tree. IsUtf8 bytes.now × IsDocument A level bytes.now tree) }
+    ensures fault { IfErr result (λ fault. Tells A level bytes.now fault) }
+{
+    match str::from_utf8(bytes) {
+        Ok(text) => from_text(alloc, level, text, document),
+        Err(error) => Err(fault_of_bytes(bytes, error.valid_up_to())),
+    }
+}

@@ -1,0 +1,90 @@
+//! What faults say, and what a tree has.
+use format_toml_document::{Document, Fault, Location, Refusal, from_bytes, from_text};
+use std::alloc::Global;
+
+/// What is said of a text of one level, or nothing where it is a document.
+fn said(rt: &HostRuntime, text: &str) -> String<Global> {
+    let alloc = rt.alloc();
+    let mut document = Document::new(alloc);
+    match from_text(alloc, 1, text, &mut document) {
+        Ok(_) => String::new(alloc),
+        Err(fault) => format!(in alloc; "{fault}").unwrap(),
+    }
+}
+
+/// Lines and columns by hand, the reasons by the standard.
+#[test]
+fn from_text_says_where_and_why(rt: HostRuntime) {
+    let rows = [
+        ("a = 1\n", ""),
+        ("a = 1\n= 2\n", "line 2, column 1: expected a key or a table"),
+        ("a = \"é\"\nb 2\n", "line 2, column 3: expected `=`"),
+        ("a = [[1]]", "line 1, column 5: expected a value"),
+        ("a = 1\na = 2\n", "line 2, column 1: it is defined already"),
+        ("a = [\n1,\n2]\n\n# b\n[a]\n", "line 6, column 1: it is defined already"),
+        ("a = \"\"\"\n\n\"\"\"\r\n\na.b = 2", "line 5, column 1: it takes a value for a table"),
+        ("a = {}\n[a.b]", "line 2, column 1: it adds to a table that is closed"),
+        ("a = []\n  [[a]]", "line 2, column 1: it adds a table to what is no array of tables"),
+    ];
+    for (text, wanted) in rows {
+        assert_eq!(rt; said(&rt, text).as_str(), wanted);
+    }
+}
+
+#[test]
+fn location_is_that_of_the_fault(rt: HostRuntime) {
+    let mut document = Document::new(rt.alloc());
+    match from_text(rt.alloc(), 1, "a = 1\n[a]\n", &mut document) {
+        Err(fault) => {
+            assert!(rt; matches!(fault, Fault::Refused { why: Refusal::Defined, .. }));
+            assert!(rt; matches!(fault.location(), Some(at) if at == Location { offset: 6, line: 2, column: 1 }));
+        }
+        Ok(_) => assert!(rt; false),
+    }
+    assert!(rt; Fault::OutOfMemory.location().is_none());
+    let said = format!(in rt.alloc(); "{}", Fault::OutOfMemory);
+    assert!(rt; matches!(said, Ok(said) if said.as_str() == "out of memory"));
+}
+
+#[test]
+fn from_bytes_reads_what_from_text_does(rt: HostRuntime) {
+    let mut document = Document::new(rt.alloc());
+    match from_bytes(rt.alloc(), 1, b"a = '\xc3\xa9'\nb.c = [2]\n", &mut document) {
+        Ok(tree) => {
+            let root = tree.root();
+            assert_eq!(rt; root.len(), 2);
+            assert!(rt; matches!(root.get("a"), Some(node) if node.as_str() == Some("é")));
+            let first = root.get_path(&["b", "c"]).and_then(|node| node.at(0));
+            assert!(rt; matches!(first, Some(node) if node.as_i64() == Some(2)));
+        }
+        Err(_) => assert!(rt; false),
+    }
+}
+
+/// The layout is that of Rust's `toml`, with the first words of `winnow`'s excerpts.
+#[test]
+fn shown_has_the_line_and_a_caret(rt: HostRuntime) {
+    let rows = [
+        (
+            b"[server]\nport 80\n".as_slice(),
+            "parse error at line 2, column 6\n  |\n2 | port 80\n  |      ^\nexpected `=`",
+        ),
+        (b"a 1".as_slice(), "a 1\n  ^\nexpected `=`"),
+        (
+            b"a = [\n1]\na = 2".as_slice(),
+            "parse error at line 3, column 1\n  |\n3 | a = 2\n  | ^\nit is defined already",
+        ),
+        (b"a = '\xff'".as_slice(), "a = '\u{FFFD}'\n     ^\nno UTF-8"),
+    ];
+    for (bytes, wanted) in rows {
+        let mut document = Document::new(rt.alloc());
+        match from_bytes(rt.alloc(), 1, bytes, &mut document) {
+            Err(fault) => {
+                let shown = fault.shown(bytes);
+                let said = format!(in rt.alloc(); "{shown}");
+                assert!(rt; matches!(said, Ok(said) if said.as_str() == wanted));
+            }
+            Ok(_) => assert!(rt; false),
+        }
+    }
+}

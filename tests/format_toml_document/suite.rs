@@ -1,0 +1,93 @@
+//! The cases of toml-test 1.5 that are named in these files, each written anew for its name: the
+//! valid ones are read, and the others refused. Python's `tomllib` takes and refuses the same.
+use crate::invalid_strings::STRINGS;
+use crate::{invalid_tables, invalid_values, valid_tables, valid_values};
+use format_toml_document::{Document, Fault, SAFE_LEVEL, from_bytes, from_text};
+use std::alloc::Global;
+
+/// Whether a text is read; `None` where it is neither read nor refused.
+fn is_read(alloc: Global, text: &str) -> Option<bool> {
+    let mut document = Document::new(alloc);
+    match from_text(alloc, SAFE_LEVEL, text, &mut document) {
+        Ok(_) => Some(true),
+        Err(Fault::Unexpected { .. } | Fault::Refused { .. }) => Some(false),
+        Err(_) => None,
+    }
+}
+
+/// The valid cases with a date or a time, which are read where `format_toml` reads these.
+const DATED: &[&str] = &[
+    "example",
+    "spec-1.0.0/local-date-time-0",
+    "spec-1.0.0/offset-date-time-0",
+    "array/array",
+    "comment/everywhere",
+    "datetime/datetime",
+    "datetime/edge",
+    "datetime/leap-year",
+    "datetime/local",
+    "datetime/local-date",
+    "datetime/local-time",
+    "datetime/milliseconds",
+    "datetime/timezone",
+];
+
+/// Whether a case has a date or a time.
+fn is_dated(name: &str) -> bool {
+    for dated in DATED {
+        if *dated == name {
+            return true;
+        }
+    }
+    false
+}
+
+/// The name of the first case for which it is not so that it is read.
+fn first_other<'r>(alloc: Global, rows: &[(&'r str, &'r str)], read: bool) -> &'r str {
+    let dates = is_read(alloc, "a = 1979-05-27");
+    for (name, text) in rows {
+        let wanted = if read && is_dated(name) { dates } else { Some(read) };
+        if is_read(alloc, text) != wanted {
+            return name;
+        }
+    }
+    ""
+}
+
+#[test]
+fn from_text_reads_what_is_valid(rt: HostRuntime) {
+    for rows in [valid_tables::TABLES, valid_values::VALUES] {
+        assert_eq!(rt; first_other(rt.alloc(), rows, true), "");
+    }
+}
+
+#[test]
+fn from_text_refuses_what_is_invalid(rt: HostRuntime) {
+    for rows in [invalid_tables::TABLES, invalid_values::VALUES, STRINGS] {
+        assert_eq!(rt; first_other(rt.alloc(), rows, false), "");
+    }
+}
+
+/// Lines and columns by hand.
+#[test]
+fn from_bytes_refuses_what_is_no_utf8(rt: HostRuntime) {
+    let rows = [
+        // encoding/bad-utf8-in-comment
+        (b"# \xc3\n".as_slice(), 1, 3),
+        // encoding/bad-utf8-in-string
+        (b"# The following line\n\nbad = \"\xc3\x28\"\n".as_slice(), 3, 8),
+        // encoding/bad-codepoint
+        (b"# Invalid codepoint U+D800 : \xed\xa0\x80\n".as_slice(), 1, 30),
+        // encoding/utf16-bom
+        (b"\xfe\xff\0#\0 \0x\n".as_slice(), 1, 1),
+    ];
+    for (bytes, line, column) in rows {
+        let mut document = Document::new(rt.alloc());
+        match from_bytes(rt.alloc(), SAFE_LEVEL, bytes, &mut document) {
+            Err(Fault::NotUtf8 { at }) => {
+                assert_eq!(rt; (at.line, at.column), (line, column));
+            }
+            _ => assert!(rt; false),
+        }
+    }
+}
