@@ -15,14 +15,18 @@ pub(crate) struct Decoded<A: Allocator> {
 }
 
 fn take_piece<A: Allocator>(
-    decoder: &mut Decoder,
+    kept: &mut Decoder,
     piece: &[u8],
     decoded: &mut Decoded<A>,
 ) -> Result<(), AllocError> {
     let mut input = piece;
     let mut goes_on = true;
     while goes_on {
-        match decoder.advance(&mut input) {
+        // As numbers it goes on from the same place.
+        let mut decoder = Decoder::of_state(kept.state());
+        let said = decoder.advance(&mut input);
+        *kept = decoder;
+        match said {
             Ok(Step::Data(bytes)) => decoded.content.extend_from_slice(bytes)?,
             Ok(Step::Trailers(bytes)) => decoded.trailers.extend_from_slice(bytes)?,
             Ok(Step::More) => goes_on = false,

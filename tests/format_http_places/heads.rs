@@ -9,7 +9,7 @@ use winnow::error::ErrMode;
 use winnow::stream::Partial;
 
 /// A text, the method and the target of the head that it begins with, its fields, and what is left.
-type Row = (
+pub type Row = (
     &'static [u8],
     &'static [u8],
     &'static [u8],
@@ -25,7 +25,7 @@ Host: www.example.com\r\nAccept-Language: en, mi\r\n\r\n";
 const WHERE: &[u8] = b"GET /where?q=now HTTP/1.1\r\nHost: www.example.org\r\n\r\n";
 
 /// These two, and some at the edges of the grammar.
-const HEADS: &[Row] = &[
+pub const HEADS: &[Row] = &[
     (
         HELLO,
         b"GET",
@@ -58,7 +58,7 @@ const HEADS: &[Row] = &[
 
 /// Texts that begin with no head: how many bytes of each begin one. The byte behind these is the
 /// first that the grammar of RFC 9112, sections 2.1 to 5.1, has not there.
-const NO_HEADS: &[(&[u8], usize)] = &[
+pub const NO_HEADS: &[(&[u8], usize)] = &[
     (b"\r\nA b HTTP/1.1\r\n\r\n", 0),
     (b"A  b HTTP/1.1\r\n\r\n", 2),
     (b"A b HTTP/1.1\n\n", 12),
@@ -92,7 +92,7 @@ const NO_FIELD: Field = Field {
     value: NOWHERE,
 };
 
-fn same<T: PartialEq + Debug + Drop>(rt: &impl Abort, row: &[u8], got: T, want: T) {
+pub fn same<T: PartialEq + Debug + Drop>(rt: &impl Abort, row: &[u8], got: T, want: T) {
     assert_eq!(rt; got, want, "{row:?}");
 }
 
@@ -186,7 +186,7 @@ fn read_head_into_of_each_length(rt: HostRuntime) {
 }
 
 /// The next number of a sequence that looks random.
-fn next(state: u32) -> u32 {
+pub fn next(state: u32) -> u32 {
     state.wrapping_mul(1_664_525).wrapping_add(1_013_904_223)
 }
 

@@ -2,4 +2,6 @@
 #![tactic(auto)]
 
 #[cfg(test)]
+mod extents;
+#[cfg(test)]
 mod heads;

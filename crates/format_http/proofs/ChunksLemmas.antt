@@ -1,3 +1,5 @@
+pub mod Alike
+pub mod Bodies
 pub mod Codings
 pub mod Ends
 pub mod Hosts

@@ -7,5 +7,7 @@ pub mod LineEnds
 pub mod Longer
 pub mod Members
 pub mod RequestLines
+pub mod StatusLines
+pub mod StatusParts
 pub mod Texts
 pub mod Values

@@ -1,4 +1,5 @@
 -- Written by scripts/registries.py: do not edit.
+pub mod Bodies
 pub mod Framing
 pub mod Lines
 pub mod Read

@@ -3,3 +3,5 @@ pub mod FieldLine
 pub mod Head
 pub mod Ranges
 pub mod RequestLine
+pub mod ResponseHead
+pub mod StatusLine

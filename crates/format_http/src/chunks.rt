@@ -8,6 +8,7 @@
 //! line end, are for the caller to take, and so is the trailer section after the last chunk
 //! (section 7.1.2).
 pub(crate) mod framing;
+pub mod laws;
 mod lines;
 pub(crate) mod numbers;
 pub mod refusals;

@@ -16,6 +16,8 @@
 
 ghost use Rattle.format_http_chunked.specs.Decoded.{IsAnswer, IsAt};
 ghost use Rattle.format_http_chunked.specs.Room.{PartSpends, Spends};
+ghost use Rattle.format_http_chunked.specs.Stands.{PartStands, Stands};
+ghost use Rattle.format_http_chunked.specs.State.{decoder_of};
 ghost use Rattle.format_http_chunked.specs.Steps.{IsPart, IsSaid};
 ghost use Rattle.format_http_chunked.specs.declared.places.Framing.TheVariants as framing;
 ghost use Rattle.format_http_chunked.specs.declared.places.InField.TheVariants as field;
@@ -25,6 +27,7 @@ ghost use Rattle.std.specs.Prelude.{◌≡◌, ◌<◌, ◌≤◌, MatchBool, No
 use crate::fields::{field_behind, pass_fields};
 use crate::framing::{place_after, taken_of};
 use crate::places::{Framing, InField, Place};
+use crate::state::{ChunkedState, numbers_of, place_of};
 
 /// How many bytes a decoder takes of what a sender could make endless: zeros before a size,
 /// extensions, fields. Data has no limit here but that of its chunk, 2<sup>64</sup> - 1 bytes.
@@ -162,12 +165,64 @@ impl Decoder {
         ensures told { IsAt result.place [] [] [] }
         ensures room { (result.limits ≡ limits) × (result.room ≡ limits.size_line)
             × (result.trailer_room ≡ limits.trailers) }
+        ensures place { result.place ≡ place.Framing framing.Start }
     {
         Decoder {
             place: Place::Framing(Framing::Start),
             room: limits.size_line,
             trailer_room: limits.trailers,
             limits,
+        }
+    }
+
+    /// The decoder as numbers.
+    ///
+    /// ```
+    /// use format_http_chunked::decoder::{Decoder, SAFE_LIMITS};
+    ///
+    /// let decoder = Decoder::new(SAFE_LIMITS);
+    /// assert!(rt; Decoder::of_state(decoder.state()) == decoder);
+    /// ```
+    pub fn state(self) -> ChunkedState
+        ensures { decoder_of result ≡ self }
+    {
+        let (number, within, size) = numbers_of(self.place);
+        ChunkedState {
+            place: number + 1,
+            within,
+            size,
+            room: self.room,
+            trailer_room: self.trailer_room,
+            size_line: self.limits.size_line,
+            trailers: self.limits.trailers,
+        }
+    }
+
+    /// The decoder that numbers say, which may be any: one with the limits for a server where they
+    /// are zeros.
+    ///
+    /// ```
+    /// use format_http_chunked::decoder::{Decoder, SAFE_LIMITS, Step};
+    ///
+    /// let mut decoder = Decoder::new(SAFE_LIMITS);
+    /// assert!(rt; matches!(decoder.advance(&mut b"0\r\n".as_slice()), Ok(Step::More)));
+    /// let mut again = Decoder::of_state(decoder.state());
+    /// assert!(rt; matches!(again.advance(&mut b"\r\n".as_slice()), Ok(Step::End)));
+    /// ```
+    pub fn of_state(state: ChunkedState) -> Decoder
+        ensures { result ≡ decoder_of state }
+    {
+        match state.place.checked_sub(1) {
+            None => Decoder::new(SAFE_LIMITS),
+            Some(number) => Decoder {
+                place: place_of(number, state.within, state.size),
+                room: state.room,
+                trailer_room: state.trailer_room,
+                limits: Limits {
+                    size_line: state.size_line,
+                    trailers: state.trailers,
+                },
+            },
         }
     }
 
@@ -180,6 +235,7 @@ impl Decoder {
         requires { self.old.place ≡ place.Framing at }
         ensures told { IsPart self.old self.new input.old.now input.new.now result }
         ensures spent { PartSpends self.old self.new input.old.now input.new.now result }
+        ensures stands { PartStands input.old.now input.new.now result }
     {
         match input.split_first() {
             None => Ok(Some(Step::More)),
@@ -204,6 +260,7 @@ impl Decoder {
         requires some { 0 < size }
         ensures told { IsSaid self.old self.new input.old.now input.new.now (Ok result) }
         ensures spent { Spends self.old self.new input.old.now input.new.now (Ok result) }
+        ensures stands { Stands input.old.now input.new.now (Ok result) }
     {
         let all = *input;
         if all.is_empty() {
@@ -226,6 +283,7 @@ impl Decoder {
         requires { self.old.place ≡ place.Trailers at }
         ensures told { IsPart self.old self.new input.old.now input.new.now result }
         ensures spent { PartSpends self.old self.new input.old.now input.new.now result }
+        ensures stands { PartStands input.old.now input.new.now result }
     {
         let all = *input;
         match all.split_first() {
@@ -263,6 +321,7 @@ impl Decoder {
     fn part<'i>(&mut self, input: &mut &'i [u8]) -> Result<Option<Step<'i>>, Fault>
         ensures told { IsPart self.old self.new input.old.now input.new.now result }
         ensures spent { PartSpends self.old self.new input.old.now input.new.now result }
+        ensures stands { PartStands input.old.now input.new.now result }
     {
         match self.place {
             Place::Done => Ok(Some(Step::End)),
@@ -282,6 +341,7 @@ impl Decoder {
     fn run<'i>(&mut self, input: &mut &'i [u8]) -> Result<Step<'i>, Fault>
         ensures told { IsSaid self.old self.new input.old.now input.new.now result }
         ensures spent { Spends self.old self.new input.old.now input.new.now result }
+        ensures stands { Stands input.old.now input.new.now result }
     {
         'bytes: loop {
             match self.part(input) {
@@ -327,6 +387,7 @@ impl Decoder {
     /// ```
     pub fn advance<'i>(&mut self, input: &mut &'i [u8]) -> Result<Step<'i>, Fault>
         ensures spent { Spends self.old self.new input.old.now input.new.now result }
+        ensures stands { Stands input.old.now input.new.now result }
         ensures told { (front given fields : List ℕ) → IsAt self.old.place front given fields
             → IsAnswer self.new front given fields input.old.now input.new.now result }
     {

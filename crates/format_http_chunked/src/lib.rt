@@ -12,3 +12,4 @@ mod fields;
 mod framing;
 mod lines;
 mod places;
+pub mod state;

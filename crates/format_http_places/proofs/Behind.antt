@@ -215,7 +215,7 @@ none_one P K [] not = λ rest it. not_empty it.0 it.1 it.2
 none_one P K (x ∷ xs) not = λ more rest it.
     not (subst P (sym (first_same x it.0 more it.1 it.2)) it.3)
 
-none_run : (P : ℕ → Type 0) (c : ℕ) (K : Language) (back : List ℕ) → NotFirst P back
+pub none_run : (P : ℕ → Type 0) (c : ℕ) (K : Language) (back : List ℕ) → NotFirst P back
     → NotFirst (λ x. x ≡ c) back → NoneFirst (Run P c K) back
 unfolding Run
 none_run P c K [] not other = λ rest it. by it.0 it.1 it.2

@@ -1,8 +1,10 @@
 pub mod Behind
 pub mod Counts
+pub mod Extents
 pub mod Heads
 pub mod Lines
 pub mod Passed
+pub mod PlaceSteps
 pub mod Shown
 pub mod Sixteen
 pub mod Tests

@@ -305,7 +305,7 @@ line_fields bytes rest it =
       ),
     )
 
-fields_line : (bytes rest : List ℕ) → NotFirst (λ b. b ≡ 13) bytes → FieldsText bytes rest
+pub fields_line : (bytes rest : List ℕ) → NotFirst (λ b. b ≡ 13) bytes → FieldsText bytes rest
     → LineText FieldsText bytes rest
 unfolding FieldsText Byte
 fields_line [] rest not (zero, it) = absurd (not_empty 13 it.0 it.1)

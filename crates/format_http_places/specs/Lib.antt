@@ -1,4 +1,5 @@
 -- Written by scripts/registries.py: do not edit.
+pub mod Extents
 pub mod Grammar
 pub mod Places
 pub mod Refusals

@@ -2,6 +2,7 @@
 //! pass, and no memory is asked for.
 #![tactic(auto)]
 
+pub mod extent;
 mod lanes;
 mod line;
 pub mod places;

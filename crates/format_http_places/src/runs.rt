@@ -21,21 +21,21 @@ static TOKENS: [u8; 256] = *b"\
     ,,,,,,,,,,,,,,,,,,,,,,,,,,,,,,,,";
 
 #[inline(always)]
-fn is_token(byte: u8) -> bool
+pub(crate) fn is_token(byte: u8) -> bool
     ensures { IsTrue result ↔ IsTokenByte byte }
 {
     TOKENS[byte as usize] != b','
 }
 
 #[inline(always)]
-fn is_visible(byte: u8) -> bool
+pub(crate) fn is_visible(byte: u8) -> bool
     ensures { IsTrue result ↔ IsVisible byte }
 {
     b'!' <= byte && byte <= b'~'
 }
 
 #[inline(always)]
-fn is_value(byte: u8) -> bool
+pub(crate) fn is_value(byte: u8) -> bool
     ensures { IsTrue result ↔ IsValueByte byte }
 {
     (byte >= b' ' && byte != 0x7f) || byte == b'\t'

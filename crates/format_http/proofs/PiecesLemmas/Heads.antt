@@ -158,7 +158,7 @@ read_more fields fields' f bytes now rest lines line grew =
 
 -- ---- what begins with none, whatever comes after it
 
-field_line_longer : (name value bytes rest more : List ℕ) → IsFieldLine name value bytes rest
+pub field_line_longer : (name value bytes rest more : List ℕ) → IsFieldLine name value bytes rest
     → IsFieldLine name value (bytes ++ more) (rest ++ more)
 field_line_longer name value bytes rest more line =
     let splits : bytes ++ more

@@ -67,12 +67,12 @@ value_one a (x ∷ xs) b c (y ∷ ys) d p q r s begins ends begins' ends' e =
 
 -- ---- field lines
 
-regroup : (a v b x : List ℕ) → a ++ (v ++ (b ++ x)) ≡ (a ++ (v ++ b)) ++ x
+pub regroup : (a v b x : List ℕ) → a ++ (v ++ (b ++ x)) ≡ (a ++ (v ++ b)) ++ x
 regroup a v b x =
     sym (append_assoc a (v ++ b) x ∙ ap (λ l. a ++ l) (append_assoc v b x))
 
 -- what stands between the colon and the line end is of bytes of values
-all_value : (a v b : List ℕ) → All IsWhite a → All IsValueByte v → All IsWhite b
+pub all_value : (a v b : List ℕ) → All IsWhite a → All IsValueByte v → All IsWhite b
     → All IsValueByte (a ++ (v ++ b))
 all_value a v b p q r =
     All-append IsValueByte a (v ++ b) (All-weaker IsWhite IsValueByte white_is_value a p)

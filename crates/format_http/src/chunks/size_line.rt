@@ -1,9 +1,10 @@
 //! The size line of a chunk: a size, extensions, and a line end.
 #![tactic(auto)]
 
+ghost use Rattle.format_http.specs.Chunks.Bodies.{BodyHasSize, HasNumber};
 ghost use Rattle.format_http.specs.Chunks.Lines.{SizeLineBegun};
 ghost use Rattle.format_http.specs.Chunks.SizeLine.{SizeLineText};
-ghost use Rattle.std.specs.Prelude.{◌≡◌, true};
+ghost use Rattle.std.specs.Prelude.{◌≡◌, IfOk, true, ℕ};
 ghost use Rattle.winnow.specs.Begun.{AsksExactly};
 ghost use Rattle.winnow.specs.Bytes.{bytes_follow, bytes_input, bytes_reading};
 ghost use Rattle.winnow.specs.Exact.{Reads};
@@ -11,6 +12,7 @@ ghost use Rattle.winnow.specs.Cut.{ReadsOrAsks};
 ghost use Rattle.winnow.specs.Form.{answer_by};
 ghost use Rattle.winnow.specs.InTurn.{First};
 
+use crate::chunks::laws::size_lines_are_those_of_bodies;
 use crate::chunks::lines::line;
 use crate::chunks::numbers::size_of;
 use std::alloc::Allocator;
@@ -50,8 +52,22 @@ pub struct SizeLine<'i, A: Allocator> {
     pub extensions: Vec<(&'i [u8], Option<&'i [u8]>), A>,
 }
 
+/// A size line.
+fn read_sized<'i, A: Allocator + Copy>(
+    alloc: A,
+    input: &mut &'i [u8],
+) -> Result<SizeLine<'i, A>, ErrMode<EmptyError>>
+    ensures { Reads bytes_reading ⟦<ErrMode<EmptyError> as HasKind>⟧.kind (First SizeLineText)
+        (bytes_input input.old.now) result (bytes_input input.new.now) }
+{
+    let (digits, extensions) = line(alloc, input)?;
+    let size = size_of(digits);
+    Ok(SizeLine { size, extensions })
+}
+
 /// The size line with which the bytes begin: one hexadecimal digit or more, any number of
-/// extensions, and a line end. What is left is the data of the chunk, and what is after that.
+/// extensions, and a line end. What is left is the data of the chunk, and what is after that. A
+/// size line of the same number then stands in a chunked body as `format_http_chunked` decodes it.
 ///
 /// An error that backtracks says that no size line stands there; some bytes may then have been
 /// passed. Else memory for the list is wanting.
@@ -71,12 +87,13 @@ pub fn read_size_line<'i, A: Allocator + Copy>(
     alloc: A,
     input: &mut &'i [u8],
 ) -> Result<SizeLine<'i, A>, ErrMode<EmptyError>>
-    ensures { Reads bytes_reading ⟦<ErrMode<EmptyError> as HasKind>⟧.kind (First SizeLineText)
-        (bytes_input input.old.now) result (bytes_input input.new.now) }
+    ensures reads { Reads bytes_reading ⟦<ErrMode<EmptyError> as HasKind>⟧.kind
+        (First SizeLineText) (bytes_input input.old.now) result (bytes_input input.new.now) }
+    ensures bodies { IfOk result (λ line. (n : ℕ) × HasNumber line.size n
+        × BodyHasSize n input.old.now input.new.now) }
 {
-    let (digits, extensions) = line(alloc, input)?;
-    let size = size_of(digits);
-    Ok(SizeLine { size, extensions })
+    size_lines_are_those_of_bodies::<A>();
+    read_sized(alloc, input)
 }
 
 /// As [`read_size_line`], from an input to which more may come. What it answers there, it answers

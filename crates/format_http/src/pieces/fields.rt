@@ -18,7 +18,7 @@ use winnow::prelude::*;
 use winnow::stream::Partial;
 
 /// The empty line after the fields: a carriage return and a line feed.
-fn read_line_end<'i>(input: &mut Partial<&'i [u8]>) -> Result<(), ErrMode<EmptyError>>
+pub fn read_line_end<'i>(input: &mut Partial<&'i [u8]>) -> Result<(), ErrMode<EmptyError>>
     ensures line { IfOk result (λ _.
         (⟦<Partial<&'static [u8]> as Stream>⟧.view input.old).left.tokens
         ≡ line_end ++ (⟦<Partial<&'static [u8]> as Stream>⟧.view input.new).left.tokens) }
@@ -35,6 +35,8 @@ fn read_line_end<'i>(input: &mut Partial<&'i [u8]>) -> Result<(), ErrMode<EmptyE
         → ⟦<ErrMode<EmptyError> as HasKind>⟧.kind error ≡ incomplete need
         → (more : List ℕ)
         × ((⟦<Partial<&'static [u8]> as Stream>⟧.view input.old).left.tokens ++ more ≡ line_end)) }
+    ensures kinds { IfErr result (λ error.
+        ⟦<ErrMode<EmptyError> as HasKind>⟧.kind error ≡ memory → ⊥) }
     ensures whole { IfErr result (λ error. (need : Option ℕ)
         → ⟦<ErrMode<EmptyError> as HasKind>⟧.kind error ≡ incomplete need
         → (⟦<Partial<&'static [u8]> as Stream>⟧.view input.old).status.cut ≡ true) }

@@ -1,4 +1,4 @@
-use Rattle.std.proofs.Common.{arith, ap, length, List, ℕ}
+use Rattle.std.proofs.Common.{arith, ap, length, List, ℕ, [], ◌∷◌, refl}
 use Rattle.format_http_chunked.proofs.Calls.{byte_taken, fault_from}
 use Rattle.format_http_chunked.proofs.Taking.{taken_none}
 use Rattle.format_http_chunked.proofs.decoder.Decoder.pass_byte.Goals as goal
@@ -22,3 +22,10 @@ returns-in-Some-checked_sub-clause-told c = (
       c.in-Ok.ensures.ok,
   omega (arith, ap (λ (l : List ℕ). length l) c.in-Some.ensures.cases.0),
 )
+
+pub returns-in-Err-clause-stands : goal.returns-in-Err-clause-stands
+returns-in-Err-clause-stands c = ([], refl)
+
+pub returns-in-Some-checked_sub-clause-stands : goal.returns-in-Some-checked_sub-clause-stands
+returns-in-Some-checked_sub-clause-stands c =
+    (c.in-Some.byte.now ∷ [], c.in-Some.ensures.cases.0)

@@ -16,3 +16,10 @@ returns-clause-told c = (
       c.taken_of-here.ensures.0),
   omega (arith, c.split_at.ensures.front_len, c.taken_of-here.ensures.2),
 )
+
+pub returns-clause-stands : goal.returns-clause-stands
+returns-clause-stands c = (
+  [],
+  front_back c.taken_of-here.result c.args.input.now.now c.split_at.result.0.now
+      c.split_at.result.1.now c.split_at.ensures.front c.split_at.ensures.back,
+)

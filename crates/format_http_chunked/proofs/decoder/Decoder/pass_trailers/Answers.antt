@@ -1,9 +1,10 @@
-use Rattle.std.proofs.Common.{arith, inl, refl, ap, length, List, ℕ, []}
+use Rattle.std.proofs.Common.{arith, inl, refl, ap, length, List, ℕ, [], ◌∷◌}
 use Rattle.format_http_chunked.proofs.Calls.{never_at}
 use Rattle.format_http_chunked.proofs.Taking.{fields_never, last_taken, passed_front, taken_from}
 use Rattle.format_http_chunked.proofs.Taking.{taken_none}
 use Rattle.format_http_chunked.specs.declared.places.Framing.TheVariants as framing
 use Rattle.format_http_chunked.specs.declared.places.Place.TheVariants as place
+use Rattle.format_http_chunked.proofs.Standing.{front_before}
 use Rattle.format_http_chunked.proofs.decoder.Decoder.pass_trailers.Goals as goal
 
 pub returns-then-not-ends_there-clause-told : goal.returns-then-not-ends_there-clause-told
@@ -44,3 +45,16 @@ returns-in-Some-checked_sub-2-clause-told c = (
       c.if-not-ends_there.ensures c.in-Some.ensures.cases.0),
   omega (arith, ap (λ (l : List ℕ). length l) c.in-Some.ensures.cases.0),
 )
+
+pub returns-in-Some-checked_sub-clause-stands : goal.returns-in-Some-checked_sub-clause-stands
+returns-in-Some-checked_sub-clause-stands c =
+    let (fields, e, passed) = c.pass_fields-last.ensures.passed in (
+      [],
+      front_before c.in-Some.byte.now c.args.input.now.now c.in-Some.behind.now
+          c.pass_fields-last.result.2.now fields c.front.result.now c.in-Some.ensures.cases.0 e
+          c.front.ensures,
+    )
+
+pub returns-in-Some-checked_sub-2-clause-stands : goal.returns-in-Some-checked_sub-2-clause-stands
+returns-in-Some-checked_sub-2-clause-stands c =
+    (c.in-Some.byte.now ∷ [], c.in-Some.ensures.cases.0)

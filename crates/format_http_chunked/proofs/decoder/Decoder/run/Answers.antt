@@ -5,6 +5,8 @@ use Rattle.format_http_chunked.proofs.Taking.{taken_then}
 use Rattle.format_http_chunked.specs.Room.{PartSpends}
 use Rattle.format_http_chunked.specs.Steps.{IsPart}
 use Rattle.format_http_chunked.specs.declared.decoder.Step.{Step}
+use Rattle.format_http_chunked.proofs.Standing.{stands_then}
+use Rattle.format_http_chunked.specs.Stands.{PartStands}
 use Rattle.format_http_chunked.proofs.decoder.Decoder.run.Goals as goal
 
 pub returns-in-Err-clause-told : goal.returns-in-Err-clause-told
@@ -46,3 +48,15 @@ bytes-preserved c =
           c.bytes.input.now c.part.new.input.now 0 c.bytes.invariant.1
           (subst Q c.in-None.is c.in-Ok.ensures.spent),
     )
+
+pub returns-in-Err-clause-stands : goal.returns-in-Err-clause-stands
+returns-in-Err-clause-stands c = stands_then c.bytes.invariant.0.0 c.args.input.now.now
+    c.bytes.input.now c.part.new.input.now (Err c.in-Err.fault) c.bytes.invariant.0.1
+    c.in-Err.ensures.stands
+
+pub returns-in-Some-clause-stands : goal.returns-in-Some-clause-stands
+returns-in-Some-clause-stands c =
+    let P : Option Step → Type 0 = λ o. PartStands c.bytes.input.now c.part.new.input.now (Ok o) in
+    stands_then c.bytes.invariant.0.0 c.args.input.now.now c.bytes.input.now
+    c.part.new.input.now (Ok c.in-Some.step) c.bytes.invariant.0.1
+    (subst P c.in-Some.is c.in-Ok.ensures.stands)

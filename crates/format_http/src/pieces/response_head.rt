@@ -1,0 +1,80 @@
+//! The head of a response of HTTP/1.1 (RFC 9112, section 2.1) over bytes that come in pieces. One
+//! of whole bytes is read by [`read_response_head`](crate::responses::head::read_response_head).
+#![tactic(auto)]
+
+ghost use Rattle.std.specs.Prelude.{◌≡◌, IfErr, IfOk, List, Option, ℕ, map, true};
+ghost use Rattle.winnow.specs.Bytes.{bytes_reading};
+ghost use Rattle.winnow.specs.Input.{IsEndOf};
+ghost use Rattle.winnow.specs.Kind.{incomplete, memory};
+ghost use Rattle.winnow.specs.Stable.{IsFinalKind};
+ghost use Rattle.format_http.specs.Heads.Head.{Pair, pair};
+ghost use Rattle.format_http.specs.Pieces.ResponseHead.{BeginsResponseHead, NoResponseHead};
+ghost use Rattle.format_http.specs.Responses.Head.{IsResponseHead, Status, status_of};
+
+use crate::pieces::fields::read_fields;
+use crate::pieces::status_line::read_status_line_in_pieces;
+use crate::responses::head::ResponseHead;
+use std::alloc::Allocator;
+use winnow::error::{EmptyError, ErrMode, HasKind};
+use winnow::prelude::*;
+use winnow::stream::Partial;
+
+/// The head of a response with which bytes begin that come in pieces. It answers as soon as the
+/// empty line is there.
+///
+/// An error leaves the input as it was. One that is out of memory says that the list of fields
+/// could not grow, [`Incomplete`](ErrMode::Incomplete) that no head stands there and more input can
+/// make one, and each other error that no more input can.
+///
+/// ```
+/// use format_http::pieces::response_head::read_response_head_in_pieces;
+///
+/// let mut input = Partial::new(b"HTTP/1.1 200 OK\r\nServer: a\r\n".as_slice());
+/// let asks = read_response_head_in_pieces(alloc, &mut input);
+/// assert!(rt; matches!(asks, Err(ErrMode::Incomplete(_))));
+/// let mut input = Partial::new(b"HTTP/1.1 200 OK\r\nServer: a\r\n\r\n".as_slice());
+/// let head = read_response_head_in_pieces(alloc, &mut input);
+/// assert!(rt; matches!(head, Ok(head) if head.line.status == 200));
+/// ```
+pub fn read_response_head_in_pieces<'i, A: Allocator + Copy>(
+    alloc: A,
+    input: &mut Partial<&'i [u8]>,
+) -> Result<ResponseHead<'i, A>, ErrMode<EmptyError>>
+    ensures head { IfOk result (λ head. IsResponseHead (status_of head.line)
+        (map pair head.fields.items)
+        (⟦<Partial<&'static [u8]> as Stream>⟧.view input.old).left.tokens
+        (⟦<Partial<&'static [u8]> as Stream>⟧.view input.new).left.tokens) }
+    ensures accepts { (line : Status) (fields : List Pair) (rest : List ℕ)
+        → IsResponseHead line fields
+        (⟦<Partial<&'static [u8]> as Stream>⟧.view input.old).left.tokens rest
+        → IfErr result (λ error. ⟦<ErrMode<EmptyError> as HasKind>⟧.kind error ≡ memory) }
+    ensures never { IfErr result (λ error.
+        IsFinalKind (⟦<ErrMode<EmptyError> as HasKind>⟧.kind error)
+        → (⟦<Partial<&'static [u8]> as Stream>⟧.view input.old).status.cut ≡ true
+        → NoResponseHead (⟦<Partial<&'static [u8]> as Stream>⟧.view input.old).left.tokens) }
+    ensures asks { IfErr result (λ error. (need : Option ℕ)
+        → ⟦<ErrMode<EmptyError> as HasKind>⟧.kind error ≡ incomplete need
+        → BeginsResponseHead (⟦<Partial<&'static [u8]> as Stream>⟧.view input.old).left.tokens) }
+    ensures whole { IfErr result (λ error. (need : Option ℕ)
+        → ⟦<ErrMode<EmptyError> as HasKind>⟧.kind error ≡ incomplete need
+        → (⟦<Partial<&'static [u8]> as Stream>⟧.view input.old).status.cut ≡ true) }
+    ensures ends { IsEndOf bytes_reading (⟦<Partial<&'static [u8]> as Stream>⟧.view input.new)
+        (⟦<Partial<&'static [u8]> as Stream>⟧.view input.old) }
+    ensures stays { IfErr result (λ _. input.new ≡ input.old) }
+{
+    let start = *input;
+    let line = match read_status_line_in_pieces(input) {
+        Ok(line) => line,
+        Err(error) => {
+            *input = start;
+            return Err(error);
+        }
+    };
+    match read_fields(alloc, input) {
+        Ok(fields) => Ok(ResponseHead { line, fields }),
+        Err(error) => {
+            *input = start;
+            Err(error)
+        }
+    }
+}
