@@ -4,6 +4,8 @@
 #[cfg(test)]
 mod extents;
 #[cfg(test)]
+mod leaves;
+#[cfg(test)]
 mod level;
 #[cfg(test)]
 mod pieces;

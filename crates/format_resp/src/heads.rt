@@ -46,8 +46,16 @@ fn mark_of(byte: u8) -> Option<Mark>
     }
 }
 
-/// The integer that a line is.
-fn number_of(line: &[u8]) -> Option<i64>
+/// The integer that a line is, without its end: digits with no zero before others, and a sign or
+/// none before them. `None` says that it is none of 64 bits.
+///
+/// ```
+/// use format_resp::heads::number_of;
+///
+/// assert!(rt; matches!(number_of(b"-7"), Some(-7)));
+/// assert!(rt; number_of(b"07").is_none());
+/// ```
+pub fn number_of(line: &[u8]) -> Option<i64>
     ensures some { IfSome result (λ n. SignedText n line.now) }
     ensures none { result ≡ None → (n : ℤ) → SignedText n line.now → ⊥ }
 {

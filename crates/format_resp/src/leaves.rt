@@ -49,8 +49,19 @@ pub(crate) fn read_mark<'i>(input: &mut Partial<&'i [u8]>) -> Result<Mark, ErrMo
     }
 }
 
-/// The bytes of a line.
-pub(crate) fn read_line<'i>(input: &mut Partial<&'i [u8]>) -> Result<&'i [u8], ErrMode<EmptyError>>
+/// The bytes of the line that the input begins with, up to its end, which is read too. Neither a
+/// carriage return nor a line feed is among them. Errors are those of
+/// [`read_reply`](crate::read::read_reply).
+///
+/// ```
+/// use format_resp::leaves::read_line;
+/// use winnow::stream::Partial;
+///
+/// let mut input = Partial::new(b"OK\r\n+".as_slice());
+/// assert!(rt; matches!(read_line(&mut input), Ok(line) if line == b"OK".as_slice()));
+/// assert_eq!(rt; *input.as_inner(), b"+".as_slice());
+/// ```
+pub fn read_line<'i>(input: &mut Partial<&'i [u8]>) -> Result<&'i [u8], ErrMode<EmptyError>>
     ensures { ReadsOrAsks bytes_reading bytes_follow ⟦<Error as HasKind>⟧.kind (First LineText)
         (⟦<Bytes as Stream>⟧.view input.old) result (⟦<Bytes as Stream>⟧.view input.new) }
 {
@@ -82,10 +93,18 @@ pub(crate) fn read_integer<'i>(input: &mut Partial<&'i [u8]>) -> Result<i64, Err
     }
 }
 
-/// A size on a line of its own; none for null.
-pub(crate) fn read_size<'i>(
-    input: &mut Partial<&'i [u8]>,
-) -> Result<Option<usize>, ErrMode<EmptyError>>
+/// The size on the line that the input begins with, up to its end; none for -1, which stands for
+/// null. Errors are those of [`read_reply`](crate::read::read_reply).
+///
+/// ```
+/// use format_resp::leaves::read_size;
+/// use winnow::stream::Partial;
+///
+/// assert!(rt; matches!(read_size(&mut Partial::new(b"6\r\n".as_slice())), Ok(Some(6))));
+/// assert!(rt; matches!(read_size(&mut Partial::new(b"-1\r\n".as_slice())), Ok(None)));
+/// assert!(rt; read_size(&mut Partial::new(b"-2\r\n".as_slice())).is_err());
+/// ```
+pub fn read_size<'i>(input: &mut Partial<&'i [u8]>) -> Result<Option<usize>, ErrMode<EmptyError>>
     ensures { ReadsOrAsks bytes_reading bytes_follow ⟦<Error as HasKind>⟧.kind (First SizeText)
         (⟦<Bytes as Stream>⟧.view input.old) result (⟦<Bytes as Stream>⟧.view input.new) }
 {
@@ -99,8 +118,18 @@ pub(crate) fn read_size<'i>(
     }
 }
 
-/// That many bytes and a line end.
-pub(crate) fn read_data<'i>(
+/// That many bytes, and a line end after them, which is read too. Errors are those of
+/// [`read_reply`](crate::read::read_reply).
+///
+/// ```
+/// use format_resp::leaves::read_data;
+/// use winnow::stream::Partial;
+///
+/// let mut input = Partial::new(b"\r\n+\r\n:".as_slice());
+/// assert!(rt; matches!(read_data(3, &mut input), Ok(data) if data == b"\r\n+".as_slice()));
+/// assert_eq!(rt; *input.as_inner(), b":".as_slice());
+/// ```
+pub fn read_data<'i>(
     size: usize,
     input: &mut Partial<&'i [u8]>,
 ) -> Result<&'i [u8], ErrMode<EmptyError>>

@@ -9,8 +9,8 @@
 
 pub mod back;
 pub mod extent;
-mod heads;
-mod leaves;
+pub mod heads;
+pub mod leaves;
 mod lines;
 mod pieces;
 pub mod read;

@@ -1,0 +1,16 @@
+//! Replies of Redis in RESP3, the third version of its protocol, by what is written for them, over
+//! bytes that may come in pieces.
+//!
+//! Each type of RESP3 is read, and the nulls of RESP2. Of attributes the reply that they are of
+//! stands last among them. Where this differs from the protocol: streamed strings and aggregates
+//! (`$?`, `*?`), which no server sends, are refused as what is no reply; an integer has no leading
+//! zero, and 0 has no sign, but doubles and big numbers, which are kept as text, may have them; a
+//! size may have a plus sign before it; and aggregates are read where no more than so many stand in
+//! one another, as the caller says.
+#![tactic(auto)]
+
+mod kinds;
+mod marks;
+pub mod numbers;
+pub mod read;
+pub mod reply;

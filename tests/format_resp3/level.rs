@@ -1,0 +1,30 @@
+//! The safe level, on the stack that is said to suffice.
+use std::alloc::Global;
+use std::thread::Builder;
+use format_resp3::read::{SAFE_LEVEL, read_reply};
+use winnow::stream::{Partial, StreamIsPartial};
+
+/// Whether an integer in so many aggregates is read at the safe level.
+fn is_read(alloc: Global, level: usize) -> bool {
+    let mut bytes = Vec::new(alloc);
+    for _ in 0..level {
+        if bytes.extend_from_slice(b">1\r\n".as_slice()).is_err() {
+            return false;
+        }
+    }
+    if bytes.extend_from_slice(b":7\r\n".as_slice()).is_err() {
+        return false;
+    }
+    let mut input = Partial::new(bytes.as_slice());
+    input.complete();
+    read_reply(alloc, SAFE_LEVEL, &mut input).is_ok()
+}
+
+#[test]
+fn read_reply_at_the_safe_level(rt: HostRuntime) {
+    let alloc = rt.alloc();
+    let thread = Builder::new().stack_size(2 << 20).spawn(&rt, move || {
+        is_read(alloc, SAFE_LEVEL) && !is_read(alloc, SAFE_LEVEL + 1)
+    });
+    assert!(rt; thread.is_ok_and(|it| it.join(&rt)));
+}
