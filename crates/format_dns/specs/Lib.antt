@@ -6,6 +6,8 @@ pub mod FieldLaws
 pub mod Fields
 pub mod Header
 pub mod Laws
+pub mod MessageLaws
+pub mod Messages
 pub mod NameLaws
 pub mod Names
 pub mod Octets

@@ -9,7 +9,7 @@ use Rattle.format_dns.specs.FieldLaws.{asked_length}
 use Rattle.format_dns.specs.NameLaws.{no_name, one_behind}
 use Rattle.format_dns.specs.Names.{At}
 use Rattle.format_dns.specs.Questions.{AreQuestions, HasNoQuestion, HaveNoQuestions, IsQuestion}
-use Rattle.format_dns.specs.Questions.{PartTold, Rows, RowsFail}
+use Rattle.format_dns.specs.Questions.{PartTold, QuestionsLack, Rows, RowsFail, RowsLack}
 use Rattle.format_dns.specs.declared.fault.Fault.{Fault}
 use Rattle.format_dns.specs.declared.fault.Fault.TheVariants.{NoMemory}
 use Rattle.format_dns.specs.declared.question.Question.{Question}
@@ -57,6 +57,26 @@ module _ {X : Type 0} (Is : ℕ → X → Type 0) (behind : X → ℕ) where
         many =
         let (y, is) = rows_next parts others start place other rows more (omega (arith, few, many))
         in never place fault y fails is
+
+    -- as many end at one place
+    pub rows_end : (parts others : List X) (start place other : ℕ)
+        → Rows Is behind start parts place → Rows Is behind start others other
+        → length parts ≡ length others → place ≡ other
+    rows_end [] [] start place other e f same = e ∙ sym f
+    rows_end [] (y ∷ others) start place other e (b, more) same = absurd (omega (arith, same))
+    rows_end (x ∷ parts) [] start place other (a, rows) f same = absurd (omega (arith, same))
+    rows_end (x ∷ parts) (y ∷ others) start place other (a, rows) (b, more) same =
+        let P : ℕ → Type 0 = λ n. Rows Is behind n parts place in
+        rows_end parts others (behind y) place other (subst P (one start x y a b) rows) more
+        (omega (arith, same))
+
+-- where one lacks after that many, there are not as many
+pub lack_fails : {X : Type 0} (Is : ℕ → X → Type 0) (behind : X → ℕ)
+    (Fails : ℕ → Fault → Type 0) (start count entry : ℕ) (fault : Fault)
+    → RowsLack Is behind Fails start count entry fault
+    → RowsFail Is behind Fails start count fault
+lack_fails Is behind Fails start count entry fault (parts, place, rows, size, few, fails) =
+    (parts, place, rows, omega (arith, size, few), fails)
 
 -- ---- questions
 
@@ -113,3 +133,16 @@ module _ (message : List ℕ) (level : ℕ) where
       (λ question. question.behind) (λ place x y. one_question place x y)
       (HasNoQuestion message level) (λ place f x. no_question place f x) start count fault fails
       questions.list.items questions.behind rows many
+
+  pub fail_questions : {A : Type 0} (start count entry : ℕ) (fault : Fault)
+      → QuestionsLack message level A start count entry fault
+      → HaveNoQuestions message level A start count fault
+  fail_questions {A} start count entry fault lacks =
+      lack_fails (λ place (question : Question A). IsQuestion message level place question)
+      (λ question. question.behind) (HasNoQuestion message level) start count entry fault lacks
+
+  pub lack_questions : {A : Type 0} (start count entry : ℕ) (fault : Fault)
+      (questions : Questions A) → QuestionsLack message level A start count entry fault
+      → AreQuestions message level start count questions → ⊥
+  lack_questions {A} start count entry fault questions lacks =
+      no_questions start count fault questions (fail_questions start count entry fault lacks)

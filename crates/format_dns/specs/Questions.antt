@@ -4,6 +4,8 @@ use Rattle.format_dns.specs.Fields.{AreAsked}
 use Rattle.format_dns.specs.Names.{At, HasNoName, IsName, Label, octets}
 use Rattle.format_dns.specs.declared.fault.Fault.{Fault}
 use Rattle.format_dns.specs.declared.fault.Fault.TheVariants.{Ends, NoMemory}
+use Rattle.format_dns.specs.declared.fault.MessageFault.{MessageFault}
+use Rattle.format_dns.specs.declared.fault.Section.{Section}
 use Rattle.format_dns.specs.declared.name.Name.{Name}
 use Rattle.format_dns.specs.declared.question.Question.{Question}
 use Rattle.format_dns.specs.declared.question.Questions.{Questions}
@@ -26,6 +28,22 @@ abbrev pub RowsFail : {X : Type 0} → (ℕ → X → Type 0) → (X → ℕ) �
 RowsFail {X} Is behind Fails start count fault =
     (parts : List X) × (place : ℕ) × Rows Is behind start parts place × (length parts < count)
     × Fails place fault
+
+-- That many stand, fewer than are wanted, and after them the next fails.
+abbrev pub RowsLack : {X : Type 0} → (ℕ → X → Type 0) → (X → ℕ) → (ℕ → Fault → Type 0) → ℕ → ℕ
+    → ℕ → Fault → Type 0
+RowsLack {X} Is behind Fails start count entry fault =
+    (parts : List X) × (place : ℕ) × Rows Is behind start parts place × (length parts ≡ entry)
+    × (entry < count) × Fails place fault
+
+-- What is told of the entries of a section: they are these; or after how many one is not there, and
+-- why, and they are none; or memory is wanting.
+abbrev pub SectionTold : {X : Type 0} → Section → (X → Type 0) → (ℕ → Fault → Type 0)
+    → Result X MessageFault → Type 0
+SectionTold section Is Fails (Ok entries) = Is entries
+SectionTold {X} section Is Fails (Err fault) =
+    (fault.why ≡ NoMemory)
+    ⊎ ((fault.section ≡ section) × Fails fault.entry fault.why × ((entries : X) → Is entries → ⊥))
 
 -- What is told of fields at a place, of that many bytes together: they are these; or the message
 -- ends within them.
@@ -72,6 +90,12 @@ module _ (message : List ℕ) (level : ℕ) where
   abbrev pub HaveNoQuestions : Type 0 → ℕ → ℕ → Fault → Type 0
   HaveNoQuestions A =
       RowsFail (λ place (question : Question A). IsQuestion place question)
+      (λ question. question.behind) HasNoQuestion
+
+  -- After that many questions, fewer than are wanted, is none, for this reason.
+  abbrev pub QuestionsLack : Type 0 → ℕ → ℕ → ℕ → Fault → Type 0
+  QuestionsLack A =
+      RowsLack (λ place (question : Question A). IsQuestion place question)
       (λ question. question.behind) HasNoQuestion
 
   -- what is told of that many questions

@@ -11,8 +11,9 @@ use Rattle.format_dns.specs.FieldLaws.{record_length}
 use Rattle.format_dns.specs.Fields.{AreRecordFields, IsField}
 use Rattle.format_dns.specs.NameLaws.{no_name, one_behind, one_place}
 use Rattle.format_dns.specs.Names.{At}
-use Rattle.format_dns.specs.PartLaws.{at_length, rows_none}
+use Rattle.format_dns.specs.PartLaws.{at_length, lack_fails, rows_none}
 use Rattle.format_dns.specs.Records.{AreRecords, HasNoRecord, HaveNoRecords, IsRecord}
+use Rattle.format_dns.specs.Records.{RecordsLack}
 use Rattle.format_dns.specs.declared.fault.Fault.{Fault}
 use Rattle.format_dns.specs.declared.record.Record.{Record}
 use Rattle.format_dns.specs.declared.record.Records.{Records}
@@ -25,7 +26,7 @@ whole_is message place end is e =
 
 -- ---- one number in a field
 
-one_field : {width n m : ℕ} {bytes others rest more : List ℕ} → bytes ≡ others
+pub one_field : {width n m : ℕ} {bytes others rest more : List ℕ} → bytes ≡ others
     → IsField width n bytes rest → IsField width m others more → (n ≡ m) × (rest ≡ more)
 one_field {width} {n} {m} {rest = rest} {more = more} e a b =
     let alike = same_beginnings (bytes_high_first width n) (bytes_high_first width m) rest more
@@ -100,3 +101,16 @@ module _ (message : List ℕ) (level : ℕ) where
       (λ it. it.behind) (λ place x y. one_record place x y)
       (HasNoRecord message level) (λ place f x. no_record place f x) start count fault fails
       records.list.items records.behind rows many
+
+  pub fail_records : {A : Type 0} (start count entry : ℕ) (fault : Fault)
+      → RecordsLack message level A start count entry fault
+      → HaveNoRecords message level A start count fault
+  fail_records {A} start count entry fault lacks =
+      lack_fails (λ place (it : Record A). IsRecord message level place it) (λ it. it.behind)
+      (HasNoRecord message level) start count entry fault lacks
+
+  pub lack_records : {A : Type 0} (start count entry : ℕ) (fault : Fault) (records : Records A)
+      → RecordsLack message level A start count entry fault
+      → AreRecords message level start count records → ⊥
+  lack_records {A} start count entry fault records lacks =
+      no_records start count fault records (fail_records start count entry fault lacks)

@@ -3,7 +3,7 @@ use Rattle.std.specs.Prelude.{◌≡◌, ◌⊎◌, ◌≤◌, ◌<◌, ◌+◌,
 use Rattle.format_dns.specs.Data.{IsOfForm, NoForm, form_for}
 use Rattle.format_dns.specs.Fields.{AreRecordFields}
 use Rattle.format_dns.specs.Names.{At, HasNoName, Label}
-use Rattle.format_dns.specs.Questions.{HasName, IsShort, PartTold, Rows, RowsFail}
+use Rattle.format_dns.specs.Questions.{HasName, IsShort, PartTold, Rows, RowsFail, RowsLack}
 use Rattle.format_dns.specs.declared.fault.Fault.{Fault}
 use Rattle.format_dns.specs.declared.fault.Fault.TheVariants.{Ends}
 use Rattle.format_dns.specs.declared.record.Record.{Record}
@@ -54,6 +54,11 @@ module _ (message : List ℕ) (level : ℕ) where
   abbrev pub HaveNoRecords : Type 0 → ℕ → ℕ → Fault → Type 0
   HaveNoRecords A =
       RowsFail (λ place (it : Record A). IsRecord place it) (λ it. it.behind) HasNoRecord
+
+  -- After that many records, fewer than are wanted, is none, for this reason.
+  abbrev pub RecordsLack : Type 0 → ℕ → ℕ → ℕ → Fault → Type 0
+  RecordsLack A =
+      RowsLack (λ place (it : Record A). IsRecord place it) (λ it. it.behind) HasNoRecord
 
   -- what is told of that many records
   abbrev pub RecordsTold : {A : Type 0} → ℕ → ℕ → Result (Records A) Fault → Type 0

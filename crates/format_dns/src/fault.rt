@@ -27,3 +27,44 @@ pub enum Fault {
     /// A request for memory was refused.
     NoMemory,
 }
+
+/// A section of a message (RFC 1035, section 4.1).
+///
+/// ```
+/// use format_dns::fault::Section;
+///
+/// assert!(rt; Section::Answer != Section::Authority);
+/// ```
+#[derive(Clone, Copy, Debug, PartialEq, Eq)]
+pub enum Section {
+    /// Twelve bytes, which say among other things how many entries the other sections have.
+    Header,
+    /// The questions.
+    Question,
+    /// The records that answer them.
+    Answer,
+    /// The records that point to an authority.
+    Authority,
+    /// The records that hold more.
+    Additional,
+}
+
+/// Why bytes are no message: the first entry that is not there. All before it stand.
+///
+/// ```
+/// use format_dns::fault::{Fault, MessageFault, Section};
+///
+/// let fault = MessageFault { section: Section::Answer, entry: 2, why: Fault::Ends(40) };
+/// let said = format!(in alloc; "{fault}");
+/// let told = "entry 2 of the answer section: the message or the data end within what begins";
+/// assert!(rt; matches!(said, Ok(said) if said.as_str().starts_with(told)));
+/// ```
+#[derive(Clone, Copy, Debug, PartialEq, Eq)]
+pub struct MessageFault {
+    /// The section that it is of.
+    pub section: Section,
+    /// How many entries of the section stand before it.
+    pub entry: usize,
+    /// Why it is not there, and where; or that a request for memory was refused as it was read.
+    pub why: Fault,
+}

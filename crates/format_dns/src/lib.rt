@@ -1,6 +1,6 @@
 //! The header of a message of the Domain Name System (RFC 1035, section 4.1.1), names in it with
-//! their compression (sections 3.1 and 4.1.4), its questions (section 4.1.2), and its records
-//! (section 4.1.3).
+//! their compression (sections 3.1 and 4.1.4), its questions (section 4.1.2), its records (section
+//! 4.1.3), and whole messages.
 //!
 //! Where this differs from the standard, or chooses what it leaves open:
 //!
@@ -18,6 +18,8 @@
 //! - A record without data where its type has some, as an update of RFC 2136 has, is none here.
 //! - The name of a mailbox or a host is a name as any other, and so is that of a question. No type
 //!   and no class of a question is refused.
+//! - Bytes after the last record that the header counts are none of a message's: they are not read,
+//!   and no fault. The place where it ends is told.
 #![tactic(auto)]
 
 pub mod data;
@@ -25,7 +27,9 @@ pub mod fault;
 mod fields;
 pub mod header;
 mod labels;
+pub mod message;
 pub mod name;
 pub mod question;
 pub mod record;
+mod shown;
 pub mod text;

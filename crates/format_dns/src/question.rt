@@ -1,11 +1,11 @@
 //! Questions (RFC 1035, section 4.1.2).
 ghost use Rattle.format_dns.specs.Fields.{AreAsked};
 ghost use Rattle.format_dns.specs.Names.{At};
-ghost use Rattle.format_dns.specs.Questions.{FieldsTold, HasNoQuestion, IsQuestion, PartTold};
-ghost use Rattle.format_dns.specs.Questions.{QuestionsTold};
+ghost use Rattle.format_dns.specs.Questions.{AreQuestions, FieldsTold, HasNoQuestion, IsQuestion};
+ghost use Rattle.format_dns.specs.Questions.{PartTold, QuestionsLack, QuestionsTold, SectionTold};
 ghost use Rattle.std.specs.Prelude.{◌≤◌, length, IfOk, IsOk};
 
-use crate::fault::Fault;
+use crate::fault::{Fault, MessageFault, Section};
 use crate::header::number;
 use crate::name::{Name, read_name};
 use std::alloc::Allocator;
@@ -121,13 +121,44 @@ pub fn read_questions<'m, A: Allocator + Copy>(
 ) -> Result<Questions<'m, A>, Fault>
     ensures { QuestionsTold message.now level place count result }
 {
+    match questions_in(alloc, level, message, place, count) {
+        Ok(questions) => Ok(questions),
+        Err(fault) => Err(fault.why),
+    }
+}
+
+/// The same of a question section, with how many stand before the first that is not there.
+pub(crate) fn questions_in<'m, A: Allocator + Copy>(
+    alloc: A,
+    level: usize,
+    message: &'m [u8],
+    place: usize,
+    count: u16,
+) -> Result<Questions<'m, A>, MessageFault>
+    ensures { SectionTold Section.Question (AreQuestions message.now level place count)
+        (QuestionsLack message.now level A place count) result }
+{
+    let section = Section::Question;
     let mut list = Vec::new(alloc);
     let mut behind = place;
     while list.len() < usize::from(count) {
-        let question = read_question(alloc, level, message, behind)?;
+        let entry = list.len();
+        let question = match read_question(alloc, level, message, behind) {
+            Ok(question) => question,
+            Err(why) => return Err(MessageFault {
+                section,
+                entry,
+                why,
+            }),
+        };
         behind = question.behind;
         if list.push(question).is_err() {
-            return Err(Fault::NoMemory);
+            let why = Fault::NoMemory;
+            return Err(MessageFault {
+                section,
+                entry,
+                why,
+            });
         }
     }
     Ok(Questions { list, behind })

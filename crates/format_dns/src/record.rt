@@ -1,9 +1,10 @@
 //! Resource records (RFC 1035, sections 3.2 and 4.1.3).
-ghost use Rattle.format_dns.specs.Questions.{PartTold};
-ghost use Rattle.format_dns.specs.Records.{HasNoRecord, IsRecord, RecordsTold};
+ghost use Rattle.format_dns.specs.Questions.{PartTold, SectionTold};
+ghost use Rattle.format_dns.specs.Records.{AreRecords, HasNoRecord, IsRecord, RecordsLack};
+ghost use Rattle.format_dns.specs.Records.{RecordsTold};
 
 use crate::data::{Data, form_of, read_data};
-use crate::fault::Fault;
+use crate::fault::{Fault, MessageFault, Section};
 use crate::fields::record_fields_at;
 use crate::name::{Name, read_name};
 use std::alloc::Allocator;
@@ -103,13 +104,44 @@ pub fn read_records<'m, A: Allocator + Copy>(
 ) -> Result<Records<'m, A>, Fault>
     ensures { RecordsTold message.now level place count result }
 {
+    match records_in(Section::Answer, alloc, level, message, place, count) {
+        Ok(records) => Ok(records),
+        Err(fault) => Err(fault.why),
+    }
+}
+
+/// The same of a section, with how many stand before the first that is not there.
+pub(crate) fn records_in<'m, A: Allocator + Copy>(
+    section: Section,
+    alloc: A,
+    level: usize,
+    message: &'m [u8],
+    place: usize,
+    count: u16,
+) -> Result<Records<'m, A>, MessageFault>
+    ensures { SectionTold section (AreRecords message.now level place count)
+        (RecordsLack message.now level A place count) result }
+{
     let mut list = Vec::new(alloc);
     let mut behind = place;
     while list.len() < usize::from(count) {
-        let record = read_record(alloc, level, message, behind)?;
+        let entry = list.len();
+        let record = match read_record(alloc, level, message, behind) {
+            Ok(record) => record,
+            Err(why) => return Err(MessageFault {
+                section,
+                entry,
+                why,
+            }),
+        };
         behind = record.behind;
         if list.push(record).is_err() {
-            return Err(Fault::NoMemory);
+            let why = Fault::NoMemory;
+            return Err(MessageFault {
+                section,
+                entry,
+                why,
+            });
         }
     }
     Ok(Records { list, behind })

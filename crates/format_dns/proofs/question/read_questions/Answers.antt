@@ -1,60 +1,13 @@
-use Rattle.std.proofs.Common.{refl, sym, inl, inr, arith, ◌∙◌, ◌∷◌, []}
-use Rattle.std.proofs.Common.{length-append}
-use Rattle.format_dns.specs.Laws.{put_behind}
-use Rattle.format_dns.specs.PartLaws.{no_questions, part_err, rows_push}
-use Rattle.format_dns.specs.Questions.{AreQuestions, HaveNoQuestions, IsQuestion}
+use Rattle.std.proofs.Common.{inl, inr}
+use Rattle.format_dns.specs.PartLaws.{fail_questions}
 use Rattle.format_dns.proofs.question.read_questions.Goals as goal
 
-pub loop-alloc-init : goal.loop-alloc-init
-loop-alloc-init g c = rw (c.new-list.ensures.items) (refl, omega arith)
-
-pub returns-in_err-question : goal.returns-in_err-question
-returns-in_err-question g c =
-    part_err (AreQuestions c.args.message.now c.args.level c.args.place c.args.count)
-    (HaveNoQuestions c.args.message.now c.args.level g.row.A.Denot c.args.place c.args.count)
-    c.from_residual.result c.from_residual.ensures.1 (elim c.in_err-question.ensures [
-      | inl memory ↦ inl memory
-      | inr (fails, none) ↦
-          let all : HaveNoQuestions c.args.message.now c.args.level g.row.A.Denot c.args.place
-          c.args.count c.in_err-question.field-0.0 = (
-            c.loop-alloc.list.items,
-            c.loop-alloc.behind,
-            c.loop-alloc.invariant.0,
-            omega (arith, c.loop-alloc-test.true, c.len.ensures, c.from.ensures),
-            fails,
-          ) in
-          inr (
-            all,
-            λ questions. no_questions c.args.message.now c.args.level c.args.place
-                c.args.count _ questions all,
-          )
-    ])
-
-pub loop-alloc-preserved : goal.loop-alloc-preserved
-loop-alloc-preserved g c =
-    let put = put_behind c.loop-alloc.list.items (c.in_ok-question.question ∷ []) c.push.result
-    c.push.ensures.items (sym c.is_err.ensures.value ∙ c.if-is_err.false) in
-    rw (put) (
-      rows_push (λ place question. IsQuestion c.args.message.now c.args.level place question)
-          (λ question. question.behind) c.loop-alloc.list.items c.args.place c.loop-alloc.behind
-          c.in_ok-question.question c.loop-alloc.invariant.0 c.in_ok-question.ensures,
-      omega (
-        arith,
-        length-append c.loop-alloc.list.items (c.in_ok-question.question ∷ []),
-        c.loop-alloc-test.true,
-        c.len.ensures,
-        c.from.ensures,
-      ),
-    )
-
-pub returns : goal.returns
-returns g c = (
-  c.loop-alloc.invariant.0,
-  omega (
-    arith,
-    c.loop-alloc.invariant.1,
-    c.loop-alloc-test.false,
-    c.len.ensures,
-    c.from.ensures,
-  ),
-)
+pub returns-in-Err : goal.returns-in-Err
+returns-in-Err g c = elim c.in-Err.ensures [
+  | inl memory ↦ inl memory
+  | inr (same, lacks, none) ↦ inr (
+    fail_questions c.args.message.now c.args.level c.args.place
+        c.args.count _ _ lacks,
+    none,
+  )
+]

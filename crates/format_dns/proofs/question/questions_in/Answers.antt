@@ -1,0 +1,59 @@
+use Rattle.std.proofs.Common.{refl, sym, inl, inr, arith, ◌∙◌, ◌∷◌, []}
+use Rattle.std.proofs.Common.{length-append}
+use Rattle.format_dns.specs.Laws.{put_behind}
+use Rattle.format_dns.specs.PartLaws.{lack_questions, rows_push}
+use Rattle.format_dns.specs.Questions.{IsQuestion, QuestionsLack}
+use Rattle.format_dns.proofs.question.questions_in.Goals as goal
+
+pub loop-alloc-init : goal.loop-alloc-init
+loop-alloc-init g c = rw (c.new-list.ensures.items) (refl, omega arith)
+
+pub returns-in-Err : goal.returns-in-Err
+returns-in-Err g c = elim c.in-Err.ensures [
+  | inl memory ↦ inl memory
+  | inr (fails, none) ↦
+      let all : QuestionsLack c.args.message.now c.args.level g.row.A.Denot c.args.place
+      c.args.count c.len-entry.result c.in-Err.why = (
+        c.loop-alloc.list.items,
+        c.loop-alloc.behind,
+        c.loop-alloc.invariant.0,
+        omega (arith, c.len-entry.ensures),
+        omega (arith, c.loop-alloc-test.true, c.len.ensures, c.len-entry.ensures, c.from.ensures),
+        fails,
+      ) in
+      inr (
+        refl,
+        all,
+        λ questions. lack_questions c.args.message.now c.args.level c.args.place c.args.count
+            c.len-entry.result c.in-Err.why questions all,
+      )
+]
+
+pub loop-alloc-preserved : goal.loop-alloc-preserved
+loop-alloc-preserved g c =
+    let put = put_behind c.loop-alloc.list.items (c.in-Ok.question ∷ []) c.push.result
+    c.push.ensures.items (sym c.is_err.ensures.value ∙ c.if-is_err.false) in
+    rw (put) (
+      rows_push (λ place question. IsQuestion c.args.message.now c.args.level place question)
+          (λ question. question.behind) c.loop-alloc.list.items c.args.place c.loop-alloc.behind
+          c.in-Ok.question c.loop-alloc.invariant.0 c.in-Ok.ensures,
+      omega (
+        arith,
+        length-append c.loop-alloc.list.items (c.in-Ok.question ∷ []),
+        c.loop-alloc-test.true,
+        c.len.ensures,
+        c.from.ensures,
+      ),
+    )
+
+pub returns : goal.returns
+returns g c = (
+  c.loop-alloc.invariant.0,
+  omega (
+    arith,
+    c.loop-alloc.invariant.1,
+    c.loop-alloc-test.false,
+    c.len.ensures,
+    c.from.ensures,
+  ),
+)

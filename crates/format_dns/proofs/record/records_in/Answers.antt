@@ -1,0 +1,60 @@
+use Rattle.std.proofs.Common.{refl, sym, inl, inr, arith, ◌∙◌, ◌∷◌, []}
+use Rattle.std.proofs.Common.{length-append}
+use Rattle.format_dns.specs.Laws.{put_behind}
+use Rattle.format_dns.specs.PartLaws.{rows_push}
+use Rattle.format_dns.specs.RecordLaws.{lack_records}
+use Rattle.format_dns.specs.Records.{IsRecord, RecordsLack}
+use Rattle.format_dns.proofs.record.records_in.Goals as goal
+
+pub loop-section-init : goal.loop-section-init
+loop-section-init g c = rw (c.new-list.ensures.items) (refl, omega arith)
+
+pub returns-in-Err : goal.returns-in-Err
+returns-in-Err g c = elim c.in-Err.ensures [
+  | inl memory ↦ inl memory
+  | inr (fails, none) ↦
+      let all : RecordsLack c.args.message.now c.args.level g.row.A.Denot c.args.place
+      c.args.count c.len-entry.result c.in-Err.why = (
+        c.loop-section.list.items,
+        c.loop-section.behind,
+        c.loop-section.invariant.0,
+        omega (arith, c.len-entry.ensures),
+        omega (arith, c.loop-section-test.true, c.len.ensures, c.len-entry.ensures, c.from.ensures),
+        fails,
+      ) in
+      inr (
+        refl,
+        all,
+        λ records. lack_records c.args.message.now c.args.level c.args.place c.args.count
+            c.len-entry.result c.in-Err.why records all,
+      )
+]
+
+pub loop-section-preserved : goal.loop-section-preserved
+loop-section-preserved g c =
+    let put = put_behind c.loop-section.list.items (c.in-Ok.record ∷ []) c.push.result
+    c.push.ensures.items (sym c.is_err.ensures.value ∙ c.if-is_err.false) in
+    rw (put) (
+      rows_push (λ place it. IsRecord c.args.message.now c.args.level place it)
+          (λ it. it.behind) c.loop-section.list.items c.args.place c.loop-section.behind
+          c.in-Ok.record c.loop-section.invariant.0 c.in-Ok.ensures,
+      omega (
+        arith,
+        length-append c.loop-section.list.items (c.in-Ok.record ∷ []),
+        c.loop-section-test.true,
+        c.len.ensures,
+        c.from.ensures,
+      ),
+    )
+
+pub returns : goal.returns
+returns g c = (
+  c.loop-section.invariant.0,
+  omega (
+    arith,
+    c.loop-section.invariant.1,
+    c.loop-section-test.false,
+    c.len.ensures,
+    c.from.ensures,
+  ),
+)

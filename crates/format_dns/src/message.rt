@@ -1,0 +1,123 @@
+//! Whole messages (RFC 1035, section 4.1).
+
+ghost use Rattle.std.specs.Prelude.{◌≡◌};
+ghost use Rattle.format_dns.specs.Messages.{HeaderTold, MessageTold};
+
+use crate::fault::{Fault, MessageFault, Section};
+use crate::header::{Header, read_header};
+use crate::question::{Questions, questions_in};
+use crate::record::{Records, records_in};
+use std::alloc::Allocator;
+
+/// A message, of whose bytes `'m` the labels of its names are slices.
+#[derive(Drop)]
+pub struct Message<'m, A: Allocator> {
+    /// Its header.
+    pub header: Header,
+    /// Its questions, as many as the header says.
+    pub questions: Questions<'m, A>,
+    /// The records of its answer section.
+    pub answers: Records<'m, A>,
+    /// The records of its authority section.
+    pub authority: Records<'m, A>,
+    /// The records of its additional section.
+    pub additional: Records<'m, A>,
+}
+
+impl<'m, A: Allocator> Message<'m, A> {
+    /// The place after the last record, in bytes from the start: how many bytes the message has.
+    ///
+    /// ```
+    /// use format_dns::message::read_message;
+    ///
+    /// let bytes = b"\x12\x34\x01\0\0\0\0\0\0\0\0\0rest".as_slice();
+    /// let message = read_message(alloc, 127, bytes);
+    /// assert!(rt; matches!(message, Ok(message) if message.behind() == 12));
+    /// ```
+    pub fn behind(&self) -> usize
+        ensures { result ≡ self.now.additional.behind }
+    {
+        self.additional.behind
+    }
+}
+
+/// The header with which a message begins.
+fn header_in(message: &[u8]) -> Result<Header, MessageFault>
+    ensures { HeaderTold message.now result }
+{
+    let lacks = MessageFault {
+        section: Section::Header,
+        entry: 0,
+        why: Fault::Ends(0),
+    };
+    let Some(mut first) = message.get(..12) else {
+        return Err(lacks);
+    };
+    match read_header(&mut first) {
+        Ok(header) => Ok(header),
+        Err(_) => Err(lacks),
+    }
+}
+
+/// The message that the bytes begin with: a header of twelve bytes, and after it, one after the
+/// other, as many questions and records of the three sections as it counts, as [`read_question`]
+/// and [`read_record`] read each. Of pointers no more than `level` are followed, one after the
+/// other; 127 suffice where each leads to a label.
+///
+/// Bytes after the last record are not read, and no fault: [`behind`](Message::behind) says where
+/// it ends.
+///
+/// An error says which entry of which section is the first that is not there, and why and where;
+/// or that memory is wanting, and at which entry. A header that is not there is entry 0 of its
+/// section, and ends at place 0. Memory is asked for as entries are read, whatever the header
+/// counts: a message of twelve bytes wants none.
+///
+/// [`read_question`]: crate::question::read_question
+/// [`read_record`]: crate::record::read_record
+///
+/// ```
+/// use format_dns::fault::{Fault, Section};
+/// use format_dns::message::read_message;
+///
+/// let bytes = b"\x12\x34\x01\x00\x00\x01\x00\x00\x00\x00\x00\x00\x03com\x00\x00\x02\x00\x01";
+/// match read_message(alloc, 127, bytes.as_slice()) {
+///     Ok(message) => {
+///         assert_eq!(rt; message.header.id, 0x1234);
+///         assert_eq!(rt; message.questions.list[0].kind, 2);
+///     }
+///     Err(_) => assert!(rt; false),
+/// }
+/// match read_message(alloc, 127, &bytes[..20]) {
+///     Ok(_) => assert!(rt; false),
+///     Err(fault) => {
+///         assert!(rt; fault.section == Section::Question && fault.entry == 0);
+///         assert!(rt; fault.why == Fault::Ends(17));
+///     }
+/// }
+/// ```
+pub fn read_message<'m, A: Allocator + Copy>(
+    alloc: A,
+    level: usize,
+    message: &'m [u8],
+) -> Result<Message<'m, A>, MessageFault>
+    ensures { MessageTold message.now level result }
+{
+    let header = header_in(message)?;
+    let questions = questions_in(alloc, level, message, 12, header.question_count)?;
+    let place = questions.behind;
+    let count = header.answer_count;
+    let answers = records_in(Section::Answer, alloc, level, message, place, count)?;
+    let place = answers.behind;
+    let count = header.authority_count;
+    let authority = records_in(Section::Authority, alloc, level, message, place, count)?;
+    let place = authority.behind;
+    let count = header.additional_count;
+    let additional = records_in(Section::Additional, alloc, level, message, place, count)?;
+    Ok(Message {
+        header,
+        questions,
+        answers,
+        authority,
+        additional,
+    })
+}

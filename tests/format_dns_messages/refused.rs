@@ -1,0 +1,78 @@
+//! Memory that is refused, and faults as text.
+use format_dns::fault::{Fault, MessageFault, Section};
+use format_dns::message::read_message;
+use std::alloc::Global;
+use test_support::refusing::Refusing;
+
+/// One entry in each section, and the names are the root.
+const MESSAGE: &[u8] = b"\0\0\0\0\0\x01\0\x01\0\x01\0\x01\
+\x01a\0\0\x10\0\x01\
+\xc0\x0c\0\x10\0\x01\0\0\0\0\0\x02\x01a\
+\xc0\x0c\0\x02\0\x01\0\0\0\0\0\x02\xc0\x0c\
+\xc0\x0c\0\x01\0\x01\0\0\0\0\0\x04\x7f\0\0\x01";
+
+#[test]
+fn read_message_refused_memory(rt: HostRuntime) {
+    let mut met = true;
+    let mut n = 0u64;
+    while met {
+        let heap: Refusing<Global> = Refusing::once(rt.alloc(), n);
+        let read = read_message(&heap, 1, MESSAGE);
+        let wants = matches!(read, Err(fault) if fault.why == Fault::NoMemory);
+        met = heap.met();
+        assert_eq!(rt; wants, met, "{n}");
+        n += 1;
+    }
+    assert!(rt; n > 10);
+}
+
+/// A header that counts 65,535 entries in each section asks for no memory.
+#[test]
+fn read_message_that_counts_too_many(rt: HostRuntime) {
+    let header = b"\0\0\0\0\xff\xff\xff\xff\xff\xff\xff\xff".as_slice();
+    let heap: Refusing<Global> = Refusing::once(rt.alloc(), 0);
+    let read = read_message(&heap, 127, header);
+    let why = Fault::Ends(12);
+    let fault = MessageFault { section: Section::Question, entry: 0, why };
+    assert!(rt; matches!(read, Err(got) if got == fault));
+    assert!(rt; !heap.met());
+}
+
+const SAID: &[(MessageFault, &str)] = &[
+    (
+        MessageFault { section: Section::Header, entry: 0, why: Fault::Ends(0) },
+        "entry 0 of the header section: the message or the data end within what begins at byte 0",
+    ),
+    (
+        MessageFault { section: Section::Question, entry: 1, why: Fault::TooLong(12) },
+        "entry 1 of the question section: a name too long by the labels at byte 12",
+    ),
+    (
+        MessageFault { section: Section::Answer, entry: 2, why: Fault::TooMany(42) },
+        "entry 2 of the answer section: a pointer more than are followed at byte 42",
+    ),
+    (
+        MessageFault { section: Section::Authority, entry: 0, why: Fault::NotPrior(9) },
+        "entry 0 of the authority section: a pointer to no prior place at byte 9",
+    ),
+    (
+        MessageFault { section: Section::Additional, entry: 3, why: Fault::Reserved(78) },
+        "entry 3 of the additional section: a label of a reserved kind at byte 78",
+    ),
+    (
+        MessageFault { section: Section::Answer, entry: 0, why: Fault::Trailing(30) },
+        "entry 0 of the answer section: octets of the data are left from here on, at byte 30",
+    ),
+    (
+        MessageFault { section: Section::Answer, entry: 0, why: Fault::NoMemory },
+        "entry 0 of the answer section: out of memory",
+    ),
+];
+
+#[test]
+fn faults_as_text(rt: HostRuntime) {
+    for (fault, text) in SAID {
+        let said = format!(in rt.alloc(); "{fault}");
+        assert!(rt; matches!(said, Ok(said) if said.as_str() == *text), "{text}");
+    }
+}
