@@ -43,8 +43,8 @@ const ROWS: &[(&str, &str)] = &[
     ("nulL", "line 1, column 4: expected the letter `l`"),
     ("trve", "line 1, column 3: expected the letter `u`"),
     ("[fals]", "line 1, column 6: expected the letter `e`"),
-    ("[[[1]]]", "line 1, column 3: nested too deep"),
-    ("{\"a\": [{}]}", "line 1, column 8: nested too deep"),
+    ("[[[1]]]", "line 1, column 3: nested too deep for level 2"),
+    ("{\"a\": [{}]}", "line 1, column 8: nested too deep for level 2"),
 ];
 
 /// What a fault says.

@@ -423,7 +423,10 @@ fn texts_that_nest_deep(rt: HostRuntime) {
             return;
         };
         let fault = from_bytes(rt.alloc(), SAFE_LEVEL, text.as_bytes());
-        assert!(rt; matches!(fault, Err(Fault::TooDeep { at }) if at.offset == place), "{first:?}");
+        let Err(Fault::TooDeep { at, level }) = fault else {
+            return assert!(rt; false, "{first:?}");
+        };
+        assert_eq!(rt; (at.offset, level), (place, SAFE_LEVEL));
     }
     let Some(text) = nested(rt.alloc(), "[", "]", 500) else {
         return;

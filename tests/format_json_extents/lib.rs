@@ -2,9 +2,13 @@
 #![tactic(auto)]
 
 #[cfg(test)]
+mod integers;
+#[cfg(test)]
 mod steps;
 #[cfg(test)]
 mod tokens;
+#[cfg(test)]
+mod unescape;
 #[cfg(test)]
 mod values;
 #[cfg(test)]

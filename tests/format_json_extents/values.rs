@@ -21,6 +21,9 @@ const VALUES: &[(usize, &[u8], &[u8], &[u8])] = &[
     // Section 5.
     (1, b"[]", b"[]", b""),
     (1, b"[ \t\r\n]]", b"[ \t\r\n]", b"]"),
+    (1, b"[\n                 1]", b"[\n                 1]", b""),
+    (1, b"[1\r\n\t\t\t\t\t\t\t\t\t\t\t\t\t\t\r\n          \t\r\n ]",
+     b"[1\r\n\t\t\t\t\t\t\t\t\t\t\t\t\t\t\r\n          \t\r\n ]", b""),
     (1, b"[1]", b"[1]", b""),
     (1, b"[1,2,3]x", b"[1,2,3]", b"x"),
     (1, b"[ null , \"a\" ,\n-0.5E+1 ] ", b"[ null , \"a\" ,\n-0.5E+1 ]", b" "),
@@ -45,6 +48,10 @@ const VALUES: &[(usize, &[u8], &[u8], &[u8])] = &[
 const NO_VALUES: &[(usize, &[u8])] = &[
     (9, b""),
     (9, b" 1"),
+    (9, b"[\n        \x0b        1]"),
+    (9, b"[\n        \x0c        1]"),
+    (9, b"[1\n            \x00         ]"),
+    (9, b"[\n                                                 "),
     (9, b"nul"),
     (9, b"Null"),
     (9, b"TRUE"),

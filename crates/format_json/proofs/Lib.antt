@@ -1,2 +1,4 @@
 pub mod Gaps
+pub mod Laid
+pub mod Put
 pub mod Told

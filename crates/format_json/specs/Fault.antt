@@ -36,8 +36,9 @@ Tells level bytes (faults.Unexpected at expected) =
 Tells level bytes (faults.End at expected) =
     IsPlace level bytes at.offset expected × (length bytes ≤ at.offset)
     × IsReadable bytes at.offset × IsLocated bytes at
-Tells level bytes (faults.TooDeep at) =
-    IsPlace level bytes at.offset NoDeeper × IsReadable bytes at.offset × IsLocated bytes at
+Tells level bytes (faults.TooDeep at most) =
+    (most ≡ level) × IsPlace level bytes at.offset NoDeeper × IsReadable bytes at.offset
+    × IsLocated bytes at
 Tells level bytes (faults.NotUtf8 at) =
     (IsUtf8 bytes → ⊥) × (at.offset ≡ utf8_valid_len bytes)
     × MayBegin level (take at.offset bytes) × IsLocated bytes at
@@ -46,7 +47,7 @@ Tells level bytes faults.NoMemory = ⊤
 abbrev pub location_of : Fault → Option Location
 location_of (faults.Unexpected at expected) = Some at
 location_of (faults.End at expected) = Some at
-location_of (faults.TooDeep at) = Some at
+location_of (faults.TooDeep at level) = Some at
 location_of (faults.NotUtf8 at) = Some at
 location_of faults.NoMemory = None
 

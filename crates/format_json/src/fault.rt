@@ -1,7 +1,7 @@
 //! Why a text is no JSON, and where; and why a value is not written.
 ghost use Rattle.format_json.specs.Fault.{IsLocation, IsReadable, Tells, location_of, write_fault};
 ghost use Rattle.format_json_pieces.specs.Place.{IsPlace};
-ghost use Rattle.std.specs.Prelude.{◌≡◌, ℕ};
+ghost use Rattle.std.specs.Prelude.{◌≡◌};
 ghost use Rattle.std.specs.Str.{IsUtf8};
 
 use format_json_pieces::expected::Expected;
@@ -70,6 +70,8 @@ pub enum Fault {
     TooDeep {
         /// The bracket or brace that is one too many.
         at: Location,
+        /// The level that the caller gave.
+        level: usize,
     },
     /// The bytes are no UTF-8.
     NotUtf8 {
@@ -96,7 +98,7 @@ impl Fault {
         match *self {
             Fault::Unexpected { at, .. }
             | Fault::End { at, .. }
-            | Fault::TooDeep { at }
+            | Fault::TooDeep { at, .. }
             | Fault::NotUtf8 { at } => Some(at),
             Fault::NoMemory => None,
         }
@@ -110,7 +112,7 @@ impl Display for Fault {
             Fault::End { at, expected } => {
                 write!(f, "{at}: unexpected end, expected {expected}")
             }
-            Fault::TooDeep { at } => write!(f, "{at}: nested too deep"),
+            Fault::TooDeep { at, level } => write!(f, "{at}: nested too deep for level {level}"),
             Fault::NotUtf8 { at } => write!(f, "{at}: no UTF-8"),
             Fault::NoMemory => f.write_str("out of memory"),
         }
@@ -176,13 +178,13 @@ fn located(bytes: &[u8], offset: usize) -> Location
 }
 
 /// The fault at a place of a text.
-fn fault_at(text: &[u8], place: Place) -> Fault
-    ensures { (level : ℕ) → IsPlace level text.now place.offset place.expected
+fn fault_at(level: usize, text: &[u8], place: Place) -> Fault
+    ensures { IsPlace level text.now place.offset place.expected
         → IsReadable text.now place.offset → Tells level text.now result }
 {
     let at = located(text, place.offset);
     match place.expected {
-        Expected::NoDeeper => Fault::TooDeep { at },
+        Expected::NoDeeper => Fault::TooDeep { at, level },
         expected if place.offset < text.len() => Fault::Unexpected { at, expected },
         expected => Fault::End { at, expected },
     }
@@ -194,7 +196,7 @@ pub(crate) fn fault_of_text<A: Allocator>(alloc: A, level: usize, text: &[u8]) -
     ensures { Tells level text.now result }
 {
     match first_place(alloc, level, text) {
-        Ok(place) => fault_at(text, place),
+        Ok(place) => fault_at(level, text, place),
         Err(_) => Fault::NoMemory,
     }
 }
@@ -208,7 +210,7 @@ pub(crate) fn fault_of_bytes<A: Allocator>(alloc: A, level: usize, bytes: &[u8])
         Err(error) => error.valid_up_to(),
     };
     match first_place(alloc, level, bytes) {
-        Ok(place) if place.offset < valid => fault_at(bytes, place),
+        Ok(place) if place.offset < valid => fault_at(level, bytes, place),
         Ok(_) => Fault::NotUtf8 {
             at: located(bytes, valid),
         },

@@ -1,5 +1,6 @@
 //! Values as text.
 ghost use Rattle.format_json.specs.Fault.{write_fault};
+ghost use Rattle.format_json.specs.Layout.{LaidValue};
 ghost use Rattle.format_json.specs.declared.fault.WriteFault.TheVariants.{NoMemory};
 ghost use Rattle.format_json_texts.specs.Values.{ValueText};
 ghost use Rattle.format_json_writer.specs.Compact.{CompactValue};
@@ -52,8 +53,8 @@ pub fn to_text<A: Allocator, B: Allocator>(
 
 /// As [`to_text`], laid out over lines: each element and each member stands on a line of its own,
 /// indented by that many spaces for each array and object round it, with a space after each colon.
-/// An array or an object with nothing in it is `[]` or `{}`. That its text is one of the value, and
-/// read as it again, is tested, and not proved.
+/// An array or an object with nothing in it is `[]` or `{}`. It is a text of the value too, and is
+/// read as it again, at the same level. Errors are those of [`to_text`].
 ///
 /// ```
 /// use format_json::{from_text, to_text_pretty};
@@ -70,7 +71,15 @@ pub fn to_text_pretty<A: Allocator, B: Allocator>(
     level: usize,
     indent: usize,
     value: &Value<A>,
-) -> Result<String<B>, WriteFault> {
+) -> Result<String<B>, WriteFault>
+    ensures written { IfOk result (λ text. LaidValue indent level 0 value.now
+        (chars (string_bytes text))) }
+    ensures text { IfOk result (λ text. ValueText HasCharacters level value.now
+        (chars (string_bytes text))) }
+    ensures none { IfErr result (λ e. (e ≡ NoMemory) ⊎ HasNoText level value.now) }
+    ensures refused { IfErr result (λ e. (w : WriteError) × (e ≡ write_fault w)
+        × IsRefused level value.now w) }
+{
     let mut text = String::new(alloc);
     let indent = Indent {
         now: 0,

@@ -1,6 +1,9 @@
 pub mod Answered
+pub mod Ascii
 pub mod Beginnings
 pub mod Characters
+pub mod Counted
+pub mod Escaped
 pub mod Firsts
 pub mod Items
 pub mod Leading
@@ -9,9 +12,13 @@ pub mod Runs
 pub mod Standard
 pub mod Standing
 pub mod Stepping
+pub mod Tellers
+pub mod Telling
 pub mod Texts
+pub mod Unescaping
 pub mod Units
 pub mod Values
+pub mod Walked
 pub mod Walks
 pub mod Words
 pub mod Written

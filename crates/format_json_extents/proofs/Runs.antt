@@ -1,7 +1,7 @@
 -- Runs of bytes of a set, from one place to a later one, and in the lanes of one load.
 use Rattle.std.proofs.Common.{◌≡◌, ◌∙◌, ◌+◌, ◌%◌, ◌<◌, ◌≤◌, ◌++◌, ◌∷◌, ℕ, Bool, List, []}
 use Rattle.std.proofs.Common.{ap, append_assoc, arith, cond, drop, eqb, false, length, ltb}
-use Rattle.std.proofs.Common.{map, not, refl, replicate, subst, suc, sym, true, w8, zero}
+use Rattle.std.proofs.Common.{inl, inr, map, not, refl, replicate, subst, suc, sym, true, w8, zero}
 use Rattle.std.proofs.lemmas.List.{length-append, length-map}
 use Rattle.std.proofs.lemmas.List.Elements.{All-append, All-cons, All-nil}
 use Rattle.std.proofs.lemmas.Bool.Decides.{nat_tests}
@@ -12,6 +12,7 @@ use Rattle.std.specs.List.{All, prefix_len}
 use Rattle.format_json_extents.proofs.Standing.{all_leaves, same_byte}
 use Rattle.format_json_extents.specs.Strings.{IsUnescaped}
 use Rattle.format_json_extents.specs.Texts.{EndsAt, Leaves, Stands}
+use Rattle.format_json_extents.specs.Value.{IsSpace}
 use lib.Count.{count_trailing_zeros}
 use lib.Lanes.{chunk, mask_l, sel_l, top, zip2}
 
@@ -44,6 +45,25 @@ pub run_ends : (P : ℕ → Type 0) (bytes rest : List ℕ) → Stands (All P) b
 run_ends P bytes rest it e =
     all_leaves P it.text bytes rest it.is it.splits
     (λ c tail begins is. omega (arith, e, ap (λ l. length l) begins))
+
+-- the run after one byte of it
+pub run_after : (P : ℕ → Type 0) (bytes : List ℕ) (b : ℕ) (more rest : List ℕ)
+    → bytes ≡ b ∷ more → P b → Leaves (All P) P more rest → Leaves (All P) P bytes rest
+run_after P bytes b more rest e is it =
+    let text = it.stands.text in
+    all_leaves P (b ∷ text) bytes rest (All-cons P b text is it.stands.is)
+    (e ∙ ap (λ l. b ∷ l) it.stands.splits)
+    (λ c tail begins is_more.
+    let longer : Stands (All P) more tail =
+    run_one P more rest c tail it.stands begins is_more in
+    elim (it.only tail longer) [
+      | inl same ↦ absurd (omega (
+        arith,
+        ap (λ l. length l) same,
+        ap (λ l. length l) begins,
+      ))
+      | inr on ↦ absurd (omega (arith, on.is_more, ap (λ l. length l) begins))
+    ])
 
 -- ---- where the lanes of one load are the first bytes
 
@@ -126,6 +146,15 @@ none_set p P tells (x ∷ xs) none = by (p x) refl (λ e. none_set p P tells xs 
         All-cons P x xs (tells.yes x is)
         (more (omega (arith, none, ap {B = ℕ} (λ b. cond b 1 0) is)))
 
+-- the bits of lanes tell the bytes of a set
+lanes_end : (p : ℕ → Bool) (P : ℕ → Type 0) → Refuses p P → (xs : List ℕ) (others : ℕ)
+    → length xs ≡ 16 → others ≡ mask_l (map p xs) → (others ≡ 0 → ⊥)
+    → EndsAt P xs (count_trailing_zeros 64 others)
+lanes_end p P tells xs others long are some =
+    let positive : 0 < mask_l (map p xs) = omega (arith, are, some) in
+    subst (EndsAt P xs) (sym (ap (count_trailing_zeros 64) are
+    ∙ trailing_mask_l p 64 xs (omega (arith, long)) positive)) (ends_at p P tells xs positive)
+
 -- ---- the bytes that stand for themselves in a string
 
 -- a byte, or 0 in place of a quote or a backslash
@@ -156,18 +185,18 @@ same : (xs : List ℕ) → xs ≡ map (λ x. x) xs
 same [] = refl
 same (x ∷ xs) = ap (λ l. x ∷ l) (same xs)
 
--- each lane that is this byte as 0
-abbrev without : ℕ → List ℕ → List ℕ → List ℕ
-without c xs ys =
-    sel_l (map (top 7) (zip2 (λ a b. cond (eqb a b) 255 0) xs (replicate 16 c))) (replicate 16 0) ys
+-- each lane that is the byte `c` as `r`
+abbrev instead : ℕ → ℕ → List ℕ → List ℕ → List ℕ
+instead r c xs ys =
+    sel_l (map (top 7) (zip2 (λ a b. cond (eqb a b) 255 0) xs (replicate 16 c))) (replicate 16 r) ys
 
-without_is : (c : ℕ) (g : ℕ → ℕ) (xs ys : List ℕ) → length xs ≡ 16 → ys ≡ map g xs
-    → without c xs ys ≡ map (λ x. cond (eqb x c) 0 (g x)) xs
-without_is c g xs ys long is =
-    ap (without c xs) is
-    ∙ ap (λ ms. sel_l ms (replicate 16 0) (map g xs))
+instead_is : (r c : ℕ) (g : ℕ → ℕ) (xs ys : List ℕ) → length xs ≡ 16 → ys ≡ map g xs
+    → instead r c xs ys ≡ map (λ x. cond (eqb x c) r (g x)) xs
+instead_is r c g xs ys long is =
+    ap (instead r c xs) is
+    ∙ ap (λ ms. sel_l ms (replicate 16 r) (map g xs))
     (tops_compared w8 eqb xs (replicate 16 c) ∙ zip2_splat eqb xs 16 c long)
-    ∙ chosen (λ x. eqb x c) g 0 16 xs long
+    ∙ chosen (λ x. eqb x c) g r 16 xs long
 
 -- the bits of the lanes that do not stand for themselves
 pub others_are : (xs : List ℕ) → length xs ≡ 16
@@ -176,8 +205,8 @@ pub others_are : (xs : List ℕ) → length xs ≡ 16
     (sel_l (map (top 7) (zip2 (λ a b. cond (eqb a b) 255 0) xs (replicate 16 34)))
     (replicate 16 0) xs)) (replicate 16 32))) % 18446744073709551616 ≡ mask_l (map is_other xs)
 others_are xs long =
-    let none = without_is 34 (λ x. x) xs xs long (same xs) in
-    let both = without_is 92 unquoted xs (without 34 xs xs) long none in
+    let none = instead_is 0 34 (λ x. x) xs xs long (same xs) in
+    let both = instead_is 0 92 unquoted xs (instead 0 34 xs xs) long none in
     ap (λ l. mask_l (map (top 7) (zip2 (λ a b. cond (ltb a b) 255 0) l (replicate 16 32)))
     % 18446744073709551616) both
     ∙ bitmask_splat w8 ltb (map plain xs) 16 32 (length-map xs plain ∙ long) (omega arith)
@@ -185,13 +214,53 @@ others_are xs long =
 
 pub others_end : (xs : List ℕ) (others : ℕ) → length xs ≡ 16 → others ≡ mask_l (map is_other xs)
     → (others ≡ 0 → ⊥) → EndsAt IsUnescaped xs (count_trailing_zeros 64 others)
-others_end xs others long are some =
-    let positive : 0 < mask_l (map is_other xs) = omega (arith, are, some) in
-    subst (EndsAt IsUnescaped xs) (sym (ap (count_trailing_zeros 64) are
-    ∙ trailing_mask_l is_other 64 xs (omega (arith, long)) positive))
-    (ends_at is_other IsUnescaped tells_others xs positive)
+others_end = lanes_end is_other IsUnescaped tells_others
 
 pub others_none : (xs : List ℕ) (others : ℕ) → others ≡ mask_l (map is_other xs) → others ≡ 0
     → All IsUnescaped xs
 others_none xs others are none =
     none_set is_other IsUnescaped tells_others xs (sym are ∙ none)
+
+-- ---- white space
+
+-- a byte, or a space in place of other white space
+abbrev no_tab : ℕ → ℕ
+no_tab x = cond (eqb x 9) 32 x
+
+abbrev no_line : ℕ → ℕ
+no_line x = cond (eqb x 10) 32 (no_tab x)
+
+abbrev spaced : ℕ → ℕ
+spaced x = cond (eqb x 13) 32 (no_line x)
+
+abbrev pub is_end : ℕ → Bool
+is_end x = not (eqb (spaced x) 32)
+
+tells_ends : Refuses is_end IsSpace
+tells_ends = record {
+  no = λ x is p. grind (arith, nat_tests);
+  yes = λ x is. grind (arith, nat_tests);
+}
+
+-- the bits of the lanes that are no white space
+pub ends_are : (xs : List ℕ) → length xs ≡ 16
+    → mask_l (map (top 7) (zip2 (λ a b. cond (not (eqb a b)) 255 0)
+    (instead 32 13 xs (instead 32 10 xs (instead 32 9 xs xs))) (replicate 16 32)))
+    % 18446744073709551616 ≡ mask_l (map is_end xs)
+ends_are xs long =
+    let tabs = instead_is 32 9 (λ x. x) xs xs long (same xs) in
+    let lines = instead_is 32 10 no_tab xs (instead 32 9 xs xs) long tabs in
+    let all = instead_is 32 13 no_line xs (instead 32 10 xs (instead 32 9 xs xs)) long lines in
+    ap (λ l. mask_l (map (top 7) (zip2 (λ a b. cond (not (eqb a b)) 255 0) l (replicate 16 32)))
+    % 18446744073709551616) all
+    ∙ bitmask_splat w8 (λ a b. not (eqb a b)) (map spaced xs) 16 32 (length-map xs spaced ∙ long)
+    (omega arith)
+    ∙ ap mask_l (map-map (λ x. not (eqb x 32)) spaced xs)
+
+pub ends_end : (xs : List ℕ) (ends : ℕ) → length xs ≡ 16 → ends ≡ mask_l (map is_end xs)
+    → (ends ≡ 0 → ⊥) → EndsAt IsSpace xs (count_trailing_zeros 64 ends)
+ends_end = lanes_end is_end IsSpace tells_ends
+
+pub ends_none : (xs : List ℕ) (ends : ℕ) → ends ≡ mask_l (map is_end xs) → ends ≡ 0
+    → All IsSpace xs
+ends_none xs ends are none = none_set is_end IsSpace tells_ends xs (sym are ∙ none)

@@ -46,10 +46,10 @@ token_none bytes b more e not none =
 
 -- ---- after what stands before them
 
-abbrev IsFirstOfToken : ℕ → Type 0
+abbrev pub IsFirstOfToken : ℕ → Type 0
 IsFirstOfToken = Or IsBracket IsFirstOfScalar
 
-token_starts : Starts IsToken IsFirstOfToken
+pub token_starts : Starts IsToken IsFirstOfToken
 token_starts =
     either_starts (IsByte IsBracket) IsScalar IsBracket IsFirstOfScalar (byte_starts IsBracket)
     scalar_starts
@@ -65,7 +65,7 @@ lead_no_closing b (inl s) is = closing_no_space b is s
 lead_no_closing b (inr (inl s)) is = closing_no_space b is s
 lead_no_closing b (inr (inr mark)) is = closing_no_mark b is mark
 
-lead_no_token : Apart IsLeadByte IsFirstOfToken
+pub lead_no_token : Apart IsLeadByte IsFirstOfToken
 lead_no_token b lead (inl (inl opens)) = lead_no_first b lead (inr opens)
 lead_no_token b lead (inl (inr closes)) = lead_no_closing b lead closes
 lead_no_token b lead (inr is) = lead_no_first b lead (inl is)
@@ -89,6 +89,7 @@ next_step step bytes start rest lead it told =
       is_lead = lead.stands.is;
       splits = lead.stands.splits;
       longest = long;
+      others = it.only;
       is_step = told long.is;
     }
 

@@ -1,8 +1,8 @@
 -- What stands in a text, from its start to its end, one after the other.
 use Rattle.std.specs.Prelude.{◌≡◌, ◌⊎◌, ℕ, List, [], ◌∷◌, ◌++◌}
-use Rattle.format_json_extents.specs.Number.{IsNumber}
+use Rattle.format_json_extents.specs.Number.{IsNumber, IsNumberByte}
 use Rattle.format_json_extents.specs.Strings.{IsString}
-use Rattle.format_json_extents.specs.Texts.{Either, IsByte, IsLongest, Stands, Then}
+use Rattle.format_json_extents.specs.Texts.{Either, GoesOn, IsByte, IsLongest, Stands, Then}
 use Rattle.format_json_extents.specs.Value.{IsColon, IsGap, IsScalar, Only}
 use Rattle.format_json_extents.specs.Walk.{IsClosingByte, IsLead}
 use Rattle.format_json_extents.specs.declared.steps.Step.{Step}
@@ -34,11 +34,13 @@ IsOfStep steps.BeginObject text rest = text ≡ 123 ∷ []
 IsOfStep steps.EndObject text rest = text ≡ 125 ∷ []
 
 -- After what stands before it, the input has this text, which is the longest of its kind there and
--- is this step, and then the rest.
+-- is this step, and then the rest. A shorter one there goes on with a byte of a number.
 pub record IsNextStep (step : Step) (text bytes rest : List ℕ) : Type 0 where
   pub lead : List ℕ
   pub start : List ℕ
   pub is_lead : IsLead lead
   pub splits : bytes ≡ lead ++ start
   pub longest : IsLongest IsToken text start rest
+  pub others : (other : List ℕ) → Stands IsToken start other
+      → (other ≡ rest) ⊎ GoesOn IsNumberByte other rest
   pub is_step : IsOfStep step text rest

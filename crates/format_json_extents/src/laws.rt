@@ -1,5 +1,6 @@
 //! Laws of the texts that are found: they are those of RFC 8259.
 
+ghost use Rattle.format_json_extents.specs.Told.{InTurn, IsTold, TellsText, Told};
 ghost use Rattle.format_json_extents.specs.Value.{IsText, IsValue};
 ghost use Rattle.format_json_texts.specs.Values.{JsonText, ValueText};
 ghost use Rattle.format_json_texts.specs.declared.value.Value.{Value};
@@ -43,4 +44,21 @@ pub fn values_are_those_of_the_standard<A: Allocator>()
 pub fn texts_are_those_of_the_standard<A: Allocator>()
     ensures { (alloc : A) (level : ℕ) (bytes : List ℕ) → IsUtf8 bytes → length bytes < 2 ^ 63
         → IsText level bytes ↔ ((v : Value A) × JsonText HasCharacters level v (chars bytes)) }
+{}
+
+/// The steps of a text of JSON, by the grammar of values, are those that calls of
+/// [`crate::steps::read_step`] tell that follow one another from its start on, each of what the
+/// last one left. There is a list of them (`TellsText`), and whatever calls in turn told is its
+/// beginning: all of it exactly where white space is all that is left, and else one more step
+/// stands there, so that the next call tells it.
+///
+/// ```
+/// use format_json_extents::laws::steps_in_turn_are_those_of_the_text;
+///
+/// steps_in_turn_are_those_of_the_text();
+/// ```
+pub fn steps_in_turn_are_those_of_the_text()
+    ensures { (level : ℕ) (bytes : List ℕ) → IsText level bytes
+        → (told : Told) × TellsText level told bytes
+        × ((found : Told) (rest : List ℕ) → InTurn bytes found rest → IsTold told found rest) }
 {}

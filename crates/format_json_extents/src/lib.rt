@@ -14,11 +14,13 @@
 //! - Members of an object may have one name (section 4).
 #![tactic(auto)]
 
+pub mod integer;
 pub mod laws;
 pub mod number;
 mod scalar;
 pub mod steps;
 pub mod string;
 mod tokens;
+pub mod unescape;
 pub mod value;
 pub mod walk;

@@ -117,7 +117,7 @@ fn behind_character<'i>(bytes: &'i [u8]) -> Option<&'i [u8]>
 }
 
 /// What stands after that which a backslash escapes.
-fn behind_escape<'i>(bytes: &'i [u8]) -> Option<&'i [u8]>
+pub(crate) fn behind_escape<'i>(bytes: &'i [u8]) -> Option<&'i [u8]>
     ensures { MatchOption result (NoneStands IsEscape bytes.now)
         (λ rest. Leaves IsEscape Never bytes.now rest.now) }
 {

@@ -63,18 +63,33 @@ pub fn behind_digits<'i>(bytes: &'i [u8]) -> &'i [u8]
 pub fn behind_gap<'i>(bytes: &'i [u8]) -> &'i [u8]
     ensures { Leaves (All IsSpace) IsSpace bytes.now result.now }
 {
-    let mut rest = bytes;
-    'spaces: loop {
-        match rest.split_first() {
-            Some((first, more)) => {
-                if is_space(*first) {
-                    rest = more;
-                } else {
-                    return rest;
-                }
+    // Mostly there is none, or one byte.
+    match bytes.split_first() {
+        Some((first, more)) => {
+            if is_space(*first) {
+                behind_more_space(more)
+            } else {
+                bytes
             }
-            None => return rest,
         }
+        None => bytes,
+    }
+}
+
+/// The same, after a byte of white space.
+#[inline(always)]
+fn behind_more_space<'i>(bytes: &'i [u8]) -> &'i [u8]
+    ensures { Leaves (All IsSpace) IsSpace bytes.now result.now }
+{
+    match bytes.split_first() {
+        Some((first, more)) => {
+            if is_space(*first) {
+                behind_long_gap(more)
+            } else {
+                bytes
+            }
+        }
+        None => bytes,
     }
 }
 
@@ -103,6 +118,50 @@ fn unescaped_first(lanes: u8x16) -> Option<usize>
         return None;
     }
     Some(others.trailing_zeros() as usize)
+}
+
+/// How many lanes stand before the first that is no white space; none where all are.
+#[inline(always)]
+fn space_first(lanes: u8x16) -> Option<usize>
+    ensures { MatchOption result (All IsSpace lanes)
+        (λ count. EndsAt IsSpace lanes count) }
+{
+    // Each byte of white space becomes a space.
+    let space = u8x16::splat(b' ');
+    let tabs = lanes.simd_eq(u8x16::splat(b'\t')).select(space, lanes);
+    let lines = lanes.simd_eq(u8x16::splat(b'\n')).select(space, tabs);
+    let spaced = lanes.simd_eq(u8x16::splat(b'\r')).select(space, lines);
+    let ends = spaced.simd_ne(space).to_bitmask();
+    if ends == 0 {
+        return None;
+    }
+    Some(ends.trailing_zeros() as usize)
+}
+
+/// The same as `behind_gap`, of several bytes of white space.
+#[inline(never)]
+fn behind_long_gap<'i>(bytes: &'i [u8]) -> &'i [u8]
+    ensures { Leaves (All IsSpace) IsSpace bytes.now result.now }
+{
+    let mut rest = bytes;
+    'lanes: while rest.len() >= LANES {
+        match space_first(u8x16::from_slice(rest)) {
+            Some(count) => return behind_many(count, rest),
+            None => rest = behind_many(LANES, rest),
+        }
+    }
+    'last: loop {
+        match rest.split_first() {
+            Some((first, more)) => {
+                if is_space(*first) {
+                    rest = more;
+                } else {
+                    return rest;
+                }
+            }
+            None => return rest,
+        }
+    }
 }
 
 /// What stands after all bytes that stand for themselves in a string.

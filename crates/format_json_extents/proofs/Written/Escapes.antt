@@ -37,7 +37,7 @@ means_long text cs c x scalar size = record {
   size = omega (arith, size, (len_utf8_bounds c).1, length-encode c);
 }
 
-high_scalar : (c : ℕ) → 57344 ≤ c → c < 1114112 → IsScalar c
+pub high_scalar : (c : ℕ) → 57344 ≤ c → c < 1114112 → IsScalar c
 high_scalar c least most = grind (arith, nat_tests, least, most)
 
 only_set : (c : ℕ) (cs : List ℕ) → For IsAlone UnitText c cs → IsUnit BeginOnly cs

@@ -48,12 +48,12 @@ pub record Digits (P : ℕ → ℕ → Type 0) (cs : List ℕ) (u : ℕ) : Type 
   pub size : 4 ≤ length cs
 
 -- a digit, and a text after it
-digit_then : {O : Type 0} (text : O → List ℕ → Type 0) (c d : ℕ) (o : O) (cs : List ℕ) → IsHex c d
-    → text o cs → Both pair (For IsHex Whichever) text (d, o) (c ∷ cs)
+pub digit_then : {O : Type 0} (text : O → List ℕ → Type 0) (c d : ℕ) (o : O) (cs : List ℕ)
+    → IsHex c d → text o cs → Both pair (For IsHex Whichever) text (d, o) (c ∷ cs)
 unfolding Both MadeText Whichever
 digit_then text c d o cs is x = (d, o, c ∷ [], cs, (c, refl, is), x, refl, refl)
 
-one_digit : (c d : ℕ) → IsHex c d → For IsHex Whichever d (c ∷ [])
+pub one_digit : (c d : ℕ) → IsHex c d → For IsHex Whichever d (c ∷ [])
 unfolding MadeText Whichever
 one_digit c d is = (c, refl, is)
 

@@ -4,7 +4,7 @@ use Rattle.format_json.proofs.fault.fault_of_bytes.Goals as goal
 
 pub returns-in-Ok-first_place : goal.returns-in-Ok-first_place
 returns-in-Ok-first_place g c =
-    c.fault_at.ensures c.args.level c.in-Ok-first_place.ensures (inr (search rules))
+    c.fault_at.ensures c.in-Ok-first_place.ensures (inr (search rules))
 
 pub returns-in-Ok-2 : goal.returns-in-Ok-2
 returns-in-Ok-2 g c =

@@ -1,29 +1,42 @@
-use Rattle.std.proofs.Common.{◌+◌, ◌*◌, length}
+use Rattle.std.proofs.Common.{◌+◌, ◌*◌, ℕ, List, drop, string_bytes}
+use Rattle.format_json.proofs.Put.{Behind}
+use Rattle.format_json.specs.Layout.{LaidMember, LaidValue}
+use Rattle.format_json_writer.specs.Added.{Adds}
 use Rattle.format_json.proofs.layout.+lay.Given as goal
 
+-- an array or an object calls for values of one level less
 abbrev pub decreases-lay_items : goal.decreases-lay_items
-decreases-lay_items g l = 6 * l.level + 8
+decreases-lay_items g l = 4 * l.level + 5
 
 abbrev pub decreases-lay_members : goal.decreases-lay_members
-decreases-lay_members g l = 6 * l.level + 8
+decreases-lay_members g l = 4 * l.level + 5
 
 abbrev pub decreases-lay_member : goal.decreases-lay_member
-decreases-lay_member g l = 6 * l.level + 7
-
-abbrev pub decreases-lay_spaced : goal.decreases-lay_spaced
-decreases-lay_spaced g l = 6 * l.level + 6
+decreases-lay_member g l = 4 * l.level + 4
 
 abbrev pub decreases-lay : goal.decreases-lay
-decreases-lay g l = 6 * l.level + 5
+decreases-lay g l = 4 * l.level + 3
 
 abbrev pub decreases-lay_array : goal.decreases-lay_array
-decreases-lay_array g l = 6 * l.level + 4
+decreases-lay_array g l = 4 * l.level + 2
 
 abbrev pub decreases-lay_object : goal.decreases-lay_object
-decreases-lay_object g l = 6 * l.level + 4
+decreases-lay_object g l = 4 * l.level + 2
 
-abbrev pub decreases-lay_items-items : goal.decreases-lay_items-items
-decreases-lay_items-items g l = length l.left
+-- what ends the values from here ends them from the second on
+abbrev pub invariant-lay_items-loop-item : goal.invariant-lay_items-loop-item
+invariant-lay_items-loop-item g l =
+    (after : List ℕ)
+    → Adds (Behind (LaidValue l.indent.step l.level l.indent.now) l.indent.now)
+    (drop l.item-index l.rest) (string_bytes l.into) after
+    → Adds (Behind (LaidValue l.indent.step l.level l.indent.now) l.indent.now)
+    l.rest (string_bytes l.initial.into) after
 
-abbrev pub decreases-lay_members-members : goal.decreases-lay_members-members
-decreases-lay_members-members g l = length l.left
+-- and so with members
+abbrev pub invariant-lay_members-loop-member : goal.invariant-lay_members-loop-member
+invariant-lay_members-loop-member g l =
+    (after : List ℕ)
+    → Adds (Behind (LaidMember (LaidValue l.indent.step l.level l.indent.now)) l.indent.now)
+    (drop l.member-index l.rest) (string_bytes l.into) after
+    → Adds (Behind (LaidMember (LaidValue l.indent.step l.level l.indent.now)) l.indent.now)
+    l.rest (string_bytes l.initial.into) after

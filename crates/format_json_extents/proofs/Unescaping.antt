@@ -1,0 +1,165 @@
+-- How the text of a string is written, piece by piece.
+use Rattle.std.proofs.Common.{◌≡◌, ◌∙◌, ◌++◌, ◌-◌, ◌≤◌, ◌+◌, ℕ, [], ◌∷◌, List, ap, append_assoc}
+use Rattle.std.proofs.Common.{arith, drop, inl, inr, length, length-append, refl, subst, sym, take}
+use Rattle.std.proofs.lemmas.List.{append-nil, drop-drop, drop_at, take_at}
+use Rattle.std.proofs.lemmas.List.Elements.{All-head, All-tail}
+use Rattle.std.specs.Char.{encode_utf8}
+use Rattle.std.specs.List.{All}
+use Rattle.format_json_extents.proofs.Answered.{from_left}
+use Rattle.format_json_extents.specs.Strings.{IsEscape, IsUnescaped}
+use Rattle.format_json_extents.specs.Texts.{Leaves, Never}
+use Rattle.format_json_extents.specs.Unescaped.{IsEscapePut, IsPut, IsTailWritten, Means}
+use Rattle.format_json_extents.specs.Unescaped.{PieceMeans, means_more, means_nothing}
+
+-- ---- one more piece
+
+means_end : (text bytes piece one : List ℕ) → Means text bytes → PieceMeans piece one
+    → Means (text ++ piece) (bytes ++ one)
+means_end _ _ piece one (means_nothing text bytes e f) p =
+    means_more piece [] one [] (text ++ piece) (bytes ++ one) p (means_nothing [] [] refl refl)
+    (ap (λ l. l ++ piece) e ∙ sym (append-nil piece))
+    (ap (λ l. l ++ one) f ∙ sym (append-nil one))
+means_end _ _ piece one (means_more first others head more text bytes q rest e f) p =
+    means_more first (others ++ piece) head (more ++ one) (text ++ piece) (bytes ++ one) q
+    (means_end others more piece one rest p)
+    (ap (λ l. l ++ piece) e ∙ append_assoc first others piece)
+    (ap (λ l. l ++ one) f ∙ append_assoc head more one)
+
+means_run : (run text bytes : List ℕ) → All IsUnescaped run → Means text bytes
+    → Means (text ++ run) (bytes ++ run)
+means_run [] text bytes all it =
+    let P : List ℕ → Type 0 = λ l. Means l (bytes ++ []) in
+    let Q : List ℕ → Type 0 = λ l. Means text l in
+    subst P (sym (append-nil text)) (subst Q (sym (append-nil bytes)) it)
+means_run (b ∷ run) text bytes all it =
+    let one = means_end text bytes (b ∷ []) (b ∷ []) it
+    (inl (record { byte = b; is_byte = All-head IsUnescaped b run all; alone = refl }, refl)) in
+    let more = means_run run (text ++ b ∷ []) (bytes ++ b ∷ [])
+    (All-tail IsUnescaped b run all) one in
+    let P : List ℕ → Type 0 = λ l. Means l (bytes ++ b ∷ run) in
+    let Q : List ℕ → Type 0 = λ l. Means ((text ++ b ∷ []) ++ run) l in
+    subst P (append_assoc text (b ∷ []) run) (subst Q (append_assoc bytes (b ∷ []) run) more)
+
+-- ---- in the buffer
+
+-- what pieces mean so far
+pub record Wrote (bytes rest old now : List ℕ) (count : ℕ) : Type 0 where
+  pub text : List ℕ
+  pub meant : List ℕ
+  pub means : Means text meant
+  pub splits : bytes ≡ text ++ rest
+  pub counts : count ≡ length meant
+  pub short : length meant ≤ length text
+  pub room : length now ≡ length old
+  pub written : count ≤ length old → now ≡ meant ++ drop count old
+
+pub wrote_nothing : (bytes old : List ℕ) → Wrote bytes bytes old old 0
+wrote_nothing bytes old = record {
+  text = [];
+  meant = [];
+  means = means_nothing [] [] refl refl;
+  splits = refl;
+  counts = refl;
+  short = omega arith;
+  room = refl;
+  written = λ room. refl;
+}
+
+-- a place in the bytes is within them
+pub wrote_within : (bytes rest old now : List ℕ) (count : ℕ) → Wrote bytes rest old now count
+    → count + length rest ≤ length bytes
+wrote_within bytes rest old now count it =
+    omega (
+      arith,
+      it.counts,
+      it.short,
+      ap (λ l. length l) it.splits,
+      length-append it.text rest,
+    )
+
+put_more : (meant one old now new : List ℕ) (count : ℕ) → count ≡ length meant
+    → now ≡ meant ++ drop count old
+    → new ≡ take count now ++ (one ++ drop (count + length one) now)
+    → new ≡ (meant ++ one) ++ drop (count + length one) old
+put_more meant one old now new count size e put =
+    let front : take count now ≡ meant =
+    ap (λ l. take count l) e ∙ take_at meant (drop count old) count (sym size) in
+    let gone : drop count now ≡ drop count old =
+    ap (λ l. drop count l) e ∙ drop_at meant (drop count old) count (sym size) in
+    let behind : drop (count + length one) now ≡ drop (count + length one) old =
+    sym (drop-drop (length one) count now) ∙ ap (λ l. drop (length one) l) gone
+    ∙ drop-drop (length one) count old in
+    put ∙ ap (λ l. l ++ (one ++ drop (count + length one) now)) front
+    ∙ ap (λ l. meant ++ (one ++ l)) behind
+    ∙ sym (append_assoc meant one (drop (count + length one) old))
+
+module _ (bytes rest next old now new piece one : List ℕ) (count : ℕ)
+    (it : Wrote bytes rest old now count) (e : rest ≡ piece ++ next)
+    (less : length one ≤ length piece) (put : IsPut one count now new) where
+  wrote_more : Means (it.text ++ piece) (it.meant ++ one)
+      → Wrote bytes next old new (count + length one)
+  wrote_more means = record {
+    text = it.text ++ piece;
+    meant = it.meant ++ one;
+    means = means;
+    splits = it.splits ∙ ap (λ l. it.text ++ l) e ∙ sym (append_assoc it.text piece next);
+    counts = omega (arith, it.counts, length-append it.meant one);
+    short = omega (
+      arith,
+      it.short,
+      less,
+      length-append it.meant one,
+      length-append it.text piece,
+    );
+    room = put.0 ∙ it.room;
+    written = λ room.
+        put_more it.meant one old now new count it.counts
+        (it.written (omega (arith, room))) (put.1 (omega (arith, room, it.room)));
+  }
+
+-- after all bytes that stand for themselves
+pub wrote_run : (bytes rest ahead old now new run : List ℕ) (count : ℕ)
+    → Wrote bytes rest old now count → Leaves (All IsUnescaped) IsUnescaped rest ahead
+    → run ≡ take (length rest - length ahead) rest → IsPut run count now new
+    → Wrote bytes ahead old new (count + length run)
+wrote_run bytes rest ahead old now new run count it leaves is put =
+    let same : run ≡ leaves.stands.text =
+    is ∙ from_left rest leaves.stands.text ahead leaves.stands.splits in
+    wrote_more bytes rest ahead old now new run run count it
+    (leaves.stands.splits ∙ ap (λ l. l ++ ahead) (sym same)) (omega arith) put
+    (means_run run it.text it.meant (subst (All IsUnescaped) (sym same) leaves.stands.is) it.means)
+
+-- and after an escape
+pub wrote_escape : (bytes ahead escape next old now new between : List ℕ) (count end : ℕ)
+    → Wrote bytes ahead old now count → ahead ≡ 92 ∷ escape → Leaves IsEscape Never escape next
+    → between ≡ take (length escape - length next) escape
+    → IsEscapePut between count end now new → Wrote bytes next old new end
+wrote_escape bytes ahead escape next old now new between count end it e leaves is put =
+    let same : between ≡ leaves.stands.text =
+    is ∙ from_left escape leaves.stands.text next leaves.stands.splits in
+    let P : ℕ → Type 0 = λ n. Wrote bytes next old new n in
+    subst P (sym put.ends)
+    (wrote_more bytes ahead next old now new (92 ∷ between) (encode_utf8 put.char) count it
+    (e ∙ ap (λ l. 92 ∷ l) (leaves.stands.splits ∙ ap (λ l. l ++ next) (sym same)))
+    (omega (arith, put.short)) put.is_put
+    (means_end it.text it.meant (92 ∷ between) (encode_utf8 put.char) it.means
+    (inr (put.char, put.text, refl))))
+
+pub escape_is : (escape next between : List ℕ) → Leaves IsEscape Never escape next
+    → between ≡ take (length escape - length next) escape → IsEscape between
+escape_is escape next between leaves is =
+    subst IsEscape (sym (is ∙ from_left escape leaves.stands.text next leaves.stands.splits))
+    leaves.stands.is
+
+-- ---- at the last quote
+
+pub tail_written : (bytes ahead end old now : List ℕ) (count : ℕ) → Wrote bytes ahead old now count
+    → ahead ≡ 34 ∷ end → IsTailWritten count bytes end old now
+tail_written bytes ahead end old now count it e = record {
+  text = it.text;
+  meant = it.meant;
+  means = it.means;
+  splits = it.splits ∙ ap (λ l. it.text ++ l) e;
+  counts = it.counts;
+  written = it.written;
+}

@@ -1,0 +1,18 @@
+-- White space stands before here.
+use Rattle.std.proofs.Common.{length}
+use Rattle.std.specs.List.{All}
+use Rattle.format_json_extents.specs.Value.{IsSpace}
+use Rattle.format_json_extents.specs.Texts.{Stands}
+use Rattle.format_json_extents.proofs.tokens.behind_long_gap.Given as goal
+
+abbrev pub invariant-lanes : goal.invariant-lanes
+invariant-lanes l = Stands (All IsSpace) l.bytes l.rest
+
+abbrev pub decreases-lanes : goal.decreases-lanes
+decreases-lanes l = length l.rest
+
+abbrev pub invariant-last : goal.invariant-last
+invariant-last l = Stands (All IsSpace) l.bytes l.rest
+
+abbrev pub decreases-last : goal.decreases-last
+decreases-last l = length l.rest

@@ -1,0 +1,16 @@
+-- What the pieces so far mean is written, and a string goes on from here as from after its first
+-- quote.
+use Rattle.std.proofs.Common.{length}
+use Rattle.format_json_extents.proofs.Leading.{Leads}
+use Rattle.format_json_extents.proofs.Unescaping.{Wrote}
+use Rattle.format_json_extents.specs.Strings.{IsStringTail}
+use Rattle.format_json_extents.proofs.unescape.write_tail.Given as goal
+
+abbrev pub invariant-pieces : goal.invariant-pieces
+invariant-pieces l = record {
+  leads : Leads IsStringTail l.bytes l.rest;
+  wrote : Wrote l.bytes l.rest l.initial.buffer l.buffer l.count;
+}
+
+abbrev pub decreases-pieces : goal.decreases-pieces
+decreases-pieces l = length l.rest

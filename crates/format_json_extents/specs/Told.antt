@@ -1,0 +1,115 @@
+-- What stands in a text of JSON, from its start to its end, by the grammar of values.
+use Rattle.std.specs.Prelude.{◌≡◌, ◌⊎◌, ℕ, zero, suc, Bool, true, false, List, [], ◌∷◌, ◌++◌}
+use Rattle.format_json_extents.specs.Number.{IsNumber}
+use Rattle.format_json_extents.specs.Steps.{IsNextStep, IsToken}
+use Rattle.format_json_extents.specs.Strings.{IsString}
+use Rattle.format_json_extents.specs.Texts.{Stands, Then}
+use Rattle.format_json_extents.specs.Value.{IsGap, Only, closing, opening}
+use Rattle.format_json_extents.specs.Walk.{IsLead}
+use Rattle.format_json_extents.specs.declared.steps.Step.{Step}
+use Rattle.format_json_extents.specs.declared.steps.Step.TheVariants as steps
+
+-- steps, each with its text
+abbrev pub Told : Type 0
+Told = List (Step × List ℕ)
+
+-- A value that has no others in it, by what it is.
+abbrev pub IsScalarOf : Step → List ℕ → Type 0
+IsScalarOf steps.Null text = Only (110 ∷ 117 ∷ 108 ∷ 108 ∷ []) text
+IsScalarOf steps.False text = Only (102 ∷ 97 ∷ 108 ∷ 115 ∷ 101 ∷ []) text
+IsScalarOf steps.True text = Only (116 ∷ 114 ∷ 117 ∷ 101 ∷ []) text
+IsScalarOf steps.Number text = IsNumber text
+IsScalarOf steps.String text = IsString text
+IsScalarOf steps.Name text = ⊥
+IsScalarOf steps.BeginArray text = ⊥
+IsScalarOf steps.EndArray text = ⊥
+IsScalarOf steps.BeginObject text = ⊥
+IsScalarOf steps.EndObject text = ⊥
+
+-- the step before what an object has in it, or else an array, and the one after it
+abbrev pub begin_of : Bool → Step
+begin_of true = steps.BeginObject
+begin_of false = steps.BeginArray
+
+abbrev pub end_of : Bool → Step
+end_of true = steps.EndObject
+end_of false = steps.EndArray
+
+-- The text is such a value, and it is its one step.
+pub record TellsScalar (told : Told) (text : List ℕ) : Type 0 where
+  pub step : Step
+  pub is_scalar : IsScalarOf step text
+  pub alone : told ≡ (step, text) ∷ []
+
+-- A value with white space round it: the steps of the value.
+pub record TellsElement (V : Told → List ℕ → Type 0) (told : Told) (text : List ℕ) : Type 0 where
+  pub before : List ℕ
+  pub value : List ℕ
+  pub behind : List ℕ
+  pub is_before : IsGap before
+  pub is_value : V told value
+  pub is_behind : IsGap behind
+  pub joins : text ≡ before ++ (value ++ behind)
+
+-- A name with white space round it, a colon and a value: the name, and the steps of the value.
+pub record TellsMember (V : Told → List ℕ → Type 0) (told : Told) (text : List ℕ) : Type 0 where
+  pub before : List ℕ
+  pub name : List ℕ
+  pub between : List ℕ
+  pub element : List ℕ
+  pub others : Told
+  pub is_before : IsGap before
+  pub is_name : IsString name
+  pub is_between : IsGap between
+  pub is_element : TellsElement V others element
+  pub joins : text ≡ before ++ (name ++ (between ++ 58 ∷ element))
+  pub in_turn : told ≡ (steps.Name, name) ∷ others
+
+-- What an object has in it, or else an array.
+abbrev pub TellsItem : Bool → (Told → List ℕ → Type 0) → Told → List ℕ → Type 0
+TellsItem true V = TellsMember V
+TellsItem false V = TellsElement V
+
+-- One text of P or several, with commas between them: the steps of each in turn.
+pub data TellsList (P : Told → List ℕ → Type 0) : Told → List ℕ → Type 0 where
+  tells_last : (told : Told) (text : List ℕ) → P told text → TellsList P told text
+  tells_before : (one others told : Told) (first more text : List ℕ) → P one first
+      → TellsList P others more → text ≡ first ++ 44 ∷ more → told ≡ one ++ others
+      → TellsList P told text
+
+-- An array of values or an object of them: its bracket, the steps of its items, and its bracket.
+pub record TellsNested (keyed : Bool) (V : Told → List ℕ → Type 0) (told : Told) (text : List ℕ)
+    : Type 0 where
+  pub inner : Told
+  pub inside : List ℕ
+  pub is_inside : (IsGap inside × (inner ≡ [])) ⊎ TellsList (TellsItem keyed V) inner inside
+  pub joins : text ≡ opening keyed ∷ (inside ++ closing keyed ∷ [])
+  pub in_turn : told ≡ (begin_of keyed, opening keyed ∷ [])
+      ∷ (inner ++ (end_of keyed, closing keyed ∷ []) ∷ [])
+
+-- A value, of which no more than that many arrays and objects stand in one another.
+abbrev pub TellsValue : ℕ → Told → List ℕ → Type 0
+TellsValue zero told text = TellsScalar told text
+TellsValue (suc level) told text = TellsScalar told text
+    ⊎ (TellsNested false (TellsValue level) told text
+    ⊎ TellsNested true (TellsValue level) told text)
+
+-- A text of JSON: the steps of its value.
+abbrev pub TellsText : ℕ → Told → List ℕ → Type 0
+TellsText level = TellsElement (TellsValue level)
+
+-- ---- calls
+
+-- Calls that follow one another, each of what the last one left: what they tell, and what is left.
+unfoldable pub InTurn : List ℕ → Told → List ℕ → Type 0
+InTurn bytes [] rest = bytes ≡ rest
+InTurn bytes (it ∷ told) rest =
+    (mid : List ℕ) × IsNextStep it.0 it.1 bytes mid × InTurn mid told rest
+
+-- Either all of these steps were found, and white space is all that is left; or those that were
+-- found are the first of them, and one more stands in what is left.
+abbrev pub IsTold : Told → Told → List ℕ → Type 0
+IsTold told found rest =
+    ((found ≡ told) × IsGap rest)
+    ⊎ ((it : Step × List ℕ) × (others : Told) × (told ≡ found ++ it ∷ others)
+    × ((after : List ℕ) × Stands (Then IsLead IsToken) rest after))
