@@ -6,6 +6,8 @@ mod buffers;
 #[cfg(test)]
 mod dialects;
 #[cfg(test)]
+mod extents;
+#[cfg(test)]
 mod records;
 #[cfg(test)]
 mod refused;

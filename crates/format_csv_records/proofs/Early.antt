@@ -26,24 +26,24 @@ record Ended (d : Dialect) (bytes : List ℕ) (fields : List (List ℕ)) : Type 
   pub rest : List ℕ
   pub are : (after : List ℕ) → AreFields d ((bytes ++ more) ++ after) fields (rest ++ after)
 
-one_byte : (b : ℕ) → b < 256 → All (λ b. b < 256) (b ∷ [])
+pub one_byte : (b : ℕ) → b < 256 → All (λ b. b < 256) (b ∷ [])
 one_byte b small = All-cons (λ c. c < 256) b [] small (All-nil (λ c. c < 256))
 
-feed : All (λ b. b < 256) (10 ∷ [])
+pub feed : All (λ b. b < 256) (10 ∷ [])
 feed = one_byte 10 (omega arith)
 
 return_feed : All (λ b. b < 256) (13 ∷ 10 ∷ [])
 return_feed = All-cons (λ b. b < 256) 13 (10 ∷ []) (omega arith) feed
 
 -- what ends a line
-record LineEndOf (ends : LineEnds) : Type 0 where
+pub record LineEndOf (ends : LineEnds) : Type 0 where
   pub end : List ℕ
   pub is : IsLineEnd ends end
   pub known : All (λ b. b < 256) end
   pub some : 0 < length end
   pub few : length end ≤ 2
 
-line_end_of : (ends : LineEnds) → LineEndOf ends
+pub line_end_of : (ends : LineEnds) → LineEndOf ends
 line_end_of CrLf = record {
   end = 13 ∷ 10 ∷ [];
   is = refl;

@@ -120,7 +120,7 @@ module _ (quote : ℕ) (bytes rest : List ℕ) (at : ℕ) (old now : List ℕ) (
 
 -- ---- fields after fields
 
-text_more : (fields : List (List ℕ)) (field : List ℕ)
+pub text_more : (fields : List (List ℕ)) (field : List ℕ)
     → text_of (fields ++ field ∷ []) ≡ text_of fields ++ field
 text_more fields field = sym (flat_map_more (λ f. f) [] fields field)
 

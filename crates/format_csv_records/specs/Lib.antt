@@ -4,6 +4,7 @@ pub mod Buffers
 pub mod Commas
 pub mod Dialects
 pub mod Early
+pub mod Extents
 pub mod Named
 pub mod Parts
 pub mod Records

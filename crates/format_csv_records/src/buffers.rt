@@ -68,7 +68,7 @@ pub struct Behind<'i> {
 }
 
 #[inline(always)]
-fn is_some(bytes: &[u8]) -> bool
+pub(crate) fn is_some(bytes: &[u8]) -> bool
     ensures { MatchBool result (0 < length bytes.now) (bytes.now ≡ []) }
 {
     !bytes.is_empty()

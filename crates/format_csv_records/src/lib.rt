@@ -7,8 +7,10 @@
 
 pub mod buffers;
 pub mod dialect;
+pub mod extent;
 pub mod laws;
 pub mod read;
 pub mod record;
 pub mod records;
+mod turns;
 pub mod write;

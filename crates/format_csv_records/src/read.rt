@@ -226,7 +226,7 @@ fn read_field<A: Allocator>(
 
 // Whether a line feed alone ends a record.
 #[inline(always)]
-fn by_line_feed(ends: LineEnds) -> bool
+pub(crate) fn by_line_feed(ends: LineEnds) -> bool
     ensures { MatchBool result (IsLineEnd ends (10 ∷ [])) (ends ≡ LineEnds.CrLf) }
 {
     match ends {
@@ -237,7 +237,7 @@ fn by_line_feed(ends: LineEnds) -> bool
 
 // Whether a carriage return and a line feed end a record.
 #[inline(always)]
-fn by_both(ends: LineEnds) -> bool
+pub(crate) fn by_both(ends: LineEnds) -> bool
     ensures { MatchBool result (IsLineEnd ends (13 ∷ 10 ∷ [])) (ends ≡ LineEnds.Lf) }
 {
     match ends {

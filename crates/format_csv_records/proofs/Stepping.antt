@@ -1,0 +1,272 @@
+-- What is passed of a record with a byte more, and where none goes on with it.
+use Rattle.std.specs.Prelude.{◌≡◌, ◌≤◌, ◌+◌, ◌-◌, ℕ, List, [], ◌∷◌, ◌++◌, length, take}
+use Rattle.std.specs.Prelude.{Some}
+use Rattle.std.specs.List.{All}
+use Rattle.std.proofs.Common.{refl, sym, ap, subst, inl, inr, ◌∙◌, arith, append_assoc}
+use Rattle.std.proofs.Common.{length-append}
+use Rattle.std.proofs.lemmas.List.{append-nil, length-take-le}
+use Rattle.std.proofs.lemmas.List.Elements.{All-append, All-nil}
+use Rattle.format_csv_records.specs.Buffers.{text_of}
+use Rattle.format_csv_records.specs.Dialects.{IsFieldText, IsLineEnd, IsPlain, doubled}
+use Rattle.format_csv_records.specs.Extents.{IsBegun, IsBehind, IsRun, IsTurn, Keeps, Passed}
+use Rattle.format_csv_records.specs.Parts.{IsOther, SoMany}
+use Rattle.format_csv_records.specs.declared.dialect.Dialect.{Dialect}
+use Rattle.format_csv_records.specs.declared.extent.RecordPlace.{RecordPlace}
+use Rattle.format_csv_records.specs.declared.extent.RecordPlace.TheVariants as place
+use Rattle.format_csv_records.specs.declared.turns.Step.{Step}
+use Rattle.format_csv_records.specs.declared.turns.Turn.{Turn}
+use Rattle.format_csv_records.specs.declared.turns.Turn.TheVariants.{Goes}
+use Rattle.format_csv_records.proofs.Alone.{doubled_append, doubled_none, doubled_quote}
+use Rattle.format_csv_records.proofs.Placing.{text_more}
+use Rattle.format_csv_records.proofs.Runs.{doubled_behind}
+use Rattle.format_csv_records.proofs.Whole.{done_more}
+
+-- ---- what is passed
+
+-- with these bytes more so much is begun of the field, which is that much longer
+abbrev pub Grows : (List ℕ → List ℕ → Type 0) → List ℕ → ℕ → (List ℕ → List ℕ → Type 0) → Type 0
+Grows so run n such = (field begun : List ℕ) → so field begun
+    → (new : List ℕ) × (length new ≡ length field + n) × such new (begun ++ run)
+
+pub grown : (d : Dialect) (so such : List ℕ → List ℕ → Type 0) (run : List ℕ) (n : ℕ)
+    (text fields more others : ℕ) (front : List ℕ) → Grows so run n such → n ≤ length run
+    → more ≡ text + n → others ≡ fields → Passed d so text fields front
+    → Passed d such more others (front ++ run)
+grown d so such run n text fields more others front grows room m o it =
+    let (new, size, is) = grows it.field it.begun it.is in record {
+      done = it.done;
+      before = it.before;
+      field = new;
+      begun = it.begun ++ run;
+      splits = ap (λ l. l ++ run) it.splits ∙ append_assoc it.before it.begun run;
+      are = it.are;
+      is = is;
+      count = omega (arith, it.count, o);
+      total = omega (arith, it.total, size, m);
+      few = (
+        omega (arith, it.few.0, room, m, length-append front run),
+        omega (arith, it.few.1, o, length-append front run),
+      );
+    }
+
+-- the delimiter after a field
+pub separated : (d : Dialect) (text fields more others : ℕ) (front : List ℕ) → more ≡ text
+    → others ≡ fields + 1 → Passed d (IsFieldText d) text fields front
+    → Passed d (IsBegun d place.Field) more others (front ++ d.delimiter ∷ [])
+separated d text fields more others front m o it =
+    let comma = d.delimiter ∷ [] in record {
+      done = it.done ++ it.field ∷ [];
+      before = it.before ++ (it.begun ++ comma);
+      field = [];
+      begun = [];
+      splits = ap (λ l. l ++ comma) it.splits ∙ append_assoc it.before it.begun comma
+          ∙ sym (append-nil (it.before ++ (it.begun ++ comma)));
+      are = done_more d it.done it.before it.field it.begun it.are it.is;
+      is = (refl, refl);
+      count = omega (arith, it.count, o, length-append it.done (it.field ∷ []));
+      total = omega (
+        arith,
+        it.total,
+        m,
+        ap (λ l. length l) (text_more it.done it.field),
+        length-append (text_of it.done) it.field,
+      );
+      few = (
+        omega (arith, it.few.0, m, length-append front comma),
+        omega (arith, it.few.1, o, length-append front comma),
+      );
+    }
+
+pub passed_as : (d : Dialect) (so such : List ℕ → List ℕ → Type 0) (text fields : ℕ)
+    (front : List ℕ) → ((field begun : List ℕ) → so field begun → such field begun)
+    → Passed d so text fields front → Passed d such text fields front
+passed_as d so such text fields front into it = record {
+  done = it.done;
+  before = it.before;
+  field = it.field;
+  begun = it.begun;
+  splits = it.splits;
+  are = it.are;
+  is = into it.field it.begun it.is;
+  count = it.count;
+  total = it.total;
+  few = it.few;
+}
+
+-- ---- texts that are fields
+
+pub field_text : (d : Dialect) (field begun : List ℕ) → IsBegun d place.Field field begun
+    → IsFieldText d field begun
+field_text d field begun (none, nothing) =
+    let P : List ℕ → Type 0 = λ l. All (IsPlain d) l in
+    inr (nothing ∙ sym none, subst P (sym none) (All-nil (IsPlain d)))
+
+pub plain_text : (d : Dialect) (field begun : List ℕ) → IsBegun d place.Plain field begun
+    → IsFieldText d field begun
+plain_text d field begun (same, all, some) = inr (same, all)
+
+pub quote_text : (d : Dialect) (field begun : List ℕ) → IsBegun d place.Quote field begun
+    → IsFieldText d field begun
+quote_text d field begun is = inl is
+
+-- ---- one byte more
+
+pub grows_return : (d : Dialect) → IsLineEnd d.ends (13 ∷ 10 ∷ [])
+    → Grows (IsFieldText d) (13 ∷ []) 0 (IsBegun d place.Return)
+grows_return d is field begun it = (field, omega arith, (begun, it, is, refl))
+
+pub grows_feed : (d : Dialect) → IsLineEnd d.ends (10 ∷ [])
+    → Grows (IsFieldText d) (10 ∷ []) 0 (IsBegun d place.Done)
+grows_feed d is field begun it = (field, omega arith, (begun, 10 ∷ [], it, is, refl))
+
+pub grows_both : (d : Dialect) → Grows (IsBegun d place.Return) (10 ∷ []) 0 (IsBegun d place.Done)
+grows_both d field begun (text, it, is, e) = (
+  field,
+  omega arith,
+  (text, 13 ∷ 10 ∷ [], it, is, ap (λ l. l ++ 10 ∷ []) e ∙ append_assoc text (13 ∷ []) (10 ∷ [])),
+)
+
+pub grows_open : (d : Dialect)
+    → Grows (IsBegun d place.Field) (d.quote ∷ []) 0 (IsBegun d place.Quoted)
+grows_open d field begun (none, nothing) = (
+  [],
+  omega (arith, ap (λ l. length l) none),
+  ap (λ l. l ++ d.quote ∷ []) nothing ∙ ap (λ l. d.quote ∷ l) (sym (doubled_none d.quote)),
+)
+
+pub grows_plain : (d : Dialect) (run : List ℕ) → All (IsPlain d) run
+    → Grows (IsBegun d place.Plain) run (length run) (IsBegun d place.Plain)
+grows_plain d run all field begun (same, each, some) = (
+  field ++ run,
+  length-append field run,
+  (
+    ap (λ l. l ++ run) same,
+    All-append (IsPlain d) field run each all,
+    omega (arith, some, length-append field run),
+  ),
+)
+
+pub grows_quoted : (d : Dialect) (run : List ℕ) → All (IsOther d.quote) run
+    → Grows (IsBegun d place.Quoted) run (length run) (IsBegun d place.Quoted)
+grows_quoted d run all field begun is = (
+  field ++ run,
+  length-append field run,
+  ap (λ l. l ++ run) is ∙ ap (λ l. d.quote ∷ l) (sym (doubled_behind d.quote field run all)),
+)
+
+pub grows_quote : (d : Dialect)
+    → Grows (IsBegun d place.Quoted) (d.quote ∷ []) 0 (IsBegun d place.Quote)
+grows_quote d field begun is = (field, omega arith, ap (λ l. l ++ d.quote ∷ []) is)
+
+pub grows_two : (d : Dialect)
+    → Grows (IsBegun d place.Quote) (d.quote ∷ []) 1 (IsBegun d place.Quoted)
+grows_two d field begun is =
+    let q = d.quote in (
+      field ++ q ∷ [],
+      length-append field (q ∷ []),
+      ap (λ l. l ++ q ∷ []) is
+          ∙ ap (λ l. q ∷ l) (append_assoc (doubled q field) (q ∷ []) (q ∷ [])
+          ∙ ap (λ l. doubled q field ++ l)
+          (sym (doubled_quote q q [] refl ∙ ap (λ l. q ∷ q ∷ l) (doubled_none q)))
+          ∙ sym (doubled_append q field (q ∷ []))),
+    )
+
+-- a byte, by what it makes of what is begun
+pub keeps_byte : (d : Dialect) (at next : RecordPlace) (b n : ℕ) → n ≤ 1
+    → Grows (IsBegun d at) (b ∷ []) n (IsBegun d next) → (more others : ℕ) → more ≡ n
+    → others ≡ 0 → (text fields : ℕ)
+    → Keeps d at text fields (b ∷ []) next (text + more) (fields + others)
+keeps_byte d at next b n less grows more others m o text fields front it =
+    grown d (IsBegun d at) (IsBegun d next) (b ∷ []) n text fields (text + more) (fields + others)
+    front grows less (omega (arith, m)) (omega (arith, o)) it
+
+pub keeps_run : (d : Dialect) (at : RecordPlace) (run : List ℕ) (n : ℕ) → length run ≡ n
+    → Grows (IsBegun d at) run (length run) (IsBegun d at) → (text fields : ℕ)
+    → Keeps d at text fields run at (text + n) fields
+keeps_run d at run n size grows text fields front it =
+    grown d (IsBegun d at) (IsBegun d at) run (length run) text fields (text + n) fields front grows
+    (omega arith) (omega (arith, size)) refl it
+
+-- a byte, by what it makes of what is begun, at a step that says so
+pub goes_step : (d : Dialect) (at next : RecordPlace) (b c n : ℕ) → b ≡ c → n ≤ 1
+    → Grows (IsBegun d at) (c ∷ []) n (IsBegun d next) → (step : Step)
+    → (step.place ≡ next) × (step.text ≡ n) × (step.fields ≡ 0) → IsTurn d at b (Goes step)
+goes_step d at next b c n same less grows step (is, text_is, none) =
+    let Q : ℕ → Type 0 = λ x. IsTurn d at x (Goes step) in
+    subst Q (sym same) (
+      omega (arith, text_is, less),
+      omega (arith, none),
+      λ text fields front it.
+          let P : RecordPlace → Type 0 =
+          λ p. Passed d (IsBegun d p) (text + step.text) (fields + step.fields) (front ++ c ∷ []) in
+          subst P (sym is) (keeps_byte d at next c n less grows step.text step.fields text_is none
+          text fields front it),
+    )
+
+-- what is after a text is so after a field that has it
+pub turn_text : (d : Dialect) (at : RecordPlace) (b : ℕ)
+    → ((field begun : List ℕ) → IsBegun d at field begun → IsFieldText d field begun)
+    → (step : Step) → IsBehind d b (Some step) → IsTurn d at b (Goes step)
+turn_text d at b into step (less, few, on) = (
+  less,
+  few,
+  λ text fields front it.
+      on text fields front (passed_as d (IsBegun d at) (IsFieldText d) text fields front into it),
+)
+
+pub behind_delimiter : (d : Dialect) (b : ℕ) → b ≡ d.delimiter
+    → IsBehind d b (Some (record { place = place.Field; text = 0; fields = 1 }))
+behind_delimiter d b e = (
+  omega arith,
+  omega arith,
+  λ text fields front it.
+      let P : ℕ → Type 0 =
+      λ x. Passed d (IsBegun d place.Field) (text + 0) (fields + 1) (front ++ x ∷ []) in
+      subst P (sym e) (separated d text fields (text + 0) (fields + 1) front (omega arith) refl it),
+)
+
+pub behind_step : (d : Dialect) (next : RecordPlace) (b c : ℕ) → b ≡ c
+    → Grows (IsFieldText d) (c ∷ []) 0 (IsBegun d next) → (step : Step)
+    → (step.place ≡ next) × (step.text ≡ 0) × (step.fields ≡ 0) → IsBehind d b (Some step)
+behind_step d next b c same grows step (is, none, nothing) =
+    let Q : ℕ → Type 0 = λ x. IsBehind d x (Some step) in
+    subst Q (sym same) (
+      omega (arith, none),
+      omega (arith, nothing),
+      λ text fields front it.
+          let P : RecordPlace → Type 0 =
+          λ p. Passed d (IsBegun d p) (text + step.text) (fields + step.fields) (front ++ c ∷ []) in
+          subst P (sym is) (grown d (IsFieldText d) (IsBegun d next) (c ∷ []) 0 text fields
+          (text + step.text) (fields + step.fields) front grows (omega arith) (omega (arith, none))
+          (omega (arith, nothing)) it),
+    )
+
+-- ---- runs
+
+run_in : (d : Dialect) (at here : RecordPlace) (run : List ℕ) (n : ℕ) → at ≡ here
+    → IsRun d here run n → IsRun d at run n
+run_in d at here run n is it =
+    let P : RecordPlace → Type 0 = λ a. IsRun d a run n in subst P (sym is) it
+
+pub run_plain : (d : Dialect) (at : RecordPlace) (bytes : List ℕ) (n : ℕ) → at ≡ place.Plain
+    → SoMany (IsPlain d) bytes n → IsRun d at (take n bytes) n
+run_plain d at bytes n is (room, all, not) =
+    let size : length (take n bytes) ≡ n = length-take-le n bytes room in
+    run_in d at place.Plain (take n bytes) n is (
+      size,
+      keeps_run d place.Plain (take n bytes) n size (grows_plain d (take n bytes) all),
+    )
+
+pub run_quoted : (d : Dialect) (at : RecordPlace) (bytes : List ℕ) (n : ℕ) → at ≡ place.Quoted
+    → SoMany (IsOther d.quote) bytes n → IsRun d at (take n bytes) n
+run_quoted d at bytes n is (room, all, not) =
+    let size : length (take n bytes) ≡ n = length-take-le n bytes room in
+    run_in d at place.Quoted (take n bytes) n is (
+      size,
+      keeps_run d place.Quoted (take n bytes) n size (grows_quoted d (take n bytes) all),
+    )
+
+pub turn_in : (d : Dialect) (at here : RecordPlace) (b : ℕ) (turn : Turn) → at ≡ here
+    → IsTurn d here b turn → IsTurn d at b turn
+turn_in d at here b turn is it =
+    let P : RecordPlace → Type 0 = λ a. IsTurn d a b turn in subst P (sym is) it

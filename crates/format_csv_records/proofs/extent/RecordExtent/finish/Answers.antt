@@ -1,0 +1,16 @@
+use Rattle.std.proofs.Common.{drop, subst}
+use Rattle.std.specs.Prelude.{Ok, Option}
+use Rattle.format_csv_records.proofs.Extents.{open_after, within}
+use Rattle.format_csv_records.specs.Extents.{IsLed}
+use Rattle.format_csv_records.specs.declared.buffers.RecordSize.{RecordSize}
+use Rattle.format_csv_records.proofs.extent.RecordExtent.finish.Goals as goal
+
+pub returns-in-None : goal.returns-in-None
+returns-in-None c here =
+    let P : Option RecordSize → Type 0 = λ o. IsLed c.args.dialect c.args.self.now
+    (drop c.args.self.now.passed c.args.bytes.now) c.advance.new.self (Ok o) in
+    let (room, text, fields) = within c.args.dialect c.args.self.now c.args.bytes.now here in
+    let (it, all, not) = open_after c.args.dialect c.args.dialect.apart c.args.self.now
+    c.advance.new.self c.args.bytes.now here
+    (subst P c.in-None.is (c.in_ok-size.ensures.fresh room (text, fields))) in
+    c.end.ensures c.args.dialect not it all

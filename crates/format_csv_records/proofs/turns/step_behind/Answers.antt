@@ -1,0 +1,16 @@
+use Rattle.format_csv_records.proofs.Stepping.{behind_delimiter, behind_step, grows_feed}
+use Rattle.format_csv_records.proofs.Stepping.{grows_return}
+use Rattle.format_csv_records.specs.declared.extent.RecordPlace.TheVariants as place
+use Rattle.format_csv_records.proofs.turns.step_behind.Goals as goal
+
+pub returns-then-byte-dialect : goal.returns-then-byte-dialect
+returns-then-byte-dialect c = behind_delimiter c.args.dialect c.args.byte c.if-byte-dialect.true
+
+pub returns-then-by_both : goal.returns-then-by_both
+returns-then-by_both c = behind_step c.args.dialect place.Return c.args.byte 13 c.in-13.is
+    (grows_return c.args.dialect c.if-by_both.ensures) c.step_to.result c.step_to.ensures
+
+pub returns-then-by_line_feed : goal.returns-then-by_line_feed
+returns-then-by_line_feed c = behind_step c.args.dialect place.Done c.args.byte 10
+    c.in-10.is (grows_feed c.args.dialect c.if-by_line_feed.ensures)
+    c.step_to-then-by_line_feed.result c.step_to-then-by_line_feed.ensures

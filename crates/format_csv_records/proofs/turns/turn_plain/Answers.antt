@@ -1,0 +1,29 @@
+use mathlib.Core.Bool.{false≢true}
+use Rattle.std.proofs.Common.{[], ◌∷◌, arith, refl}
+use Rattle.std.proofs.lemmas.List.Elements.{All-cons, All-nil}
+use Rattle.format_csv_records.proofs.Stepping.{goes_step, grows_plain, plain_text, turn_text}
+use Rattle.format_csv_records.proofs.Stuck.{first_plain, stuck}
+use Rattle.format_csv_records.specs.Dialects.{IsPlain}
+use Rattle.format_csv_records.specs.Extents.{IsBegun}
+use Rattle.format_csv_records.specs.declared.extent.RecordPlace.TheVariants as place
+use Rattle.format_csv_records.proofs.turns.turn_plain.Goals as goal
+
+pub returns-then-is_plain : goal.returns-then-is_plain
+returns-then-is_plain c = goes_step c.args.dialect place.Plain place.Plain c.args.byte _ 1 refl
+    (omega arith) (grows_plain c.args.dialect (c.args.byte ∷ []) (All-cons (IsPlain c.args.dialect)
+    c.args.byte [] (c.if-is_plain.ensures.0 refl) (All-nil (IsPlain c.args.dialect))))
+    c.step_to.result c.step_to.ensures
+
+pub returns-in-Some : goal.returns-in-Some
+returns-in-Some c = turn_text c.args.dialect place.Plain c.args.byte (plain_text c.args.dialect)
+    c.in-Some.step c.in-Some.ensures
+
+pub returns-in-None : goal.returns-in-None
+returns-in-None c = (
+  λ e. cc,
+  stuck c.args.dialect c.args.dialect.apart c.args.byte c.why_byte.result
+      (IsBegun c.args.dialect place.Plain)
+      (first_plain c.args.dialect c.args.dialect.apart c.args.byte
+      (λ t. false≢true (c.if-is_plain.ensures.1 t)))
+      c.in-None.ensures.0 c.in-None.ensures.1 c.why_byte.ensures,
+)

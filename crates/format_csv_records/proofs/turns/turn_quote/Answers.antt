@@ -1,0 +1,25 @@
+use Rattle.std.proofs.Common.{arith}
+use Rattle.format_csv_records.proofs.Stepping.{goes_step, grows_two, quote_text}
+use Rattle.format_csv_records.proofs.Stepping.{turn_text}
+use Rattle.format_csv_records.proofs.Stuck.{first_quote, stuck}
+use Rattle.format_csv_records.specs.Extents.{IsBegun}
+use Rattle.format_csv_records.specs.declared.extent.RecordPlace.TheVariants as place
+use Rattle.format_csv_records.proofs.turns.turn_quote.Goals as goal
+
+pub returns-then-byte-dialect : goal.returns-then-byte-dialect
+returns-then-byte-dialect c = goes_step c.args.dialect place.Quote place.Quoted c.args.byte _ 1
+    c.if-byte-dialect.true (omega arith) (grows_two c.args.dialect) c.step_to.result
+    c.step_to.ensures
+
+pub returns-in-Some : goal.returns-in-Some
+returns-in-Some c = turn_text c.args.dialect place.Quote c.args.byte (quote_text c.args.dialect)
+    c.in-Some.step c.in-Some.ensures
+
+pub returns-in-None : goal.returns-in-None
+returns-in-None c = (
+  λ e. cc,
+  stuck c.args.dialect c.args.dialect.apart c.args.byte c.why_byte.result
+      (IsBegun c.args.dialect place.Quote)
+      (first_quote c.args.dialect c.args.dialect.apart c.args.byte c.if-byte-dialect.false)
+      c.in-None.ensures.0 c.in-None.ensures.1 c.why_byte.ensures,
+)

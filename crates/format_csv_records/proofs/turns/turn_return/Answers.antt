@@ -1,0 +1,18 @@
+use Rattle.std.proofs.Common.{◌∷◌, arith}
+use Rattle.format_csv_records.proofs.Stepping.{goes_step, grows_both}
+use Rattle.format_csv_records.proofs.Stuck.{never_return}
+use Rattle.format_csv_records.specs.declared.extent.RecordPlace.TheVariants as place
+use Rattle.format_csv_records.proofs.turns.turn_return.Goals as goal
+
+pub returns-then-byte-eq10 : goal.returns-then-byte-eq10
+returns-then-byte-eq10 c = goes_step c.args.dialect place.Return place.Done c.args.byte _ 0
+    c.if-byte-eq10.true (omega arith) (grows_both c.args.dialect) c.step_to.result
+    c.step_to.ensures
+
+pub returns : goal.returns
+returns c = (
+  λ e. cc,
+  λ text fields front bs it.
+      never_return c.args.dialect c.args.dialect.apart (c.args.byte ∷ bs) c.if-byte-eq10.false text
+      fields front it,
+)

@@ -1,0 +1,138 @@
+-- Where a record ends: what of some bytes is passed, and what is told of them.
+use Rattle.std.specs.Prelude.{◌≡◌, ◌⊎◌, ◌≤◌, ◌<◌, ◌+◌, ℕ, List, [], ◌∷◌, ◌++◌, length, true}
+use Rattle.std.specs.Prelude.{Option, Some, None, Result, Ok, Err}
+use Rattle.std.specs.List.{All}
+use Rattle.format_csv_records.specs.Buffers.{IsSized, NoneForGood, text_of}
+use Rattle.format_csv_records.specs.Dialects.{EndsHere, IsFieldText, IsLineEnd, IsPlain, doubled}
+use Rattle.format_csv_records.specs.Early.{BeginsNone, GoesOn}
+use Rattle.format_csv_records.specs.Parts.{Done}
+use Rattle.format_csv_records.specs.Refused.{IsRefused}
+use Rattle.format_csv_records.specs.declared.buffers.RecordSize.{RecordSize}
+use Rattle.format_csv_records.specs.declared.dialect.Dialect.{Dialect}
+use Rattle.format_csv_records.specs.declared.extent.RecordExtent.{RecordExtent}
+use Rattle.format_csv_records.specs.declared.extent.RecordPlace.{RecordPlace}
+use Rattle.format_csv_records.specs.declared.extent.RecordPlace.TheVariants as place
+use Rattle.format_csv_records.specs.declared.extent.Walked.{Walked}
+use Rattle.format_csv_records.specs.declared.read.RecordFault.{RecordFault}
+use Rattle.format_csv_records.specs.declared.read.Refusal.{Refusal}
+use Rattle.format_csv_records.specs.declared.turns.Step.{Step}
+use Rattle.format_csv_records.specs.declared.turns.Turn.{Turn}
+use Rattle.format_csv_records.specs.declared.turns.Turn.TheVariants.{Ends, Goes, Never}
+
+-- What of the last field is passed at a place, and what this is of the field: nothing; plain bytes;
+-- a quote, and what is written after it; and the closing quote; its text, and what is begun of a
+-- line end; or this and a line end.
+abbrev pub IsBegun : Dialect → RecordPlace → List ℕ → List ℕ → Type 0
+IsBegun d place.Field field begun = (field ≡ []) × (begun ≡ [])
+IsBegun d place.Plain field begun = (begun ≡ field) × All (IsPlain d) field × (0 < length field)
+IsBegun d place.Quoted field begun = begun ≡ d.quote ∷ doubled d.quote field
+IsBegun d place.Quote field begun = begun ≡ d.quote ∷ (doubled d.quote field ++ d.quote ∷ [])
+IsBegun d place.Return field begun = (text : List ℕ) × IsFieldText d field text
+    × IsLineEnd d.ends (13 ∷ 10 ∷ []) × (begun ≡ text ++ 13 ∷ [])
+IsBegun d place.Done field begun = (text : List ℕ) × (end : List ℕ) × IsFieldText d field text
+    × IsLineEnd d.ends end × (begun ≡ text ++ end)
+
+-- These bytes are passed: fields with a delimiter after each, and so much of one more. They have
+-- that many bytes of text, and that many fields are before the last.
+pub record Passed (d : Dialect) (so : List ℕ → List ℕ → Type 0) (text fields : ℕ)
+    (front : List ℕ) : Type 0 where
+  pub done : List (List ℕ)
+  pub before : List ℕ
+  pub field : List ℕ
+  pub begun : List ℕ
+  pub splits : front ≡ before ++ begun
+  pub are : Done d done before
+  pub is : so field begun
+  pub count : fields ≡ length done
+  pub total : text ≡ length (text_of done) + length field
+  pub few : (text ≤ length front) × (fields ≤ length front)
+
+-- The extent is of these bytes, or of some that they begin with.
+pub record IsOf (d : Dialect) (extent : RecordExtent) (bytes : List ℕ) : Type 0 where
+  pub front : List ℕ
+  pub left : List ℕ
+  pub splits : bytes ≡ front ++ left
+  pub size : length front ≡ extent.passed
+  pub passed : Passed d (IsBegun d extent.place) extent.text extent.fields front
+
+-- What is told of some bytes: the size of the record that they begin with, whatever follows; or
+-- that no record is theirs whatever follows, and with more bytes one is; or the first byte at which
+-- no record goes on, whatever follows.
+abbrev pub IsTold : Dialect → List ℕ → Result (Option RecordSize) RecordFault → Type 0
+IsTold d bytes (Ok (Some size)) = IsSized d bytes size × (size.ended ≡ true)
+IsTold d bytes (Ok None) = GoesOn d bytes × NoneForGood d bytes
+IsTold d bytes (Err fault) = IsRefused d bytes fault × BeginsNone d bytes
+
+-- ---- what a call does with the bytes that are new, whatever those are that were passed
+
+-- With these bytes more that is passed which was passed before them.
+abbrev pub Keeps : Dialect → RecordPlace → ℕ → ℕ → List ℕ → RecordPlace → ℕ → ℕ → Type 0
+Keeps d at text fields taken next more others = (front : List ℕ)
+    → Passed d (IsBegun d at) text fields front
+    → Passed d (IsBegun d next) more others (front ++ taken)
+
+-- After what is passed no record goes on with the byte, for this reason.
+abbrev pub IsNever : Dialect → RecordPlace → ℕ → Refusal → Type 0
+IsNever d at b why = (text fields : ℕ) (front bs : List ℕ)
+    → Passed d (IsBegun d at) text fields front
+    → IsRefused d (front ++ b ∷ bs) (record { offset = length front; why = why })
+
+-- no byte is left, or none of the record, or one with which no record goes on
+abbrev pub IsStopped : Dialect → RecordPlace → List ℕ → Option Refusal → Type 0
+IsStopped d at left None = (at ≡ place.Done) ⊎ (left ≡ [])
+IsStopped d at left (Some why) = (at ≡ place.Done → ⊥)
+    × ((b : ℕ) × (more : List ℕ) × (left ≡ b ∷ more) × IsNever d at b why)
+
+-- Of these bytes the first are passed, as many as can be, and the others are left.
+abbrev pub Walks : Dialect → Step → List ℕ → Walked → Type 0
+Walks d old fresh new = (taken : List ℕ) × (fresh ≡ taken ++ new.left.now)
+    × Keeps d old.place old.text old.fields taken new.at.place new.at.text new.at.fields
+    × IsStopped d new.at.place new.left.now new.why
+    × (new.at.text + length new.left.now ≤ old.text + length fresh)
+    × (new.at.fields + length new.left.now ≤ old.fields + length fresh)
+
+-- what an extent says, with this reason why no record goes on, or with none
+abbrev pub Says : RecordExtent → Option Refusal → Result (Option RecordSize) RecordFault → Type 0
+Says new why (Ok (Some size)) = (why ≡ None) × (new.place ≡ place.Done)
+    × (size.fields ≡ new.fields + 1) × (size.text ≡ new.text) × (size.length ≡ new.passed)
+    × (size.ended ≡ true)
+Says new why (Ok None) = (why ≡ None) × (new.place ≡ place.Done → ⊥)
+Says new why (Err fault) = (why ≡ Some fault.why) × (fault.offset ≡ new.passed)
+
+-- no more bytes of text, and no more fields, than bytes
+abbrev pub IsFew : RecordExtent → Type 0
+IsFew extent = (extent.text ≤ extent.passed) × (extent.fields ≤ extent.passed)
+
+-- From one extent to the next: some of the new bytes are passed, and what is said is said of what
+-- is begun there and of what is left. Nothing is asked of the bytes that were passed before.
+abbrev pub IsLed : Dialect → RecordExtent → List ℕ → RecordExtent
+    → Result (Option RecordSize) RecordFault → Type 0
+IsLed d old fresh new result = (taken : List ℕ) × (left : List ℕ) × (why : Option Refusal)
+    × (fresh ≡ taken ++ left) × (new.passed ≡ old.passed + length taken)
+    × Keeps d old.place old.text old.fields taken new.place new.text new.fields
+    × IsStopped d new.place left why × Says new why result
+
+-- ---- one byte
+
+-- After a text that is a field the byte is of the record; or it is no delimiter, and no record ends
+-- with it there.
+abbrev pub IsBehind : Dialect → ℕ → Option Step → Type 0
+IsBehind d b (Some step) = (step.text ≤ 1) × (step.fields ≤ 1)
+    × ((text fields : ℕ) (front : List ℕ) → Passed d (IsFieldText d) text fields front
+    → Passed d (IsBegun d step.place) (text + step.text) (fields + step.fields) (front ++ b ∷ []))
+IsBehind d b None = (b ≡ d.delimiter → ⊥)
+    × ((after rest : List ℕ) → EndsHere d.ends (b ∷ after) rest → ⊥)
+
+-- The byte is of the record, with so much more; or the record was at its end; or none goes on with
+-- it.
+abbrev pub IsTurn : Dialect → RecordPlace → ℕ → Turn → Type 0
+IsTurn d at b (Goes step) = (step.text ≤ 1) × (step.fields ≤ 1)
+    × ((text fields : ℕ)
+    → Keeps d at text fields (b ∷ []) step.place (text + step.text) (fields + step.fields))
+IsTurn d at b Ends = at ≡ place.Done
+IsTurn d at b (Never why) = (at ≡ place.Done → ⊥) × IsNever d at b why
+
+-- These bytes, that many, are text of the field.
+abbrev pub IsRun : Dialect → RecordPlace → List ℕ → ℕ → Type 0
+IsRun d at run n =
+    (length run ≡ n) × ((text fields : ℕ) → Keeps d at text fields run at (text + n) fields)

@@ -1,0 +1,316 @@
+//! Where a record ends whose bytes come in pieces.
+//!
+//! What a call was given it passes, and no other call looks at it again: so a record is found in a
+//! time that is linear in its bytes, however many pieces there are, and is then written by one call
+//! of [`write_fields`](crate::buffers::write_fields).
+
+ghost use Rattle.std.specs.Prelude.{◌≡◌, ◌≤◌, ◌<◌, ◌+◌, ◌^◌, ◌++◌, ℕ, List, None, Ok, drop};
+ghost use Rattle.std.specs.Prelude.{length};
+ghost use Rattle.format_csv_records.specs.Buffers.{SizesRecord};
+ghost use Rattle.format_csv_records.specs.Extents.{IsBegun, IsFew, IsLed, IsOf, IsTold, Passed};
+ghost use Rattle.format_csv_records.specs.Extents.{Says, Walks};
+ghost use Rattle.format_csv_records.specs.declared.dialect.Dialect.{Dialect};
+
+use crate::buffers::{RecordSize, is_some};
+use crate::dialect::Dialect;
+use crate::read::{RecordFault, Refusal, behind};
+use crate::turns::{Step, Turn, after, run_len, turn_at};
+
+/// Where in a record the next byte is due.
+///
+/// ```
+/// use format_csv_records::dialect::Dialect;
+/// use format_csv_records::extent::{RecordExtent, RecordPlace};
+///
+/// let mut extent = RecordExtent::new();
+/// assert!(rt; matches!(extent.advance(Dialect::standard(), b"a,\"b"), Ok(None)));
+/// assert!(rt; extent.place == RecordPlace::Quoted);
+/// ```
+#[derive(Clone, Copy, Debug, PartialEq, Eq)]
+pub enum RecordPlace {
+    /// Where a field begins.
+    Field,
+    /// In a field without quotes.
+    Plain,
+    /// Between quotes.
+    Quoted,
+    /// After a quote that stands between quotes: the closing one, or the first of two.
+    Quote,
+    /// After the carriage return of a line end.
+    Return,
+    /// After the record.
+    Done,
+}
+
+/// How far some bytes were searched for the end of the record that they begin with. What it has can
+/// be kept anywhere, and an extent be made of it again.
+///
+/// ```
+/// use format_csv_records::dialect::Dialect;
+/// use format_csv_records::extent::RecordExtent;
+///
+/// let mut extent = RecordExtent::new();
+/// assert!(rt; matches!(extent.advance(Dialect::standard(), b"a,\"b\"\"c"), Ok(None)));
+/// assert!(rt; extent.passed == 7 && extent.fields == 1 && extent.text == 4);
+/// ```
+#[derive(Clone, Copy, Debug, PartialEq, Eq)]
+pub struct RecordExtent {
+    /// How many bytes were passed.
+    pub passed: usize,
+    /// How many bytes the fields have that were passed, as they are meant.
+    pub text: usize,
+    /// How many fields were passed with the delimiter after them.
+    pub fields: usize,
+    /// Where in the record the next byte is due.
+    pub place: RecordPlace,
+}
+
+/// How far bytes were passed.
+#[derive(Clone, Copy)]
+struct Walked<'i> {
+    at: Step,
+    /// The bytes that are left.
+    left: &'i [u8],
+    /// Why no record goes on with the first of these, if none does.
+    why: Option<Refusal>,
+}
+
+/// That a byte is below 256, which the clauses of its callers ask for.
+#[inline(always)]
+fn is_byte(byte: u8)
+    ensures { byte < 256 }
+{}
+
+/// Passes bytes from a step on, as many as the record has.
+#[inline(always)]
+fn walk<'i>(dialect: Dialect, from: Step, fresh: &'i [u8]) -> Walked<'i>
+    requires text { from.text + length fresh.now < 2 ^ 64 }
+    requires fields { from.fields + length fresh.now < 2 ^ 64 }
+    ensures { Walks dialect from fresh.now result }
+{
+    let mut at = from;
+    let mut rest = fresh;
+    'runs: loop {
+        let run = run_len(dialect, at.place, rest);
+        at.text += run;
+        let left = behind(rest, run);
+        match left.split_first() {
+            None => return Walked {
+                at,
+                left,
+                why: None,
+            },
+            Some((byte, more)) => match turn_at(dialect, at.place, *byte) {
+                Turn::Goes(step) => {
+                    at = after(at, step);
+                    rest = more;
+                }
+                Turn::Ends => return Walked {
+                    at,
+                    left,
+                    why: None,
+                },
+                Turn::Never(why) => {
+                    return Walked {
+                        at,
+                        left,
+                        why: Some(why),
+                    };
+                }
+            },
+        }
+    }
+}
+
+impl RecordExtent {
+    /// Nothing is passed.
+    ///
+    /// ```
+    /// use format_csv_records::extent::RecordExtent;
+    ///
+    /// assert!(rt; RecordExtent::new().passed == 0);
+    /// ```
+    pub fn new() -> RecordExtent
+        ensures { (d : Dialect) (bytes : List ℕ) → IsOf d result bytes }
+    {
+        RecordExtent {
+            passed: 0,
+            text: 0,
+            fields: 0,
+            place: RecordPlace::Field,
+        }
+    }
+
+    /// The size of the record that the bytes begin with, whatever follows: of one whose line end is
+    /// there. The bytes are those of the call before, and more, and the dialect is the same: what
+    /// was passed then is not looked at again, so the time that all calls take is linear in the
+    /// bytes. In all of them a byte is looked at twice at most.
+    ///
+    /// `None` is for bytes that begin with no such record, and with more after them they can; where
+    /// none come, [`RecordExtent::finish`] says what they are. In each case
+    /// [`RecordExtent::passed`] bytes were passed: those of the record; all; those before the byte
+    /// that is refused. Called again, it goes on from there. What is told is told of the extent of
+    /// these bytes alone: of one that was taken for others, or in another dialect, it may be wrong.
+    ///
+    /// # Errors
+    ///
+    /// A [`RecordFault`] tells the first byte at which no record can go on, whatever follows, and
+    /// why: never [`Refusal::OpenQuote`], since more bytes may close it.
+    ///
+    /// ```
+    /// use format_csv_records::buffers::write_fields;
+    /// use format_csv_records::dialect::Dialect;
+    /// use format_csv_records::extent::RecordExtent;
+    ///
+    /// let bytes = b"a,\"b \"\"c\"\"\"\r\nd".as_slice();
+    /// let (dialect, mut extent) = (Dialect::standard(), RecordExtent::new());
+    /// assert!(rt; matches!(extent.advance(dialect, &bytes[..7]), Ok(None)));
+    /// let (mut text, mut places) = ([0; 6], [(0, 0); 2]);
+    /// match extent.advance(dialect, bytes) {
+    ///     Ok(Some(size)) => {
+    ///         let (all, fields) = (text.as_mut_slice(), places.as_mut_slice());
+    ///         assert!(rt; write_fields(dialect, bytes, size, all, fields));
+    ///     }
+    ///     _ => assert!(rt; false),
+    /// }
+    /// assert_eq!(rt; text, *b"ab \"c\"");
+    /// ```
+    pub fn advance(
+        &mut self,
+        dialect: Dialect,
+        bytes: &[u8],
+    ) -> Result<Option<RecordSize>, RecordFault>
+        ensures told { IsOf dialect self.old bytes.now → IsTold dialect bytes.now result }
+        ensures kept { IsOf dialect self.old bytes.now
+            → (more : List ℕ) → IsOf dialect self.new (bytes.now ++ more) }
+        ensures fresh { self.old.passed ≤ length bytes.now → IsFew self.old
+            → IsLed dialect self.old (drop self.old.passed bytes.now) self.new result }
+        ensures short { length bytes.now < self.old.passed
+            → (result ≡ Ok None) × (self.new ≡ self.old) }
+    {
+        match bytes.get(self.passed..) {
+            None => Ok(None),
+            Some(fresh) => {
+                if self.text > self.passed || self.fields > self.passed {
+                    return Ok(None);
+                }
+                is_byte(dialect.quote);
+                let walked = walk(dialect, self.begun(), fresh);
+                *self = RecordExtent {
+                    passed: bytes.len() - walked.left.len(),
+                    text: walked.at.text,
+                    fields: walked.at.fields,
+                    place: walked.at.place,
+                };
+                self.say(walked.why)
+            }
+        }
+    }
+
+    /// Where the next byte is due, and what was passed.
+    #[inline(always)]
+    fn begun(&self) -> Step
+        ensures { (result.place ≡ self.now.place) × (result.text ≡ self.now.text)
+            × (result.fields ≡ self.now.fields) }
+    {
+        Step {
+            place: self.place,
+            text: self.text,
+            fields: self.fields,
+        }
+    }
+
+    /// What is said of the bytes that were passed, where no record goes on after them if there is a
+    /// reason.
+    #[inline(always)]
+    fn say(&self, why: Option<Refusal>) -> Result<Option<RecordSize>, RecordFault>
+        requires { self.now.fields < 2 ^ 63 }
+        ensures { Says self.now why result }
+    {
+        if let Some(why) = why {
+            return Err(RecordFault {
+                offset: self.passed,
+                why,
+            });
+        }
+        match self.place {
+            RecordPlace::Done => Ok(Some(self.size(true))),
+            _ => Ok(None),
+        }
+    }
+
+    /// The size of the bytes that were passed.
+    #[inline(always)]
+    fn size(&self, ended: bool) -> RecordSize
+        requires { self.now.fields < 2 ^ 63 }
+        ensures { (result.fields ≡ self.now.fields + 1) × (result.text ≡ self.now.text)
+            × (result.length ≡ self.now.passed) × (result.ended ≡ ended) }
+    {
+        RecordSize {
+            fields: self.fields + 1,
+            text: self.text,
+            length: self.passed,
+            ended,
+        }
+    }
+
+    /// What [`record_size`](crate::buffers::record_size) says of the bytes, of which those that
+    /// were passed are not looked at again: it is for the bytes after which none come. A record may
+    /// end with them then, and no bytes are no record.
+    ///
+    /// # Errors
+    ///
+    /// A [`RecordFault`] tells the first byte at which no record can go on, or the end of the bytes
+    /// where one is wanting there, and why.
+    ///
+    /// ```
+    /// use format_csv_records::dialect::Dialect;
+    /// use format_csv_records::extent::RecordExtent;
+    ///
+    /// let (dialect, bytes) = (Dialect::standard(), b"a,\"b\"".as_slice());
+    /// let mut extent = RecordExtent::new();
+    /// assert!(rt; matches!(extent.advance(dialect, bytes), Ok(None)));
+    /// match extent.finish(dialect, bytes) {
+    ///     Ok(Some(size)) => assert!(rt; size.fields == 2 && !size.ended),
+    ///     _ => assert!(rt; false),
+    /// }
+    /// assert!(rt; RecordExtent::new().finish(dialect, &bytes[..4]).is_err());
+    /// ```
+    pub fn finish(
+        &mut self,
+        dialect: Dialect,
+        bytes: &[u8],
+    ) -> Result<Option<RecordSize>, RecordFault>
+        ensures { IsOf dialect self.old bytes.now → SizesRecord dialect bytes.now result }
+    {
+        match self.advance(dialect, bytes)? {
+            Some(size) => Ok(Some(size)),
+            None => self.end(bytes),
+        }
+    }
+
+    /// What the bytes are, where all were passed and no record was at its end.
+    fn end(&self, bytes: &[u8]) -> Result<Option<RecordSize>, RecordFault>
+        ensures { (d : Dialect) → (self.now.place ≡ RecordPlace.Done → ⊥)
+            → Passed d (IsBegun d self.now.place) self.now.text self.now.fields bytes.now
+            → self.now.passed ≡ length bytes.now → SizesRecord d bytes.now result }
+    {
+        if !is_some(bytes) {
+            return Ok(None);
+        }
+        if self.fields > bytes.len() {
+            return Ok(None);
+        }
+        match self.place {
+            RecordPlace::Quoted => Err(RecordFault {
+                offset: bytes.len(),
+                why: Refusal::OpenQuote,
+            }),
+            RecordPlace::Return => Err(RecordFault {
+                offset: bytes.len(),
+                why: Refusal::WrongLineEnd,
+            }),
+            _ => Ok(Some(self.size(false))),
+        }
+    }
+}

@@ -1,0 +1,195 @@
+//! What a byte is to a record, by the place at which it stands.
+
+ghost use Rattle.std.specs.Prelude.{◌≡◌, ◌≤◌, ◌<◌, ◌+◌, ◌^◌, ◌∷◌, ℕ, List, length, take};
+ghost use Rattle.format_csv_records.specs.Extents.{IsBehind, IsRun, IsTurn};
+ghost use Rattle.format_csv_records.specs.Parts.{WhyNot};
+
+use crate::dialect::Dialect;
+use crate::extent::RecordPlace;
+use crate::read::{Refusal, by_both, by_line_feed, is_plain, plain_len, unquoted_len};
+
+/// Where the next byte is due, and how many bytes and fields more were passed.
+#[derive(Clone, Copy)]
+pub(crate) struct Step {
+    pub place: RecordPlace,
+    pub text: usize,
+    pub fields: usize,
+}
+
+/// What a byte is at a place.
+#[derive(Clone, Copy)]
+pub(crate) enum Turn {
+    /// It is of the record.
+    Goes(Step),
+    /// The record was at its end.
+    Ends,
+    /// With it no record goes on, and why.
+    Never(Refusal),
+}
+
+/// The place, with no field more and that many bytes of text more.
+#[inline(always)]
+fn step_to(place: RecordPlace, text: usize) -> Step
+    ensures { (result.place ≡ place) × (result.text ≡ text) × (result.fields ≡ 0) }
+{
+    Step {
+        place,
+        text,
+        fields: 0,
+    }
+}
+
+/// What a byte is after a text that is a field: the delimiter after it, or the first of a line end.
+#[inline(always)]
+fn step_behind(dialect: Dialect, byte: u8) -> Option<Step>
+    ensures { IsBehind dialect byte result }
+{
+    if byte == dialect.delimiter {
+        return Some(Step {
+            place: RecordPlace::Field,
+            text: 0,
+            fields: 1,
+        });
+    }
+    match byte {
+        b'\r' => {
+            if by_both(dialect.ends) {
+                Some(step_to(RecordPlace::Return, 0))
+            } else {
+                None
+            }
+        }
+        b'\n' => {
+            if by_line_feed(dialect.ends) {
+                Some(step_to(RecordPlace::Done, 0))
+            } else {
+                None
+            }
+        }
+        _ => None,
+    }
+}
+
+/// Why a record neither ends nor goes on with the byte.
+#[inline(always)]
+fn why_byte(quote: u8, byte: u8) -> Refusal
+    ensures { (more : List ℕ) → WhyNot quote (byte ∷ more) result }
+{
+    if byte == quote {
+        return Refusal::QuoteInField;
+    }
+    match byte {
+        b'\r' | b'\n' => Refusal::WrongLineEnd,
+        _ => Refusal::ByteBehindQuote,
+    }
+}
+
+/// What a byte is where a field begins.
+#[inline(always)]
+fn turn_field(dialect: Dialect, byte: u8) -> Turn
+    ensures { IsTurn dialect RecordPlace.Field byte result }
+{
+    if byte == dialect.quote {
+        return Turn::Goes(step_to(RecordPlace::Quoted, 0));
+    }
+    if is_plain(dialect, byte) {
+        return Turn::Goes(step_to(RecordPlace::Plain, 1));
+    }
+    match step_behind(dialect, byte) {
+        Some(step) => Turn::Goes(step),
+        None => Turn::Never(why_byte(dialect.quote, byte)),
+    }
+}
+
+/// What a byte is in a field without quotes.
+#[inline(always)]
+fn turn_plain(dialect: Dialect, byte: u8) -> Turn
+    ensures { IsTurn dialect RecordPlace.Plain byte result }
+{
+    if is_plain(dialect, byte) {
+        return Turn::Goes(step_to(RecordPlace::Plain, 1));
+    }
+    match step_behind(dialect, byte) {
+        Some(step) => Turn::Goes(step),
+        None => Turn::Never(why_byte(dialect.quote, byte)),
+    }
+}
+
+/// What a byte is between quotes.
+#[inline(always)]
+fn turn_quoted(dialect: Dialect, byte: u8) -> Turn
+    ensures { IsTurn dialect RecordPlace.Quoted byte result }
+{
+    if byte == dialect.quote {
+        return Turn::Goes(step_to(RecordPlace::Quote, 0));
+    }
+    Turn::Goes(step_to(RecordPlace::Quoted, 1))
+}
+
+/// What a byte is after a quote that stands between quotes.
+#[inline(always)]
+fn turn_quote(dialect: Dialect, byte: u8) -> Turn
+    ensures { IsTurn dialect RecordPlace.Quote byte result }
+{
+    if byte == dialect.quote {
+        return Turn::Goes(step_to(RecordPlace::Quoted, 1));
+    }
+    match step_behind(dialect, byte) {
+        Some(step) => Turn::Goes(step),
+        None => Turn::Never(why_byte(dialect.quote, byte)),
+    }
+}
+
+/// What a byte is after the carriage return of a line end.
+#[inline(always)]
+fn turn_return(dialect: Dialect, byte: u8) -> Turn
+    ensures { IsTurn dialect RecordPlace.Return byte result }
+{
+    if byte == b'\n' {
+        return Turn::Goes(step_to(RecordPlace::Done, 0));
+    }
+    Turn::Never(Refusal::WrongLineEnd)
+}
+
+/// What a byte is at a place.
+#[inline(always)]
+pub(crate) fn turn_at(dialect: Dialect, place: RecordPlace, byte: u8) -> Turn
+    ensures { IsTurn dialect place byte result }
+{
+    match place {
+        RecordPlace::Field => turn_field(dialect, byte),
+        RecordPlace::Plain => turn_plain(dialect, byte),
+        RecordPlace::Quoted => turn_quoted(dialect, byte),
+        RecordPlace::Quote => turn_quote(dialect, byte),
+        RecordPlace::Return => turn_return(dialect, byte),
+        RecordPlace::Done => Turn::Ends,
+    }
+}
+
+/// How many of the first bytes are text of the field, and leave the place as it is.
+#[inline(always)]
+pub(crate) fn run_len(dialect: Dialect, place: RecordPlace, bytes: &[u8]) -> usize
+    ensures few { result ≤ length bytes.now }
+    ensures kept { IsRun dialect place (take result bytes.now) result }
+{
+    match place {
+        RecordPlace::Plain => plain_len(dialect, bytes),
+        RecordPlace::Quoted => unquoted_len(dialect.quote, bytes),
+        _ => 0,
+    }
+}
+
+/// Both steps, one after the other.
+#[inline(always)]
+pub(crate) fn after(one: Step, other: Step) -> Step
+    requires text { one.text + other.text < 2 ^ 64 }
+    requires fields { one.fields + other.fields < 2 ^ 64 }
+    ensures { (result.place ≡ other.place) × (result.text ≡ one.text + other.text)
+        × (result.fields ≡ one.fields + other.fields) }
+{
+    Step {
+        place: other.place,
+        text: one.text + other.text,
+        fields: one.fields + other.fields,
+    }
+}
