@@ -30,7 +30,7 @@ fn main(rt: HostRuntime) -> io::Result<()> {{
     println!(rt; "{{}}", sum)
 }}
 """
-LLVM = {"u8": "i8", "u32": "i32", "i64": "i64", "usize": "i64"}
+LLVM = {"u8": "i8", "u32": "i32", "u64": "i64", "i64": "i64", "usize": "i64"}
 
 
 def below(crate):
@@ -51,7 +51,7 @@ def below(crate):
 
 def taken(text):
     """The structs that a module takes from a crate below `exported`, and hands on."""
-    lists = re.findall(r"^pub use \w+::\w+::\{(.*?)\};", text, re.MULTILINE)
+    lists = re.findall(r"^pub use \w+::\w+::\{?([\w, ]+)\}?;", text, re.MULTILINE)
     return [name for names in lists for name in names.split(", ")]
 
 
@@ -59,13 +59,14 @@ def modules():
     """The module of each export and of each struct, by its name, and of each struct that another
     module has too, by the module and its name."""
     found = {}
-    for file in sorted(SOURCE.glob("*.rt")):
+    for file in sorted(SOURCE.glob("**/*.rt")):
         text = file.read_text(encoding="utf-8")
+        module = "::".join(file.relative_to(SOURCE).with_suffix("").parts)
         for name in taken(text):
-            found.setdefault(name, file.stem)
-            found[file.stem, name] = file.stem
-        found |= {word: file.stem for word in text.replace("(", " ").split() if word.startswith("exported_")}
-        found |= {it.split()[2]: file.stem for it in text.splitlines() if it.startswith("pub struct ")}
+            found.setdefault(name, module)
+            found[module, name] = module
+        found |= {word: module for word in text.replace("(", " ").split() if word.startswith("exported_")}
+        found |= {it.split()[2]: module for it in text.splitlines() if it.startswith("pub struct ")}
     return found
 
 
@@ -82,7 +83,7 @@ def call(export, where, structs):
     """The lines that call an export."""
     lines, given = [], []
     module = where[f"exported_{export.name}"]
-    source = (SOURCE / f"{module}.rt").read_text(encoding="utf-8")
+    source = (SOURCE / f"{module.replace('::', '/')}.rt").read_text(encoding="utf-8")
     if f"fn exported_{export.name}(alloc: Global" in source or f"fn exported_{export.name}(\n    alloc: Global" in source:
         given.append("rt.alloc()")
     for name, written in export.parts:

@@ -38,12 +38,15 @@ COST = [
 KINDS = {
     "JSON_": ("json_kind", "What a value of JSON is: what `kind` of an item of JSON is."),
     "RESP_": ("resp_kind", "What a reply of Redis is: what `kind` of a reply is."),
+    "CHUNKED_FAULT_": ("chunked_fault", "Why a byte of a chunked body is refused: what `fault` of a step is."),
+    "CHUNKED_": ("chunked_kind", "What is given out of a chunked body: what `kind` of a step is."),
 }
 # The types of single values: as Rust has them, and as C has them.
-PLAIN = {"u8": "uint8_t", "u32": "uint32_t", "i64": "int64_t", "usize": "size_t", "bool": "bool"}
+PLAIN = {"u8": "uint8_t", "u32": "uint32_t", "u64": "uint64_t", "i64": "int64_t", "usize": "size_t",
+         "bool": "bool"}
 EXPORT = re.compile(r'pub extern "C" fn exported_(\w+)\(\s*(.*?)\s*\)\s*->\s*u32\b', re.DOTALL)
 CONSTANT = re.compile(r"pub const (\w+): (u32|usize) = (\d+);")
-TAKEN = re.compile(r"pub use (\w+)::(\w+)::\{(.*?)\};")
+TAKEN = re.compile(r"pub use (\w+)::(\w+)::\{?([\w, ]+)\}?;")
 STRUCT = re.compile(r"pub struct (\w+) \{\n(.*?)\n\}", re.DOTALL)
 
 
@@ -102,10 +105,18 @@ def structs_of(crate, module, names):
             yield kind, found, words[:words.index("```") - 1] if "```" in words else words
 
 
+def modules(path):
+    """The modules that a file names, each as a path below its folder, with those that it has."""
+    inside = path.parent if path.name == "lib.rt" else path.with_suffix("")
+    for name in re.findall(r"pub mod (\w+);", path.read_text(encoding="utf-8")):
+        yield str((inside / name).relative_to(SOURCE))
+        yield from modules(inside / f"{name}.rt")
+
+
 def items():
     """The codes, the other constants, the structs and the exports, in the order of their files."""
     codes, constants, structs, exports = [], [], [], []
-    names = re.findall(r"pub mod (\w+);", (SOURCE / "lib.rt").read_text(encoding="utf-8"))
+    names = list(modules(SOURCE / "lib.rt"))
     for name in ["code", "span", *(it for it in names if it not in ("code", "span"))]:
         for kind, found, words in documented((SOURCE / f"{name}.rt").read_text(encoding="utf-8")):
             if kind == "code":

@@ -39,6 +39,11 @@ uint32_t exported_http_head_in_pieces(
     struct pergidau_field *fields,
     size_t fields_length,
     struct pergidau_head *out);
+uint32_t exported_http_chunked(
+    struct pergidau_chunked_state *state,
+    const uint8_t *bytes,
+    size_t bytes_length,
+    struct pergidau_chunked_step *out);
 uint32_t exported_ini_pair(
     const uint8_t *bytes,
     size_t bytes_length,
@@ -65,6 +70,24 @@ uint32_t exported_json_next(
     size_t bytes_length,
     size_t levels,
     struct pergidau_json_item *out);
+uint32_t exported_json_integer(
+    const uint8_t *bytes,
+    size_t bytes_length,
+    int64_t *out);
+uint32_t exported_json_natural(
+    const uint8_t *bytes,
+    size_t bytes_length,
+    uint64_t *out);
+uint32_t exported_json_step(
+    const uint8_t *bytes,
+    size_t bytes_length,
+    struct pergidau_json_item *out);
+uint32_t exported_json_string(
+    const uint8_t *bytes,
+    size_t bytes_length,
+    uint8_t *buffer,
+    size_t buffer_length,
+    struct pergidau_json_text *out);
 uint32_t exported_resp_reply(
     const uint8_t *bytes,
     size_t bytes_length,
@@ -86,7 +109,7 @@ uint32_t exported_text_position(
     size_t offset,
     struct pergidau_position *out);
 
-const char pergidau_0_0_0_declared_3e8857e2 = 0;
+const char pergidau_0_0_0_declared_b5c22dfa = 0;
 
 const char *pergidau_version(void)
 {
@@ -125,6 +148,8 @@ const char *pergidau_message(enum pergidau_code code)
         return "a length is more than PTRDIFF_MAX bytes";
     case PERGIDAU_END:
         return "nothing more stands there: white space at most, and a closing bracket or the end";
+    case PERGIDAU_NO_INTEGER:
+        return "the number is no integer, or does not fit as many bits as are asked for";
     }
     return "this is no code of Pergidau";
 }
@@ -308,6 +333,31 @@ enum pergidau_code pergidau_http_head_in_pieces(
     return (enum pergidau_code)exported_http_head_in_pieces(bytes, bytes_length, fields, fields_length, out);
 }
 
+enum pergidau_code pergidau_http_chunked(
+    struct pergidau_chunked_state *state,
+    const uint8_t *bytes,
+    size_t bytes_length,
+    struct pergidau_chunked_step *out)
+{
+    const uint8_t no_bytes = {0};
+    if (state == NULL) {
+        return PERGIDAU_NULL;
+    }
+    if (bytes_length > PTRDIFF_MAX / sizeof(uint8_t)) {
+        return PERGIDAU_TOO_LONG;
+    }
+    if (bytes == NULL && bytes_length > 0) {
+        return PERGIDAU_NULL;
+    }
+    if (out == NULL) {
+        return PERGIDAU_NULL;
+    }
+    if (bytes == NULL) {
+        bytes = &no_bytes;
+    }
+    return (enum pergidau_code)exported_http_chunked(state, bytes, bytes_length, out);
+}
+
 enum pergidau_code pergidau_ini_pair(
     const uint8_t *bytes,
     size_t bytes_length,
@@ -434,6 +484,102 @@ enum pergidau_code pergidau_json_next(
         bytes = &no_bytes;
     }
     return (enum pergidau_code)exported_json_next(bytes, bytes_length, levels, out);
+}
+
+enum pergidau_code pergidau_json_integer(
+    const uint8_t *bytes,
+    size_t bytes_length,
+    int64_t *out)
+{
+    const uint8_t no_bytes = {0};
+    if (bytes_length > PTRDIFF_MAX / sizeof(uint8_t)) {
+        return PERGIDAU_TOO_LONG;
+    }
+    if (bytes == NULL && bytes_length > 0) {
+        return PERGIDAU_NULL;
+    }
+    if (out == NULL) {
+        return PERGIDAU_NULL;
+    }
+    if (bytes == NULL) {
+        bytes = &no_bytes;
+    }
+    return (enum pergidau_code)exported_json_integer(bytes, bytes_length, out);
+}
+
+enum pergidau_code pergidau_json_natural(
+    const uint8_t *bytes,
+    size_t bytes_length,
+    uint64_t *out)
+{
+    const uint8_t no_bytes = {0};
+    if (bytes_length > PTRDIFF_MAX / sizeof(uint8_t)) {
+        return PERGIDAU_TOO_LONG;
+    }
+    if (bytes == NULL && bytes_length > 0) {
+        return PERGIDAU_NULL;
+    }
+    if (out == NULL) {
+        return PERGIDAU_NULL;
+    }
+    if (bytes == NULL) {
+        bytes = &no_bytes;
+    }
+    return (enum pergidau_code)exported_json_natural(bytes, bytes_length, out);
+}
+
+enum pergidau_code pergidau_json_step(
+    const uint8_t *bytes,
+    size_t bytes_length,
+    struct pergidau_json_item *out)
+{
+    const uint8_t no_bytes = {0};
+    if (bytes_length > PTRDIFF_MAX / sizeof(uint8_t)) {
+        return PERGIDAU_TOO_LONG;
+    }
+    if (bytes == NULL && bytes_length > 0) {
+        return PERGIDAU_NULL;
+    }
+    if (out == NULL) {
+        return PERGIDAU_NULL;
+    }
+    if (bytes == NULL) {
+        bytes = &no_bytes;
+    }
+    return (enum pergidau_code)exported_json_step(bytes, bytes_length, out);
+}
+
+enum pergidau_code pergidau_json_string(
+    const uint8_t *bytes,
+    size_t bytes_length,
+    uint8_t *buffer,
+    size_t buffer_length,
+    struct pergidau_json_text *out)
+{
+    const uint8_t no_bytes = {0};
+    uint8_t no_buffer = {0};
+    if (bytes_length > PTRDIFF_MAX / sizeof(uint8_t)) {
+        return PERGIDAU_TOO_LONG;
+    }
+    if (bytes == NULL && bytes_length > 0) {
+        return PERGIDAU_NULL;
+    }
+    if (buffer_length > PTRDIFF_MAX / sizeof(uint8_t)) {
+        return PERGIDAU_TOO_LONG;
+    }
+    if (buffer == NULL && buffer_length > 0) {
+        return PERGIDAU_NULL;
+    }
+    if (out == NULL) {
+        return PERGIDAU_NULL;
+    }
+    if (bytes == NULL) {
+        bytes = &no_bytes;
+    }
+    if (buffer == NULL) {
+        buffer = &no_buffer;
+    }
+    return (enum pergidau_code)exported_json_string(bytes, bytes_length, buffer, buffer_length, out);
 }
 
 enum pergidau_code pergidau_resp_reply(

@@ -37,10 +37,10 @@ extern "C" {
  * includes this header refers to it, so that it links with no other library. Define
  * PERGIDAU_NO_LINK_CHECK before the header for a file that is not linked with the library.
  */
-extern const char pergidau_0_0_0_declared_3e8857e2;
+extern const char pergidau_0_0_0_declared_b5c22dfa;
 #if defined(__GNUC__) && !defined(PERGIDAU_NO_LINK_CHECK)
 __attribute__((__used__, __unused__)) static const char *const pergidau_linked =
-    &pergidau_0_0_0_declared_3e8857e2;
+    &pergidau_0_0_0_declared_b5c22dfa;
 #endif
 
 /* The version of the library that is linked, as PERGIDAU_VERSION is written. */
@@ -77,6 +77,8 @@ enum pergidau_code {
     PERGIDAU_TOO_LONG = 8,
     /* Nothing more stands there: white space at most, and a closing bracket or the end. */
     PERGIDAU_END = 9,
+    /* The number is no integer, or does not fit as many bits as are asked for. */
+    PERGIDAU_NO_INTEGER = 10,
 };
 
 /* What a code says, in English, with no full stop. The text is never freed. */
@@ -104,6 +106,16 @@ enum pergidau_json_kind {
     PERGIDAU_JSON_ARRAY = 5,
     /* An object: its place has the brackets round it. */
     PERGIDAU_JSON_OBJECT = 6,
+    /* The name of a member, which is a string: its place has the quotes round it. */
+    PERGIDAU_JSON_NAME = 7,
+    /* The bracket before what an array has in it. */
+    PERGIDAU_JSON_BEGIN_ARRAY = 8,
+    /* The bracket after it. */
+    PERGIDAU_JSON_END_ARRAY = 9,
+    /* The bracket before what an object has in it. */
+    PERGIDAU_JSON_BEGIN_OBJECT = 10,
+    /* The bracket after it. */
+    PERGIDAU_JSON_END_OBJECT = 11,
 };
 
 /* What a reply of Redis is: what kind of a reply is. */
@@ -122,6 +134,35 @@ enum pergidau_resp_kind {
     PERGIDAU_RESP_ARRAY = 5,
     /* The null array. */
     PERGIDAU_RESP_NULL_ARRAY = 6,
+};
+
+/* Why a byte of a chunked body is refused: what fault of a step is. */
+enum pergidau_chunked_fault {
+    /* A size line is due, and begins with no hexadecimal digit. */
+    PERGIDAU_CHUNKED_FAULT_SIZE = 0,
+    /* No size line goes on with the byte: it is in no extension, or in no line end. */
+    PERGIDAU_CHUNKED_FAULT_SIZE_LINE = 1,
+    /* With this digit the size is 2^64 or more. */
+    PERGIDAU_CHUNKED_FAULT_SIZE_TOO_LARGE = 2,
+    /* More bytes than the limit lets would stand before the next data, or the end. */
+    PERGIDAU_CHUNKED_FAULT_SIZE_LINE_TOO_LONG = 3,
+    /* A carriage return and a line feed are due after the data of a chunk. */
+    PERGIDAU_CHUNKED_FAULT_DATA_END = 4,
+    /* No field line goes on with the byte, nor the line end after the trailer section. */
+    PERGIDAU_CHUNKED_FAULT_TRAILERS = 5,
+    /* The trailer section would have more bytes than the limit lets. */
+    PERGIDAU_CHUNKED_FAULT_TRAILERS_TOO_LONG = 6,
+};
+
+/* What is given out of a chunked body: what kind of a step is. */
+enum pergidau_chunked_kind {
+    /* Data of a chunk, one byte or more. */
+    PERGIDAU_CHUNKED_DATA = 0,
+    /*
+     * Bytes of the trailer section, one or more: after one another all of them are field
+     * lines, whole ones, each with its line end.
+     */
+    PERGIDAU_CHUNKED_TRAILERS = 1,
 };
 
 /* A place in the caller's bytes: that many of them, from one on. */
@@ -184,6 +225,45 @@ struct pergidau_head {
     uint8_t minor;
 };
 
+/*
+ * How far a chunked body was decoded, as numbers, for a caller who keeps it where no type of
+ * Rust can be. They are for the calls alone, and all zeros say that nothing of a body was
+ * taken: so it is begun for each body, with the limits for a server, 4,096 bytes for each size
+ * line and 8,192 of the trailer section. For other limits place is 1, room and size_line are
+ * the one, and trailer_room and trailers the other.
+ */
+struct pergidau_chunked_state {
+    /* Where in the body the next byte is due: 0 where nothing was taken. */
+    size_t place;
+    /* Where in a size line, or in a field line. */
+    size_t within;
+    /* What the digits of a size make so far; or the size; or how many bytes of data are due. */
+    uint64_t size;
+    /* How many bytes more may stand before the next data. */
+    size_t room;
+    /* How many bytes more the trailer section may have. */
+    size_t trailer_room;
+    /* How many bytes may stand between data. */
+    size_t size_line;
+    /* How many bytes the trailer section may have. */
+    size_t trailers;
+};
+
+/* What a call took of a chunked body. */
+struct pergidau_chunked_step {
+    /* What is given out: PERGIDAU_CHUNKED_DATA or PERGIDAU_CHUNKED_TRAILERS. */
+    size_t kind;
+    /* Where it stands. Else nothing. */
+    struct pergidau_span place;
+    /* How many bytes were taken. Those after them are the first of the next call. */
+    size_t taken;
+    /*
+     * Why the byte after those that were taken is refused: a number of those from
+     * PERGIDAU_CHUNKED_FAULT_SIZE on. Else 0.
+     */
+    size_t fault;
+};
+
 /* The places of a key and its value. */
 struct pergidau_pair {
     /* The key. */
@@ -224,6 +304,14 @@ struct pergidau_json_item {
     size_t kind;
     /* Its bytes. */
     struct pergidau_span place;
+};
+
+/* The text of a string of JSON. */
+struct pergidau_json_text {
+    /* How many bytes it has, its escapes undone. */
+    size_t text;
+    /* How many bytes of the caller's the string has, with its quotes. */
+    size_t length;
 };
 
 /* A reply. */
@@ -405,6 +493,37 @@ enum pergidau_code pergidau_http_head_in_pieces(
     struct pergidau_head *out);
 
 /*
+ * What the first bytes are of a chunked body of HTTP/1.1 (RFC 9112, section 7.1) that comes in
+ * pieces: data, bytes of trailers, or its end. What a call took, no other looks at again, so
+ * all calls for a body take a time that is linear in its bytes, however many there are.
+ *
+ * For the first call the numbers of state are zeros. Each further call for the same body has
+ * the state that the last one left, and bytes that follow those that it took.
+ *
+ * PERGIDAU_DONE: what is given out and its place are written; after one another the data are
+ * the content of the body, and the bytes of trailers are its trailer section, without the line
+ * end after it. PERGIDAU_END: the body is whole, and what is after the bytes that were taken
+ * is after it; so it is told of the same state again. For the next body, zeros are put into
+ * the state. PERGIDAU_INCOMPLETE: all bytes are taken, they are no body as yet, and with more
+ * after them they can be. PERGIDAU_REFUSED: with the byte after those that were taken no body
+ * goes on, or one that has 2^64 bytes or more; or one byte more is taken than the limits let.
+ * With these three no kind and no place are written.
+ *
+ * Extensions of size lines are passed over. Bytes of data are not looked at. Of a state that
+ * is changed, or with bytes that do not follow, what is told may be wrong; nothing outside of
+ * the bytes is read then either.
+ *
+ * The caller owes a state at state that can be read and written, bytes_length bytes at bytes
+ * that can be read and that nothing changes while the call runs, room for one step at out,
+ * each apart from the others, and 16 KiB of stack.
+ */
+enum pergidau_code pergidau_http_chunked(
+    struct pergidau_chunked_state *state,
+    const uint8_t *bytes,
+    size_t bytes_length,
+    struct pergidau_chunked_step *out);
+
+/*
  * The key and the value of one line: a key of one or more ASCII letters or digits, =, a value
  * of bytes other than a line feed, which may be none, and at most one line feed.
  *
@@ -510,6 +629,87 @@ enum pergidau_code pergidau_json_next(
     size_t bytes_length,
     size_t levels,
     struct pergidau_json_item *out);
+
+/*
+ * The integer that a number of JSON (RFC 8259) is written as: of the longest number with which
+ * the bytes begin. It has neither a point nor an exponent, so 1.0 and 1e2 are none, and fits
+ * 64 bits with a sign; -0 is 0. White space before it is not passed.
+ *
+ * PERGIDAU_DONE: it is written. PERGIDAU_NO_INTEGER: the number is none, or does not fit.
+ * PERGIDAU_REFUSED: the bytes begin with no number. With these two 0 is written.
+ *
+ * The caller owes bytes_length bytes at bytes that can be read and that nothing changes while
+ * the call runs, room for one integer at out, apart from them, and 16 KiB of stack.
+ */
+enum pergidau_code pergidau_json_integer(
+    const uint8_t *bytes,
+    size_t bytes_length,
+    int64_t *out);
+
+/*
+ * As exported_json_integer, of 64 bits without a sign: a number with a minus is none, -0 too.
+ *
+ * PERGIDAU_DONE: it is written. PERGIDAU_NO_INTEGER: the number is none, or does not fit.
+ * PERGIDAU_REFUSED: the bytes begin with no number. With these two 0 is written.
+ *
+ * The caller owes bytes_length bytes at bytes that can be read and that nothing changes while
+ * the call runs, room for one integer at out, apart from them, and 16 KiB of stack.
+ */
+enum pergidau_code pergidau_json_natural(
+    const uint8_t *bytes,
+    size_t bytes_length,
+    uint64_t *out);
+
+/*
+ * The next step of a walk through a text of JSON (RFC 8259) that was checked, from its start
+ * to its end and through all levels: a bracket, a name, or a value that has no others in it.
+ * It is what stands after white space, a comma or a colon at most, and white space. Each call
+ * is of the bytes after the place of the last one, so each byte of the text is read once,
+ * however deep it stands. How many brackets are open is for the caller to count. Of bytes that
+ * were not checked as a text more is passed than JSON allows, as a comma before the first
+ * value.
+ *
+ * PERGIDAU_DONE: what it is and its place are written. It is a word, a number, a string, a
+ * name or a bracket, so never PERGIDAU_JSON_ARRAY or PERGIDAU_JSON_OBJECT. PERGIDAU_END: white
+ * space is all that is left. PERGIDAU_REFUSED: neither stands there. With these two all that
+ * is written is 0.
+ *
+ * The caller owes bytes_length bytes at bytes that can be read and that nothing changes while
+ * the call runs, room for one item at out, apart from them, and 16 KiB of stack.
+ */
+enum pergidau_code pergidau_json_step(
+    const uint8_t *bytes,
+    size_t bytes_length,
+    struct pergidau_json_item *out);
+
+/*
+ * The text of the string of JSON (RFC 8259) with which the bytes begin, without its quotes and
+ * with its escapes undone: "r\u006fle" has the text role. White space before it is not passed.
+ *
+ * \b, \f, \n, \r and \t are a backspace, a form feed, a line feed, a carriage return and a
+ * tab, \", \\ and \/ what stands after the backslash, and \u with four digits the UTF-8 of a
+ * character, of which two surrogates are one. An escape takes more bytes than its text: so
+ * where the text has two bytes less than the string, it has no escape, and stands between the
+ * quotes. Bytes of 128 and above are not looked at: the text is UTF-8 where the bytes are. It
+ * may have zeros in it, by \u0000.
+ *
+ * PERGIDAU_DONE: the text is written into buffer, and its length and that of the string at
+ * out; the other bytes of the buffer are left as they were. PERGIDAU_TOO_SMALL: the buffer has
+ * fewer bytes than the text; both lengths are written, and what the buffer then holds is not
+ * told. PERGIDAU_REFUSED: the bytes begin with no string, as with a surrogate that is escaped
+ * alone; two zeros are written, and what the buffer then holds is not told. A string has at
+ * least as many bytes as its text, so a buffer as long as the string is not too small.
+ *
+ * The caller owes bytes_length bytes at bytes that can be read and that nothing changes while
+ * the call runs, buffer_length bytes at buffer that can be written, room for two lengths at
+ * out, each apart from the others, and 16 KiB of stack.
+ */
+enum pergidau_code pergidau_json_string(
+    const uint8_t *bytes,
+    size_t bytes_length,
+    uint8_t *buffer,
+    size_t buffer_length,
+    struct pergidau_json_text *out);
 
 /*
  * The reply of Redis (RESP2, the second version of its protocol) with which the bytes begin,

@@ -59,12 +59,14 @@ void *__wrap_realloc(void *block, size_t size)
     return grown;
 }
 
-enum call { CALC, PAIR, DOCUMENT, CHECK, VALUE, NEXT, HEAD, HEAD_IN_PIECES, RECORD, RECORD_IN_PIECES,
-            REPLY, REPLY_IN_PIECES, EXTENT, POSITION };
+enum call { CALC, PAIR, DOCUMENT, CHECK, VALUE, NEXT, STEP, STRING, INTEGER, NATURAL, HEAD,
+            HEAD_IN_PIECES, RECORD, RECORD_IN_PIECES, REPLY, REPLY_IN_PIECES, EXTENT, CHUNKED,
+            POSITION };
 static const char *const names[] = {
-    "calc_value", "ini_pair", "ini_document", "json_check", "json_value", "json_next", "http_head",
-    "http_head_in_pieces", "csv_record", "csv_record_in_pieces", "resp_reply",
-    "resp_reply_in_pieces", "resp_extent", "text_position",
+    "calc_value", "ini_pair", "ini_document", "json_check", "json_value", "json_next", "json_step",
+    "json_string", "json_integer", "json_natural", "http_head", "http_head_in_pieces", "csv_record",
+    "csv_record_in_pieces", "resp_reply", "resp_reply_in_pieces", "resp_extent", "http_chunked",
+    "text_position",
 };
 
 /* Inputs: a beginning, what is repeated, and an end. The memory is that which the header says a call
@@ -97,6 +99,12 @@ static const struct {
     {VALUE, "", "{\"a\":", "", LENGTH / 5, 0, 512},
     {NEXT, "", "[", "", LENGTH, 0, 512},
     {NEXT, "", "{\"a\":", "", LENGTH / 5, 0, 512},
+    {STEP, "\"", "a", "\"", LENGTH, 0, 16},
+    {STEP, "", " ", "[", LENGTH, 0, 16},
+    {STRING, "\"", "\\ud83d\\ude00", "\"", LENGTH / 12, 0, 16},
+    {STRING, "\"", "a", "\"", LENGTH, 0, 16},
+    {INTEGER, "", "1", "", LENGTH, 0, 16},
+    {NATURAL, "", "1", "", LENGTH, 0, 16},
     {HEAD, "GET / HTTP/1.1\r\n", "a:\r\n", "\r\n", LENGTH / 4, 0, 16},
     {HEAD, "GET / HTTP/1.1\r\na: ", "b", "\r\n\r\n", LENGTH, 0, 16},
     {HEAD, "GET / HTTP/1.1\r\n", "a:\r\n", "", POWER + 1, 0, 16},
@@ -124,6 +132,9 @@ static const struct {
     {EXTENT, "*262144\r\n", ":1\r\n", "", 262144, 0, 16},
     {EXTENT, "", "*1\r\n", ":1\r\n", LENGTH / 4, 0, 16},
     {EXTENT, "+", "a", "", LENGTH, 0, 16},
+    {CHUNKED, "1;a=\"", "b", "\"\r\n", LENGTH, 0, 16},
+    {CHUNKED, "0\r\na:", "b", "\r\n\r\n", LENGTH, 0, 16},
+    {CHUNKED, "ffffff\r\n", "b", "", LENGTH, 0, 16},
     {POSITION, "", "\xc3\xa9\n", "", LENGTH / 3, 0, 16},
 };
 
@@ -136,10 +147,16 @@ static enum pergidau_code call(enum call which, size_t levels)
     struct pergidau_pair pair;
     struct pergidau_document document;
     struct pergidau_json_item item;
+    struct pergidau_json_text text;
+    int64_t integer;
+    uint64_t natural;
     struct pergidau_head head;
     struct pergidau_record record;
     struct pergidau_reply reply;
     struct pergidau_resp_extent state = {0};
+    /* With no limits, so that all of the bytes are taken. */
+    struct pergidau_chunked_state chunked = {1, 0, 0, SIZE_MAX, SIZE_MAX, SIZE_MAX, SIZE_MAX};
+    struct pergidau_chunked_step step;
     struct pergidau_position position;
     size_t found;
     switch (which) {
@@ -155,6 +172,14 @@ static enum pergidau_code call(enum call which, size_t levels)
         return pergidau_json_value(bytes, length, levels, &found);
     case NEXT:
         return pergidau_json_next(bytes, length, levels, &item);
+    case STEP:
+        return pergidau_json_step(bytes, length, &item);
+    case STRING:
+        return pergidau_json_string(bytes, length, NULL, 0, &text);
+    case INTEGER:
+        return pergidau_json_integer(bytes, length, &integer);
+    case NATURAL:
+        return pergidau_json_natural(bytes, length, &natural);
     case HEAD:
         return pergidau_http_head(bytes, length, NULL, 0, &head);
     case HEAD_IN_PIECES:
@@ -169,6 +194,8 @@ static enum pergidau_code call(enum call which, size_t levels)
         return pergidau_resp_reply_in_pieces(bytes, length, levels, &reply);
     case EXTENT:
         return pergidau_resp_extent(&state, bytes, length, &found);
+    case CHUNKED:
+        return pergidau_http_chunked(&chunked, bytes, length, &step);
     default:
         return pergidau_text_position(bytes, length, length / 2, &position);
     }

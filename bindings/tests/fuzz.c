@@ -334,6 +334,45 @@ static void read_extent(const uint8_t *bytes, size_t length)
     HOLDS(read != PERGIDAU_DONE || reply.length == end);
 }
 
+/* What a chunked body is, by calls in turn on pieces and by calls on all: what is given out, and where
+ * it ends. */
+static void read_chunked(const uint8_t *bytes, size_t length)
+{
+    uint8_t *given[2] = {malloc(length + 1), malloc(length + 1)};
+    HOLDS(given[0] != NULL && given[1] != NULL);
+    size_t counts[2] = {0, 0}, taken[2] = {0, 0};
+    enum pergidau_code codes[2] = {PERGIDAU_DONE, PERGIDAU_DONE};
+    for (int turn = 0; turn < 2; turn++) {
+        struct pergidau_chunked_state state = {0};
+        size_t have = turn == 0 ? length : below(length + 1);
+        while (codes[turn] == PERGIDAU_DONE) {
+            struct pergidau_chunked_step step;
+            const uint8_t *left = bytes + taken[turn];
+            size_t count = have - taken[turn];
+            codes[turn] = pergidau_http_chunked(&state, left, count, &step);
+            HOLDS(step.taken <= count && within(step.place, count));
+            if (codes[turn] == PERGIDAU_DONE) {
+                HOLDS(step.place.length > 0);
+                HOLDS(step.place.offset + step.place.length == step.taken);
+                memcpy(given[turn] + counts[turn], left + step.place.offset, step.place.length);
+                counts[turn] += step.place.length;
+            }
+            taken[turn] += step.taken;
+            HOLDS(codes[turn] != PERGIDAU_INCOMPLETE || taken[turn] == have);
+            if (codes[turn] == PERGIDAU_INCOMPLETE && have < length) {
+                have += 1 + below(length - have);
+                codes[turn] = PERGIDAU_DONE;
+            }
+        }
+    }
+    HOLDS(codes[0] == codes[1] && taken[0] == taken[1] && counts[0] == counts[1]);
+    HOLDS(!memcmp(given[0], given[1], counts[0]));
+    free(given[0]);
+    free(given[1]);
+}
+
+#include "json_fuzz.h"
+
 static void read_place(const uint8_t *bytes, size_t length)
 {
     struct pergidau_position out;
@@ -347,11 +386,13 @@ static void read_all(const uint8_t *bytes, size_t length)
     read_pair(bytes, length);
     read_json(bytes, length);
     read_values(bytes, length);
+    read_tokens(bytes, length);
     read_document(bytes, length);
     read_head(bytes, length);
     read_record(bytes, length);
     read_reply(bytes, length);
     read_extent(bytes, length);
+    read_chunked(bytes, length);
     read_place(bytes, length);
 }
 

@@ -53,6 +53,8 @@ static const char *const seeds[] = {
     "+OK\r\n:-12\r\n$-1\r\n",
     "*3\r\n$3\r\nfoo\r\n*1\r\n:7\r\n*-1\r\n+",
     "$6\r\nfoo\r\n*\r\n-ERR x\r\n",
+    "4\r\nWiki\r\n5;a=\"b\"\r\npedia\r\n0\r\nA: b\r\n\r\nrest",
+    "1\r\na\r\n2 ; c = d\r\n\r\n\r\n00\r\n\r\n",
     "PUT /x HTTP/1.0\r\nX: 1\r\nX:\t2 \r\nY:\r\nZ: \t \r\n\r\nbody",
 };
 enum { SEEDS = sizeof seeds / sizeof *seeds };

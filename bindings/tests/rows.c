@@ -27,6 +27,8 @@ static uint8_t *copied(const char *text, size_t length)
     return bytes;
 }
 
+#include "json_rows.h"
+
 static const struct {
     const char *text;
     enum pergidau_code code;
@@ -773,6 +775,138 @@ static void test_extents(void)
     (void)pergidau_resp_extent(&state, bytes, 3, &end);
 }
 
+/* A chunked body by calls in turn, of pieces of so many bytes: what it gives out, data and then
+ * trailers, and where the last call ends. */
+struct decoded {
+    char content[64], trailers[64];
+    size_t data, fields, taken;
+    enum pergidau_code code;
+    size_t fault;
+};
+
+static struct decoded decode(struct pergidau_chunked_state state, const char *row, size_t length,
+                             size_t piece)
+{
+    struct decoded made = {.code = PERGIDAU_DONE};
+    size_t have = piece < length ? piece : length;
+    while (made.code == PERGIDAU_DONE) {
+        struct pergidau_chunked_step step;
+        uint8_t *bytes = copied(row + made.taken, have - made.taken);
+        made.code = pergidau_http_chunked(&state, bytes, have - made.taken, &step);
+        if (made.code == PERGIDAU_DONE && step.kind == PERGIDAU_CHUNKED_DATA) {
+            memcpy(made.content + made.data, bytes + step.place.offset, step.place.length);
+            made.data += step.place.length;
+        } else if (made.code == PERGIDAU_DONE) {
+            same("its kind", row, (long long)step.kind, PERGIDAU_CHUNKED_TRAILERS);
+            memcpy(made.trailers + made.fields, bytes + step.place.offset, step.place.length);
+            made.fields += step.place.length;
+        } else {
+            same("nothing is given", row, (long long)(step.place.length + step.kind), 0);
+        }
+        made.taken += step.taken;
+        made.fault = step.fault;
+        free(bytes);
+        if (made.code == PERGIDAU_INCOMPLETE && have < length) {
+            have += length - have < piece ? length - have : piece;
+            made.code = PERGIDAU_DONE;
+        }
+    }
+    return made;
+}
+
+static const struct {
+    const char *bytes, *content, *trailers;
+    size_t rest;
+} bodies[] = {
+    {"0\r\n\r\n", "", "", 0},
+    {"4\r\nWiki\r\n7\r\npedia i\r\nB\r\nn \r\nchunks.\r\n0\r\n\r\n",
+     "Wikipedia in \r\nchunks.", "", 0},
+    {"00a\r\n0123456789\r\n0\r\n\r\nHTTP/1.1", "0123456789", "", 8},
+    {"1;a;b=c ; d\t= \"\\\"e\"\r\nx\r\n0\r\n\r\n", "x", "", 0},
+    {"0\r\nA:\r\nLong-Name:\t v w \r\n\r\n\r\n", "", "A:\r\nLong-Name:\t v w \r\n", 2},
+};
+
+/* These are none, how many of their bytes can begin one, and why the next is refused. */
+static const struct {
+    const char *bytes;
+    size_t begins;
+    enum pergidau_chunked_fault fault;
+} no_bodies[] = {
+    {"\r\n", 0, PERGIDAU_CHUNKED_FAULT_SIZE},
+    {"1\n", 1, PERGIDAU_CHUNKED_FAULT_SIZE_LINE},
+    {"1;a b\r\n", 4, PERGIDAU_CHUNKED_FAULT_SIZE_LINE},
+    {"10000000000000000\r\n", 16, PERGIDAU_CHUNKED_FAULT_SIZE_TOO_LARGE},
+    {"1\r\nab\r\n", 4, PERGIDAU_CHUNKED_FAULT_DATA_END},
+    {"0\r\nA b\r\n\r\n", 4, PERGIDAU_CHUNKED_FAULT_TRAILERS},
+    {"0\r\n\rx", 4, PERGIDAU_CHUNKED_FAULT_TRAILERS},
+};
+
+static void test_limits(void)
+{
+    struct pergidau_chunked_state state = {1, 0, 0, 3, 2, 3, 2};
+    const char *line = "0;ab\r\n", *fields = "0\r\nA:\r\n";
+    struct decoded made = decode(state, line, strlen(line), 1);
+    same("its limit", line, made.code, PERGIDAU_REFUSED);
+    same("the limit", line, (long long)made.fault, PERGIDAU_CHUNKED_FAULT_SIZE_LINE_TOO_LONG);
+    same("the place", line, (long long)made.taken, 3);
+    made = decode(state, fields, strlen(fields), 4);
+    same("its limit", fields, made.code, PERGIDAU_REFUSED);
+    same("the limit", fields, (long long)made.fault, PERGIDAU_CHUNKED_FAULT_TRAILERS_TOO_LONG);
+    same("the place", fields, (long long)made.taken, 5);
+}
+
+static void test_bodies(void)
+{
+    const struct pergidau_chunked_state zeros = {0};
+    for (size_t i = 0; i < sizeof bodies / sizeof *bodies; i++) {
+        const char *row = bodies[i].bytes;
+        size_t length = strlen(row), whole = length - bodies[i].rest;
+        for (size_t piece = 1; piece <= length; piece++) {
+            struct decoded made = decode(zeros, row, length, piece);
+            same("a body", row, made.code, PERGIDAU_END);
+            same("its end", row, (long long)made.taken, (long long)whole);
+            same("its content", row, strcmp(made.content, bodies[i].content), 0);
+            same("its trailers", row, strcmp(made.trailers, bodies[i].trailers), 0);
+        }
+        for (size_t cut = 0; cut < whole; cut++) {
+            struct decoded made = decode(zeros, row, cut, 3);
+            same("a part", row, made.code, PERGIDAU_INCOMPLETE);
+            same("it is taken", row, (long long)made.taken, (long long)cut);
+        }
+    }
+    for (size_t i = 0; i < sizeof no_bodies / sizeof *no_bodies; i++) {
+        const char *row = no_bodies[i].bytes;
+        for (size_t piece = 1; piece <= strlen(row); piece++) {
+            struct decoded made = decode(zeros, row, strlen(row), piece);
+            same("no body", row, made.code, PERGIDAU_REFUSED);
+            same("the place", row, (long long)made.taken, (long long)no_bodies[i].begins);
+            same("why", row, (long long)made.fault, no_bodies[i].fault);
+        }
+    }
+    test_limits();
+    struct pergidau_chunked_state state = {0};
+    struct pergidau_chunked_step step;
+    const uint8_t *bytes = (const uint8_t *)"0\r\n\r\n";
+    same("null", "state", pergidau_http_chunked(NULL, bytes, 5, &step), PERGIDAU_NULL);
+    same("null", "body", pergidau_http_chunked(&state, NULL, 1, &step), PERGIDAU_NULL);
+    same("null", "body", pergidau_http_chunked(&state, bytes, 5, NULL), PERGIDAU_NULL);
+    same("too long", "body", pergidau_http_chunked(&state, bytes, (size_t)PTRDIFF_MAX + 1, &step),
+         PERGIDAU_TOO_LONG);
+    same("nothing", "body", pergidau_http_chunked(&state, NULL, 0, &step), PERGIDAU_INCOMPLETE);
+    same("a state that went on", "body", pergidau_http_chunked(&state, bytes, 5, &step),
+         PERGIDAU_END);
+    same("it ends again", "body", pergidau_http_chunked(&state, bytes, 5, &step), PERGIDAU_END);
+    same("nothing is taken", "body", (long long)step.taken, 0);
+    /* Of numbers that no call left, it may say anything, and reads the bytes alone. */
+    for (size_t place = 0; place < 12; place++) {
+        for (size_t within = 0; within < 12; within++) {
+            state = (struct pergidau_chunked_state){place, within, UINT64_MAX, 1, 1, 0, 0};
+            (void)pergidau_http_chunked(&state, bytes, 5, &step);
+            same("within", "body", step.taken <= 5, 1);
+        }
+    }
+}
+
 static void test_positions(void)
 {
     const char *text = "gr\xc3\xb6\xc3\x9f" "e=1\nh\xc3\xb6he?2\n";
@@ -885,15 +1019,18 @@ static void test_library(void)
         "a pointer is null where something is to be read or written",
         "a length is more than PTRDIFF_MAX bytes",
         "nothing more stands there: white space at most, and a closing bracket or the end",
+        "the number is no integer, or does not fit as many bits as are asked for",
         "this is no code of Pergidau",
     };
-    for (int code = 0; code <= PERGIDAU_END + 1; code++) {
+    for (int code = 0; code <= PERGIDAU_NO_INTEGER + 1; code++) {
         const char *message = pergidau_message((enum pergidau_code)code);
         same("the message", messages[code], strcmp(message, messages[code]), 0);
     }
     same("kinds", "JSON", PERGIDAU_JSON_NULL, 0);
     same("kinds", "JSON", PERGIDAU_JSON_OBJECT, 6);
     same("kinds", "RESP", PERGIDAU_RESP_NULL_ARRAY, 6);
+    same("kinds", "a chunked body", PERGIDAU_CHUNKED_TRAILERS, 1);
+    same("faults", "a chunked body", PERGIDAU_CHUNKED_FAULT_TRAILERS_TOO_LONG, 6);
     struct pergidau_json_item item;
     struct pergidau_reply reply;
     same("the size of a kind", "JSON", sizeof item.kind, sizeof(size_t));
@@ -906,12 +1043,16 @@ int main(void)
     test_formulas();
     test_pairs();
     test_json();
+    test_steps();
+    test_strings();
+    test_integers();
     test_walks();
     test_documents();
     test_heads();
     test_records();
     test_replies();
     test_extents();
+    test_bodies();
     test_positions();
     test_wrong_use();
     return wrong;

@@ -1,7 +1,7 @@
 //! Readers of JSON. A check counts 1 for a text that is right. Of values each is counted, and its kind,
 //! from 1 on as `pergidau.h` numbers them, is added so often as it stands deep.
 use crate::text::{Outcome, Text};
-use pergidau::json::{self, Kind, Value};
+use pergidau::json::{self, Kind, Step, Value};
 
 const LEVELS: usize = 16;
 
@@ -14,8 +14,8 @@ pub fn check_by_serde(text: &Text) -> Outcome {
     Outcome { count: read.is_ok().into(), sum: 0 }
 }
 
-fn count(value: Value, depth: usize, out: &mut Outcome) {
-    let kind = match value.kind() {
+fn number_of(kind: Kind) -> usize {
+    match kind {
         Kind::Null => 1,
         Kind::False => 2,
         Kind::True => 3,
@@ -23,8 +23,32 @@ fn count(value: Value, depth: usize, out: &mut Outcome) {
         Kind::String => 5,
         Kind::Array => 6,
         Kind::Object => 7,
+    }
+}
+
+pub fn values(text: &Text) -> Outcome {
+    let mut out = Outcome::default();
+    let Ok(text) = std::str::from_utf8(text.bytes()) else {
+        return out;
     };
-    out.add(kind * depth);
+    let mut depth = 1;
+    for step in json::steps(text, LEVELS).into_iter().flatten() {
+        match step {
+            Step::Value(value) => out.add(number_of(value.kind()) * depth),
+            Step::Name(_) => {}
+            Step::BeginArray | Step::BeginObject => {
+                let kind = if step == Step::BeginArray { Kind::Array } else { Kind::Object };
+                out.add(number_of(kind) * depth);
+                depth += 1;
+            }
+            Step::EndArray | Step::EndObject => depth -= 1,
+        }
+    }
+    out
+}
+
+fn count(value: Value, depth: usize, out: &mut Outcome) {
+    out.add(number_of(value.kind()) * depth);
     match value.kind() {
         Kind::Array => value.elements().for_each(|it| count(it, depth + 1, out)),
         Kind::Object => value.members().for_each(|(_, it)| count(it, depth + 1, out)),
@@ -32,7 +56,7 @@ fn count(value: Value, depth: usize, out: &mut Outcome) {
     }
 }
 
-pub fn values(text: &Text) -> Outcome {
+pub fn values_by_calls(text: &Text) -> Outcome {
     let mut out = Outcome::default();
     if let Ok(text) = std::str::from_utf8(text.bytes()) {
         if let Ok(value) = json::parse(text, LEVELS) {

@@ -36,7 +36,8 @@ const CHECKS: &[(&str, Reader)] = &[
     ("simdjson, `dom`", peers::check_by_simdjson),
 ];
 const VALUES: &[(&str, Reader)] = &[
-    ("this library, by calls in turn", json::values),
+    ("this library, by steps", json::values),
+    ("this library, by calls in turn", json::values_by_calls),
     ("serde_json, `Value`", json::values_by_serde),
     ("rapidjson, `Document`", peers::values_by_rapidjson),
     ("cJSON", peers::values_by_cjson),

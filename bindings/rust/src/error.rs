@@ -87,6 +87,9 @@ impl fmt::Display for Error {
             Error::TooSmall(Wanted { entries, bytes: 0 }) => {
                 write!(f, "the buffer is too small: {entries} entries are wanted")
             }
+            Error::TooSmall(Wanted { entries: 0, bytes }) => {
+                write!(f, "the buffer is too small: {bytes} bytes are wanted")
+            }
             Error::TooSmall(Wanted { entries, bytes }) => {
                 write!(f, "the buffer is too small: {entries} entries and {bytes} bytes are wanted")
             }

@@ -28,6 +28,37 @@ pub const TOO_DEEP: u32 = 6;
 /// Nothing more stands there: white space at most, and a closing bracket or the end.
 pub const END: u32 = 9;
 
+/// The number is no integer, or does not fit as many bits as are asked for.
+pub const NO_INTEGER: u32 = 10;
+
+/// Data of a chunk, one byte or more.
+pub const CHUNKED_DATA: usize = 0;
+
+/// Bytes of the trailer section, one or more: after one another all of them are field lines, whole
+/// ones, each with its line end.
+pub const CHUNKED_TRAILERS: usize = 1;
+
+/// A size line is due, and begins with no hexadecimal digit.
+pub const CHUNKED_FAULT_SIZE: usize = 0;
+
+/// No size line goes on with the byte: it is in no extension, or in no line end.
+pub const CHUNKED_FAULT_SIZE_LINE: usize = 1;
+
+/// With this digit the size is 2^64 or more.
+pub const CHUNKED_FAULT_SIZE_TOO_LARGE: usize = 2;
+
+/// More bytes than the limit lets would stand before the next data, or the end.
+pub const CHUNKED_FAULT_SIZE_LINE_TOO_LONG: usize = 3;
+
+/// A carriage return and a line feed are due after the data of a chunk.
+pub const CHUNKED_FAULT_DATA_END: usize = 4;
+
+/// No field line goes on with the byte, nor the line end after the trailer section.
+pub const CHUNKED_FAULT_TRAILERS: usize = 5;
+
+/// The trailer section would have more bytes than the limit lets.
+pub const CHUNKED_FAULT_TRAILERS_TOO_LONG: usize = 6;
+
 /// How many levels of arrays and objects in one another may be asked for. Each takes some of the
 /// stack.
 pub const MOST_LEVELS: usize = 512;
@@ -52,6 +83,21 @@ pub const JSON_ARRAY: usize = 5;
 
 /// An object: its place has the brackets round it.
 pub const JSON_OBJECT: usize = 6;
+
+/// The name of a member, which is a string: its place has the quotes round it.
+pub const JSON_NAME: usize = 7;
+
+/// The bracket before what an array has in it.
+pub const JSON_BEGIN_ARRAY: usize = 8;
+
+/// The bracket after it.
+pub const JSON_END_ARRAY: usize = 9;
+
+/// The bracket before what an object has in it.
+pub const JSON_BEGIN_OBJECT: usize = 10;
+
+/// The bracket after it.
+pub const JSON_END_OBJECT: usize = 11;
 
 /// A simple string: bytes among which is neither a carriage return nor a line feed.
 pub const RESP_SIMPLE: usize = 0;
@@ -140,6 +186,45 @@ pub struct Head {
     pub minor: u8,
 }
 
+/// How far a chunked body was decoded, as numbers, for a caller who keeps it where no type of Rust
+/// can be. They are for the calls alone, and all zeros say that nothing of a body was taken: so it
+/// is begun for each body, with the limits for a server, 4,096 bytes for each size line and 8,192
+/// of the trailer section. For other limits `place` is 1, `room` and `size_line` are the one, and
+/// `trailer_room` and `trailers` the other.
+#[repr(C)]
+#[derive(Clone, Copy, Debug, Default, PartialEq, Eq)]
+pub struct ChunkedState {
+    /// Where in the body the next byte is due: 0 where nothing was taken.
+    pub place: usize,
+    /// Where in a size line, or in a field line.
+    pub within: usize,
+    /// What the digits of a size make so far; or the size; or how many bytes of data are due.
+    pub size: u64,
+    /// How many bytes more may stand before the next data.
+    pub room: usize,
+    /// How many bytes more the trailer section may have.
+    pub trailer_room: usize,
+    /// How many bytes may stand between data.
+    pub size_line: usize,
+    /// How many bytes the trailer section may have.
+    pub trailers: usize,
+}
+
+/// What a call took of a chunked body.
+#[repr(C)]
+#[derive(Clone, Copy, Debug, Default, PartialEq, Eq)]
+pub struct ChunkedStep {
+    /// What is given out: `CHUNKED_DATA` or `CHUNKED_TRAILERS`.
+    pub kind: usize,
+    /// Where it stands. Else nothing.
+    pub place: Span,
+    /// How many bytes were taken. Those after them are the first of the next call.
+    pub taken: usize,
+    /// Why the byte after those that were taken is refused: a number of those from
+    /// `CHUNKED_FAULT_SIZE` on. Else 0.
+    pub fault: usize,
+}
+
 /// The places of a key and its value.
 #[repr(C)]
 #[derive(Clone, Copy, Debug, Default, PartialEq, Eq)]
@@ -182,6 +267,16 @@ pub struct JsonItem {
     pub kind: usize,
     /// Its bytes.
     pub place: Span,
+}
+
+/// The text of a string of JSON.
+#[repr(C)]
+#[derive(Clone, Copy, Debug, Default, PartialEq, Eq)]
+pub struct JsonText {
+    /// How many bytes it has, its escapes undone.
+    pub text: usize,
+    /// How many bytes of the caller's the string has, with its quotes.
+    pub length: usize,
 }
 
 /// A reply.
@@ -233,7 +328,7 @@ pub struct Position {
 
 extern "C" {
     /// Stands in a library of this version and with these declarations alone.
-    #[link_name = "pergidau_0_0_0_declared_3e8857e2"]
+    #[link_name = "pergidau_0_0_0_declared_b5c22dfa"]
     static VERSION_LINKED: c_char;
 
     /// The version of the library that is linked.
@@ -366,6 +461,35 @@ extern "C" {
         out: *mut Head,
     ) -> u32;
 
+    /// What the first bytes are of a chunked body of HTTP/1.1 (RFC 9112, section 7.1) that comes in
+    /// pieces: data, bytes of trailers, or its end. What a call took, no other looks at again, so all
+    /// calls for a body take a time that is linear in its bytes, however many there are.
+    ///
+    /// For the first call the numbers of `state` are zeros. Each further call for the same body has
+    /// the state that the last one left, and bytes that follow those that it took.
+    ///
+    /// `DONE`: what is given out and its place are written; after one another the data are the content
+    /// of the body, and the bytes of trailers are its trailer section, without the line end after it.
+    /// `END`: the body is whole, and what is after the bytes that were taken is after it; so it is told
+    /// of the same state again. For the next body, zeros are put into the state. `INCOMPLETE`: all
+    /// bytes are taken, they are no body as yet, and with more after them they can be. `REFUSED`: with
+    /// the byte after those that were taken no body goes on, or one that has 2^64 bytes or more; or one
+    /// byte more is taken than the limits let. With these three no kind and no place are written.
+    ///
+    /// Extensions of size lines are passed over. Bytes of data are not looked at. Of a state that is
+    /// changed, or with bytes that do not follow, what is told may be wrong; nothing outside of the
+    /// bytes is read then either.
+    ///
+    /// The caller owes a state at `state` that can be read and written, `bytes_length` bytes at `bytes`
+    /// that can be read and that nothing changes while the call runs, room for one step at `out`, each
+    /// apart from the others, and 16 KiB of stack.
+    pub fn exported_http_chunked(
+        state: *mut ChunkedState,
+        bytes: *const u8,
+        bytes_length: usize,
+        out: *mut ChunkedStep,
+    ) -> u32;
+
     /// The key and the value of one line: a key of one or more ASCII letters or digits, `=`, a value of
     /// bytes other than a line feed, which may be none, and at most one line feed.
     ///
@@ -465,6 +589,81 @@ extern "C" {
         bytes_length: usize,
         levels: usize,
         out: *mut JsonItem,
+    ) -> u32;
+
+    /// The integer that a number of JSON (RFC 8259) is written as: of the longest number with which the
+    /// bytes begin. It has neither a point nor an exponent, so `1.0` and `1e2` are none, and fits 64
+    /// bits with a sign; `-0` is 0. White space before it is not passed.
+    ///
+    /// `DONE`: it is written. `NO_INTEGER`: the number is none, or does not fit. `REFUSED`: the bytes
+    /// begin with no number. With these two 0 is written.
+    ///
+    /// The caller owes `bytes_length` bytes at `bytes` that can be read and that nothing changes while
+    /// the call runs, room for one integer at `out`, apart from them, and 16 KiB of stack.
+    pub fn exported_json_integer(
+        bytes: *const u8,
+        bytes_length: usize,
+        out: *mut i64,
+    ) -> u32;
+
+    /// As `exported_json_integer`, of 64 bits without a sign: a number with a minus is none, `-0` too.
+    ///
+    /// `DONE`: it is written. `NO_INTEGER`: the number is none, or does not fit. `REFUSED`: the bytes
+    /// begin with no number. With these two 0 is written.
+    ///
+    /// The caller owes `bytes_length` bytes at `bytes` that can be read and that nothing changes while
+    /// the call runs, room for one integer at `out`, apart from them, and 16 KiB of stack.
+    pub fn exported_json_natural(
+        bytes: *const u8,
+        bytes_length: usize,
+        out: *mut u64,
+    ) -> u32;
+
+    /// The next step of a walk through a text of JSON (RFC 8259) that was checked, from its start to
+    /// its end and through all levels: a bracket, a name, or a value that has no others in it. It is
+    /// what stands after white space, a comma or a colon at most, and white space. Each call is of the
+    /// bytes after the place of the last one, so each byte of the text is read once, however deep it
+    /// stands. How many brackets are open is for the caller to count. Of bytes that were not checked as
+    /// a text more is passed than JSON allows, as a comma before the first value.
+    ///
+    /// `DONE`: what it is and its place are written. It is a word, a number, a string, a name or a
+    /// bracket, so never `JSON_ARRAY` or `JSON_OBJECT`. `END`: white space is all that is left.
+    /// `REFUSED`: neither stands there. With these two all that is written is 0.
+    ///
+    /// The caller owes `bytes_length` bytes at `bytes` that can be read and that nothing changes while
+    /// the call runs, room for one item at `out`, apart from them, and 16 KiB of stack.
+    pub fn exported_json_step(
+        bytes: *const u8,
+        bytes_length: usize,
+        out: *mut JsonItem,
+    ) -> u32;
+
+    /// The text of the string of JSON (RFC 8259) with which the bytes begin, without its quotes and
+    /// with its escapes undone: `"r\u006fle"` has the text `role`. White space before it is not passed.
+    ///
+    /// `\b`, `\f`, `\n`, `\r` and `\t` are a backspace, a form feed, a line feed, a carriage return and
+    /// a tab, `\"`, `\\` and `\/` what stands after the backslash, and `\u` with four digits the UTF-8
+    /// of a character, of which two surrogates are one. An escape takes more bytes than its text: so
+    /// where the text has two bytes less than the string, it has no escape, and stands between the
+    /// quotes. Bytes of 128 and above are not looked at: the text is UTF-8 where the bytes are. It may
+    /// have zeros in it, by `\u0000`.
+    ///
+    /// `DONE`: the text is written into `buffer`, and its length and that of the string at `out`; the
+    /// other bytes of the buffer are left as they were. `TOO_SMALL`: the buffer has fewer bytes than
+    /// the text; both lengths are written, and what the buffer then holds is not told. `REFUSED`: the
+    /// bytes begin with no string, as with a surrogate that is escaped alone; two zeros are written,
+    /// and what the buffer then holds is not told. A string has at least as many bytes as its text, so
+    /// a buffer as long as the string is not too small.
+    ///
+    /// The caller owes `bytes_length` bytes at `bytes` that can be read and that nothing changes while
+    /// the call runs, `buffer_length` bytes at `buffer` that can be written, room for two lengths at
+    /// `out`, each apart from the others, and 16 KiB of stack.
+    pub fn exported_json_string(
+        bytes: *const u8,
+        bytes_length: usize,
+        buffer: *mut u8,
+        buffer_length: usize,
+        out: *mut JsonText,
     ) -> u32;
 
     /// The reply of Redis (RESP2, the second version of its protocol) with which the bytes begin, in

@@ -1,4 +1,4 @@
-//! Heads of requests of HTTP/1.1, whole and in pieces.
+//! Heads of requests of HTTP/1.1, whole and in pieces, and chunked bodies, in pieces.
 //!
 //! ```
 //! use pergidau::http::{self, Field};
@@ -15,6 +15,7 @@ pub use crate::exports::Field;
 
 use crate::exports;
 use crate::{at, Error, Place, Wanted};
+use core::fmt;
 
 /// The head of a request: its parts, as slices of the bytes that were read.
 #[derive(Clone, Copy, Debug)]
@@ -105,4 +106,153 @@ pub fn head_in_pieces<'i, 'f>(
     fields: &'f mut [Field],
 ) -> Result<Head<'i, 'f>, Error> {
     read(exports::exported_http_head_in_pieces, bytes, fields)
+}
+
+/// What bytes of a chunked body are.
+#[derive(Clone, Copy, Debug, PartialEq, Eq)]
+pub enum Step<'i> {
+    /// Data of a chunk, one byte or more.
+    Data(&'i [u8]),
+    /// Bytes of the trailer section, one or more: after one another all of them are field lines, whole
+    /// ones, each with its line end.
+    Trailers(&'i [u8]),
+    /// The body is whole. What is left is after it.
+    End,
+    /// All bytes are taken, and more are needed.
+    More,
+}
+
+/// Why a byte of a chunked body is refused.
+#[derive(Clone, Copy, Debug, PartialEq, Eq)]
+#[non_exhaustive]
+pub enum Fault {
+    /// A size line is due, and begins with no hexadecimal digit.
+    Size,
+    /// No size line goes on with the byte.
+    SizeLine,
+    /// With this digit the size is 2<sup>64</sup> or more.
+    SizeTooLarge,
+    /// More bytes than the limit lets would stand before the next data, or the end.
+    SizeLineTooLong,
+    /// A carriage return and a line feed are due after the data of a chunk.
+    DataEnd,
+    /// No field line goes on with the byte, nor the line end after the trailer section.
+    Trailers,
+    /// The trailer section would have more bytes than the limit lets.
+    TrailersTooLong,
+    /// The library said what this crate does not know: it is another one.
+    Unknown(usize),
+}
+
+impl fmt::Display for Fault {
+    fn fmt(&self, f: &mut fmt::Formatter<'_>) -> fmt::Result {
+        match self {
+            Fault::Size => f.write_str("the size of a chunk is due"),
+            Fault::SizeLine => f.write_str("no size line goes on so"),
+            Fault::SizeTooLarge => f.write_str("the size of a chunk is too large"),
+            Fault::SizeLineTooLong => f.write_str("a size line is too long"),
+            Fault::DataEnd => f.write_str("a line end is due after the data of a chunk"),
+            Fault::Trailers => f.write_str("no trailer section goes on so"),
+            Fault::TrailersTooLong => f.write_str("the trailer section is too long"),
+            Fault::Unknown(number) => write!(f, "the library answered the unknown fault {number}"),
+        }
+    }
+}
+
+#[cfg(feature = "std")]
+impl std::error::Error for Fault {}
+
+impl Fault {
+    /// What a number of the library says.
+    fn of(number: usize) -> Fault {
+        match number {
+            exports::CHUNKED_FAULT_SIZE => Fault::Size,
+            exports::CHUNKED_FAULT_SIZE_LINE => Fault::SizeLine,
+            exports::CHUNKED_FAULT_SIZE_TOO_LARGE => Fault::SizeTooLarge,
+            exports::CHUNKED_FAULT_SIZE_LINE_TOO_LONG => Fault::SizeLineTooLong,
+            exports::CHUNKED_FAULT_DATA_END => Fault::DataEnd,
+            exports::CHUNKED_FAULT_TRAILERS => Fault::Trailers,
+            exports::CHUNKED_FAULT_TRAILERS_TOO_LONG => Fault::TrailersTooLong,
+            number => Fault::Unknown(number),
+        }
+    }
+}
+
+/// How far a chunked body that comes in pieces was decoded. What one call took, no other looks at
+/// again, and no memory is asked for: a copy goes on from the same place.
+///
+/// ```
+/// use pergidau::http::{Chunked, Step};
+///
+/// let (mut body, mut content) = (Chunked::new(), Vec::new());
+/// 'pieces: for mut piece in [&b"4\r\nWi"[..], b"ki\r\n0\r", b"\n\r\nrest"] {
+///     loop {
+///         match body.advance(&mut piece)? {
+///             Step::Data(data) => content.extend_from_slice(data),
+///             Step::Trailers(_) => {}
+///             Step::More => break,
+///             Step::End => {
+///                 assert_eq!(piece, b"rest");
+///                 break 'pieces;
+///             }
+///         }
+///     }
+/// }
+/// assert_eq!(content, b"Wiki");
+/// # Ok::<(), pergidau::http::Fault>(())
+/// ```
+#[derive(Clone, Copy, Debug, Default, PartialEq, Eq)]
+pub struct Chunked {
+    state: exports::ChunkedState,
+}
+
+impl Chunked {
+    /// Nothing of a body is taken. A size line may have 4,096 bytes, and the trailer section 8,192.
+    pub fn new() -> Chunked {
+        Chunked::default()
+    }
+
+    /// The same, where so many bytes may stand between data, and be of the trailer section.
+    ///
+    /// ```
+    /// use pergidau::http::{Chunked, Fault};
+    ///
+    /// let mut body = Chunked::with_limits(3, 0);
+    /// assert_eq!(body.advance(&mut &b"0;ab"[..]), Err(Fault::SizeLineTooLong));
+    /// ```
+    pub fn with_limits(size_line: usize, trailers: usize) -> Chunked {
+        let state = exports::ChunkedState {
+            place: 1,
+            room: size_line,
+            size_line,
+            trailer_room: trailers,
+            trailers,
+            ..exports::ChunkedState::default()
+        };
+        Chunked { state }
+    }
+
+    /// Takes the first of the bytes, and says what they are; or takes all, and says that more are
+    /// needed. The bytes of the next call follow those that were taken. Extensions are passed over.
+    ///
+    /// Of all bytes that are taken the data are the content of the chunked body that they begin, in
+    /// order, wherever they are cut. An error is for the first byte with which no body goes on, or for
+    /// one that is past the limits: the bytes then begin with it, and it is refused again.
+    pub fn advance<'i>(&mut self, bytes: &mut &'i [u8]) -> Result<Step<'i>, Fault> {
+        let all: &'i [u8] = bytes;
+        let mut step = exports::ChunkedStep::default();
+        // SAFETY: the pointers are those of live borrows, and the bytes are only read. The call takes up
+        // to 4 KiB of stack (measured); where there is less, the thread's guard page ends the program.
+        let code = unsafe {
+            exports::exported_http_chunked(&mut self.state, all.as_ptr(), all.len(), &mut step)
+        };
+        *bytes = &all[step.taken..];
+        match (code, step.kind) {
+            (exports::DONE, exports::CHUNKED_DATA) => Ok(Step::Data(at(all, step.place))),
+            (exports::DONE, exports::CHUNKED_TRAILERS) => Ok(Step::Trailers(at(all, step.place))),
+            (exports::END, _) => Ok(Step::End),
+            (exports::INCOMPLETE, _) => Ok(Step::More),
+            (_, _) => Err(Fault::of(step.fault)),
+        }
+    }
 }

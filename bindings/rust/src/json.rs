@@ -11,6 +11,12 @@
 use crate::exports::{self, JsonItem};
 use crate::{Error, NOTHING};
 
+mod scalars;
+mod steps;
+
+pub use scalars::unescape;
+pub use steps::{steps, Step, Steps};
+
 /// What a value is.
 #[derive(Clone, Copy, Debug, PartialEq, Eq)]
 pub enum Kind {
@@ -31,7 +37,8 @@ pub enum Kind {
 }
 
 /// A value of a text of JSON: what it is, and its text. What stands in it is read when it is asked
-/// for, so a walk through all levels reads each byte once for each level that it stands in.
+/// for, so a walk by [`elements`](Value::elements) and [`members`](Value::members) through all levels
+/// reads each byte once for each level that it stands in. [`steps`](Value::steps) reads each once.
 #[derive(Clone, Copy, Debug, PartialEq, Eq)]
 pub struct Value<'i> {
     kind: Kind,
@@ -60,6 +67,12 @@ impl<'i> Value<'i> {
     /// its quotes, and the value. What is no object has none.
     pub fn members(&self) -> Members<'i> {
         Members(Inside::of(self, Kind::Object))
+    }
+
+    /// All that stands in it, through all levels, from its start to its end: of a value that has no
+    /// others in it, itself.
+    pub fn steps(&self) -> Steps<'i> {
+        Steps::of(self.text)
     }
 }
 

@@ -1,6 +1,6 @@
 //! Rows of the readers' tests, from Rust.
 use pergidau::csv::{self, LineEnd};
-use pergidau::http::{self, Field};
+use pergidau::http::{self, Chunked, Fault, Field, Step};
 use pergidau::ini::{self, Entry};
 use pergidau::json::{self, Kind, Value};
 use pergidau::resp::{self, Extent, Reply};
@@ -320,6 +320,68 @@ fn resp_extent_of_pieces() {
         let refused = extent.advance(&bytes[..begins + 1]);
         assert_eq!(refused, Err(Error::Refused(None)), "{bytes:?}");
     }
+}
+
+/// A chunked body of pieces of so many bytes: its content, its trailers, how many bytes are behind it,
+/// and whether it ends, or why it is refused.
+type Decoded = (Vec<u8>, Vec<u8>, usize, Result<bool, Fault>);
+
+fn decode(mut body: Chunked, bytes: &[u8], piece: usize) -> Decoded {
+    let (mut content, mut trailers, mut left) = (Vec::new(), Vec::new(), bytes.len());
+    for mut part in bytes.chunks(piece) {
+        loop {
+            let before = part.len();
+            let said = body.advance(&mut part);
+            left -= before - part.len();
+            match said {
+                Ok(Step::Data(data)) => content.extend_from_slice(data),
+                Ok(Step::Trailers(fields)) => trailers.extend_from_slice(fields),
+                Ok(Step::More) => break,
+                Ok(Step::End) => return (content, trailers, left, Ok(true)),
+                Err(fault) => return (content, trailers, left, Err(fault)),
+            }
+        }
+    }
+    (content, trailers, left, Ok(false))
+}
+
+#[test]
+fn http_chunked_of_pieces() {
+    let rows: [(&[u8], &[u8], &[u8], usize); 4] = [
+        (b"4\r\nWiki\r\n5\r\npedia\r\n0\r\n\r\n", b"Wikipedia", b"", 0),
+        (b"1;a=\"b\\\"\" ; c\r\n\n\r\n0\r\n\r\nHTTP", b"\n", b"", 4),
+        (b"00\r\nA: b\r\nC:\r\n\r\n", b"", b"A: b\r\nC:\r\n", 0),
+        (b"0\r\n\r\n\r\n", b"", b"", 2),
+    ];
+    for (bytes, content, trailers, rest) in rows {
+        for piece in 1..=bytes.len() {
+            let want = (content.to_vec(), trailers.to_vec(), rest, Ok(true));
+            assert_eq!(decode(Chunked::new(), bytes, piece), want, "{bytes:?} {piece}");
+        }
+        for cut in 1..bytes.len() - rest {
+            let (_, _, left, said) = decode(Chunked::new(), &bytes[..cut], 2);
+            assert_eq!((left, said), (0, Ok(false)), "{bytes:?} {cut}");
+        }
+    }
+    let refused: [(&[u8], usize, Fault); 6] = [
+        (b"x", 0, Fault::Size),
+        (b"1 \r\n", 2, Fault::SizeLine),
+        (b"10000000000000000\r\n", 16, Fault::SizeTooLarge),
+        (b"1\r\nab", 4, Fault::DataEnd),
+        (b"0\r\n A: b\r\n", 3, Fault::Trailers),
+        (b"0\r\n\r\r", 4, Fault::Trailers),
+    ];
+    for (bytes, begins, fault) in refused {
+        for piece in 1..=bytes.len() {
+            let (_, _, left, said) = decode(Chunked::new(), bytes, piece);
+            assert_eq!((bytes.len() - left, said), (begins, Err(fault)), "{bytes:?}");
+        }
+    }
+    let (_, _, left, said) = decode(Chunked::with_limits(3, 2), b"0\r\nA:\r\n\r\n", 1);
+    assert_eq!((left, said), (4, Err(Fault::TrailersTooLong)));
+    let (_, _, left, said) = decode(Chunked::with_limits(3, 20), b"0;ab\r\n\r\n", 9);
+    assert_eq!((left, said), (5, Err(Fault::SizeLineTooLong)));
+    assert_eq!(Fault::DataEnd.to_string(), "a line end is due after the data of a chunk");
 }
 
 #[test]

@@ -1,7 +1,10 @@
+pub mod Chunked
 pub mod Entries
 pub mod ErrorKinds
 pub mod Extent
 pub mod Items
+pub mod JsonIntegers
+pub mod JsonTexts
 pub mod Pieces
 pub mod Records
 pub mod Refusals

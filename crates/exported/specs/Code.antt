@@ -25,6 +25,9 @@ too_deep = 6
 abbrev pub end : ℕ
 end = 9
 
+abbrev pub no_integer : ℕ
+no_integer = 10
+
 -- how many levels of JSON may be asked for
 abbrev pub most_levels : ℕ
 most_levels = 512

@@ -30,3 +30,6 @@ pub const TOO_LONG: u32 = 8;
 
 /// Nothing more stands there: white space at most, and a closing bracket or the end.
 pub const END: u32 = 9;
+
+/// The number is no integer, or does not fit as many bits as are asked for.
+pub const NO_INTEGER: u32 = 10;

@@ -8,6 +8,8 @@ ghost use Rattle.format_http_places.specs.Refusals.{IsRefused};
 ghost use Rattle.exported.specs.Code.{done, incomplete, refused, too_small};
 ghost use Rattle.exported.specs.Http.{IsNoHead, places_of};
 
+pub mod chunked;
+
 use crate::code::{DONE, INCOMPLETE, REFUSED, TOO_SMALL};
 use format_http_places::places;
 pub use format_http_places::places::{Field, Span};

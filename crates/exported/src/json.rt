@@ -10,6 +10,10 @@ ghost use Rattle.format_json_extents.specs.Walk.{EndsItems, IsLead};
 ghost use Rattle.exported.specs.Code.{done, end, most_levels, no_text, refused, too_deep};
 ghost use Rattle.exported.specs.Json.{ShowsItem, no_item, number_of};
 
+pub mod integer;
+pub mod step;
+pub mod string;
+
 use crate::code::{DONE, END, NO_TEXT, REFUSED, TOO_DEEP};
 use crate::span::{NOWHERE, Span};
 use format_json_extents::walk::Kind;
@@ -51,7 +55,7 @@ pub struct JsonItem {
 }
 
 /// Nothing.
-const NO_ITEM: JsonItem = JsonItem {
+pub(crate) const NO_ITEM: JsonItem = JsonItem {
     kind: JSON_NULL,
     place: NOWHERE,
 };

@@ -1,0 +1,85 @@
+//! A text of JSON from its start to its end.
+use super::{check, Kind, Value};
+use crate::exports::{self, JsonItem};
+use crate::Error;
+
+/// What stands next in a text of JSON.
+#[derive(Clone, Copy, Debug, PartialEq, Eq)]
+pub enum Step<'i> {
+    /// A value that has no others in it: a word, a number or a string.
+    Value(Value<'i>),
+    /// The name of a member, as a string.
+    Name(Value<'i>),
+    /// The bracket before what an array has in it.
+    BeginArray,
+    /// The bracket after it.
+    EndArray,
+    /// The bracket before what an object has in it.
+    BeginObject,
+    /// The bracket after it.
+    EndObject,
+}
+
+/// The steps of a text of JSON, from its start to its end and through all levels: each byte is read
+/// once, however deep it stands. [`steps`] and [`Value::steps`] make it.
+#[derive(Clone, Copy, Debug)]
+pub struct Steps<'i> {
+    left: &'i str,
+}
+
+impl<'i> Steps<'i> {
+    /// Those of a text that was checked.
+    pub(super) fn of(left: &'i str) -> Steps<'i> {
+        Steps { left }
+    }
+}
+
+impl<'i> Iterator for Steps<'i> {
+    type Item = Step<'i>;
+
+    fn next(&mut self) -> Option<Step<'i>> {
+        let mut out = JsonItem::default();
+        let bytes = self.left.as_bytes();
+        // SAFETY: the pointers are those of live borrows, and the bytes are only read. The call takes up to
+        // 1 KiB of stack (measured); where there is less, the thread's guard page ends the program.
+        let code = unsafe { exports::exported_json_step(bytes.as_ptr(), bytes.len(), &mut out) };
+        if code != exports::DONE {
+            debug_assert_eq!(code, exports::END);
+            return None;
+        }
+        let (front, left) = self.left.split_at(out.place.offset + out.place.length);
+        let text = &front[out.place.offset..];
+        let value = |kind| Value { kind, text, levels: 0 };
+        let step = match out.kind {
+            exports::JSON_NULL => Step::Value(value(Kind::Null)),
+            exports::JSON_FALSE => Step::Value(value(Kind::False)),
+            exports::JSON_TRUE => Step::Value(value(Kind::True)),
+            exports::JSON_NUMBER => Step::Value(value(Kind::Number)),
+            exports::JSON_STRING => Step::Value(value(Kind::String)),
+            exports::JSON_NAME => Step::Name(value(Kind::String)),
+            exports::JSON_BEGIN_ARRAY => Step::BeginArray,
+            exports::JSON_END_ARRAY => Step::EndArray,
+            exports::JSON_BEGIN_OBJECT => Step::BeginObject,
+            exports::JSON_END_OBJECT => Step::EndObject,
+            _ => return None,
+        };
+        self.left = left;
+        Some(step)
+    }
+}
+
+/// The steps of a text of JSON (RFC 8259), in which no more than `levels` arrays and objects stand
+/// in one another; a text that is none is refused as a whole, as [`check`] does it.
+///
+/// ```
+/// use pergidau::json::{self, Step};
+///
+/// let steps = json::steps("{\"a\": [1, 2]}", 2)?;
+/// let numbers = steps.filter(|it| matches!(it, Step::Value(it) if it.as_i64().is_some()));
+/// assert_eq!(numbers.count(), 2);
+/// # Ok::<(), pergidau::Error>(())
+/// ```
+pub fn steps(text: &str, levels: usize) -> Result<Steps<'_>, Error> {
+    check(text.as_bytes(), levels)?;
+    Ok(Steps::of(text))
+}

@@ -1,0 +1,9 @@
+use Rattle.exported.proofs.json.integer.exported_json_natural.Goals as goal
+
+pub returns-in-Some-as_u64-clause-integer : goal.returns-in-Some-as_u64-clause-integer
+returns-in-Some-as_u64-clause-integer c _ =
+    (_, _, c.in-Some.ensures.found, c.in-Some-as_u64.ensures c.in-Some.ensures.found.is)
+
+pub returns-in-None-as_u64-clause-other : goal.returns-in-None-as_u64-clause-other
+returns-in-None-as_u64-clause-other c _ =
+    (_, _, c.in-Some.ensures.found, c.in-None-as_u64.ensures c.in-Some.ensures.found.is)

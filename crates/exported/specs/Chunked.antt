@@ -1,0 +1,92 @@
+-- Chunked bodies that come in pieces, as callers see them, from call to call.
+use Rattle.std.specs.Prelude.{◌≡◌, ◌+◌, ◌++◌, ℕ, List, [], ◌∷◌, length, take, Result, Ok, Err}
+use Rattle.format_http_chunked.specs.Decoded.{IsAnswer, IsAt, content_of, trailers_of}
+use Rattle.format_http_chunked.specs.Room.{Spends}
+use Rattle.format_http_chunked.specs.State.{decoder_of}
+use Rattle.format_http_chunked.specs.declared.decoder.Fault.{Fault}
+use Rattle.format_http_chunked.specs.declared.decoder.Fault.TheVariants as fault
+use Rattle.format_http_chunked.specs.declared.decoder.Step.{Step}
+use Rattle.format_http_chunked.specs.declared.decoder.Step.TheVariants as step
+use Rattle.format_http_chunked.specs.declared.state.ChunkedState.{ChunkedState}
+use Rattle.exported.specs.Code.{done, end, incomplete, refused}
+use Rattle.exported.specs.Span.{StandsAt, nowhere}
+use Rattle.exported.specs.declared.http.chunked.ChunkedStep.{ChunkedStep}
+
+-- the numbers of what is given out
+abbrev pub data_kind : ℕ
+data_kind = 0
+
+abbrev pub trailers_kind : ℕ
+trailers_kind = 1
+
+-- the number of why a byte is refused
+abbrev pub fault_number : Fault → ℕ
+fault_number fault.Size = 0
+fault_number fault.SizeLine = 1
+fault_number fault.SizeTooLarge = 2
+fault_number fault.SizeLineTooLong = 3
+fault_number fault.DataEnd = 4
+fault_number fault.Trailers = 5
+fault_number fault.TrailersTooLong = 6
+
+-- Nothing is given out.
+abbrev pub GivesNone : ChunkedStep → Type 0
+GivesNone out = (out.kind ≡ 0) × (out.place ≡ nowhere)
+
+-- What is written where the decoder says this, and leaves the rest of the bytes: by the code, what
+-- is given out, as a place right before the rest, or why the next byte is refused.
+abbrev pub Writes : List ℕ → List ℕ → Result Step Fault → ℕ → ChunkedStep → Type 0
+Writes bytes rest (Ok (step.Data chunk)) code out =
+    (code ≡ done) × (out.kind ≡ data_kind) × StandsAt bytes out.place chunk.now rest
+    × (out.fault ≡ 0)
+Writes bytes rest (Ok (step.Trailers fields)) code out =
+    (code ≡ done) × (out.kind ≡ trailers_kind) × StandsAt bytes out.place fields.now rest
+    × (out.fault ≡ 0)
+Writes bytes rest (Ok step.End) code out = (code ≡ end) × GivesNone out × (out.fault ≡ 0)
+Writes bytes rest (Ok step.More) code out = (code ≡ incomplete) × GivesNone out × (out.fault ≡ 0)
+Writes bytes rest (Err why) code out =
+    (code ≡ refused) × GivesNone out × (out.fault ≡ fault_number why)
+
+-- What a call says of its bytes is what the decoder says that the state was of: it takes that many
+-- of them, and the state that it leaves is of the decoder after them.
+pub record TellsStep (old new : ChunkedState) (bytes : List ℕ) (code : ℕ) (out : ChunkedStep)
+    : Type 0 where
+  pub said : Result Step Fault
+  pub rest : List ℕ
+  pub taken : length bytes ≡ out.taken + length rest
+  pub writes : Writes bytes rest said code out
+  pub spends : Spends (decoder_of old) (decoder_of new) bytes rest said
+  pub answers : (front given fields : List ℕ) → IsAt (decoder_of old).place front given fields
+      → IsAnswer (decoder_of new) front given fields bytes rest said
+
+-- ---- calls in turn
+
+-- the state of zeros
+abbrev pub zeros : ChunkedState
+zeros = record {
+  place = 0;
+  within = 0;
+  size = 0;
+  room = 0;
+  trailer_room = 0;
+  size_line = 0;
+  trailers = 0;
+}
+
+-- a call: its bytes, the code, and what is written
+abbrev pub Call : Type 0
+Call = List ℕ × ℕ × ChunkedStep
+
+-- Calls that follow one another from a state on, each with the state that the last one left: the
+-- state that is left in the end, the bytes that they took, one after the other, and the content and
+-- the bytes of trailers that they gave out.
+unfoldable pub CallsInTurn : ChunkedState → List Call → ChunkedState → List ℕ → List ℕ → List ℕ
+    → Type 0
+CallsInTurn state [] last taken content trailers =
+    (state ≡ last) × (taken ≡ []) × (content ≡ []) × (trailers ≡ [])
+CallsInTurn state (call ∷ calls) last taken content trailers =
+    (next : ChunkedState) × (tells : TellsStep state next call.0 call.1 call.2)
+    × (more : List ℕ) × (others : List ℕ) × (fields : List ℕ)
+    × (taken ≡ take call.2.taken call.0 ++ more) × (content ≡ content_of tells.said ++ others)
+    × (trailers ≡ trailers_of tells.said ++ fields)
+    × CallsInTurn next calls last more others fields

@@ -1,0 +1,24 @@
+-- Numbers of JSON as callers see them.
+use Rattle.std.specs.Prelude.{ℕ, ℤ, List, Option, None, Some}
+use Rattle.format_json_extents.specs.Integer.{IsInteger, IsNatural}
+use Rattle.format_json_extents.specs.Number.{IsNumber}
+use Rattle.format_json_extents.specs.Texts.{IsLongest}
+
+-- The bytes begin with a number, of which the longest has this integer, or has none.
+abbrev pub BeginsInteger : {A : Type 0} → (List ℕ → Option A → Type 0) → List ℕ → Option A → Type 0
+BeginsInteger is bytes n =
+    (text rest : List ℕ) × IsLongest IsNumber text bytes rest × is text n
+
+-- of 64 bits with a sign
+abbrev pub ShowsInteger : List ℕ → ℤ → Type 0
+ShowsInteger bytes n = BeginsInteger IsInteger bytes (Some n)
+
+abbrev pub ShowsNoInteger : List ℕ → Type 0
+ShowsNoInteger bytes = BeginsInteger IsInteger bytes None
+
+-- of 64 bits without one
+abbrev pub ShowsNatural : List ℕ → ℕ → Type 0
+ShowsNatural bytes n = BeginsInteger IsNatural bytes (Some n)
+
+abbrev pub ShowsNoNatural : List ℕ → Type 0
+ShowsNoNatural bytes = BeginsInteger IsNatural bytes None

@@ -1,0 +1,30 @@
+-- Steps of a walk through a text of JSON as callers see them.
+use Rattle.std.specs.Prelude.{◌≡◌, ℕ, List}
+use Rattle.format_json_extents.specs.Steps.{IsNextStep}
+use Rattle.format_json_extents.specs.declared.steps.Step.{Step}
+use Rattle.format_json_extents.specs.declared.steps.Step.TheVariants as steps
+use Rattle.exported.specs.Span.{StandsAt}
+use Rattle.exported.specs.declared.json.JsonItem.{JsonItem}
+
+-- the number of what a step is
+abbrev pub number_of_step : Step → ℕ
+number_of_step steps.Null = 0
+number_of_step steps.False = 1
+number_of_step steps.True = 2
+number_of_step steps.Number = 3
+number_of_step steps.String = 4
+number_of_step steps.Name = 7
+number_of_step steps.BeginArray = 8
+number_of_step steps.EndArray = 9
+number_of_step steps.BeginObject = 10
+number_of_step steps.EndObject = 11
+
+-- After what may stand before it the input has a step, with the longest text there, of this kind
+-- and at this place, and then comes the rest.
+pub record ShowsStep (input : List ℕ) (it : JsonItem) : Type 0 where
+  pub text : List ℕ
+  pub rest : List ℕ
+  pub step : Step
+  pub is_next : IsNextStep step text input rest
+  pub is_number : it.kind ≡ number_of_step step
+  pub place : StandsAt input it.place text rest
