@@ -28,13 +28,15 @@ READERS = [
         "whole and in pieces"),
     ("CSV in any dialect", "format_csv_records", "no",
         "the record that bytes begin with, in one buffer, or the first byte at which none goes on; "
-        "the text of a record, which reads back"),
+        "where it ends, by one pass over pieces; the text of a record, which reads back"),
     ("INI files, in any dialect", "format_ini", "no",
         "`Ok` exactly where the text is lines of the dialect, with what they say; else the first "
         "line that says nothing of it, and why"),
     ("RESP2", "format_resp", "yes",
         "the reply that bytes begin with, nested to a level, whole and in pieces; where it ends, "
         "by one pass over pieces; the text of a reply or a command, which reads back"),
+    ("RESP3", "format_resp3", "yes",
+        "the reply that bytes begin with, of each type and nested to a level, whole and in pieces"),
     ("JSON (RFC 8259): numbers, strings, words", "format_json_scalars", "yes",
         "the number, string or word that a text begins with, its escapes undone"),
     ("JSON: values", "format_json_values", "yes",
@@ -48,11 +50,14 @@ READERS = [
     ("JSON: by one entry", "format_json", "no",
         "`Ok` exactly where the text or the bytes are one of this value; else a place "
         "after which no text goes on, and what may stand there; the text of a value, over lines too"),
-    ("TOML 1.0, a subset", "format_toml", "yes",
+    ("TOML 1.0", "format_toml", "yes",
         "`Ok` exactly where the text is lines of this document; what the first one lacks that is no "
         "line"),
     ("TOML: trees", "format_toml_tree", "no",
         "the tree that lines give, or the first line that the standard refuses, and why"),
+    ("TOML: by one entry", "format_toml_document", "no",
+        "the tree of the lines that a text or bytes are; else where and what the first lacks that is "
+        "none, or where the first begins that the standard refuses, and why"),
     ("HTTP/1.1 heads (RFC 9112)", "format_http/heads", "yes",
         "the request line, field line and head that bytes begin with"),
     ("HTTP/1.1 lengths of bodies", "format_http/bodies", "no",
@@ -62,15 +67,17 @@ READERS = [
     ("HTTP/1.1 size lines of chunks", "format_http/chunks", "yes",
         "the size line that bytes begin with, with its extensions, whole and in pieces"),
     ("HTTP/1.1 heads, in pieces", "format_http/pieces", "no",
-        "request lines, field lines and heads in pieces, and when more bytes are asked for"),
+        "request lines, status lines, field lines and heads in pieces, and when more bytes are asked for"),
     ("HTTP/1.1 chunked bodies, in pieces", "format_http_chunked", "no",
         "the content and the trailers of the body that the bytes of all calls begin, where it ends, "
         "or the first byte with which none goes on"),
     ("HTTP/1.1 heads, as places", "format_http_places", "no",
-        "the places of the parts of a head, or where no head goes on, or that the bytes end within one"),
-    ("DNS: headers, compressed names, questions, records", "format_dns", "names",
-        "the header, and which part is missing; the name at a place, questions, and records with "
-        "their data by types, or why and where none is"),
+        "the places of the parts of a head, or where no head goes on, or that the bytes end within "
+        "one; where it ends, by one pass over pieces"),
+    ("DNS: headers, compressed names, questions, records, messages", "format_dns", "names",
+        "`Ok` exactly where the bytes begin with a message, else which entry of which section is not "
+        "there, why and where; the header, and which part is missing; the name at a place, "
+        "questions, and records with their data by types, or why and where none is"),
     ("INI", "readers", "no", "`Ok` exactly where the bytes are a document of these sections"),
     ("formulas", "format_calculator", "no", "`Ok(v)` exactly where the one tree has this value"),
 ]
@@ -78,14 +85,15 @@ READERS = [
 # it explains.
 BRIEF = [
     ("CSV (RFC 4180)", ["format_csv", "format_csv_records"], "exactly; first, in pieces"),
-    ("DNS", ["format_dns"], "headers, names, questions, records"),
+    ("DNS", ["format_dns"], "messages"),
     ("formulas", ["format_calculator"], "exactly"),
     ("HTTP/1.1 heads, chunked bodies", ["format_http", "format_http_chunked"], "first, in pieces"),
     ("INI", ["readers", "format_ini"], "exactly"),
     ("JSON", ["format_json"], "exactly; first, in pieces; written values read back"),
     ("JSON extents", ["format_json_extents"], "where the first value ends"),
     ("RESP2", ["format_resp"], "first, in pieces"),
-    ("TOML 1.0, a subset", ["format_toml", "format_toml_tree"], "exactly"),
+    ("RESP3", ["format_resp3"], "first, in pieces"),
+    ("TOML 1.0", ["format_toml", "format_toml_tree"], "exactly"),
 ]
 
 
