@@ -198,8 +198,8 @@ impl Decoder {
         }
     }
 
-    /// The decoder that numbers say, which may be any: one with the limits for a server where they
-    /// are zeros.
+    /// The decoder that numbers say, which may be any: where `place` is 0 one of which nothing is
+    /// taken, with the limits for a server, whatever the others are.
     ///
     /// ```
     /// use format_http_chunked::decoder::{Decoder, SAFE_LIMITS, Step};
