@@ -10,8 +10,8 @@ use crate::places::{Framing, InField, InLine, Place};
 /// How far a chunked body was decoded, as numbers, for a caller who keeps it where no type of Rust
 /// can be. They are for the calls alone, and a `place` of 0 says that nothing of a body was taken,
 /// whatever the others are: so it is begun for each body, with the limits for a server, 4,096 bytes
-/// between data and 8,192 of the trailer section. For other limits `place` is 1, `room` and `size_line` are the one, and
-/// `trailer_room` and `trailers` the other.
+/// between data and 8,192 of the trailer section. For other limits `place` is 1, `room` and
+/// `size_line` are the one, and `trailer_room` and `trailers` the other.
 ///
 /// ```
 /// use format_http_chunked::decoder::{Decoder, SAFE_LIMITS};
