@@ -151,9 +151,10 @@ fn step_of(bytes: &[u8], rest: &[u8], said: Result<Step<'_>, Fault>) -> (u32, Ch
 /// of the body, and the bytes of trailers are its trailer section, without the line end after it.
 /// `END`: the body is whole, and what is after the bytes that were taken is after it; so it is told
 /// of the same state again. For the next body, the first numbers are put into the state.
-/// `INCOMPLETE`: all bytes are taken, they are no body as yet, and with more after them they can be.
-/// `REFUSED`: with the byte after those that were taken no body goes on, or one that has 2^64 bytes
-/// or more; or the limits do not let it be taken. With these three no kind and no place are written.
+/// `INCOMPLETE`: all bytes are taken, they are no body as yet, and with more after them they can
+/// be. `REFUSED`: with the byte after those that were taken no body goes on, or one that has 2^64
+/// bytes or more; or the limits do not let it be taken. With these three no kind and no place are
+/// written.
 ///
 /// Extensions of size lines are passed over. Bytes of data are not looked at. Of a state that is
 /// changed, or with bytes that do not follow, what is told may be wrong; nothing outside of the
