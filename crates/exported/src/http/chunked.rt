@@ -144,8 +144,9 @@ fn step_of(bytes: &[u8], rest: &[u8], said: Result<Step<'_>, Fault>) -> (u32, Ch
 /// pieces: data, bytes of trailers, or its end. What a call took, no other looks at again, so all
 /// calls for a body take a time that is linear in its bytes, however many there are.
 ///
-/// For the first call the numbers of `state` are zeros, or those of other limits. Each further call
-/// for the same body has the state that the last one left, and bytes that follow those that it took.
+/// For the first call the numbers of `state` are zeros, or those of other limits. Each further
+/// call for the same body has the state that the last one left, and bytes that follow those that
+/// it took.
 ///
 /// `DONE`: what is given out and its place are written; after one another the data are the content
 /// of the body, and the bytes of trailers are its trailer section, without the line end after it.
