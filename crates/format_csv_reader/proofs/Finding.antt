@@ -5,10 +5,13 @@ use Rattle.std.specs.Io.KnownBytes.{Consumes}
 use Rattle.std.proofs.KnownBytes.{Consumes-trans, Consumes-nil}
 use Rattle.std.proofs.Common.{◌∙◌, ap, append_assoc, append-nil, arith, inl, inr, refl, subst, sym}
 use Rattle.format_csv_records.specs.Buffers.{IsForGood, IsSized, NoneForGood}
+use Rattle.format_csv_records.specs.Early.{BeginsNone}
 use Rattle.format_csv_records.specs.Extents.{IsOf, IsTold}
+use Rattle.format_csv_records.specs.Refused.{IsRefused}
 use Rattle.format_csv_records.specs.declared.buffers.RecordSize.{RecordSize}
 use Rattle.format_csv_records.specs.declared.dialect.Dialect.{Dialect}
 use Rattle.format_csv_records.specs.declared.extent.RecordExtent.{RecordExtent}
+use Rattle.format_csv_records.specs.declared.read.RecordFault.{RecordFault}
 use Rattle.format_csv_reader.specs.Finds.{BeginsForGood, IsFound, IsSmall, WantsMore}
 use Rattle.format_csv_reader.specs.Held.{Grew}
 use Rattle.format_csv_reader.specs.declared.finds.Found.{Found}
@@ -45,6 +48,18 @@ pub found_over : (d : Dialect) (held bytes : List ℕ) (IsOver : Type 0) (found 
 found_over d held bytes IsOver found same it =
     let P : List ℕ → Type 0 = λ l. IsFound d l ⊥ found in
     found_at d bytes IsOver found (subst P same it)
+
+pub is_enough : (d : Dialect) (bytes : List ℕ) (IsOver : Type 0) (found : Found)
+    → found ≡ Enough → IsFound d bytes IsOver found → BeginsForGood d bytes ⊎ IsOver
+is_enough d bytes IsOver found e it =
+    let P : Found → Type 0 = λ f. IsFound d bytes IsOver f in
+    subst P e it
+
+pub is_never : (d : Dialect) (bytes : List ℕ) (IsOver : Type 0) (found : Found) (at : RecordFault)
+    → found ≡ Never at → IsFound d bytes IsOver found → IsRefused d bytes at × BeginsNone d bytes
+is_never d bytes IsOver found at e it =
+    let P : Found → Type 0 = λ f. IsFound d bytes IsOver f in
+    subst P e it
 
 pub wants_held : (d : Dialect) (held bytes : List ℕ) → held ≡ bytes → WantsMore d held
     → WantsMore d bytes

@@ -1,5 +1,5 @@
 -- What a call tells of the bytes that came, and of all that are to come.
-use Rattle.std.specs.Prelude.{◌≡◌, ◌⊎◌, ◌≤◌, ◌-◌, ◌+◌, ℕ, List, [], ◌∷◌, ◌++◌, length, drop, Bool}
+use Rattle.std.specs.Prelude.{◌≡◌, ◌⊎◌, ◌≤◌, ◌<◌, ◌-◌, ◌+◌, ◌^◌, ℕ, List, [], ◌∷◌, ◌++◌, length, drop, Bool}
 use Rattle.std.specs.Prelude.{true, false, Option, Some, None, Result, Ok, Err}
 use Rattle.std.specs.Io.KnownBytes.{Consumes, IsAtEnd, prepend_known}
 use Rattle.std.proofs.Common.{◌∙◌, ap, append_assoc, append-nil, arith, drop_at, inl, inr, refl}
@@ -8,7 +8,7 @@ use Rattle.format_csv_records.proofs.One.{fields_one, refused_none}
 use Rattle.format_csv_records.specs.Buffers.{IsForGood}
 use Rattle.format_csv_records.specs.Dialects.{AreFields, EndsHere, IsRecord}
 use Rattle.format_csv_records.specs.Early.{BeginsNone}
-use Rattle.format_csv_records.specs.Refused.{IsRefused, Lacks, ReadsRecord}
+use Rattle.format_csv_records.specs.Refused.{IsRefused, ReadsRecord}
 use Rattle.format_csv_records.specs.declared.dialect.Dialect.{Dialect}
 use Rattle.format_csv_records.specs.declared.read.RecordError.{RecordError}
 use Rattle.format_csv_records.specs.declared.read.RecordFault.{RecordFault}
@@ -16,11 +16,14 @@ use Rattle.format_csv_records.specs.declared.read.Refusal.{Refusal}
 use Rattle.format_csv_records.specs.declared.read.Refusal.TheVariants.{QuoteInField}
 use Rattle.format_csv_records.specs.declared.read.Refusal.TheVariants.{ByteBehindQuote}
 use Rattle.format_csv_records.specs.declared.read.Refusal.TheVariants.{OpenQuote, WrongLineEnd}
-use Rattle.format_csv_reader.specs.Finds.{BeginsForGood}
-use Rattle.format_csv_reader.specs.Told.{IsAnswer, IsOfAll, IsTaken, Reads, ReadsOfAll}
+use Rattle.format_csv_reader.specs.Finds.{BeginsForGood, IsOfReader, IsSmall, WantsMore}
+use Rattle.format_csv_reader.specs.Held.{Grew}
+use Rattle.format_csv_reader.specs.Told.{IsAnswer, IsFaultAt, IsOfAll, IsTaken, Reads}
+use Rattle.format_csv_reader.specs.Told.{ReadsOfAll, offset_after}
 use Rattle.format_csv_reader.specs.declared.error.ReadError.{ReadError}
 use Rattle.format_csv_reader.specs.declared.error.ReadError.TheVariants.{Failed, OutOfMemory}
 use Rattle.format_csv_reader.specs.declared.error.ReadError.TheVariants.{Refused}
+use Rattle.format_csv_reader.specs.declared.error.TableFault.{TableFault}
 
 -- ---- what is left after a record is the end of the bytes
 
@@ -81,22 +84,50 @@ held_taken d held bytes rest new result fields same told is =
 
 -- ---- what is told of some bytes whatever follows, of longer bytes
 
-lacks_on : (d : Dialect) (why : Refusal) (more bs ys : List ℕ) (b : ℕ)
-    → Lacks d why more (b ∷ bs) → Lacks d why more (b ∷ (bs ++ ys))
-lacks_on d QuoteInField more bs ys b it = it
-lacks_on d ByteBehindQuote more bs ys b it = it
-lacks_on d OpenQuote more bs ys b (quote, none) = absurd cc
-lacks_on d WrongLineEnd more bs ys b it = it
+none_first : {b : ℕ} {bs : List ℕ} → b ∷ bs ≡ [] → ⊥
+none_first e = cc
+
+ended : (d : Dialect) (bytes before more : List ℕ) (fields : List (List ℕ))
+    → bytes ≡ before ++ [] → IsRecord d (before ++ more) fields [] → BeginsNone d bytes → ⊥
+ended d bytes before more fields e on never =
+    let P : List ℕ → Type 0 = λ l. IsRecord d (l ++ more) fields [] in
+    never more fields [] (subst P (sym (e ∙ append-nil before)) on)
+
+longer : (bytes before back ys : List ℕ) → bytes ≡ before ++ back
+    → bytes ++ ys ≡ before ++ (back ++ ys)
+longer bytes before back ys e = ap (λ l. l ++ ys) e ∙ append_assoc before back ys
+
+-- by why they are refused, since then what stands there is known
+refused_why : (d : Dialect) (bytes ys : List ℕ) (offset : ℕ) (why : Refusal)
+    → IsRefused d bytes (record { offset = offset; why = why }) → BeginsNone d bytes
+    → IsRefused d (bytes ++ ys) (record { offset = offset; why = why })
+refused_why d bytes ys offset QuoteInField (before, [], more, fields, e, size, on, lacks, none) never =
+    absurd (ended d bytes before more fields e on never)
+refused_why d bytes ys offset QuoteInField (before, b ∷ bs, more, fields, e, size, on, lacks, none)
+    never =
+    (before, b ∷ (bs ++ ys), more, fields, longer bytes before (b ∷ bs) ys e, size, on, lacks,
+      none)
+refused_why d bytes ys offset ByteBehindQuote (before, [], more, fields, e, size, on, lacks, none) never =
+    absurd (ended d bytes before more fields e on never)
+refused_why d bytes ys offset ByteBehindQuote (before, b ∷ bs, more, fields, e, size, on, lacks, none)
+    never =
+    (before, b ∷ (bs ++ ys), more, fields, longer bytes before (b ∷ bs) ys e, size, on, lacks,
+      none)
+refused_why d bytes ys offset WrongLineEnd (before, [], more, fields, e, size, on, lacks, none) never =
+    absurd (ended d bytes before more fields e on never)
+refused_why d bytes ys offset WrongLineEnd (before, b ∷ bs, more, fields, e, size, on, lacks, none)
+    never =
+    (before, b ∷ (bs ++ ys), more, fields, longer bytes before (b ∷ bs) ys e, size, on, lacks,
+      none)
+refused_why d bytes ys offset OpenQuote (before, [], more, fields, e, size, on, lacks, none) never =
+    absurd (ended d bytes before more fields e on never)
+refused_why d bytes ys offset OpenQuote
+    (before, b ∷ bs, more, fields, e, size, on, (quote, over), none) never =
+    absurd (none_first over)
 
 pub refused_on : (d : Dialect) (bytes ys : List ℕ) (at : RecordFault) → IsRefused d bytes at
     → BeginsNone d bytes → IsRefused d (bytes ++ ys) at
-refused_on d bytes ys at (before, [], more, fields, e, size, on, lacks, none) never =
-    let P : List ℕ → Type 0 = λ l. IsRecord d (l ++ more) fields [] in
-    absurd (never more fields [] (subst P (sym (e ∙ append-nil before)) on))
-refused_on d bytes ys at (before, b ∷ bs, more, fields, e, size, on, lacks, none) never =
-    (before, b ∷ (bs ++ ys), more, fields,
-      ap (λ l. l ++ ys) e ∙ append_assoc before (b ∷ bs) ys, size, on,
-      lacks_on d at.why more bs ys b lacks, none)
+refused_on d bytes ys at it never = refused_why d bytes ys at.offset at.why it never
 
 -- ---- an answer
 
@@ -184,3 +215,60 @@ pub all_of_reads : (d : Dialect) (old new : List ℕ) (before after : Option (Li
     → ReadsOfAll d (prepend_known old before) (prepend_known new after) start result fields
 all_of_reads d old new before after start end size room result fields it =
     known_all d old new before after start result fields it.read it.consumed it.told
+
+-- ---- what a call reads, by how it ends
+
+module _ (d : Dialect) (old mid : List ℕ) (before after : Option (List ℕ)) (start size room : ℕ)
+    (fields : List (List ℕ)) (grew : Grew old mid before after) (small : IsSmall d size room mid)
+  where
+  still : start < 2 ^ 64 → start ≡ offset_after start (length (old ++ grew.read) - length mid)
+  still few = omega (arith, few, ap (λ l. length l) grew.grew)
+
+  pub reads_taken : (new : List ℕ) (end : ℕ) (result : Result Bool ReadError)
+      → BeginsForGood d mid ⊎ IsAtEnd after → IsTaken d mid start result fields new
+      → end ≡ offset_after start (length mid - length new)
+      → Reads d old new before after start end size room result fields
+  reads_taken new end result found taken moved =
+      let P : List ℕ → Type 0 = λ l. IsAnswer d l (IsAtEnd after) start result fields new in
+      record {
+        read = grew.read;
+        consumed = grew.consumed;
+        told = subst P grew.grew
+            (answer_taken d mid (IsAtEnd after) start result fields new found taken);
+        moved = moved ∙ ap (λ l. offset_after start (length l - length new)) grew.grew;
+        small = subst (λ l. IsSmall d size room l) grew.grew small;
+      }
+
+  pub reads_never : (at : RecordFault) (fault : TableFault) → IsRefused d mid at
+      → BeginsNone d mid → IsFaultAt start at fault → fields ≡ [] → start < 2 ^ 64
+      → Reads d old mid before after start start size room (Err (Refused fault)) fields
+  reads_never at fault refusal never is none few =
+      let P : List ℕ → Type 0 =
+      λ l. IsAnswer d l (IsAtEnd after) start (Err (Refused fault)) fields mid in
+      record {
+        read = grew.read;
+        consumed = grew.consumed;
+        told = subst P grew.grew ((at, refusal, is, inl never), refl, none);
+        moved = still few;
+        small = subst (λ l. IsSmall d size room l) grew.grew small;
+      }
+
+  failed : (error : ReadError) → IsOfReader error → WantsMore d mid → fields ≡ []
+      → IsAnswer d mid (IsAtEnd after) start (Err error) fields mid
+  failed (Refused fault) none wants empty = absurd none
+  failed (Failed error) it wants empty = (wants, refl, empty)
+  failed OutOfMemory it wants empty = (refl, empty)
+
+  pub reads_failed : (error : ReadError) → IsOfReader error → WantsMore d mid → fields ≡ []
+      → start < 2 ^ 64
+      → Reads d old mid before after start start size room (Err error) fields
+  reads_failed error it wants empty few =
+      let P : List ℕ → Type 0 =
+      λ l. IsAnswer d l (IsAtEnd after) start (Err error) fields mid in
+      record {
+        read = grew.read;
+        consumed = grew.consumed;
+        told = subst P grew.grew (failed error it wants empty);
+        moved = still few;
+        small = subst (λ l. IsSmall d size room l) grew.grew small;
+      }

@@ -1,3 +1,4 @@
 pub mod Finds
 pub mod Held
+pub mod Table
 pub mod Told

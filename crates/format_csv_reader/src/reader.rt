@@ -16,7 +16,6 @@
 
 ghost use Rattle.std.specs.Prelude.{◌≡◌, [], List, ℕ, Option};
 ghost use Rattle.std.specs.Io.KnownBytes.{prepend_known};
-ghost use Rattle.format_csv_records.specs.Extents.{IsOf};
 ghost use Rattle.format_csv_records.specs.Records.{fields_of};
 ghost use Rattle.format_csv_reader.specs.Told.{Reads, ReadsOfAll};
 
@@ -29,6 +28,7 @@ use format_csv_records::extent::RecordExtent;
 use format_csv_records::record::ByteRecord;
 use std::alloc::Allocator;
 use std::io::Read;
+use std::marker::Model;
 
 /// A table whose bytes come from a reader, whatever pieces it gives, into one buffer.
 ///
@@ -53,7 +53,16 @@ pub struct Reader<R, A: Allocator> {
     buffer: Buffer<A>,
     extent: RecordExtent,
     offset: u64,
-    ghost begun: { IsOf dialect extent buffer.bytes },
+}
+
+impl<R, A: Allocator> Model for Reader<R, A> {
+    ghost use Rattle.format_csv_reader.specs.Table.{IsBegun, Table, table_of};
+
+    ghost Value = { Table R };
+
+    ghost view = { table_of };
+
+    ghost invariant = { IsBegun };
 }
 
 impl<R: Read, A: Allocator> Reader<R, A> {
@@ -103,6 +112,7 @@ impl<R: Read, A: Allocator> Reader<R, A> {
     ///   reads again, and goes on. A read that was interrupted is no failure.
     /// - [`ReadError::OutOfMemory`]: a request for memory was refused, for the buffer or the fields.
     ///   The next call goes on.
+    #[tactic(none)]
     pub fn next_record<B: Allocator>(
         &mut self,
         fields: &mut ByteRecord<B>,
@@ -117,6 +127,7 @@ impl<R: Read, A: Allocator> Reader<R, A> {
             self.old.offset result (fields_of fields.new) }
         ensures same { self.new.dialect ≡ self.old.dialect }
     {
+        let start = self.offset;
         fields.clear();
         match find(self.dialect, &mut self.source, &mut self.buffer, &mut self.extent) {
             Ok(Found::Enough) => {
@@ -124,7 +135,7 @@ impl<R: Read, A: Allocator> Reader<R, A> {
                 take_record(self.dialect, buffer, extent, &mut self.offset, fields)
             }
             Ok(Found::Never(fault)) => {
-                Err(ReadError::Refused(fault_at(self.offset, fault)))
+                Err(ReadError::Refused(fault_at(start, fault)))
             }
             Err(error) => Err(error),
         }

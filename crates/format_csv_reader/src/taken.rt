@@ -59,15 +59,15 @@ pub(crate) fn take_record<A: Allocator, B: Allocator>(
         (length buffer.old.bytes - length buffer.new.bytes) }
     ensures size { buffer.new.size ≡ buffer.old.size }
 {
-    let before = buffer.held().len();
+    let (start, before) = (*offset, buffer.held().len());
     match read_held(dialect, buffer, fields) {
         Ok(read) => {
             let count = before - buffer.held().len();
-            *offset = offset.saturating_add(count as u64);
+            *offset = start.saturating_add(count as u64);
             *extent = RecordExtent::new();
             Ok(read)
         }
-        Err(RecordError::Refused(fault)) => Err(ReadError::Refused(fault_at(*offset, fault))),
+        Err(RecordError::Refused(fault)) => Err(ReadError::Refused(fault_at(start, fault))),
         Err(RecordError::OutOfMemory) => Err(ReadError::OutOfMemory),
     }
 }

@@ -6,8 +6,8 @@ overflow_sub-count g c =
     omega (
       arith,
       c.in-Ok.ensures.less,
-      ap (λ l. length l) c.held-before.ensures,
       ap (λ l. length l) c.held.ensures,
+      ap (λ l. length l) c.held-in-Ok.ensures,
     )
 
 pub returns-in-Err-OutOfMemory-clause-moved : goal.returns-in-Err-OutOfMemory-clause-moved
