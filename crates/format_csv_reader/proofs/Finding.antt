@@ -112,9 +112,13 @@ small_more d old mid new bytes read more e none (inr (inl few)) (inl kept) =
     inr (inl (omega (arith, few, kept)))
 small_more d old mid new bytes read more e none (inr (inr (begun, rest, is, wants, few)))
     (inl kept) =
-    inr (inr (begun, rest ++ read,
-      e ∙ ap (λ l. l ++ read) is ∙ append_assoc begun rest read, wants,
-      omega (arith, few, kept)))
+    inr (inr (
+      begun,
+      rest ++ read,
+      e ∙ ap (λ l. l ++ read) is ∙ append_assoc begun rest read,
+      wants,
+      omega (arith, few, kept),
+    ))
 small_more d old mid new bytes read more e none before (inr grown) =
     elim (either_of new (4 * length bytes) grown) [
       | inl few ↦ inr (inl few)

@@ -104,21 +104,45 @@ refused_why : (d : Dialect) (bytes ys : List ℕ) (offset : ℕ) (why : Refusal)
 refused_why d bytes ys offset QuoteInField (before, [], more, fields, e, size, on, lacks, none) never =
     absurd (ended d bytes before more fields e on never)
 refused_why d bytes ys offset QuoteInField (before, b ∷ bs, more, fields, e, size, on, lacks, none)
-    never =
-    (before, b ∷ (bs ++ ys), more, fields, longer bytes before (b ∷ bs) ys e, size, on, lacks,
-      none)
+    never = (
+      before,
+      b ∷ (bs ++ ys),
+      more,
+      fields,
+      longer bytes before (b ∷ bs) ys e,
+      size,
+      on,
+      lacks,
+      none,
+    )
 refused_why d bytes ys offset ByteBehindQuote (before, [], more, fields, e, size, on, lacks, none) never =
     absurd (ended d bytes before more fields e on never)
 refused_why d bytes ys offset ByteBehindQuote (before, b ∷ bs, more, fields, e, size, on, lacks, none)
-    never =
-    (before, b ∷ (bs ++ ys), more, fields, longer bytes before (b ∷ bs) ys e, size, on, lacks,
-      none)
+    never = (
+      before,
+      b ∷ (bs ++ ys),
+      more,
+      fields,
+      longer bytes before (b ∷ bs) ys e,
+      size,
+      on,
+      lacks,
+      none,
+    )
 refused_why d bytes ys offset WrongLineEnd (before, [], more, fields, e, size, on, lacks, none) never =
     absurd (ended d bytes before more fields e on never)
 refused_why d bytes ys offset WrongLineEnd (before, b ∷ bs, more, fields, e, size, on, lacks, none)
-    never =
-    (before, b ∷ (bs ++ ys), more, fields, longer bytes before (b ∷ bs) ys e, size, on, lacks,
-      none)
+    never = (
+      before,
+      b ∷ (bs ++ ys),
+      more,
+      fields,
+      longer bytes before (b ∷ bs) ys e,
+      size,
+      on,
+      lacks,
+      none,
+    )
 refused_why d bytes ys offset OpenQuote (before, [], more, fields, e, size, on, lacks, none) never =
     absurd (ended d bytes before more fields e on never)
 refused_why d bytes ys offset OpenQuote
@@ -221,54 +245,54 @@ all_of_reads d old new before after start end size room result fields it =
 module _ (d : Dialect) (old mid : List ℕ) (before after : Option (List ℕ)) (start size room : ℕ)
     (fields : List (List ℕ)) (grew : Grew old mid before after) (small : IsSmall d size room mid)
   where
-  still : start < 2 ^ 64 → start ≡ offset_after start (length (old ++ grew.read) - length mid)
-  still few = omega (arith, few, ap (λ l. length l) grew.grew)
+    still : start < 2 ^ 64 → start ≡ offset_after start (length (old ++ grew.read) - length mid)
+    still few = omega (arith, few, ap (λ l. length l) grew.grew)
 
-  pub reads_taken : (new : List ℕ) (end : ℕ) (result : Result Bool ReadError)
-      → BeginsForGood d mid ⊎ IsAtEnd after → IsTaken d mid start result fields new
-      → end ≡ offset_after start (length mid - length new)
-      → Reads d old new before after start end size room result fields
-  reads_taken new end result found taken moved =
-      let P : List ℕ → Type 0 = λ l. IsAnswer d l (IsAtEnd after) start result fields new in
-      record {
-        read = grew.read;
-        consumed = grew.consumed;
-        told = subst P grew.grew
-            (answer_taken d mid (IsAtEnd after) start result fields new found taken);
-        moved = moved ∙ ap (λ l. offset_after start (length l - length new)) grew.grew;
-        small = subst (λ l. IsSmall d size room l) grew.grew small;
-      }
+    pub reads_taken : (new : List ℕ) (end : ℕ) (result : Result Bool ReadError)
+        → BeginsForGood d mid ⊎ IsAtEnd after → IsTaken d mid start result fields new
+        → end ≡ offset_after start (length mid - length new)
+        → Reads d old new before after start end size room result fields
+    reads_taken new end result found taken moved =
+        let P : List ℕ → Type 0 = λ l. IsAnswer d l (IsAtEnd after) start result fields new in
+        record {
+          read = grew.read;
+          consumed = grew.consumed;
+          told = subst P grew.grew
+              (answer_taken d mid (IsAtEnd after) start result fields new found taken);
+          moved = moved ∙ ap (λ l. offset_after start (length l - length new)) grew.grew;
+          small = subst (λ l. IsSmall d size room l) grew.grew small;
+        }
 
-  pub reads_never : (at : RecordFault) (fault : TableFault) → IsRefused d mid at
-      → BeginsNone d mid → IsFaultAt start at fault → fields ≡ [] → start < 2 ^ 64
-      → Reads d old mid before after start start size room (Err (Refused fault)) fields
-  reads_never at fault refusal never is none few =
-      let P : List ℕ → Type 0 =
-      λ l. IsAnswer d l (IsAtEnd after) start (Err (Refused fault)) fields mid in
-      record {
-        read = grew.read;
-        consumed = grew.consumed;
-        told = subst P grew.grew ((at, refusal, is, inl never), refl, none);
-        moved = still few;
-        small = subst (λ l. IsSmall d size room l) grew.grew small;
-      }
+    pub reads_never : (at : RecordFault) (fault : TableFault) → IsRefused d mid at
+        → BeginsNone d mid → IsFaultAt start at fault → fields ≡ [] → start < 2 ^ 64
+        → Reads d old mid before after start start size room (Err (Refused fault)) fields
+    reads_never at fault refusal never is none few =
+        let P : List ℕ → Type 0 =
+        λ l. IsAnswer d l (IsAtEnd after) start (Err (Refused fault)) fields mid in
+        record {
+          read = grew.read;
+          consumed = grew.consumed;
+          told = subst P grew.grew ((at, refusal, is, inl never), refl, none);
+          moved = still few;
+          small = subst (λ l. IsSmall d size room l) grew.grew small;
+        }
 
-  failed : (error : ReadError) → IsOfReader error → WantsMore d mid → fields ≡ []
-      → IsAnswer d mid (IsAtEnd after) start (Err error) fields mid
-  failed (Refused fault) none wants empty = absurd none
-  failed (Failed error) it wants empty = (wants, refl, empty)
-  failed OutOfMemory it wants empty = (refl, empty)
+    failed : (error : ReadError) → IsOfReader error → WantsMore d mid → fields ≡ []
+        → IsAnswer d mid (IsAtEnd after) start (Err error) fields mid
+    failed (Refused fault) none wants empty = absurd none
+    failed (Failed error) it wants empty = (wants, refl, empty)
+    failed OutOfMemory it wants empty = (refl, empty)
 
-  pub reads_failed : (error : ReadError) → IsOfReader error → WantsMore d mid → fields ≡ []
-      → start < 2 ^ 64
-      → Reads d old mid before after start start size room (Err error) fields
-  reads_failed error it wants empty few =
-      let P : List ℕ → Type 0 =
-      λ l. IsAnswer d l (IsAtEnd after) start (Err error) fields mid in
-      record {
-        read = grew.read;
-        consumed = grew.consumed;
-        told = subst P grew.grew (failed error it wants empty);
-        moved = still few;
-        small = subst (λ l. IsSmall d size room l) grew.grew small;
-      }
+    pub reads_failed : (error : ReadError) → IsOfReader error → WantsMore d mid → fields ≡ []
+        → start < 2 ^ 64
+        → Reads d old mid before after start start size room (Err error) fields
+    reads_failed error it wants empty few =
+        let P : List ℕ → Type 0 =
+        λ l. IsAnswer d l (IsAtEnd after) start (Err error) fields mid in
+        record {
+          read = grew.read;
+          consumed = grew.consumed;
+          told = subst P grew.grew (failed error it wants empty);
+          moved = still few;
+          small = subst (λ l. IsSmall d size room l) grew.grew small;
+        }

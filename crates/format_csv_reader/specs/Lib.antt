@@ -1,4 +1,5 @@
 pub mod Finds
 pub mod Held
+pub mod Marks
 pub mod Table
 pub mod Told

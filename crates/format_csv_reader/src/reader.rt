@@ -17,15 +17,18 @@
 ghost use Rattle.std.specs.Prelude.{◌≡◌, [], List, ℕ, Option};
 ghost use Rattle.std.specs.Io.KnownBytes.{prepend_known};
 ghost use Rattle.format_csv_records.specs.Records.{fields_of};
+ghost use Rattle.format_csv_reader.specs.Marks.{ReadsMark};
 ghost use Rattle.format_csv_reader.specs.Told.{Reads, ReadsOfAll};
 
 use crate::buffer::Buffer;
 use crate::error::ReadError;
 use crate::finds::{Found, find};
+use crate::mark::fill_to;
 use crate::taken::{fault_at, take_record};
 use format_csv_records::dialect::Dialect;
 use format_csv_records::extent::RecordExtent;
 use format_csv_records::record::ByteRecord;
+use format_csv_records::records::behind_mark;
 use std::alloc::Allocator;
 use std::io::Read;
 use std::marker::Model;
@@ -96,6 +99,47 @@ impl<R: Read, A: Allocator> Reader<R, A> {
         self.buffer.size()
     }
 
+    /// Passes a byte order mark of UTF-8 (the bytes EF BB BF) that stands first of what is left: so
+    /// it is called before the first record. `true` says that one was passed. It reads until three
+    /// bytes are there, or there are no more.
+    ///
+    /// # Errors
+    ///
+    /// [`ReadError::Failed`] and [`ReadError::OutOfMemory`], as [`Reader::next_record`] says. Nothing
+    /// is passed, and the next call goes on.
+    ///
+    /// ```
+    /// use format_csv_reader::reader::Reader;
+    /// use format_csv_records::dialect::Dialect;
+    ///
+    /// let bytes = b"\xef\xbb\xbfa,b\r\n".as_slice();
+    /// let mut table = Reader::new(Dialect::standard(), bytes, alloc);
+    /// assert!(rt; matches!(table.pass_mark(), Ok(true)));
+    /// assert!(rt; table.offset() == 3);
+    /// assert!(rt; matches!(table.pass_mark(), Ok(false)));
+    /// ```
+    #[tactic(none)]
+    pub fn pass_mark(&mut self) -> Result<bool, ReadError>
+        ensures { ReadsMark self.old.buffer.bytes self.new.buffer.bytes
+            (R.remaining self.old.source) (R.remaining self.new.source) self.old.offset
+            self.new.offset result }
+    {
+        let start = self.offset;
+        let filled = fill_to(&mut self.source, &mut self.buffer, 3);
+        self.extent = RecordExtent::new();
+        match filled {
+            Ok(()) => match behind_mark(self.buffer.held()) {
+                None => Ok(false),
+                Some(_) => {
+                    self.buffer.consume(3);
+                    self.offset = start.saturating_add(3);
+                    Ok(true)
+                }
+            },
+            Err(error) => Err(error),
+        }
+    }
+
     /// Reads the next record. `true` says that one was read; `false` that none is left, as the
     /// reader gave no more bytes. The last record may have no line end. More bytes are read only
     /// where those that came do not say what stands first. What was in the fields before does not
@@ -129,14 +173,17 @@ impl<R: Read, A: Allocator> Reader<R, A> {
     {
         let start = self.offset;
         fields.clear();
-        match find(self.dialect, &mut self.source, &mut self.buffer, &mut self.extent) {
+        match find(
+            self.dialect,
+            &mut self.source,
+            &mut self.buffer,
+            &mut self.extent,
+        ) {
             Ok(Found::Enough) => {
                 let (buffer, extent) = (&mut self.buffer, &mut self.extent);
                 take_record(self.dialect, buffer, extent, &mut self.offset, fields)
             }
-            Ok(Found::Never(fault)) => {
-                Err(ReadError::Refused(fault_at(start, fault)))
-            }
+            Ok(Found::Never(fault)) => { Err(ReadError::Refused(fault_at(start, fault))) }
             Err(error) => Err(error),
         }
     }
