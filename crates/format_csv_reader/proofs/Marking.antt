@@ -1,5 +1,5 @@
 -- What a call that passes a byte order mark reads.
-use Rattle.std.specs.Prelude.{◌≡◌, ◌⊎◌, ◌≤◌, ◌<◌, ◌^◌, ℕ, List, ◌∷◌, ◌++◌, length, drop, Option}
+use Rattle.std.specs.Prelude.{◌≡◌, ◌⊎◌, ◌≤◌, ◌<◌, ◌^◌, ℕ, List, ◌∷◌, length, drop, Option}
 use Rattle.std.specs.Prelude.{Ok, Err, true, false}
 use Rattle.std.specs.Io.KnownBytes.{IsAtEnd}
 use Rattle.std.proofs.Common.{◌∙◌, ap, arith, refl, subst, sym}

@@ -6,7 +6,7 @@ use Rattle.std.proofs.Common.{◌∙◌, ap, append_assoc, append-nil, arith, dr
 use Rattle.std.proofs.Common.{length-append, subst, sym}
 use Rattle.format_csv_records.proofs.One.{fields_one, refused_none}
 use Rattle.format_csv_records.specs.Buffers.{IsForGood}
-use Rattle.format_csv_records.specs.Dialects.{AreFields, EndsHere, IsRecord}
+use Rattle.format_csv_records.specs.Dialects.{AreFields, IsRecord}
 use Rattle.format_csv_records.specs.Early.{BeginsNone}
 use Rattle.format_csv_records.specs.Refused.{IsRefused, ReadsRecord}
 use Rattle.format_csv_records.specs.declared.dialect.Dialect.{Dialect}
@@ -101,52 +101,52 @@ longer bytes before back ys e = ap (λ l. l ++ ys) e ∙ append_assoc before bac
 refused_why : (d : Dialect) (bytes ys : List ℕ) (offset : ℕ) (why : Refusal)
     → IsRefused d bytes (record { offset = offset; why = why }) → BeginsNone d bytes
     → IsRefused d (bytes ++ ys) (record { offset = offset; why = why })
-refused_why d bytes ys offset QuoteInField (before, [], more, fields, e, size, on, lacks, none) never =
-    absurd (ended d bytes before more fields e on never)
-refused_why d bytes ys offset QuoteInField (before, b ∷ bs, more, fields, e, size, on, lacks, none)
+refused_why d bytes ys offset QuoteInField (before, [], more, fs, e, size, on, lack, none) never =
+    absurd (ended d bytes before more fs e on never)
+refused_why d bytes ys offset QuoteInField (before, b ∷ bs, more, fs, e, size, on, lack, none)
     never = (
       before,
       b ∷ (bs ++ ys),
       more,
-      fields,
+      fs,
       longer bytes before (b ∷ bs) ys e,
       size,
       on,
-      lacks,
+      lack,
       none,
     )
-refused_why d bytes ys offset ByteBehindQuote (before, [], more, fields, e, size, on, lacks, none) never =
-    absurd (ended d bytes before more fields e on never)
-refused_why d bytes ys offset ByteBehindQuote (before, b ∷ bs, more, fields, e, size, on, lacks, none)
+refused_why d bytes ys offset ByteBehindQuote (before, [], more, fs, e, size, on, lack, none) never =
+    absurd (ended d bytes before more fs e on never)
+refused_why d bytes ys offset ByteBehindQuote (before, b ∷ bs, more, fs, e, size, on, lack, none)
     never = (
       before,
       b ∷ (bs ++ ys),
       more,
-      fields,
+      fs,
       longer bytes before (b ∷ bs) ys e,
       size,
       on,
-      lacks,
+      lack,
       none,
     )
-refused_why d bytes ys offset WrongLineEnd (before, [], more, fields, e, size, on, lacks, none) never =
-    absurd (ended d bytes before more fields e on never)
-refused_why d bytes ys offset WrongLineEnd (before, b ∷ bs, more, fields, e, size, on, lacks, none)
+refused_why d bytes ys offset WrongLineEnd (before, [], more, fs, e, size, on, lack, none) never =
+    absurd (ended d bytes before more fs e on never)
+refused_why d bytes ys offset WrongLineEnd (before, b ∷ bs, more, fs, e, size, on, lack, none)
     never = (
       before,
       b ∷ (bs ++ ys),
       more,
-      fields,
+      fs,
       longer bytes before (b ∷ bs) ys e,
       size,
       on,
-      lacks,
+      lack,
       none,
     )
-refused_why d bytes ys offset OpenQuote (before, [], more, fields, e, size, on, lacks, none) never =
-    absurd (ended d bytes before more fields e on never)
+refused_why d bytes ys offset OpenQuote (before, [], more, fs, e, size, on, lack, none) never =
+    absurd (ended d bytes before more fs e on never)
 refused_why d bytes ys offset OpenQuote
-    (before, b ∷ bs, more, fields, e, size, on, (quote, over), none) never =
+    (before, b ∷ bs, more, fs, e, size, on, (quote, over), none) never =
     absurd (none_first over)
 
 pub refused_on : (d : Dialect) (bytes ys : List ℕ) (at : RecordFault) → IsRefused d bytes at
@@ -212,10 +212,10 @@ answer_all d bytes ys start (Ok true) fields rest (it, inr over) =
     over_all d bytes ys start (Ok true) fields rest over it
 answer_all d bytes ys start (Ok false) fields rest (none, left, f, over) =
     over_all d bytes ys start (Ok false) fields rest over (none, left, f)
-answer_all d bytes ys start (Err (Refused fault)) fields rest ((at, refusal, is, inl never), left, f) =
-    ((at, refused_on d bytes ys at refusal never, is), ap (λ l. l ++ ys) left, f)
-answer_all d bytes ys start (Err (Refused fault)) fields rest ((at, refusal, is, inr over), left, f) =
-    over_all d bytes ys start (Err (Refused fault)) fields rest over ((at, refusal, is), left, f)
+answer_all d bytes ys start (Err (Refused fault)) fields rest ((at, why, is, inl never), left, f) =
+    ((at, refused_on d bytes ys at why never, is), ap (λ l. l ++ ys) left, f)
+answer_all d bytes ys start (Err (Refused fault)) fields rest ((at, why, is, inr over), left, f) =
+    over_all d bytes ys start (Err (Refused fault)) fields rest over ((at, why, is), left, f)
 answer_all d bytes ys start (Err (Failed e)) fields rest (wants, left, f) =
     (ap (λ l. l ++ ys) left, f)
 answer_all d bytes ys start (Err OutOfMemory) fields rest (left, f) =

@@ -4,7 +4,6 @@ use Rattle.format_csv_records.specs.Buffers.{IsForGood, NoneForGood}
 use Rattle.format_csv_records.specs.Early.{BeginsNone, GoesOn}
 use Rattle.format_csv_records.specs.Refused.{IsRefused}
 use Rattle.format_csv_records.specs.declared.dialect.Dialect.{Dialect}
-use Rattle.format_csv_records.specs.declared.read.RecordFault.{RecordFault}
 use Rattle.format_csv_reader.specs.declared.error.ReadError.{ReadError}
 use Rattle.format_csv_reader.specs.declared.error.ReadError.TheVariants.{Failed, OutOfMemory}
 use Rattle.format_csv_reader.specs.declared.error.ReadError.TheVariants.{Refused}

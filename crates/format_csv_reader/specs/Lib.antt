@@ -1,3 +1,4 @@
+-- Written by scripts/registries.py: do not edit.
 pub mod Finds
 pub mod Held
 pub mod Marks

@@ -1,6 +1,7 @@
 //! Bytes that were read and are not let go, in one buffer.
 
-ghost use Rattle.std.specs.Prelude.{◌≡◌, ◌⊎◌, ◌≤◌, ◌<◌, ◌+◌, ◌*◌, ◌^◌, [], drop, length, max, MatchResult};
+ghost use Rattle.std.specs.Prelude.{◌≡◌, ◌⊎◌, ◌≤◌, ◌<◌, ◌+◌, ◌*◌, ◌^◌, [], drop, length};
+ghost use Rattle.std.specs.Prelude.{MatchResult, max};
 ghost use Rattle.std.specs.Io.KnownBytes.{IsAtEnd};
 ghost use Rattle.format_csv_reader.specs.Finds.{IsOfReader};
 ghost use Rattle.format_csv_reader.specs.Held.{Grew};

@@ -14,7 +14,7 @@
 //! assert!(rt; matches!(table.next_record(&mut fields), Ok(false)));
 //! ```
 
-ghost use Rattle.std.specs.Prelude.{◌≡◌, [], List, ℕ, Option};
+ghost use Rattle.std.specs.Prelude.{◌≡◌, []};
 ghost use Rattle.std.specs.Io.KnownBytes.{prepend_known};
 ghost use Rattle.format_csv_records.specs.Records.{fields_of};
 ghost use Rattle.format_csv_reader.specs.Marks.{ReadsMark};
@@ -105,8 +105,8 @@ impl<R: Read, A: Allocator> Reader<R, A> {
     ///
     /// # Errors
     ///
-    /// [`ReadError::Failed`] and [`ReadError::OutOfMemory`], as [`Reader::next_record`] says. Nothing
-    /// is passed, and the next call goes on.
+    /// [`ReadError::Failed`] and [`ReadError::OutOfMemory`], as [`Reader::next_record`] says. No
+    /// byte is passed, and the next call goes on.
     ///
     /// ```
     /// use format_csv_reader::reader::Reader;
@@ -149,13 +149,13 @@ impl<R: Read, A: Allocator> Reader<R, A> {
     ///
     /// At each, the bytes of the record that is begun are kept, and none is passed.
     ///
-    /// - [`ReadError::Refused`]: no record stands first. The fault tells the first byte of the table
-    ///   at which none can go on, or its end, and why. The next call says the same, if no bytes
-    ///   came.
+    /// - [`ReadError::Refused`]: no record stands first. The fault tells the first byte of the
+    ///   table at which none can go on, or its end, and why. The next call says the same, if no
+    ///   bytes came.
     /// - [`ReadError::Failed`]: the reader failed, though more bytes were needed. The next call
     ///   reads again, and goes on. A read that was interrupted is no failure.
-    /// - [`ReadError::OutOfMemory`]: a request for memory was refused, for the buffer or the fields.
-    ///   The next call goes on.
+    /// - [`ReadError::OutOfMemory`]: a request for memory was refused, for the buffer or the
+    ///   fields. The next call goes on.
     #[tactic(none)]
     pub fn next_record<B: Allocator>(
         &mut self,
