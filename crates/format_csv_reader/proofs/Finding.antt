@@ -20,7 +20,8 @@ sized_good : (d : Dialect) (bytes : List ℕ) (size : RecordSize) → IsSized d 
     → size.ended ≡ true → BeginsForGood d bytes
 sized_good d bytes size (fields, it) ended =
     let left = drop size.length bytes in
-    let P : Bool → Type 0 = λ b. MatchBool b (IsForGood d bytes fields left) (NoneForGood d bytes) in
+    let Good : Type 0 = IsForGood d bytes fields left in
+    let P : Bool → Type 0 = λ b. MatchBool b Good (NoneForGood d bytes) in
     (fields, left, subst P ended it.ended)
 
 pub told_good : (d : Dialect) (bytes : List ℕ) (told : Option RecordSize) (size : RecordSize)

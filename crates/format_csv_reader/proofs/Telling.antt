@@ -1,5 +1,6 @@
 -- What a call tells of the bytes that came, and of all that are to come.
-use Rattle.std.specs.Prelude.{◌≡◌, ◌⊎◌, ◌≤◌, ◌<◌, ◌-◌, ◌+◌, ◌^◌, ℕ, List, [], ◌∷◌, ◌++◌, length, drop, Bool}
+use Rattle.std.specs.Prelude.{◌≡◌, ◌⊎◌, ◌≤◌, ◌<◌, ◌-◌, ◌+◌, ◌^◌, ℕ, List, [], ◌∷◌, ◌++◌, length}
+use Rattle.std.specs.Prelude.{drop, Bool}
 use Rattle.std.specs.Prelude.{true, false, Option, Some, None, Result, Ok, Err}
 use Rattle.std.specs.Io.KnownBytes.{Consumes, IsAtEnd, prepend_known}
 use Rattle.std.proofs.Common.{◌∙◌, ap, append_assoc, append-nil, arith, drop_at, inl, inr, refl}
@@ -115,7 +116,7 @@ refused_why d bytes ys offset QuoteInField (before, b ∷ bs, more, fs, e, size,
       lack,
       none,
     )
-refused_why d bytes ys offset ByteBehindQuote (before, [], more, fs, e, size, on, lack, none) never =
+refused_why d bytes ys offset ByteBehindQuote (before, [], more, fs, e, size, on, why, none) never =
     absurd (ended d bytes before more fs e on never)
 refused_why d bytes ys offset ByteBehindQuote (before, b ∷ bs, more, fs, e, size, on, lack, none)
     never = (
