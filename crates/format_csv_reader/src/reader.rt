@@ -36,8 +36,8 @@ use std::marker::Model;
 /// A table whose bytes come from a reader, whatever pieces it gives, into one buffer.
 ///
 /// The buffer has the bytes of one record and of one piece: room for 8,192 bytes, or, where a
-/// record is longer, for four times as many as it has at most. Each byte is read once; it is looked
-/// at three times at most, and moved so often that the time for a table is linear in its bytes.
+/// record is longer, for four times as many as it has at most. The time for a table is linear in
+/// its bytes, however few of them come at a time.
 ///
 /// ```
 /// use format_csv_reader::reader::Reader;
