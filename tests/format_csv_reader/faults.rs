@@ -62,3 +62,16 @@ fn a_reader_that_fails_once_loses_no_byte(rt: HostRuntime) {
         assert!(rt; matches!(table.pass_mark(), Ok(false) | Err(ReadError::Failed(_))));
     }
 }
+
+/// One read brings both records: so no other is made before the third call.
+#[test]
+fn more_is_read_only_where_it_decides(rt: HostRuntime) {
+    let alloc = rt.alloc();
+    let mut pieces = Pieces::new(b"a\r\nb\r\n".as_slice(), 100);
+    pieces.reads = 1;
+    let mut fields = ByteRecord::new(alloc);
+    let mut table = Reader::new(Dialect::standard(), &mut pieces, alloc);
+    assert!(rt; matches!(table.next_record(&mut fields), Ok(true)));
+    assert!(rt; matches!(table.next_record(&mut fields), Ok(true)));
+    assert!(rt; matches!(table.next_record(&mut fields), Err(ReadError::Failed(_))));
+}
