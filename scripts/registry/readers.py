@@ -29,6 +29,9 @@ READERS = [
     ("CSV in any dialect", "format_csv_records", "no",
         "the record that bytes begin with, in one buffer, or the first byte at which none goes on; "
         "where it ends, by one pass over pieces; the text of a record, which reads back"),
+    ("CSV from a reader", "format_csv_reader", "no",
+        "record by record, what stands first of all bytes that are to come: a record, or the first "
+        "byte of the table at which none goes on"),
     ("INI files, in any dialect", "format_ini", "no",
         "`Ok` exactly where the text is lines of the dialect, with what they say; else the first "
         "line that says nothing of it, and why"),

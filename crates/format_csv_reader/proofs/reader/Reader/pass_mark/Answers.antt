@@ -1,0 +1,32 @@
+use Rattle.std.proofs.Common.{arith}
+use Rattle.format_csv_reader.proofs.Marking.{mark_long, reads_none, reads_nothing, reads_some}
+use Rattle.format_csv_reader.proofs.reader.Reader.pass_mark.Goals as goal
+
+pub invariant_of-self : goal.invariant_of-self
+invariant_of-self g c = c.new-self-inside.ensures _ _
+
+pub consume-requires : goal.consume-requires
+consume-requires g c = mark_long _ _ _ c.held.ensures c.in-Some.ensures
+
+pub invariant_of-self-in-Some : goal.invariant_of-self-in-Some
+invariant_of-self-in-Some g c = c.new-self-inside.ensures _ _
+
+pub invariant_of-self-in-Err : goal.invariant_of-self-in-Err
+invariant_of-self-in-Err g c = c.new-self-inside.ensures _ _
+
+pub returns-in-None : goal.returns-in-None
+returns-in-None g c =
+    rw (← c.self.view_is)
+    (reads_none _ _ _ _ _ c.in-Ok.ensures.grew _ c.held.ensures c.in-None.ensures
+    c.in-Ok.ensures.told (omega arith))
+
+pub returns-in-Some : goal.returns-in-Some
+returns-in-Some g c =
+    rw (← c.self.view_is)
+    (reads_some _ _ _ _ _ c.in-Ok.ensures.grew _ _ _ _ c.held.ensures c.in-Some.ensures
+    c.consume.ensures.bytes (omega (arith, c.saturating_add-self-inside.ensures)))
+
+pub returns-in-Err : goal.returns-in-Err
+returns-in-Err g c =
+    rw (← c.self.view_is)
+    (reads_nothing _ _ _ _ _ c.in-Err.ensures.grew _ c.in-Err.ensures.told (omega arith))

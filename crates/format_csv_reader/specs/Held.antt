@@ -1,0 +1,24 @@
+-- Bytes that were read and are not let go.
+use Rattle.std.specs.Prelude.{◌≡◌, ◌≤◌, ◌++◌, ℕ, List, drop, length, take, Option}
+use Rattle.std.specs.Io.KnownBytes.{Consumes}
+use Rattle.format_csv_reader.specs.declared.buffer.Buffer.TheInside.{Inside}
+
+-- The bytes that are held, and how many a buffer has room for.
+pub record Held : Type 0 where
+  pub bytes : List ℕ
+  pub size : ℕ
+
+abbrev pub held_of : {A : Type 0} → Inside A → Held
+held_of it = record {
+  bytes = drop it.start (take it.filled it.bytes.items);
+  size = length it.bytes.items;
+}
+
+abbrev pub IsHeld : {A : Type 0} → Inside A → Type 0
+IsHeld it = (it.start ≤ it.filled) × (it.filled ≤ length it.bytes.items)
+
+-- What is held grew by what a reader gave, and lost.
+pub record Grew (old new : List ℕ) (before after : Option (List ℕ)) : Type 0 where
+  pub read : List ℕ
+  pub grew : new ≡ old ++ read
+  pub consumed : Consumes before after read

@@ -1,0 +1,78 @@
+-- What a call of a reader tells: of the bytes that were held and read, and of all that are to come.
+use Rattle.std.specs.Prelude.{◌≡◌, ◌⊎◌, ◌+◌, ◌-◌, ◌^◌, ℕ, List, [], ◌++◌, length, min, ⊤, Bool}
+use Rattle.std.specs.Prelude.{true, false, Option, Some, None, Result, Ok, Err}
+use Rattle.std.specs.Io.KnownBytes.{Consumes, IsAtEnd}
+use Rattle.format_csv_records.specs.Buffers.{IsForGood}
+use Rattle.format_csv_records.specs.Dialects.{IsRecord}
+use Rattle.format_csv_records.specs.Early.{BeginsNone}
+use Rattle.format_csv_records.specs.Refused.{IsRefused}
+use Rattle.format_csv_records.specs.declared.dialect.Dialect.{Dialect}
+use Rattle.format_csv_records.specs.declared.read.RecordFault.{RecordFault}
+use Rattle.format_csv_reader.specs.Finds.{IsSmall, WantsMore}
+use Rattle.format_csv_reader.specs.declared.error.ReadError.{ReadError}
+use Rattle.format_csv_reader.specs.declared.error.ReadError.TheVariants.{Failed, OutOfMemory}
+use Rattle.format_csv_reader.specs.declared.error.ReadError.TheVariants.{Refused}
+use Rattle.format_csv_reader.specs.declared.error.TableFault.{TableFault}
+
+-- An offset that stops at the greatest number of 64 bits.
+abbrev pub offset_after : ℕ → ℕ → ℕ
+offset_after start count = min (start + count) (2 ^ 64 - 1)
+
+-- The fault of a record, as one of the table in which it begins at this offset.
+abbrev pub IsFaultAt : ℕ → RecordFault → TableFault → Type 0
+IsFaultAt start at fault = (fault.why ≡ at.why) × (fault.offset ≡ offset_after start at.offset)
+
+-- The bytes, of which the first stands at this offset, are refused there.
+abbrev pub IsRefusedAt : Dialect → List ℕ → ℕ → TableFault → Type 0
+IsRefusedAt d bytes start fault =
+    (at : RecordFault) × IsRefused d bytes at × IsFaultAt start at fault
+
+-- What a call answers that has these bytes, the last of which may have come; which fields it
+-- leaves, and which bytes. A record is one whatever follows, or ends with the last byte; a refusal
+-- is one whatever follows, or by the end of the bytes; and where the reader failed more bytes would
+-- decide.
+abbrev pub IsAnswer : Dialect → List ℕ → Type 0 → ℕ → Result Bool ReadError → List (List ℕ)
+    → List ℕ → Type 0
+IsAnswer d bytes IsOver start (Ok true) fields rest =
+    IsRecord d bytes fields rest × (IsForGood d bytes fields rest ⊎ IsOver)
+IsAnswer d bytes IsOver start (Ok false) fields rest =
+    (bytes ≡ []) × (rest ≡ []) × (fields ≡ []) × IsOver
+IsAnswer d bytes IsOver start (Err (Refused fault)) fields rest =
+    ((at : RecordFault) × IsRefused d bytes at × IsFaultAt start at fault
+    × (BeginsNone d bytes ⊎ IsOver)) × (rest ≡ bytes) × (fields ≡ [])
+IsAnswer d bytes IsOver start (Err (Failed error)) fields rest =
+    WantsMore d bytes × (rest ≡ bytes) × (fields ≡ [])
+IsAnswer d bytes IsOver start (Err OutOfMemory) fields rest = (rest ≡ bytes) × (fields ≡ [])
+
+-- A call reads some bytes, and answers of those that were held and these.
+pub record Reads (d : Dialect) (old new : List ℕ) (before after : Option (List ℕ)) (start end : ℕ)
+    (size room : ℕ) (result : Result Bool ReadError) (fields : List (List ℕ)) : Type 0 where
+  pub read : List ℕ
+  pub consumed : Consumes before after read
+  pub told : IsAnswer d (old ++ read) (IsAtEnd after) start result fields new
+  pub moved : end ≡ offset_after start (length (old ++ read) - length new)
+  pub small : IsSmall d size room (old ++ read)
+
+-- What a call answers where all bytes are these: the record that stands first, that there are none,
+-- or where and why no record stands there.
+abbrev pub IsOfAll : Dialect → List ℕ → ℕ → Result Bool ReadError → List (List ℕ) → List ℕ
+    → Type 0
+IsOfAll d bytes start (Ok true) fields rest = IsRecord d bytes fields rest
+IsOfAll d bytes start (Ok false) fields rest = (bytes ≡ []) × (rest ≡ []) × (fields ≡ [])
+IsOfAll d bytes start (Err (Refused fault)) fields rest =
+    IsRefusedAt d bytes start fault × (rest ≡ bytes) × (fields ≡ [])
+IsOfAll d bytes start (Err (Failed error)) fields rest = (rest ≡ bytes) × (fields ≡ [])
+IsOfAll d bytes start (Err OutOfMemory) fields rest = (rest ≡ bytes) × (fields ≡ [])
+
+-- So of all bytes that are to come and those that are left of them, where they are known.
+abbrev pub ReadsOfAll : Dialect → Option (List ℕ) → Option (List ℕ) → ℕ → Result Bool ReadError
+    → List (List ℕ) → Type 0
+ReadsOfAll d None after start result fields = ⊤
+ReadsOfAll d (Some bytes) None start result fields = ⊥
+ReadsOfAll d (Some bytes) (Some rest) start result fields = IsOfAll d bytes start result fields rest
+
+-- What a part answers of the bytes that are held, where no more are to be read.
+abbrev pub IsTaken : Dialect → List ℕ → ℕ → Result Bool ReadError → List (List ℕ) → List ℕ
+    → Type 0
+IsTaken d bytes start (Err (Failed error)) fields rest = ⊥
+IsTaken d bytes start result fields rest = IsOfAll d bytes start result fields rest

@@ -1,0 +1,72 @@
+//! Whether a record stands first of bytes that come in pieces.
+
+ghost use Rattle.std.specs.Prelude.{◌++◌, List, ℕ, MatchOption, MatchResult};
+ghost use Rattle.std.specs.Io.KnownBytes.{IsAtEnd};
+ghost use Rattle.format_csv_records.specs.Extents.{IsOf};
+ghost use Rattle.format_csv_reader.specs.Finds.{IsFound, IsOfReader, IsSmall, WantsMore};
+ghost use Rattle.format_csv_reader.specs.Held.{Grew};
+
+use crate::buffer::Buffer;
+use crate::error::ReadError;
+use format_csv_records::dialect::Dialect;
+use format_csv_records::extent::RecordExtent;
+use format_csv_records::read::RecordFault;
+use std::alloc::Allocator;
+use std::io::Read;
+
+/// What is found of the bytes that are held.
+pub(crate) enum Found {
+    /// They begin with a record, whatever follows; or no more come.
+    Enough,
+    /// They begin with no record, whatever follows.
+    Never(RecordFault),
+}
+
+/// What is found of these bytes, if more do not decide. What was looked at before is not looked at
+/// again.
+#[tactic(none)]
+fn look(dialect: Dialect, held: &[u8], extent: &mut RecordExtent) -> Option<Found>
+    requires { IsOf dialect extent.old held.now }
+    ensures kept { (more : List ℕ) → IsOf dialect extent.new (held.now ++ more) }
+    ensures found { MatchOption result (WantsMore dialect held.now)
+        (λ found. IsFound dialect held.now ⊥ found) }
+{
+    match extent.advance(dialect, held) {
+        Ok(Some(_)) => Some(Found::Enough),
+        Ok(None) => None,
+        Err(fault) => Some(Found::Never(fault)),
+    }
+}
+
+/// Reads until it is known what stands first.
+#[tactic(none)]
+pub(crate) fn find<R: Read, A: Allocator>(
+    dialect: Dialect,
+    source: &mut R,
+    buffer: &mut Buffer<A>,
+    extent: &mut RecordExtent,
+) -> Result<Found, ReadError>
+    requires { IsOf dialect extent.old buffer.old.bytes }
+    ensures of { IsOf dialect extent.new buffer.new.bytes }
+    ensures grew { Grew buffer.old.bytes buffer.new.bytes (R.remaining source.old)
+        (R.remaining source.new) }
+    ensures found { MatchResult result
+        (λ found. IsFound dialect buffer.new.bytes (IsAtEnd (R.remaining source.new)) found)
+        (λ error. IsOfReader error × WantsMore dialect buffer.new.bytes) }
+    ensures small { IsSmall dialect buffer.old.size buffer.new.size buffer.new.bytes }
+{
+    loop {
+        match look(dialect, buffer.held(), extent) {
+            Some(found) => return Ok(found),
+            None => {}
+        }
+        match buffer.fill(source) {
+            Ok(count) => {
+                if count == 0 {
+                    return Ok(Found::Enough);
+                }
+            }
+            Err(error) => return Err(error),
+        }
+    }
+}

@@ -1,0 +1,39 @@
+//! Whether a byte order mark stands first.
+
+ghost use Rattle.std.specs.Prelude.{◌⊎◌, ◌≤◌, length, MatchResult};
+ghost use Rattle.std.specs.Io.KnownBytes.{IsAtEnd};
+ghost use Rattle.format_csv_reader.specs.Finds.{IsOfReader};
+ghost use Rattle.format_csv_reader.specs.Held.{Grew};
+
+use crate::buffer::Buffer;
+use crate::error::ReadError;
+use std::alloc::Allocator;
+use std::io::Read;
+
+/// Reads until so many bytes are held, or there are no more.
+#[tactic(none)]
+pub(crate) fn fill_to<R: Read, A: Allocator>(
+    source: &mut R,
+    buffer: &mut Buffer<A>,
+    count: usize,
+) -> Result<(), ReadError>
+    ensures grew { Grew buffer.old.bytes buffer.new.bytes (R.remaining source.old)
+        (R.remaining source.new) }
+    ensures told { MatchResult result
+        (λ _. (count ≤ length buffer.new.bytes) ⊎ IsAtEnd (R.remaining source.new))
+        (λ error. IsOfReader error) }
+{
+    loop {
+        if buffer.held().len() >= count {
+            return Ok(());
+        }
+        match buffer.fill(source) {
+            Ok(more) => {
+                if more == 0 {
+                    return Ok(());
+                }
+            }
+            Err(error) => return Err(error),
+        }
+    }
+}

@@ -1,0 +1,190 @@
+//! Records of a table, one after the other, of which the bytes come from a reader.
+//!
+//! ```
+//! use format_csv_reader::reader::Reader;
+//! use format_csv_records::dialect::Dialect;
+//! use format_csv_records::record::ByteRecord;
+//!
+//! let bytes = b"name,size\r\nfile,12\r\n".as_slice();
+//! let mut table = Reader::new(Dialect::standard(), bytes, alloc);
+//! let mut fields = ByteRecord::new(alloc);
+//! assert!(rt; matches!(table.next_record(&mut fields), Ok(true)));
+//! assert!(rt; matches!(table.next_record(&mut fields), Ok(true)));
+//! assert!(rt; matches!(fields.get(1), Some(field) if field == b"12".as_slice()));
+//! assert!(rt; matches!(table.next_record(&mut fields), Ok(false)));
+//! ```
+
+ghost use Rattle.std.specs.Prelude.{◌≡◌, []};
+ghost use Rattle.std.specs.Io.KnownBytes.{prepend_known};
+ghost use Rattle.format_csv_records.specs.Records.{fields_of};
+ghost use Rattle.format_csv_reader.specs.Marks.{ReadsMark};
+ghost use Rattle.format_csv_reader.specs.Told.{Reads, ReadsOfAll};
+
+use crate::buffer::Buffer;
+use crate::error::ReadError;
+use crate::finds::{Found, find};
+use crate::mark::fill_to;
+use crate::taken::{fault_at, take_record};
+use format_csv_records::dialect::Dialect;
+use format_csv_records::extent::RecordExtent;
+use format_csv_records::record::ByteRecord;
+use format_csv_records::records::behind_mark;
+use std::alloc::Allocator;
+use std::io::Read;
+use std::marker::Model;
+
+/// A table whose bytes come from a reader, whatever pieces it gives, into one buffer.
+///
+/// The buffer has the bytes of one record and of one piece: room for 8,192 bytes, or, where a
+/// record is longer, for four times as many as it has at most. The time for a table is linear in
+/// its bytes, however few of them come at a time.
+///
+/// ```
+/// use format_csv_reader::reader::Reader;
+/// use format_csv_records::dialect::Dialect;
+/// use format_csv_records::record::ByteRecord;
+///
+/// let mut table = Reader::new(Dialect::standard(), b"a,\"b".as_slice(), alloc);
+/// let mut fields = ByteRecord::new(alloc);
+/// assert!(rt; table.next_record(&mut fields).is_err());
+/// assert_eq!(rt; table.offset(), 0);
+/// ```
+#[derive(Drop)]
+pub struct Reader<R, A: Allocator> {
+    source: R,
+    dialect: Dialect,
+    buffer: Buffer<A>,
+    extent: RecordExtent,
+    offset: u64,
+}
+
+impl<R, A: Allocator> Model for Reader<R, A> {
+    ghost use Rattle.format_csv_reader.specs.Table.{IsBegun, Table, table_of};
+
+    ghost Value = { Table R };
+
+    ghost view = { table_of };
+
+    ghost invariant = { IsBegun };
+}
+
+impl<R: Read, A: Allocator> Reader<R, A> {
+    /// The table of which this reader gives the bytes, and none is read yet. No memory is asked for
+    /// before the first record.
+    pub fn new(dialect: Dialect, source: R, alloc: A) -> Reader<R, A>
+        ensures { (result.dialect ≡ dialect) × (result.source ≡ source)
+            × (result.buffer.bytes ≡ []) × (result.offset ≡ 0) }
+    {
+        Reader {
+            source,
+            dialect,
+            buffer: Buffer::new(alloc),
+            extent: RecordExtent::new(),
+            offset: 0,
+        }
+    }
+
+    /// How many bytes of the table were passed: at which the next record begins. It stops at
+    /// `u64::MAX`.
+    pub fn offset(&self) -> u64
+        ensures { result ≡ self.now.offset }
+    {
+        self.offset
+    }
+
+    /// How many bytes the buffer has room for.
+    pub fn buffer_size(&self) -> usize
+        ensures { result ≡ self.now.buffer.size }
+    {
+        self.buffer.size()
+    }
+
+    /// Passes a byte order mark of UTF-8 (the bytes EF BB BF) that stands first of what is left: so
+    /// it is called before the first record. `true` says that one was passed. It reads until three
+    /// bytes are there, or there are no more.
+    ///
+    /// # Errors
+    ///
+    /// [`ReadError::Failed`] and [`ReadError::OutOfMemory`], as [`Reader::next_record`] says. No
+    /// byte is passed, and the next call goes on.
+    ///
+    /// ```
+    /// use format_csv_reader::reader::Reader;
+    /// use format_csv_records::dialect::Dialect;
+    ///
+    /// let bytes = b"\xef\xbb\xbfa,b\r\n".as_slice();
+    /// let mut table = Reader::new(Dialect::standard(), bytes, alloc);
+    /// assert!(rt; matches!(table.pass_mark(), Ok(true)));
+    /// assert!(rt; table.offset() == 3);
+    /// assert!(rt; matches!(table.pass_mark(), Ok(false)));
+    /// ```
+    #[tactic(none)]
+    pub fn pass_mark(&mut self) -> Result<bool, ReadError>
+        ensures { ReadsMark self.old.buffer.bytes self.new.buffer.bytes
+            (R.remaining self.old.source) (R.remaining self.new.source) self.old.offset
+            self.new.offset result }
+    {
+        let start = self.offset;
+        let filled = fill_to(&mut self.source, &mut self.buffer, 3);
+        self.extent = RecordExtent::new();
+        match filled {
+            Ok(()) => match behind_mark(self.buffer.held()) {
+                None => Ok(false),
+                Some(_) => {
+                    self.buffer.consume(3);
+                    self.offset = start.saturating_add(3);
+                    Ok(true)
+                }
+            },
+            Err(error) => Err(error),
+        }
+    }
+
+    /// Reads the next record. `true` says that one was read; `false` that none is left, as the
+    /// reader gave no more bytes. The last record may have no line end. More bytes are read only
+    /// where those that came do not say what stands first. What was in the fields before does not
+    /// matter; at `false` and at an error there are none.
+    ///
+    /// # Errors
+    ///
+    /// At each, the bytes of the record that is begun are kept, and none is passed.
+    ///
+    /// - [`ReadError::Refused`]: no record stands first. The fault tells the first byte of the
+    ///   table at which none can go on, or its end, and why. The next call says the same, if no
+    ///   bytes came.
+    /// - [`ReadError::Failed`]: the reader failed, though more bytes were needed. The next call
+    ///   reads again, and goes on. A read that was interrupted is no failure.
+    /// - [`ReadError::OutOfMemory`]: a request for memory was refused, for the buffer or the
+    ///   fields. The next call goes on.
+    #[tactic(none)]
+    pub fn next_record<B: Allocator>(
+        &mut self,
+        fields: &mut ByteRecord<B>,
+    ) -> Result<bool, ReadError>
+        ensures reads { Reads self.old.dialect self.old.buffer.bytes self.new.buffer.bytes
+            (R.remaining self.old.source) (R.remaining self.new.source) self.old.offset
+            self.new.offset self.old.buffer.size self.new.buffer.size result
+            (fields_of fields.new) }
+        ensures of_all { ReadsOfAll self.old.dialect
+            (prepend_known self.old.buffer.bytes (R.remaining self.old.source))
+            (prepend_known self.new.buffer.bytes (R.remaining self.new.source))
+            self.old.offset result (fields_of fields.new) }
+        ensures same { self.new.dialect ≡ self.old.dialect }
+    {
+        let start = self.offset;
+        fields.clear();
+        match find(
+            self.dialect,
+            &mut self.source,
+            &mut self.buffer,
+            &mut self.extent,
+        ) {
+            Ok(Found::Enough) => {
+                let (buffer, extent) = (&mut self.buffer, &mut self.extent);
+                take_record(self.dialect, buffer, extent, &mut self.offset, fields)
+            }
+            Ok(Found::Never(fault)) => { Err(ReadError::Refused(fault_at(start, fault))) }
+            Err(error) => Err(error),
+        }
+    }
+}

@@ -1,0 +1,87 @@
+//! One read of bytes that are to come after others, and room for them.
+
+ghost use Rattle.std.specs.Prelude.{◌≡◌, ◌⊎◌, ◌≤◌, ◌<◌, ◌+◌, ◌-◌, ◌*◌, ◌++◌, [], List, ℕ, drop};
+ghost use Rattle.std.specs.Prelude.{IfOk, MatchResult, OnOk, length, max, take};
+ghost use Rattle.std.specs.Io.KnownBytes.{Consumes, IsAtEnd};
+
+use std::alloc::{AllocError, Allocator};
+use std::io::{self, ErrorKind, Read};
+
+/// How many bytes a buffer has room for at first.
+const FIRST_SIZE: usize = 8192;
+
+/// Reads once into the bytes after the first `filled`, and answers how many came: none at the end
+/// of the source alone. A read that was interrupted is tried again.
+pub(crate) fn read_behind<R: Read>(
+    source: &mut R,
+    bytes: &mut [u8],
+    filled: usize,
+) -> io::Result<usize>
+    requires { filled < length bytes.old }
+    ensures size { length bytes.new ≡ length bytes.old }
+    ensures fits { IfOk result (λ n. filled + n ≤ length bytes.new) }
+    ensures read { (read : List ℕ)
+        × (take (filled + length read) bytes.new ≡ take filled bytes.old ++ read)
+        × Consumes (R.remaining source.old) (R.remaining source.new) read
+        × MatchResult result (λ n. n ≡ length read) (λ _. read ≡ []) }
+    ensures end { IfOk result (λ n. n ≡ 0 → IsAtEnd (R.remaining source.new)) }
+{
+    let mut tries = 0u64;
+    loop {
+        match source.read(&mut bytes[filled..]) {
+            Ok(count) => return Ok(count),
+            Err(error) => {
+                if error.kind() != ErrorKind::Interrupted || tries == u64::MAX {
+                    return Err(error);
+                }
+                tries += 1;
+            }
+        }
+    }
+}
+
+/// Moves the bytes from `start` to `filled` to the front where no fewer bytes stand before them,
+/// which are not needed: so all moves together cost no more than those bytes.
+fn move_to_front<A: Allocator>(bytes: &mut Vec<u8, A>, start: &mut usize, filled: &mut usize)
+    requires start { start.old ≤ filled.old }
+    requires filled { filled.old ≤ length bytes.old.items }
+    ensures start { start.new ≤ filled.new }
+    ensures filled { filled.new ≤ length bytes.new.items }
+    ensures same { drop start.new (take filled.new bytes.new.items)
+        ≡ drop start.old (take filled.old bytes.old.items) }
+    ensures few { start.new ≤ filled.new - start.new }
+    ensures held { filled.new - start.new ≡ filled.old - start.old }
+    ensures size { length bytes.new.items ≡ length bytes.old.items }
+{
+    let held = *filled - *start;
+    if *start < held {
+        return;
+    }
+    bytes.copy_within(*start..*filled, 0);
+    *start = 0;
+    *filled = held;
+}
+
+/// Sees to it that there is room after the bytes from `start` to `filled`, which stay, in order.
+pub(crate) fn make_room<A: Allocator>(
+    bytes: &mut Vec<u8, A>,
+    start: &mut usize,
+    filled: &mut usize,
+) -> Result<(), AllocError>
+    requires start { start.old ≤ filled.old }
+    requires filled { filled.old ≤ length bytes.old.items }
+    ensures start { start.new ≤ filled.new }
+    ensures filled { filled.new ≤ length bytes.new.items }
+    ensures same { drop start.new (take filled.new bytes.new.items)
+        ≡ drop start.old (take filled.old bytes.old.items) }
+    ensures room { OnOk result (filled.new < length bytes.new.items) }
+    ensures size { (length bytes.new.items ≡ length bytes.old.items)
+        ⊎ (length bytes.new.items ≤ max 8192 (4 * (filled.old - start.old))) }
+{
+    move_to_front(bytes, start, filled);
+    if *filled < bytes.len() {
+        return Ok(());
+    }
+    let size = bytes.len().saturating_mul(2).max(FIRST_SIZE);
+    bytes.resize(size, 0)
+}

@@ -1,0 +1,73 @@
+//! What stands first of the bytes that are held, taken from them.
+
+ghost use Rattle.std.specs.Prelude.{◌≡◌, ◌≤◌, ◌-◌, length};
+ghost use Rattle.format_csv_records.specs.Extents.{IsOf};
+ghost use Rattle.format_csv_records.specs.Records.{fields_of};
+ghost use Rattle.format_csv_records.specs.Refused.{ReadsRecord};
+ghost use Rattle.format_csv_reader.specs.Told.{IsFaultAt, IsTaken, offset_after};
+
+use crate::buffer::Buffer;
+use crate::error::{ReadError, TableFault};
+use format_csv_records::dialect::Dialect;
+use format_csv_records::extent::RecordExtent;
+use format_csv_records::read::{RecordError, RecordFault, read_record_into};
+use format_csv_records::record::ByteRecord;
+use std::alloc::Allocator;
+
+/// The fault of a record, as one of the table in which it begins at this offset.
+pub(crate) fn fault_at(start: u64, fault: RecordFault) -> TableFault
+    ensures { IsFaultAt start fault result }
+{
+    TableFault {
+        offset: start.saturating_add(fault.offset as u64),
+        why: fault.why,
+    }
+}
+
+/// Reads the record that the bytes held begin with, and lets its bytes go.
+fn read_held<A: Allocator, B: Allocator>(
+    dialect: Dialect,
+    buffer: &mut Buffer<A>,
+    fields: &mut ByteRecord<B>,
+) -> Result<bool, RecordError>
+    ensures told { ReadsRecord dialect buffer.old.bytes result (fields_of fields.new)
+        buffer.new.bytes }
+    ensures less { length buffer.new.bytes ≤ length buffer.old.bytes }
+    ensures size { buffer.new.size ≡ buffer.old.size }
+{
+    let held = buffer.held();
+    let mut rest = held;
+    let told = read_record_into(dialect, fields, &mut rest);
+    let count = held.len() - rest.len();
+    buffer.consume(count);
+    told
+}
+
+/// So, and after a record the next one is due, of which nothing is looked at.
+pub(crate) fn take_record<A: Allocator, B: Allocator>(
+    dialect: Dialect,
+    buffer: &mut Buffer<A>,
+    extent: &mut RecordExtent,
+    offset: &mut u64,
+    fields: &mut ByteRecord<B>,
+) -> Result<bool, ReadError>
+    requires { IsOf dialect extent.old buffer.old.bytes }
+    ensures of { IsOf dialect extent.new buffer.new.bytes }
+    ensures told { IsTaken dialect buffer.old.bytes offset.old result (fields_of fields.new)
+        buffer.new.bytes }
+    ensures moved { offset.new ≡ offset_after offset.old
+        (length buffer.old.bytes - length buffer.new.bytes) }
+    ensures size { buffer.new.size ≡ buffer.old.size }
+{
+    let (start, before) = (*offset, buffer.held().len());
+    match read_held(dialect, buffer, fields) {
+        Ok(read) => {
+            let count = before - buffer.held().len();
+            *offset = start.saturating_add(count as u64);
+            *extent = RecordExtent::new();
+            Ok(read)
+        }
+        Err(RecordError::Refused(fault)) => Err(ReadError::Refused(fault_at(start, fault))),
+        Err(RecordError::OutOfMemory) => Err(ReadError::OutOfMemory),
+    }
+}

@@ -1,0 +1,11 @@
+//! The tests of tables that are read record by record from a reader, in pieces of each size.
+#![tactic(auto)]
+
+#[cfg(test)]
+mod faults;
+#[cfg(test)]
+mod long;
+#[cfg(test)]
+mod pieces;
+#[cfg(test)]
+mod tables;
