@@ -263,8 +263,8 @@ pub struct Document {
 #[repr(C)]
 #[derive(Clone, Copy, Debug, Default, PartialEq, Eq)]
 pub struct JsonItem {
-    /// What it is: a number of those from `JSON_NULL` to `JSON_END_OBJECT`. Those after `JSON_OBJECT`
-    /// are of `exported_json_step` alone; else a name is a string.
+    /// What it is: a number of those from `JSON_NULL` to `JSON_END_OBJECT`. Those after
+    /// `JSON_OBJECT` are of `exported_json_step` alone; else a name is a string.
     pub kind: usize,
     /// Its bytes.
     pub place: Span,

@@ -48,8 +48,8 @@ pub const JSON_OBJECT: usize = 6;
 #[repr(C)]
 #[derive(Clone, Copy, Drop)]
 pub struct JsonItem {
-    /// What it is: a number of those from `JSON_NULL` to `JSON_END_OBJECT`. Those after `JSON_OBJECT`
-    /// are of `exported_json_step` alone; else a name is a string.
+    /// What it is: a number of those from `JSON_NULL` to `JSON_END_OBJECT`. Those after
+    /// `JSON_OBJECT` are of `exported_json_step` alone; else a name is a string.
     pub kind: usize,
     /// Its bytes.
     pub place: Span,
