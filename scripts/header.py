@@ -170,8 +170,8 @@ def type_in_c(name):
 
 
 def comment(words, codes, indent=""):
-    """A comment in C. A code is named as C names it."""
-    text = "\n".join(words)
+    """A comment in C. A code or a function is named as C names it."""
+    text = re.sub(r"`exported_(\w+)`", r"pergidau_\1", "\n".join(words))
     for code in codes:
         text = re.sub(rf"`{code.name}`", f"PERGIDAU_{code.name}", text)
     text = text.replace("`", "")

@@ -147,7 +147,7 @@ const char *pergidau_message(enum pergidau_code code)
     case PERGIDAU_TOO_LONG:
         return "a length is more than PTRDIFF_MAX bytes";
     case PERGIDAU_END:
-        return "nothing more stands there: white space at most, and a closing bracket or the end";
+        return "nothing more is told: what stands there is said at the function";
     case PERGIDAU_NO_INTEGER:
         return "the number is no integer, or does not fit as many bits as are asked for";
     }

@@ -75,7 +75,7 @@ enum pergidau_code {
     PERGIDAU_NULL = 7,
     /* A length is more than PTRDIFF_MAX bytes. */
     PERGIDAU_TOO_LONG = 8,
-    /* Nothing more stands there: white space at most, and a closing bracket or the end. */
+    /* Nothing more is told: what stands there is said at the function. */
     PERGIDAU_END = 9,
     /* The number is no integer, or does not fit as many bits as are asked for. */
     PERGIDAU_NO_INTEGER = 10,
@@ -295,11 +295,11 @@ struct pergidau_document {
     size_t place;
 };
 
-/* A value, or a name in an object. */
+/* A value, or a name in an object; or a bracket, by pergidau_json_step alone. */
 struct pergidau_json_item {
     /*
-     * What it is: a number of those from PERGIDAU_JSON_NULL to PERGIDAU_JSON_OBJECT. A name is
-     * a string.
+     * What it is: a number of those from PERGIDAU_JSON_NULL to PERGIDAU_JSON_END_OBJECT. Those
+     * after PERGIDAU_JSON_OBJECT are of pergidau_json_step alone; else a name is a string.
      */
     size_t kind;
     /* Its bytes. */
@@ -592,7 +592,7 @@ enum pergidau_code pergidau_json_check(
  * The longest value of JSON (RFC 8259) with which the bytes begin, in which no more than
  * levels arrays and objects stand in one another: how many bytes it has is written. White
  * space before it is not passed. Bytes of 128 and above are not looked at: the value is JSON
- * where it is UTF-8. Values are those of exported_json_check.
+ * where it is UTF-8. Values are those of pergidau_json_check.
  *
  * PERGIDAU_DONE: it is found. PERGIDAU_REFUSED: the bytes begin with none, and 0 is written.
  * PERGIDAU_TOO_DEEP: more than 512 levels are asked for, and 0 is written.
@@ -648,7 +648,7 @@ enum pergidau_code pergidau_json_integer(
     int64_t *out);
 
 /*
- * As exported_json_integer, of 64 bits without a sign: a number with a minus is none, -0 too.
+ * As pergidau_json_integer, of 64 bits without a sign: a number with a minus is none, -0 too.
  *
  * PERGIDAU_DONE: it is written. PERGIDAU_NO_INTEGER: the number is none, or does not fit.
  * PERGIDAU_REFUSED: the bytes begin with no number. With these two 0 is written.

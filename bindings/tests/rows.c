@@ -1018,7 +1018,7 @@ static void test_library(void)
         "more levels are asked for than PERGIDAU_MOST_LEVELS",
         "a pointer is null where something is to be read or written",
         "a length is more than PTRDIFF_MAX bytes",
-        "nothing more stands there: white space at most, and a closing bracket or the end",
+        "nothing more is told: what stands there is said at the function",
         "the number is no integer, or does not fit as many bits as are asked for",
         "this is no code of Pergidau",
     };

@@ -4,26 +4,51 @@ use format_dns::message::read_message;
 use std::alloc::Global;
 use test_support::refusing::Refusing;
 
-/// One entry in each section, and the names are the root.
-const MESSAGE: &[u8] = b"\0\0\0\0\0\x01\0\x01\0\x01\0\x01\
+/// Two entries in each section, and the names are `a`.
+const MESSAGE: &[u8] = b"\0\0\0\0\0\x02\0\x02\0\x02\0\x02\
 \x01a\0\0\x10\0\x01\
+\xc0\x0c\0\x01\0\x01\
 \xc0\x0c\0\x10\0\x01\0\0\0\0\0\x02\x01a\
+\xc0\x0c\0\x01\0\x01\0\0\0\0\0\x04\x7f\0\0\x01\
 \xc0\x0c\0\x02\0\x01\0\0\0\0\0\x02\xc0\x0c\
+\xc0\x0c\0\x02\0\x01\0\0\0\0\0\x02\xc0\x0c\
+\xc0\x0c\0\x01\0\x01\0\0\0\0\0\x04\x7f\0\0\x01\
 \xc0\x0c\0\x01\0\x01\0\0\0\0\0\x04\x7f\0\0\x01";
 
+/// How many entries of such a message stand before that of a fault.
+fn entries_before(fault: MessageFault) -> usize {
+    let sections = match fault.section {
+        Section::Header => 9,
+        Section::Question => 0,
+        Section::Answer => 1,
+        Section::Authority => 2,
+        Section::Additional => 3,
+    };
+    2 * sections + fault.entry
+}
+
+/// Each entry wants memory, and where it is refused is told by the first that it was refused for.
 #[test]
 fn read_message_refused_memory(rt: HostRuntime) {
     let mut met = true;
     let mut n = 0u64;
+    let mut before = 0;
     while met {
         let heap: Refusing<Global> = Refusing::once(rt.alloc(), n);
         let read = read_message(&heap, 1, MESSAGE);
-        let wants = matches!(read, Err(fault) if fault.why == Fault::NoMemory);
         met = heap.met();
-        assert_eq!(rt; wants, met, "{n}");
+        match read {
+            Ok(_) => assert!(rt; !met, "{n}"),
+            Err(fault) => {
+                let now = entries_before(fault);
+                assert!(rt; met && fault.why == Fault::NoMemory && fault.entry < 2, "{n}");
+                assert!(rt; now == before || now == before + 1, "{n} {now}");
+                before = now;
+            }
+        }
         n += 1;
     }
-    assert!(rt; n > 10);
+    assert_eq!(rt; before, 7);
 }
 
 /// A header that counts 65,535 entries in each section asks for no memory.

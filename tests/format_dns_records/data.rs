@@ -35,6 +35,13 @@ const ROWS: &[(&[u8], &str)] = &[
     (b"\0\x01\0\x03\0\0\0\0\0\x02\xc0\0", "1 3 0 [192, 0]"),
     (b"\0\x1c\0\x04\0\0\0\0\0\0", "28 4 0 []"),
     (b"\0\x21\0\xff\0\0\0\0\0\0", "33 255 0 []"),
+    // No data, in the classes NONE and ANY (RFC 2136, sections 2.4.1 to 2.4.3 and 2.5.2).
+    (b"\0\x0f\0\xff\0\0\0\0\0\0", "15 255 0 []"),
+    (b"\0\x06\0\xfe\0\0\0\0\0\0", "6 254 0 []"),
+    (b"\0\x02\0\xff\0\0\0\0\0\0", "2 255 0 []"),
+    (b"\0\x10\0\xfe\0\0\0\0\0\0", "16 254 0 []"),
+    // A mail exchange that is to be deleted (section 2.5.4).
+    (b"\0\x0f\0\xfe\0\0\0\0\0\x04\0\x0a\xc0\0", "15 254 0 10 a.b."),
 ];
 
 /// What is behind the name of a record, and why none is there. The name is at 5, its end at 7, the
@@ -73,6 +80,9 @@ const FAULTS: &[(&[u8], Fault)] = &[
     (b"\0\x21\0\x01\0\0\0\0\0\x05\0\0\0\0\0", Fault::Ends(17)),
     (b"\0\x21\0\x01\0\0\0\0\0\x06\0\0\0\0\0\0", Fault::Ends(23)),
     (b"\0\x21\0\x01\0\0\0\0\0\x08\0\0\0\0\0\0\0\0", Fault::Trailing(24)),
+    // No data, in the class before those that may have none; and some, but too few.
+    (b"\0\x0f\0\xfd\0\0\0\0\0\0", Fault::Ends(17)),
+    (b"\0\x0f\0\xff\0\0\0\0\0\x01\0", Fault::Ends(17)),
     // The message ends in the fields, and in the data.
     (b"", Fault::Ends(7)),
     (b"\0\x01\0\x01\0\0\0\0\0", Fault::Ends(7)),

@@ -25,7 +25,7 @@ pub const TOO_SMALL: u32 = 5;
 /// More levels are asked for than `MOST_LEVELS`.
 pub const TOO_DEEP: u32 = 6;
 
-/// Nothing more stands there: white space at most, and a closing bracket or the end.
+/// Nothing more is told: what stands there is said at the function.
 pub const END: u32 = 9;
 
 /// The number is no integer, or does not fit as many bits as are asked for.
@@ -259,11 +259,12 @@ pub struct Document {
     pub place: usize,
 }
 
-/// A value, or a name in an object.
+/// A value, or a name in an object; or a bracket, by `exported_json_step` alone.
 #[repr(C)]
 #[derive(Clone, Copy, Debug, Default, PartialEq, Eq)]
 pub struct JsonItem {
-    /// What it is: a number of those from `JSON_NULL` to `JSON_OBJECT`. A name is a string.
+    /// What it is: a number of those from `JSON_NULL` to `JSON_END_OBJECT`. Those after
+    /// `JSON_OBJECT` are of `exported_json_step` alone; else a name is a string.
     pub kind: usize,
     /// Its bytes.
     pub place: Span,

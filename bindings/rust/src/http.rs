@@ -154,7 +154,7 @@ impl fmt::Display for Fault {
             Fault::DataEnd => f.write_str("a line end is due after the data of a chunk"),
             Fault::Trailers => f.write_str("no trailer section goes on so"),
             Fault::TrailersTooLong => f.write_str("the trailer section is too long"),
-            Fault::Unknown(number) => write!(f, "the library answered the unknown fault {number}"),
+            Fault::Unknown(number) => write!(f, "the library answered the unknown number {number}"),
         }
     }
 }
@@ -177,6 +177,11 @@ impl Fault {
         }
     }
 }
+
+/// How many bytes a size line may have, where nothing else is said.
+const SIZE_LINE: usize = 4096;
+/// How many bytes the trailer section may have, where nothing else is said.
+const TRAILERS: usize = 8192;
 
 /// How far a chunked body that comes in pieces was decoded. What one call took, no other looks at
 /// again, and no memory is asked for: a copy goes on from the same place.
@@ -201,16 +206,28 @@ impl Fault {
 /// assert_eq!(content, b"Wiki");
 /// # Ok::<(), pergidau::http::Fault>(())
 /// ```
-#[derive(Clone, Copy, Debug, Default, PartialEq, Eq)]
+#[derive(Clone, Copy, Debug, PartialEq, Eq)]
 pub struct Chunked {
     state: exports::ChunkedState,
+}
+
+impl Default for Chunked {
+    fn default() -> Chunked {
+        Chunked::new()
+    }
 }
 
 impl Chunked {
     /// Nothing of a body is taken. 4,096 bytes may stand between data, and the trailer section may
     /// have 8,192.
+    ///
+    /// ```
+    /// use pergidau::http::Chunked;
+    ///
+    /// assert_eq!(Chunked::new(), Chunked::with_limits(4096, 8192));
+    /// ```
     pub fn new() -> Chunked {
-        Chunked::default()
+        Chunked::with_limits(SIZE_LINE, TRAILERS)
     }
 
     /// The same, where so many bytes may stand between data, and be of the trailer section.
@@ -253,7 +270,9 @@ impl Chunked {
             (exports::DONE, exports::CHUNKED_TRAILERS) => Ok(Step::Trailers(at(all, step.place))),
             (exports::END, _) => Ok(Step::End),
             (exports::INCOMPLETE, _) => Ok(Step::More),
-            (_, _) => Err(Fault::of(step.fault)),
+            (exports::REFUSED, _) => Err(Fault::of(step.fault)),
+            (exports::DONE, kind) => Err(Fault::Unknown(kind)),
+            (code, _) => Err(Fault::Unknown(code as usize)),
         }
     }
 }

@@ -39,12 +39,28 @@ pub enum Kind {
 /// A value of a text of JSON: what it is, and its text. What stands in it is read when it is asked
 /// for, so a walk by [`elements`](Value::elements) and [`members`](Value::members) through all levels
 /// reads each byte once for each level that it stands in. [`steps`](Value::steps) reads each once.
-#[derive(Clone, Copy, Debug, PartialEq, Eq)]
+/// Values of one kind with the same text are equal.
+///
+/// ```
+/// use pergidau::json;
+///
+/// assert_eq!(json::parse("1", 0)?, json::parse(" 1", 2)?);
+/// # Ok::<(), pergidau::Error>(())
+/// ```
+#[derive(Clone, Copy, Debug)]
 pub struct Value<'i> {
     kind: Kind,
     text: &'i str,
     levels: usize,
 }
+
+impl PartialEq for Value<'_> {
+    fn eq(&self, other: &Self) -> bool {
+        self.kind == other.kind && self.text == other.text
+    }
+}
+
+impl Eq for Value<'_> {}
 
 impl<'i> Value<'i> {
     /// What it is.
@@ -76,6 +92,13 @@ impl<'i> Value<'i> {
     }
 }
 
+/// The library said what this crate does not know: it is another one. A text that was checked would
+/// seem to end here.
+#[cold]
+fn unknown(number: usize) -> ! {
+    panic!("the library answered the unknown number {number}")
+}
+
 /// What stands after an opening bracket or after a value, and how many levels it may have.
 #[derive(Clone, Copy, Debug)]
 struct Inside<'i> {
@@ -99,9 +122,10 @@ impl<'i> Inside<'i> {
         let code = unsafe {
             exports::exported_json_next(bytes.as_ptr(), bytes.len(), self.levels, &mut out)
         };
-        if code != exports::DONE {
-            debug_assert_eq!(code, exports::END);
-            return None;
+        match code {
+            exports::DONE => {}
+            exports::END => return None,
+            code => unknown(code as usize),
         }
         let kind = match out.kind {
             exports::JSON_NULL => Kind::Null,
@@ -111,7 +135,7 @@ impl<'i> Inside<'i> {
             exports::JSON_STRING => Kind::String,
             exports::JSON_ARRAY => Kind::Array,
             exports::JSON_OBJECT => Kind::Object,
-            _ => return None,
+            kind => unknown(kind),
         };
         let (front, left) = self.left.split_at(out.place.offset + out.place.length);
         self.left = left;

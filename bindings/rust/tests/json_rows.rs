@@ -38,6 +38,8 @@ fn steps_of_texts() {
 #[test]
 fn steps_of_a_value() {
     let list = json::parse("[0, {\"a\": [1]}, 2]", 3).unwrap();
+    assert_eq!(list.steps().nth(1), list.elements().next().map(Step::Value));
+    assert_ne!(list.elements().next(), list.elements().last());
     let object = list.elements().nth(1).unwrap();
     assert_eq!(told(object.steps()), "{, name \"a\", [, Number 1, ], }");
     assert_eq!(told(list.elements().next().unwrap().steps()), "Number 0");

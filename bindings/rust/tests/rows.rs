@@ -381,6 +381,9 @@ fn http_chunked_of_pieces() {
     assert_eq!((left, said), (4, Err(Fault::TrailersTooLong)));
     let (_, _, left, said) = decode(Chunked::with_limits(3, 20), b"0;ab\r\n\r\n", 9);
     assert_eq!((left, said), (5, Err(Fault::SizeLineTooLong)));
+    let mut begun = Chunked::default();
+    assert_eq!(begun.advance(&mut &b""[..]), Ok(Step::More));
+    assert_eq!(begun, Chunked::with_limits(4096, 8192));
     assert_eq!(Fault::DataEnd.to_string(), "a line end is due after the data of a chunk");
 }
 

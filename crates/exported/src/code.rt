@@ -28,7 +28,7 @@ pub const NULL: u32 = 7;
 /// A length is more than `PTRDIFF_MAX` bytes.
 pub const TOO_LONG: u32 = 8;
 
-/// Nothing more stands there: white space at most, and a closing bracket or the end.
+/// Nothing more is told: what stands there is said at the function.
 pub const END: u32 = 9;
 
 /// The number is no integer, or does not fit as many bits as are asked for.

@@ -44,11 +44,12 @@ pub const JSON_ARRAY: usize = 5;
 /// An object: its place has the brackets round it.
 pub const JSON_OBJECT: usize = 6;
 
-/// A value, or a name in an object.
+/// A value, or a name in an object; or a bracket, by `exported_json_step` alone.
 #[repr(C)]
 #[derive(Clone, Copy, Drop)]
 pub struct JsonItem {
-    /// What it is: a number of those from `JSON_NULL` to `JSON_OBJECT`. A name is a string.
+    /// What it is: a number of those from `JSON_NULL` to `JSON_END_OBJECT`. Those after
+    /// `JSON_OBJECT` are of `exported_json_step` alone; else a name is a string.
     pub kind: usize,
     /// Its bytes.
     pub place: Span,

@@ -161,15 +161,15 @@ none_goes_on d =
     }
 
 -- what lacks where no byte stands
-lacks_one : (d : Dialect) → d.quote < 256 → (why : Refusal) (more : List ℕ) → Lacks d why more []
-    → (length more ≤ 1) × All (λ b. b < 256) more
-lacks_one d small QuoteInField more (is, none) = absurd none
-lacks_one d small ByteBehindQuote more (is, none) = absurd none
-lacks_one d small OpenQuote more (is, none) =
+lacks_one : (d : Dialect) → d.quote < 256 → (why : Refusal) (before more : List ℕ)
+    → Lacks d why before more [] → (length more ≤ 1) × All (λ b. b < 256) more
+lacks_one d small QuoteInField before more (is, none, ends) = absurd none
+lacks_one d small ByteBehindQuote before more (is, none, ends) = absurd none
+lacks_one d small OpenQuote before more (is, none) =
     let P : List ℕ → Type 0 = λ l. (length l ≤ 1) × All (λ b. b < 256) l in
     subst P (sym is) (omega arith, one_byte d.quote small)
-lacks_one d small WrongLineEnd more (inl (is, none)) = absurd none
-lacks_one d small WrongLineEnd more (inr is) =
+lacks_one d small WrongLineEnd before more (inl (is, none)) = absurd none
+lacks_one d small WrongLineEnd before more (inr (is, behind)) =
     let P : List ℕ → Type 0 = λ l. (length l ≤ 1) × All (λ b. b < 256) l in
     subst P (sym is) (omega arith, feed)
 
@@ -189,8 +189,8 @@ open_goes_on d small bytes fault (before, back, more, fields, e, size, on, lacks
       length-append before back,
     )) in
     let P : List ℕ → Type 0 = λ l. GoesOn d l in
-    let Q : List ℕ → Type 0 = λ l. Lacks d fault.why more l in
-    let (one, known) = lacks_one d small fault.why more (subst Q nothing lacks) in
+    let Q : List ℕ → Type 0 = λ l. Lacks d fault.why before more l in
+    let (one, known) = lacks_one d small fault.why before more (subst Q nothing lacks) in
     subst P (sym (e ∙ ap (λ l. before ++ l) nothing ∙ append-nil before))
     (record_goes_on d before more fields [] one known on)
 

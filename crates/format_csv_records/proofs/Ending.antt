@@ -63,3 +63,10 @@ pub some_end : (ends : LineEnds) → (end : List ℕ) × IsLineEnd ends end × (
 some_end CrLf = (13 ∷ 10 ∷ [], refl, omega arith)
 some_end Lf = (10 ∷ [], refl, omega arith)
 some_end Either = (10 ∷ [], inr refl, omega arith)
+
+-- no line end is empty
+pub end_some : (ends : LineEnds) (end : List ℕ) → IsLineEnd ends end → 0 < length end
+end_some CrLf end is = omega (arith, ap (λ l. length l) is)
+end_some Lf end is = omega (arith, ap (λ l. length l) is)
+end_some Either end (inl is) = omega (arith, ap (λ l. length l) is)
+end_some Either end (inr is) = omega (arith, ap (λ l. length l) is)

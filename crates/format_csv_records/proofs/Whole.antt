@@ -8,7 +8,7 @@ use Rattle.format_csv_records.specs.Dialects.{AreFields, EndsHere, IsFieldText, 
 use Rattle.format_csv_records.specs.Dialects.{IsRecord, doubled}
 use Rattle.format_csv_records.specs.Parts.{Done, EndsNowhere, FieldFirst}
 use Rattle.format_csv_records.specs.Parts.{NotFirst, OpenFirst, WhyNot}
-use Rattle.format_csv_records.specs.Refused.{IsRefused, Lacks, NoneWith}
+use Rattle.format_csv_records.specs.Refused.{EndsAField, IsRefused, Lacks, NoneWith}
 use Rattle.format_csv_records.specs.declared.dialect.Dialect.{Dialect}
 use Rattle.format_csv_records.specs.declared.dialect.LineEnds.{LineEnds}
 use Rattle.format_csv_records.specs.declared.read.Refusal.{Refusal}
@@ -18,7 +18,7 @@ use Rattle.format_csv_records.specs.declared.read.Refusal.TheVariants.{OpenQuote
 use Rattle.format_csv_records.proofs.Alone.{field_apart}
 use Rattle.format_csv_records.proofs.Alone.{open_apart, quoted_behind, same_others}
 use Rattle.format_csv_records.proofs.Alone.{text_first}
-use Rattle.format_csv_records.proofs.Ending.{ends_apart, ends_stop, lone_return, some_end}
+use Rattle.format_csv_records.proofs.Ending.{end_some, ends_apart, ends_stop, lone_return, some_end}
 use Rattle.format_csv_records.proofs.Runs.{doubled_behind}
 
 -- ---- the text of the field that stands first
@@ -197,21 +197,24 @@ stuck : (ends : LineEnds) (left : List ℕ) (begun : ℕ) → EndsNowhere ends l
 stuck ends [] begun it = absurd it
 stuck ends (b ∷ bs) begun it = record { b = b; bs = bs; is = refl; ends_not = it }
 
-lacks : (d : Dialect) (why : Refusal) (more left : List ℕ) → WhyNot d.quote left why
-    → NotFirst (λ b. b ≡ d.delimiter) left → IsLineEnd d.ends more → Lacks d why more left
-lacks d QuoteInField more left it not is = (is, it)
-lacks d WrongLineEnd more left it not is = inl (is, it)
-lacks d OpenQuote more left it not is = absurd it
-lacks d ByteBehindQuote more [] it not is = absurd it
-lacks d ByteBehindQuote more (b ∷ left) (other, unbroken) not is =
-    (is, (other, (not, (λ e. unbroken (inl e), λ e. unbroken (inr e)))))
+lacks : (d : Dialect) (why : Refusal) (before more left : List ℕ) → WhyNot d.quote left why
+    → NotFirst (λ b. b ≡ d.delimiter) left → EndsAField d before → IsLineEnd d.ends more
+    → Lacks d why before more left
+lacks d QuoteInField before more left it not ends is = (is, it, ends)
+lacks d WrongLineEnd before more left it not ends is = inl (is, it)
+lacks d OpenQuote before more left it not ends is = absurd it
+lacks d ByteBehindQuote before more [] it not ends is = absurd it
+lacks d ByteBehindQuote before more (b ∷ left) (other, unbroken) not ends is =
+    (is, (other, (not, (λ e. unbroken (inl e), λ e. unbroken (inr e)))), ends)
 
-lacks_feed : (d : Dialect) → IsApart d.delimiter d.quote → (why : Refusal) (back left : List ℕ)
-    → WhyNot d.quote (13 ∷ left) why → Lacks d why (10 ∷ []) back
-lacks_feed d apart QuoteInField back left it = absurd (apart.quote_stays.0 (sym it))
-lacks_feed d apart WrongLineEnd back left it = inr refl
-lacks_feed d apart OpenQuote back left it = absurd it
-lacks_feed d apart ByteBehindQuote back left (other, unbroken) = absurd (unbroken (inl refl))
+lacks_feed : (d : Dialect) → IsApart d.delimiter d.quote → (why : Refusal)
+    (before back left : List ℕ) → WhyNot d.quote (13 ∷ left) why
+    → Lacks d why (before ++ (13 ∷ [])) (10 ∷ []) back
+lacks_feed d apart QuoteInField before back left it = absurd (apart.quote_stays.0 (sym it))
+lacks_feed d apart WrongLineEnd before back left it = inr (refl, (before, refl))
+lacks_feed d apart OpenQuote before back left it = absurd it
+lacks_feed d apart ByteBehindQuote before back left (other, unbroken) =
+    absurd (unbroken (inl refl))
 
 -- ---- a record that is read in part
 
@@ -276,6 +279,14 @@ module _ (d : Dialect) (apart : IsApart d.delimiter d.quote) (bytes rest : List 
         let P : List ℕ → Type 0 = λ l. AreFields d l (fields ++ field ∷ []) [] in
         (omega (arith, some, length-append before more), subst P (sym g) (ended more [] ends))
 
+    -- so with each line end
+    ends_a_field : EndsAField d (it.before ++ (first_text d rest field left f).text)
+    ends_a_field end is = (
+      fields ++ field ∷ [],
+      closes (it.before ++ (first_text d rest field left f).text) end refl
+          (inl (end, is, sym (append-nil end))) (end_some d.ends end is),
+    )
+
     -- no record goes on so
     goes_not : (b : ℕ) (bs after : List ℕ) → left ≡ b ∷ bs → (b ≡ d.delimiter → ⊥)
         → ((end : List ℕ) → EndsHere d.ends (b ∷ after) end → ⊥) → (before : List ℕ)
@@ -329,7 +340,7 @@ module _ (d : Dialect) (apart : IsApart d.delimiter d.quote) (bytes rest : List 
                 split,
                 omega (arith, at, none, sizes),
                 closes before end refl (inl (end, is, sym (append-nil end))) some,
-                lacks d why end left whynot not is,
+                lacks d why before end left whynot not ends_a_field is,
                 subst B (sym s.is) (λ after all o them. goes_not s.b s.bs after s.is
                     (subst N s.is not) (λ z. ends after z) before refl all o them),
               )
@@ -346,7 +357,7 @@ module _ (d : Dialect) (apart : IsApart d.delimiter d.quote) (bytes rest : List 
                 subst R (sym (append_assoc before (13 ∷ []) (10 ∷ [])))
                     (closes before (13 ∷ 10 ∷ []) refl (inl (13 ∷ 10 ∷ [], is, refl))
                     (omega arith)),
-                lacks_feed d apart why s.bs s.bs (subst W here whynot),
+                lacks_feed d apart why before s.bs s.bs (subst W here whynot),
                 none_return s.bs here lone before refl,
               )
         ]

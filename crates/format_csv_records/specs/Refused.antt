@@ -13,13 +13,23 @@ use Rattle.format_csv_records.specs.declared.read.RecordFault.{RecordFault}
 use Rattle.format_csv_records.specs.declared.read.RecordError.{RecordError}
 use Rattle.format_csv_records.specs.declared.read.RecordError.TheVariants.{OutOfMemory, Refused}
 
--- What would have made a record of the bytes before, and what stands there.
-abbrev pub Lacks : Dialect → Refusal → List ℕ → List ℕ → Type 0
-Lacks d QuoteInField more back = IsLineEnd d.ends more × Begins (λ b. b ≡ d.quote) back
-Lacks d ByteBehindQuote more back = IsLineEnd d.ends more × Begins (IsPlain d) back
-Lacks d OpenQuote more back = (more ≡ d.quote ∷ []) × (back ≡ [])
-Lacks d WrongLineEnd more back =
-    (IsLineEnd d.ends more × Begins IsBreak back) ⊎ (more ≡ 10 ∷ [])
+-- Each line end of the dialect makes a record of the bytes before: they end with a field, and no
+-- line end is begun there.
+abbrev pub EndsAField : Dialect → List ℕ → Type 0
+EndsAField d before = (end : List ℕ) → IsLineEnd d.ends end
+    → (fields : List (List ℕ)) × IsRecord d (before ++ end) fields []
+
+-- What would have made a record of the bytes before, and what stands there: a quote or a plain byte
+-- after a field; no byte, where a quote is open; a carriage return or a line feed that is no line
+-- end; or what is no line feed after a carriage return.
+abbrev pub Lacks : Dialect → Refusal → List ℕ → List ℕ → List ℕ → Type 0
+Lacks d QuoteInField before more back =
+    IsLineEnd d.ends more × Begins (λ b. b ≡ d.quote) back × EndsAField d before
+Lacks d ByteBehindQuote before more back =
+    IsLineEnd d.ends more × Begins (IsPlain d) back × EndsAField d before
+Lacks d OpenQuote before more back = (more ≡ d.quote ∷ []) × (back ≡ [])
+Lacks d WrongLineEnd before more back = (IsLineEnd d.ends more × Begins IsBreak back)
+    ⊎ ((more ≡ 10 ∷ []) × ((front : List ℕ) × (before ≡ front ++ 13 ∷ [])))
 
 -- No record begins with the bytes before and the byte that stands after them, whatever follows; or
 -- none stands after them, and they begin with no record.
@@ -33,7 +43,8 @@ NoneWith d before (b ∷ bs) = (after : List ℕ) (fields : List (List ℕ)) (re
 abbrev pub IsRefused : Dialect → List ℕ → RecordFault → Type 0
 IsRefused d bytes fault = (before : List ℕ) × (back : List ℕ) × (more : List ℕ)
     × (fields : List (List ℕ)) × (bytes ≡ before ++ back) × (length before ≡ fault.offset)
-    × IsRecord d (before ++ more) fields [] × Lacks d fault.why more back × NoneWith d before back
+    × IsRecord d (before ++ more) fields [] × Lacks d fault.why before more back
+    × NoneWith d before back
 
 -- What an error says of the bytes; want of memory says nothing of them.
 abbrev pub IsNoRecord : Dialect → List ℕ → RecordError → Type 0

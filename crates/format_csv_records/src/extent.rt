@@ -256,7 +256,8 @@ impl RecordExtent {
 
     /// What [`record_size`](crate::buffers::record_size) says of the bytes, of which those that
     /// were passed are not looked at again: it is for the bytes after which none come. A record may
-    /// end with them then, and no bytes are no record.
+    /// end with them then, and no bytes are no record. It leaves the extent as
+    /// [`RecordExtent::advance`] does, which may be called with more bytes all the same.
     ///
     /// # Errors
     ///
@@ -281,7 +282,9 @@ impl RecordExtent {
         dialect: Dialect,
         bytes: &[u8],
     ) -> Result<Option<RecordSize>, RecordFault>
-        ensures { IsOf dialect self.old bytes.now → SizesRecord dialect bytes.now result }
+        ensures told { IsOf dialect self.old bytes.now → SizesRecord dialect bytes.now result }
+        ensures kept { IsOf dialect self.old bytes.now
+            → (more : List ℕ) → IsOf dialect self.new (bytes.now ++ more) }
     {
         match self.advance(dialect, bytes)? {
             Some(size) => Ok(Some(size)),

@@ -35,6 +35,16 @@ form_for kind class =
     else if eqb kind 6 then Zone else if eqb kind 15 then Mail else if eqb kind 16 then Strings
     else if eqb class 1 then internet_form kind else Any
 
+-- The same of data of no octets: of a message that updates a zone, there may be none of any type in
+-- the classes 254 and 255 (RFC 2136, sections 2.4 and 2.5).
+abbrev pub empty_form : ℕ → ℕ → Form
+empty_form kind class =
+    if eqb class 254 then Any else if eqb class 255 then Any else form_for kind class
+
+-- The same of data of that many octets.
+abbrev pub form_in : ℕ → ℕ → ℕ → Form
+form_in kind class size = if eqb size 0 then empty_form kind class else form_for kind class
+
 -- what data consist of
 abbrev pub form_of_data : {A : Type 0} → Data A → Form
 form_of_data (Ipv4 address) = Four
@@ -79,16 +89,16 @@ module _ (message : List ℕ) where
       × At message place tokens × Each IsString tokens strings rest × At message end rest
       × NoneStands IsString rest × (1 ≤ length rest) × (fault ≡ Ends end))
 
-  module _ (level : ℕ) where
+  module _ (pointers : ℕ) where
     -- A name that ends where the data do.
     abbrev pub IsLastName : {A : Type 0} → ℕ → Names.Name A → Type 0
-    IsLastName place name = HasName message level place name × (name.behind ≡ length message)
+    IsLastName place name = HasName message pointers place name × (name.behind ≡ length message)
 
     -- There is no name; or one that ends elsewhere.
     abbrev pub NoLastName : ℕ → Fault → Type 0
     NoLastName place fault =
-        HasNoName message level 254 place fault
-        ⊎ ((labels : List Label) × (behind : ℕ) × IsShort message level place labels behind
+        HasNoName message pointers 254 place fault
+        ⊎ ((labels : List Label) × (behind : ℕ) × IsShort message pointers place labels behind
         × (fault ≡ Trailing behind) × (behind ≡ length message → ⊥))
 
     -- A preference, and after it the name of a host.
@@ -119,8 +129,8 @@ module _ (message : List ℕ) where
 
     -- Two names, and after them the version of the zone and its times.
     pub record HasZone {A : Type 0} (place : ℕ) (zone : Zones.StartOfAuthority A) : Type 0 where
-      pub primary : HasName message level place zone.primary
-      pub mailbox : HasName message level zone.primary.behind zone.mailbox
+      pub primary : HasName message pointers place zone.primary
+      pub mailbox : HasName message pointers zone.primary.behind zone.mailbox
       pub tokens : List ℕ
       pub rest : List ℕ
       pub fields_at : At message zone.mailbox.behind tokens
@@ -132,10 +142,10 @@ module _ (message : List ℕ) where
     -- have.
     abbrev pub NoZone : ℕ → Fault → Type 0
     NoZone place fault =
-        HasNoName message level 254 place fault
-        ⊎ ((labels : List Label) × (second : ℕ) × IsShort message level place labels second
-        × (HasNoName message level 254 second fault
-        ⊎ ((more : List Label) × (behind : ℕ) × IsShort message level second more behind
+        HasNoName message pointers 254 place fault
+        ⊎ ((labels : List Label) × (second : ℕ) × IsShort message pointers place labels second
+        × (HasNoName message pointers 254 second fault
+        ⊎ ((more : List Label) × (behind : ℕ) × IsShort message pointers second more behind
         × HasOtherSize behind 20 fault)))
 
     -- Data of any form, from a place to the end.

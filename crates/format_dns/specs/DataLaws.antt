@@ -160,45 +160,45 @@ module _ (message : List ℕ) where
       string_next some strings are.tokens rest
       (subst P (one_place message at are.starts) each) are.each none left
 
-  module _ (level : ℕ) where
+  module _ (pointers : ℕ) where
     pub no_last_name : {A : Type 0} (place : ℕ) (fault : Fault) (name : Names.Name A)
-        → NoLastName message level place fault → IsLastName message level place name → ⊥
+        → NoLastName message pointers place fault → IsLastName message pointers place name → ⊥
     no_last_name place fault name (inl none) (is, ends) =
-        no_name message level 254 place fault none name.labels.items name.behind is.0 is.1
+        no_name message pointers 254 place fault none name.labels.items name.behind is.0 is.1
     no_last_name place fault name (inr (labels, behind, short, e, other)) (is, ends) =
-        other (one_behind message level place labels name.labels.items behind name.behind short.0
+        other (one_behind message pointers place labels name.labels.items behind name.behind short.0
         is.0 ∙ ends)
 
     pub no_mail : {A : Type 0} (place : ℕ) (fault : Fault) (mail : Mails.MailExchange A)
-        → NoMail message level place fault → HasMail message level place mail → ⊥
+        → NoMail message pointers place fault → HasMail message pointers place mail → ⊥
     no_mail place fault mail (inl (e, few)) is =
         omega (arith, few, at_length is.fields_at, field_length is.preference)
     no_mail place fault mail (inr (enough, none)) is =
         no_last_name (place + 2) fault mail.exchange none is.exchange
 
     pub no_service : {A : Type 0} (place : ℕ) (fault : Fault) (service : Services.Service A)
-        → NoService message level place fault → HasService message level place service → ⊥
+        → NoService message pointers place fault → HasService message pointers place service → ⊥
     no_service place fault service (inl (e, few)) is =
         omega (arith, few, at_length is.fields_at, service_length is.fields)
     no_service place fault service (inr (enough, none)) is =
         no_last_name (place + 6) fault service.target none is.target
 
     pub no_zone : {A : Type 0} (place : ℕ) (fault : Fault) (zone : Zones.StartOfAuthority A)
-        → NoZone message level place fault → HasZone message level place zone → ⊥
+        → NoZone message pointers place fault → HasZone message pointers place zone → ⊥
     no_zone place fault zone (inl none) is =
-        no_name message level 254 place fault none zone.primary.labels.items zone.primary.behind
+        no_name message pointers 254 place fault none zone.primary.labels.items zone.primary.behind
         is.primary.0 is.primary.1
     no_zone place fault zone (inr (labels, second, short, why)) is =
-        let first = one_behind message level place labels zone.primary.labels.items second
+        let first = one_behind message pointers place labels zone.primary.labels.items second
         zone.primary.behind short.0 is.primary.0 in
-        let P : ℕ → Type 0 = λ n. IsName message level n zone.mailbox.labels.items
+        let P : ℕ → Type 0 = λ n. IsName message pointers n zone.mailbox.labels.items
         zone.mailbox.behind in
         let named = subst P (sym first) is.mailbox.0 in
         elim why [
-          | inl none ↦ no_name message level 254 second fault none zone.mailbox.labels.items
+          | inl none ↦ no_name message pointers 254 second fault none zone.mailbox.labels.items
               zone.mailbox.behind named is.mailbox.1
           | inr (more, behind, short2, other) ↦
-              let there = one_behind message level second more zone.mailbox.labels.items behind
+              let there = one_behind message pointers second more zone.mailbox.labels.items behind
               zone.mailbox.behind short2.0 named in
               elim other [
                 | inl (e, few) ↦ omega (
@@ -213,7 +213,8 @@ module _ (message : List ℕ) where
         ]
 
     no_held : {A : Type 0} (place : ℕ) (fault : Fault) (it : Data A)
-        → NoForm message level place (form_of_data it) fault → Stands message level place it → ⊥
+        → NoForm message pointers place (form_of_data it) fault
+        → Stands message pointers place it → ⊥
     no_held place fault (Ipv4 address) none (at, size) = no_size at size none
     no_held place fault (Ipv6 address) none (octets, at, size, is) = no_size at size none
     no_held place fault (Name name) none is = no_last_name place fault name none is
@@ -225,7 +226,7 @@ module _ (message : List ℕ) where
 
     -- where a fault is no data of the form are
     pub no_form : {A : Type 0} (place : ℕ) (form : Form) (fault : Fault) (it : Data A)
-        → NoForm message level place form fault → IsOfForm message level place form it → ⊥
+        → NoForm message pointers place form fault → IsOfForm message pointers place form it → ⊥
     no_form place form fault it none (is, stands) =
-        let P : Form → Type 0 = λ f. NoForm message level place f fault in
+        let P : Form → Type 0 = λ f. NoForm message pointers place f fault in
         no_held place fault it (subst P (sym is) none) stands

@@ -9,13 +9,13 @@ use Rattle.format_dns.specs.FieldLaws.{field_length}
 use Rattle.format_dns.specs.Fields.{IsField}
 use Rattle.format_dns.specs.Header.{AreCounts, IsHeader, IsNumber}
 use Rattle.format_dns.specs.Messages.{BeginsWith, HasNoMessage, IsMessage, MessageTold}
-use Rattle.format_dns.specs.Messages.{QuestionsTo, RecordsTo, SectionLacks}
+use Rattle.format_dns.specs.Messages.{QuestionsTo, RecordsTo, SectionLacks, SectionStops}
+use Rattle.format_dns.specs.Messages.{SectionWants, WantsMessage}
 use Rattle.format_dns.specs.PartLaws.{lack_questions, one_question, rows_end}
-use Rattle.format_dns.specs.Questions.{AreQuestions, IsQuestion, QuestionsLack}
+use Rattle.format_dns.specs.Questions.{AreQuestions, IsQuestion, QuestionsLack, QuestionsWant}
 use Rattle.format_dns.specs.RecordLaws.{lack_records, one_field, one_record}
-use Rattle.format_dns.specs.Records.{AreRecords, IsRecord, RecordsLack}
+use Rattle.format_dns.specs.Records.{AreRecords, IsRecord, RecordsLack, RecordsWant}
 use Rattle.format_dns.specs.declared.fault.Fault.{Fault}
-use Rattle.format_dns.specs.declared.fault.Fault.TheVariants.{NoMemory}
 use Rattle.format_dns.specs.declared.fault.MessageFault.{MessageFault}
 use Rattle.format_dns.specs.declared.fault.Section.{Section}
 use Rattle.format_dns.specs.declared.fault.Section.TheVariants as section
@@ -100,50 +100,50 @@ header_length a =
 
 -- ---- sections
 
-module _ (message : List ℕ) (level : ℕ) where
+module _ (message : List ℕ) (pointers : ℕ) where
   questions_end : {A : Type 0} (h g : Header) (place : ℕ) (questions : Questions A)
-      → h.question_count ≡ g.question_count → QuestionsTo message level A h place
-      → AreQuestions message level 12 g.question_count questions → place ≡ questions.behind
+      → h.question_count ≡ g.question_count → QuestionsTo message pointers A h place
+      → AreQuestions message pointers 12 g.question_count questions → place ≡ questions.behind
   questions_end {A} h g place questions same (some, (rows, size), is) (others, many) =
-      is ∙ rows_end (λ n (question : Question A). IsQuestion message level n question)
-      (λ question. question.behind) (λ n x y. one_question message level n x y)
+      is ∙ rows_end (λ n (question : Question A). IsQuestion message pointers n question)
+      (λ question. question.behind) (λ n x y. one_question message pointers n x y)
       some.list.items questions.list.items 12 some.behind questions.behind rows others
       (size ∙ same ∙ sym many)
 
   -- from one place on as many records end at one place
   records_end : {A : Type 0} (start other count number place : ℕ) (records : Records A)
-      → start ≡ other → count ≡ number → RecordsTo message level A start count place
-      → AreRecords message level other number records → place ≡ records.behind
+      → start ≡ other → count ≡ number → RecordsTo message pointers A start count place
+      → AreRecords message pointers other number records → place ≡ records.behind
   records_end {A} start other count number place records at same (some, (rows, size), is)
       (others, many) =
-      let P : ℕ → Type 0 = λ n. AreRecords message level n number records in
-      is ∙ rows_end (λ n (it : Record A). IsRecord message level n it) (λ it. it.behind)
-      (λ n x y. one_record message level n x y) some.list.items records.list.items start
+      let P : ℕ → Type 0 = λ n. AreRecords message pointers n number records in
+      is ∙ rows_end (λ n (it : Record A). IsRecord message pointers n it) (λ it. it.behind)
+      (λ n x y. one_record message pointers n x y) some.list.items records.list.items start
       some.behind records.behind rows (subst P (sym at) (others, many)).0
       (size ∙ same ∙ sym many)
 
   records_lack : {A : Type 0} (start other count number entry : ℕ) (fault : Fault)
       (records : Records A) → start ≡ other → count ≡ number
-      → RecordsLack message level A start count entry fault
-      → AreRecords message level other number records → ⊥
+      → RecordsLack message pointers A start count entry fault
+      → AreRecords message pointers other number records → ⊥
   records_lack start other count number entry fault records at same lacks are =
-      let P : ℕ → Type 0 = λ n. AreRecords message level n number records in
-      let Q : ℕ → Type 0 = λ n. AreRecords message level start n records in
-      lack_records message level start count entry fault records lacks
+      let P : ℕ → Type 0 = λ n. AreRecords message pointers n number records in
+      let Q : ℕ → Type 0 = λ n. AreRecords message pointers start n records in
+      lack_records message pointers start count entry fault records lacks
       (subst Q (sym same) (subst P (sym at) are))
 
   questions_lack : {A : Type 0} (count number entry : ℕ) (fault : Fault)
       (questions : Questions A) → count ≡ number
-      → QuestionsLack message level A 12 count entry fault
-      → AreQuestions message level 12 number questions → ⊥
+      → QuestionsLack message pointers A 12 count entry fault
+      → AreQuestions message pointers 12 number questions → ⊥
   questions_lack count number entry fault questions same lacks are =
-      let P : ℕ → Type 0 = λ n. AreQuestions message level 12 n questions in
-      lack_questions message level 12 count entry fault questions lacks (subst P (sym same) are)
+      let P : ℕ → Type 0 = λ n. AreQuestions message pointers 12 n questions in
+      lack_questions message pointers 12 count entry fault questions lacks (subst P (sym same) are)
 
   -- a section that lacks an entry is that of no message
   no_section : {A : Type 0} (s : Section) (entry : ℕ) (why : Fault) (h : Header) (it : Message A)
-      → SameCounts h it.header → SectionLacks message level A h s entry why
-      → IsMessage message level it → ⊥
+      → SameCounts h it.header → SectionLacks message pointers A h s entry why
+      → IsMessage message pointers it → ⊥
   no_section section.Header entry why h it same lacks m = lacks
   no_section section.Question entry why h it (asked, answers, authority, additional) lacks m =
       questions_lack h.question_count it.header.question_count entry why it.questions asked lacks
@@ -171,7 +171,7 @@ module _ (message : List ℕ) (level : ℕ) where
       it.authority b authority last m.authority) additional lacks m.additional
 
   pub no_message : {A : Type 0} (fault : MessageFault) (it : Message A)
-      → HasNoMessage message level A fault → IsMessage message level it → ⊥
+      → HasNoMessage message pointers A fault → IsMessage message pointers it → ⊥
   no_message fault it (inl (is, short)) m =
       omega (
         arith,
@@ -182,21 +182,40 @@ module _ (message : List ℕ) (level : ℕ) where
   no_message fault it (inr (h, header, lacks)) m =
       no_section fault.section fault.entry fault.why h it (one_header header m.header) lacks m
 
-  -- what a section lacks is why there is no message
-  pub section_fails : (A : Type 0) (h : Header) (s : Section) (fault : MessageFault)
-      → BeginsWith message h → fault.section ≡ s
-      → SectionLacks message level A h s fault.entry fault.why
-      → HasNoMessage message level A fault
-  section_fails A h s fault header is lacks =
-      let P : Section → Type 0 = λ x. SectionLacks message level A h x fault.entry fault.why in
-      inr (h, header, subst P (sym is) lacks)
+  -- what is said of a section is said of that of a fault
+  pub section_stops : (A : Type 0) (h : Header) (s : Section) (fault : MessageFault)
+      → (OfQuestions OfRecords : ℕ → ℕ → ℕ → Fault → Type 0) → BeginsWith message h
+      → fault.section ≡ s
+      → SectionStops message pointers A OfQuestions OfRecords h s fault.entry fault.why
+      → (header : Header) × BeginsWith message header
+      × SectionStops message pointers A OfQuestions OfRecords header fault.section fault.entry
+      fault.why
+  section_stops A h s fault OfQuestions OfRecords header is stops =
+      let P : Section → Type 0 =
+      λ x. SectionStops message pointers A OfQuestions OfRecords h x fault.entry fault.why in
+      (h, header, subst P (sym is) stops)
 
   -- what is told where a fault is passed on
   pub message_err : {A : Type 0} (fault : MessageFault) (r : Result (Message A) MessageFault)
       → IsErrAnd r (λ y. y ≡ fault)
-      → (fault.why ≡ NoMemory) ⊎ HasNoMessage message level A fault → MessageTold message level r
+      → WantsMessage message pointers A fault ⊎ HasNoMessage message pointers A fault
+      → MessageTold message pointers r
   message_err fault (Ok it) is why = elim is [ ]
-  message_err fault (Err y) is (inl memory) = inl (ap (λ f. f.why) is ∙ memory)
+  message_err {A} fault (Err y) is (inl wants) =
+      let P : MessageFault → Type 0 = λ f. WantsMessage message pointers A f in
+      inl (subst P (sym is) wants)
   message_err {A} fault (Err y) is (inr none) =
-      let P : MessageFault → Type 0 = λ f. HasNoMessage message level A f in
+      let P : MessageFault → Type 0 = λ f. HasNoMessage message pointers A f in
       let here = subst P (sym is) none in inr (here, λ it. no_message y it here)
+
+  -- where a section ends
+  pub section_err : {A : Type 0} (fault : MessageFault) (r : Result (Message A) MessageFault)
+      → IsErrAnd r (λ y. y ≡ fault) → (h : Header) (s : Section) → BeginsWith message h
+      → fault.section ≡ s → SectionWants message pointers A h s fault.entry fault.why
+      ⊎ SectionLacks message pointers A h s fault.entry fault.why → MessageTold message pointers r
+  section_err {A} fault r is h s header same why = message_err fault r is (elim why [
+    | inl wants ↦ inl (section_stops A h s fault (QuestionsWant message pointers A)
+        (RecordsWant message pointers A) header same wants)
+    | inr lacks ↦ inr (inr (section_stops A h s fault (QuestionsLack message pointers A)
+        (RecordsLack message pointers A) header same lacks))
+  ])

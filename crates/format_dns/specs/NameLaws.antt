@@ -77,12 +77,12 @@ module _ (message : List ℕ) where
       omega (arith, is, is2, one_end a b)
 
   -- one place is after a name
-  pub one_behind : (level start : ℕ) (labels more : List Label) (behind other : ℕ)
-      → IsName message level start labels behind → IsName message level start more other
+  pub one_behind : (pointers start : ℕ) (labels more : List Label) (behind other : ℕ)
+      → IsName message pointers start labels behind → IsName message pointers start more other
       → behind ≡ other
   one_behind zero start labels more behind other a b =
       behind_by start labels more behind other a b
-  one_behind (suc level) start labels more behind other a b =
+  one_behind (suc pointers) start labels more behind other a b =
       behind_by start labels more behind other a b
 
   -- a place past the end has no labels
@@ -150,15 +150,16 @@ module _ (message : List ℕ) where
       (each_here a)) (each_here b) (none_here b)) fits ends)
 
   -- where a fault is there is no name
-  pub no_name : (level room start : ℕ) (fault : Fault) → HasNoName message level room start fault
-      → (labels : List Label) (behind : ℕ) → IsName message level start labels behind
+  pub no_name : (pointers room start : ℕ) (fault : Fault)
+      → HasNoName message pointers room start fault
+      → (labels : List Label) (behind : ℕ) → IsName message pointers start labels behind
       → octets labels ≤ room → ⊥
   no_name zero room start fault h labels behind is =
       not_both {faults = λ left end to fault. fault ≡ TooMany end}
       (λ left end to fault more f o. o.0) room start fault labels behind h is
-  no_name (suc level) room start fault h labels behind is =
-      not_both {faults = λ left end to fault. HasNoName message level left to fault}
-      (λ left end to fault more f ((behind, o), few). no_name level left to fault f more behind o
+  no_name (suc pointers) room start fault h labels behind is =
+      not_both {faults = λ left end to fault. HasNoName message pointers left to fault}
+      (λ left end to fault more f ((behind, o), few). no_name pointers left to fault f more behind o
       few) room start fault labels behind h is
 
   -- what the labels that are read from a place on have before them, and of octets
@@ -195,14 +196,14 @@ module _ (message : List ℕ) where
       (tokens, labels.items, rest, at, each, omega (arith, sum, many))
 
   -- they are too many
-  pub too_long : (level place most room : ℕ) (tokens rest : List ℕ) {A : Type 0}
+  pub too_long : (pointers place most room : ℕ) (tokens rest : List ℕ) {A : Type 0}
       (labels : Vec Label A) → place ≤ length message
       → tokens ≡ slice_range message place (length message) → LabelsRead most tokens labels rest
       → room < (length message - length rest) - place
-      → HasNoName message level room place (TooLong place)
+      → HasNoName message pointers room place (TooLong place)
   too_long zero place most room tokens rest labels enough is read many =
       inr (inl (refl, more_octets place most room tokens rest labels enough is read many))
-  too_long (suc level) place most room tokens rest labels enough is read many =
+  too_long (suc pointers) place most room tokens rest labels enough is read many =
       inr (inl (refl, more_octets place most room tokens rest labels enough is read many))
 
   -- fewer than may be are all
@@ -256,39 +257,39 @@ module _ (message : List ℕ) where
       }
 
   -- why there is no name is told
-  pub told_fault : (level room start : ℕ) (fault : Fault)
-      → HasNoName message level room start fault
-      → (fault ≡ NoMemory) ⊎ (HasNoName message level room start fault
-      × ((labels : List Label) (behind : ℕ) → IsName message level start labels behind
+  pub told_fault : (pointers room start : ℕ) (fault : Fault)
+      → HasNoName message pointers room start fault
+      → (fault ≡ NoMemory) ⊎ (HasNoName message pointers room start fault
+      × ((labels : List Label) (behind : ℕ) → IsName message pointers start labels behind
       → octets labels ≤ room → ⊥))
-  told_fault level room start fault h = inr (h, no_name level room start fault h)
+  told_fault pointers room start fault h = inr (h, no_name pointers room start fault h)
 
   -- ... where it is passed on
-  pub told_err : {A : Type 0} (level room start : ℕ) {fault : Fault} (r : Result (Name A) Fault)
+  pub told_err : {A : Type 0} (pointers room start : ℕ) {fault : Fault} (r : Result (Name A) Fault)
       → IsErrAnd r (λ y. y ≡ fault)
-      → (fault ≡ NoMemory) ⊎ HasNoName message level room start fault
-      → NameWithin message level room start r
-  told_err level room start (Ok name) is _ = elim is [ ]
-  told_err level room start (Err y) is (inl memory) = inl (is ∙ memory)
-  told_err level room start (Err y) is (inr h) =
-      let P : Fault → Type 0 = λ f. HasNoName message level room start f in
-      told_fault level room start y (subst P (sym is) h)
+      → (fault ≡ NoMemory) ⊎ HasNoName message pointers room start fault
+      → NameWithin message pointers room start r
+  told_err pointers room start (Ok name) is _ = elim is [ ]
+  told_err pointers room start (Err y) is (inl memory) = inl (is ∙ memory)
+  told_err pointers room start (Err y) is (inr h) =
+      let P : Fault → Type 0 = λ f. HasNoName message pointers room start f in
+      told_fault pointers room start y (subst P (sym is) h)
 
   module _ {start end : ℕ} {here : List Label} {rest : List ℕ}
       (a : AreLabels message start here end rest) where
     -- the root
-    pub name_ends : (level : ℕ) → IsRoot rest → IsName message level start here (end + 1)
+    pub name_ends : (pointers : ℕ) → IsRoot rest → IsName message pointers start here (end + 1)
     name_ends zero root = (here, end, rest, a, inl (root, refl, refl))
-    name_ends (suc level) root = (here, end, rest, a, inl (root, refl, refl))
+    name_ends (suc pointers) root = (here, end, rest, a, inl (root, refl, refl))
 
     -- a pointer to others
-    pub name_goes_on : (level below : ℕ) → 1 ≤ level → below ≡ level - 1 → {to : ℕ}
+    pub name_goes_on : (pointers below : ℕ) → 1 ≤ pointers → below ≡ pointers - 1 → {to : ℕ}
         → IsPointer rest to → to < start → (more all : List Label) (behind : ℕ)
         → IsName message below to more behind → all ≡ here ++ more
-        → IsName message level start all (end + 2)
+        → IsName message pointers start all (end + 2)
     name_goes_on zero below some is p prior more all behind name out =
         absurd (omega (arith, some))
-    name_goes_on (suc level) below some is {to} p prior more all behind name out =
+    name_goes_on (suc pointers) below some is {to} p prior more all behind name out =
         let P : ℕ → Type 0 = λ l. IsName message l to more behind in (
           here,
           end,
@@ -315,35 +316,35 @@ module _ (message : List ℕ) where
 
     module _ {room : ℕ} (fits : octets here ≤ room) where
       -- no ending
-      pub none_ends : (level : ℕ) (fault : Fault) → NoEnding rest end fault
-          → HasNoName message level room start fault
+      pub none_ends : (pointers : ℕ) (fault : Fault) → NoEnding rest end fault
+          → HasNoName message pointers room start fault
       none_ends zero fault none = inr (inr (here, end, rest, a, fits, inl none))
-      none_ends (suc level) fault none = inr (inr (here, end, rest, a, fits, inl none))
+      none_ends (suc pointers) fault none = inr (inr (here, end, rest, a, fits, inl none))
 
       -- a pointer to no earlier place
-      pub none_prior : (level : ℕ) {to : ℕ} → IsPointer rest to → start ≤ to
-          → HasNoName message level room start (NotPrior end)
+      pub none_prior : (pointers : ℕ) {to : ℕ} → IsPointer rest to → start ≤ to
+          → HasNoName message pointers room start (NotPrior end)
       none_prior zero {to} p past =
           inr (inr (here, end, rest, a, fits, inr (to, p, inl (refl, past))))
-      none_prior (suc level) {to} p past =
+      none_prior (suc pointers) {to} p past =
           inr (inr (here, end, rest, a, fits, inr (to, p, inl (refl, past))))
 
       -- one pointer more than are followed
-      pub too_many : (level : ℕ) {to : ℕ} → IsPointer rest to → to < start → (1 ≤ level → ⊥)
-          → HasNoName message level room start (TooMany end)
+      pub too_many : (pointers : ℕ) {to : ℕ} → IsPointer rest to → to < start → (1 ≤ pointers → ⊥)
+          → HasNoName message pointers room start (TooMany end)
       too_many zero {to} p prior none =
           inr (inr (here, end, rest, a, fits, inr (to, p, inr (prior, refl))))
-      too_many (suc level) {to} p prior none = absurd (none (omega arith))
+      too_many (suc pointers) {to} p prior none = absurd (none (omega arith))
 
       -- a pointer to where none is
-      none_further : (level below left : ℕ) → 1 ≤ level → below ≡ level - 1
+      none_further : (pointers below left : ℕ) → 1 ≤ pointers → below ≡ pointers - 1
           → left ≡ room - octets here → {to : ℕ} → IsPointer rest to → to < start
           → (fault : Fault) → HasNoName message below left to fault
-          → HasNoName message level room start fault
+          → HasNoName message pointers room start fault
       none_further zero below left some is less p prior fault h = absurd (omega (arith, some))
-      none_further (suc level) below left some is less {to} p prior fault h =
+      none_further (suc pointers) below left some is less {to} p prior fault h =
           let P : ℕ → Type 0 = λ l. HasNoName message l left to fault in
-          let Q : ℕ → Type 0 = λ l. HasNoName message level l to fault in
+          let Q : ℕ → Type 0 = λ l. HasNoName message pointers l to fault in
           inr (inr (
             here,
             end,
@@ -358,12 +359,12 @@ module _ (message : List ℕ) where
           ))
 
       -- what a call for the others tells
-      pub err_further : (level below left : ℕ) → 1 ≤ level → below ≡ level - 1
+      pub err_further : (pointers below left : ℕ) → 1 ≤ pointers → below ≡ pointers - 1
           → left ≡ room - octets here → {to : ℕ} → IsPointer rest to → to < start
           → {fault : Fault} → (fault ≡ NoMemory) ⊎ (HasNoName message below left to fault
           × ((labels : List Label) (behind : ℕ) → IsName message below to labels behind
           → octets labels ≤ left → ⊥))
-          → (fault ≡ NoMemory) ⊎ HasNoName message level room start fault
-      err_further level below left some is less p prior (inl memory) = inl memory
-      err_further level below left some is less p prior {fault} (inr (h, none)) =
-          inr (none_further level below left some is less p prior fault h)
+          → (fault ≡ NoMemory) ⊎ HasNoName message pointers room start fault
+      err_further pointers below left some is less p prior (inl memory) = inl memory
+      err_further pointers below left some is less p prior {fault} (inr (h, none)) =
+          inr (none_further pointers below left some is less p prior fault h)

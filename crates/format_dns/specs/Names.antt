@@ -106,7 +106,7 @@ module _ (message : List ℕ) where
   -- the other; and the place after what is written for it there.
   abbrev pub IsName : ℕ → ℕ → List Label → ℕ → Type 0
   IsName zero = NameBy (λ to more. ⊥)
-  IsName (suc level) = NameBy (λ to more. (behind : ℕ) × IsName level to more behind)
+  IsName (suc pointers) = NameBy (λ to more. (behind : ℕ) × IsName pointers to more behind)
 
   -- From a place on labels stand, maybe not all that do, of more octets than these.
   abbrev pub HasMore : ℕ → ℕ → Type 0
@@ -127,20 +127,20 @@ module _ (message : List ℕ) where
   -- than that many octets.
   abbrev pub HasNoName : ℕ → ℕ → ℕ → Fault → Type 0
   HasNoName zero = FaultBy (λ room end to fault. fault ≡ TooMany end)
-  HasNoName (suc level) = FaultBy (λ room end to fault. HasNoName level room to fault)
+  HasNoName (suc pointers) = FaultBy (λ room end to fault. HasNoName pointers room to fault)
 
   -- What is told of the name that begins at a place, by no more than that many pointers, whose
   -- labels have no more than that many octets: it is that; or why there is none, and there is none;
   -- or memory is wanting.
   abbrev pub NameWithin : {A : Type 0} → ℕ → ℕ → ℕ → Result (Name A) Fault → Type 0
-  NameWithin level room start (Ok name) =
-      IsName level start name.labels.items name.behind × (octets name.labels.items ≤ room)
-  NameWithin level room start (Err fault) =
+  NameWithin pointers room start (Ok name) =
+      IsName pointers start name.labels.items name.behind × (octets name.labels.items ≤ room)
+  NameWithin pointers room start (Err fault) =
       (fault ≡ NoMemory)
-      ⊎ (HasNoName level room start fault
-      × ((labels : List Label) (behind : ℕ) → IsName level start labels behind
+      ⊎ (HasNoName pointers room start fault
+      × ((labels : List Label) (behind : ℕ) → IsName pointers start labels behind
       → octets labels ≤ room → ⊥))
 
   -- The same of any name: it has 255 octets or less, of which the last is the root's.
   abbrev pub NameTold : {A : Type 0} → ℕ → ℕ → Result (Name A) Fault → Type 0
-  NameTold level = NameWithin level 254
+  NameTold pointers = NameWithin pointers 254

@@ -98,11 +98,11 @@ pub at_length : {message tokens : List ℕ} {place : ℕ} → At message place t
 at_length {tokens = tokens} (front, size, e) =
     omega (arith, size, ap (λ l. length l) e, length-append front tokens)
 
-module _ (message : List ℕ) (level : ℕ) where
+module _ (message : List ℕ) (pointers : ℕ) where
   pub no_question : {A : Type 0} (start : ℕ) (fault : Fault) (question : Question A)
-      → HasNoQuestion message level start fault → IsQuestion message level start question → ⊥
+      → HasNoQuestion message pointers start fault → IsQuestion message pointers start question → ⊥
   no_question start fault question (inl none) q =
-      no_name message level 254 start fault none question.name.labels.items question.name.behind
+      no_name message pointers 254 start fault none question.name.labels.items question.name.behind
       q.name.0 q.name.1
   no_question start fault question (inr (labels, behind, name, is, short)) q =
       omega (
@@ -110,39 +110,40 @@ module _ (message : List ℕ) (level : ℕ) where
         short,
         at_length q.fields_at,
         asked_length q.fields,
-        one_behind message level start labels question.name.labels.items behind
+        one_behind message pointers start labels question.name.labels.items behind
             question.name.behind name.0 q.name.0,
       )
 
   pub one_question : {A : Type 0} (start : ℕ) (x y : Question A)
-      → IsQuestion message level start x → IsQuestion message level start y → x.behind ≡ y.behind
+      → IsQuestion message pointers start x → IsQuestion message pointers start y
+      → x.behind ≡ y.behind
   one_question start x y a b =
       omega (
         arith,
         a.behind,
         b.behind,
-        one_behind message level start x.name.labels.items y.name.labels.items x.name.behind
+        one_behind message pointers start x.name.labels.items y.name.labels.items x.name.behind
             y.name.behind a.name.0 b.name.0,
       )
 
   pub no_questions : {A : Type 0} (start count : ℕ) (fault : Fault) (questions : Questions A)
-      → HaveNoQuestions message level A start count fault
-      → AreQuestions message level start count questions → ⊥
+      → HaveNoQuestions message pointers A start count fault
+      → AreQuestions message pointers start count questions → ⊥
   no_questions {A} start count fault questions fails (rows, many) =
-      rows_none (λ place (question : Question A). IsQuestion message level place question)
+      rows_none (λ place (question : Question A). IsQuestion message pointers place question)
       (λ question. question.behind) (λ place x y. one_question place x y)
-      (HasNoQuestion message level) (λ place f x. no_question place f x) start count fault fails
+      (HasNoQuestion message pointers) (λ place f x. no_question place f x) start count fault fails
       questions.list.items questions.behind rows many
 
   pub fail_questions : {A : Type 0} (start count entry : ℕ) (fault : Fault)
-      → QuestionsLack message level A start count entry fault
-      → HaveNoQuestions message level A start count fault
+      → QuestionsLack message pointers A start count entry fault
+      → HaveNoQuestions message pointers A start count fault
   fail_questions {A} start count entry fault lacks =
-      lack_fails (λ place (question : Question A). IsQuestion message level place question)
-      (λ question. question.behind) (HasNoQuestion message level) start count entry fault lacks
+      lack_fails (λ place (question : Question A). IsQuestion message pointers place question)
+      (λ question. question.behind) (HasNoQuestion message pointers) start count entry fault lacks
 
   pub lack_questions : {A : Type 0} (start count entry : ℕ) (fault : Fault)
-      (questions : Questions A) → QuestionsLack message level A start count entry fault
-      → AreQuestions message level start count questions → ⊥
+      (questions : Questions A) → QuestionsLack message pointers A start count entry fault
+      → AreQuestions message pointers start count questions → ⊥
   lack_questions {A} start count entry fault questions lacks =
       no_questions start count fault questions (fail_questions start count entry fault lacks)

@@ -29,6 +29,10 @@ RowsFail {X} Is behind Fails start count fault =
     (parts : List X) × (place : ℕ) × Rows Is behind start parts place × (length parts < count)
     × Fails place fault
 
+-- Memory is wanting, at whatever place.
+abbrev pub WantsMemory : ℕ → Fault → Type 0
+WantsMemory place fault = fault ≡ NoMemory
+
 -- That many stand, fewer than are wanted, and after them the next fails.
 abbrev pub RowsLack : {X : Type 0} → (ℕ → X → Type 0) → (X → ℕ) → (ℕ → Fault → Type 0) → ℕ → ℕ
     → ℕ → Fault → Type 0
@@ -36,14 +40,15 @@ RowsLack {X} Is behind Fails start count entry fault =
     (parts : List X) × (place : ℕ) × Rows Is behind start parts place × (length parts ≡ entry)
     × (entry < count) × Fails place fault
 
--- What is told of the entries of a section: they are these; or after how many one is not there, and
--- why, and they are none; or memory is wanting.
+-- What is told of the entries of a section: they are these; or after how many memory is wanting; or
+-- after how many one is not there, and why, and they are none.
 abbrev pub SectionTold : {X : Type 0} → Section → (X → Type 0) → (ℕ → Fault → Type 0)
-    → Result X MessageFault → Type 0
-SectionTold section Is Fails (Ok entries) = Is entries
-SectionTold {X} section Is Fails (Err fault) =
-    (fault.why ≡ NoMemory)
-    ⊎ ((fault.section ≡ section) × Fails fault.entry fault.why × ((entries : X) → Is entries → ⊥))
+    → (ℕ → Fault → Type 0) → Result X MessageFault → Type 0
+SectionTold section Is Wants Fails (Ok entries) = Is entries
+SectionTold {X} section Is Wants Fails (Err fault) =
+    (fault.section ≡ section)
+    × (Wants fault.entry fault.why
+    ⊎ (Fails fault.entry fault.why × ((entries : X) → Is entries → ⊥)))
 
 -- What is told of fields at a place, of that many bytes together: they are these; or the message
 -- ends within them.
@@ -54,11 +59,11 @@ FieldsTold message size Are place (Ok fields) =
 FieldsTold message size Are place (Err fault) =
     (fault ≡ Ends place) × (length message < place + size)
 
-module _ (message : List ℕ) (level : ℕ) where
+module _ (message : List ℕ) (pointers : ℕ) where
   -- The name that begins at a place has these labels, of 255 octets or less with the root.
   abbrev pub IsShort : ℕ → List Label → ℕ → Type 0
   IsShort start labels behind =
-      IsName message level start labels behind × (octets labels ≤ 254)
+      IsName message pointers start labels behind × (octets labels ≤ 254)
 
   abbrev pub HasName : {A : Type 0} → ℕ → Name A → Type 0
   HasName start name = IsShort start name.labels.items name.behind
@@ -75,7 +80,7 @@ module _ (message : List ℕ) (level : ℕ) where
   -- Why no question is at a place: there is no name, or the message ends within what is after it.
   abbrev pub HasNoQuestion : ℕ → Fault → Type 0
   HasNoQuestion start fault =
-      HasNoName message level 254 start fault
+      HasNoName message pointers 254 start fault
       ⊎ ((labels : List Label) × (behind : ℕ) × IsShort start labels behind
       × (fault ≡ Ends behind) × (length message < behind + 4))
 
@@ -97,6 +102,12 @@ module _ (message : List ℕ) (level : ℕ) where
   QuestionsLack A =
       RowsLack (λ place (question : Question A). IsQuestion place question)
       (λ question. question.behind) HasNoQuestion
+
+  -- After that many questions, fewer than are wanted, memory is wanting.
+  abbrev pub QuestionsWant : Type 0 → ℕ → ℕ → ℕ → Fault → Type 0
+  QuestionsWant A =
+      RowsLack (λ place (question : Question A). IsQuestion place question)
+      (λ question. question.behind) WantsMemory
 
   -- what is told of that many questions
   abbrev pub QuestionsTold : {A : Type 0} → ℕ → ℕ → Result (Questions A) Fault → Type 0

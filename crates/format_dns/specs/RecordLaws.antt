@@ -5,7 +5,7 @@ use Rattle.std.proofs.Common.{sym, ap, subst, inl, inr, ◌∙◌, arith}
 use Rattle.winnow.specs.Grammar.Lengths.{same_beginnings}
 use Rattle.winnow.specs.Integer.{value_of}
 use Rattle.winnow.specs.Integer.Written.{length_written, written_value}
-use Rattle.format_dns.specs.Data.{NoForm, form_for}
+use Rattle.format_dns.specs.Data.{NoForm, form_in}
 use Rattle.format_dns.specs.DataLaws.{no_form}
 use Rattle.format_dns.specs.FieldLaws.{record_length}
 use Rattle.format_dns.specs.Fields.{AreRecordFields, IsField}
@@ -44,11 +44,11 @@ one_fields e a b =
     let time = one_field class.1 a.time_to_live b.time_to_live in
     let size = one_field time.1 a.size_field b.size_field in (kind.0, class.0, size.0)
 
-module _ (message : List ℕ) (level : ℕ) where
+module _ (message : List ℕ) (pointers : ℕ) where
   pub no_record : {A : Type 0} (start : ℕ) (fault : Fault) (it : Record A)
-      → HasNoRecord message level start fault → IsRecord message level start it → ⊥
+      → HasNoRecord message pointers start fault → IsRecord message pointers start it → ⊥
   no_record start fault it (inl none) r =
-      no_name message level 254 start fault none it.name.labels.items it.name.behind r.name.0
+      no_name message pointers 254 start fault none it.name.labels.items it.name.behind r.name.0
       r.name.1
   no_record start fault it (inr (labels, behind, name, inl (is, short))) r =
       omega (
@@ -56,12 +56,12 @@ module _ (message : List ℕ) (level : ℕ) where
         short,
         at_length r.fields_at,
         record_length r.fields,
-        one_behind message level start labels it.name.labels.items behind it.name.behind name.0
+        one_behind message pointers start labels it.name.labels.items behind it.name.behind name.0
             r.name.0,
       )
   no_record start fault it
       (inr (labels, behind, name, inr (k, c, t, n, tokens, rest, at, fields, why))) r =
-      let there = one_behind message level start labels it.name.labels.items behind
+      let there = one_behind message pointers start labels it.name.labels.items behind
       it.name.behind name.0 r.name.0 in
       let At2 : ℕ → Type 0 = λ b. At message b tokens in
       let same = one_place message (subst At2 there at) r.fields_at in
@@ -70,23 +70,26 @@ module _ (message : List ℕ) (level : ℕ) where
       elim why [
         | inl (is, short) ↦ omega (arith, short, end, r.fits)
         | inr (enough, none) ↦
-            let P : ℕ → Type 0 = λ e. NoForm (take e message) level (behind + 10)
-            (form_for k c) fault in
-            let Q : ℕ → Type 0 = λ b. NoForm (take it.behind message) level (b + 10)
-            (form_for k c) fault in
-            let R : ℕ → Type 0 = λ x. NoForm (take it.behind message) level
-            (it.name.behind + 10) (form_for x c) fault in
-            let S : ℕ → Type 0 = λ x. NoForm (take it.behind message) level
-            (it.name.behind + 10) (form_for it.kind x) fault in
-            no_form (take it.behind message) level (it.name.behind + 10)
-            (form_for it.kind it.class) fault it.data
-            (subst S class (subst R kind (subst Q there (subst P end none)))) r.held
+            let P : ℕ → Type 0 = λ e. NoForm (take e message) pointers (behind + 10)
+            (form_in k c n) fault in
+            let Q : ℕ → Type 0 = λ b. NoForm (take it.behind message) pointers (b + 10)
+            (form_in k c n) fault in
+            let R : ℕ → Type 0 = λ x. NoForm (take it.behind message) pointers
+            (it.name.behind + 10) (form_in x c n) fault in
+            let S : ℕ → Type 0 = λ x. NoForm (take it.behind message) pointers
+            (it.name.behind + 10) (form_in it.kind x n) fault in
+            let T : ℕ → Type 0 = λ x. NoForm (take it.behind message) pointers
+            (it.name.behind + 10) (form_in it.kind it.class x) fault in
+            no_form (take it.behind message) pointers (it.name.behind + 10)
+            (form_in it.kind it.class r.size) fault it.data
+            (subst T size (subst S class (subst R kind (subst Q there (subst P end none)))))
+            r.held
       ]
 
   pub one_record : {A : Type 0} (start : ℕ) (x y : Record A)
-      → IsRecord message level start x → IsRecord message level start y → x.behind ≡ y.behind
+      → IsRecord message pointers start x → IsRecord message pointers start y → x.behind ≡ y.behind
   one_record start x y a b =
-      let there = one_behind message level start x.name.labels.items y.name.labels.items
+      let there = one_behind message pointers start x.name.labels.items y.name.labels.items
       x.name.behind y.name.behind a.name.0 b.name.0 in
       let At2 : ℕ → Type 0 = λ n. At message n a.tokens in
       let same = one_place message (subst At2 there a.fields_at) b.fields_at in
@@ -94,23 +97,23 @@ module _ (message : List ℕ) (level : ℕ) where
       omega (arith, a.behind, b.behind, there, size)
 
   pub no_records : {A : Type 0} (start count : ℕ) (fault : Fault) (records : Records A)
-      → HaveNoRecords message level A start count fault
-      → AreRecords message level start count records → ⊥
+      → HaveNoRecords message pointers A start count fault
+      → AreRecords message pointers start count records → ⊥
   no_records {A} start count fault records fails (rows, many) =
-      rows_none (λ place (it : Record A). IsRecord message level place it)
+      rows_none (λ place (it : Record A). IsRecord message pointers place it)
       (λ it. it.behind) (λ place x y. one_record place x y)
-      (HasNoRecord message level) (λ place f x. no_record place f x) start count fault fails
+      (HasNoRecord message pointers) (λ place f x. no_record place f x) start count fault fails
       records.list.items records.behind rows many
 
   pub fail_records : {A : Type 0} (start count entry : ℕ) (fault : Fault)
-      → RecordsLack message level A start count entry fault
-      → HaveNoRecords message level A start count fault
+      → RecordsLack message pointers A start count entry fault
+      → HaveNoRecords message pointers A start count fault
   fail_records {A} start count entry fault lacks =
-      lack_fails (λ place (it : Record A). IsRecord message level place it) (λ it. it.behind)
-      (HasNoRecord message level) start count entry fault lacks
+      lack_fails (λ place (it : Record A). IsRecord message pointers place it) (λ it. it.behind)
+      (HasNoRecord message pointers) start count entry fault lacks
 
   pub lack_records : {A : Type 0} (start count entry : ℕ) (fault : Fault) (records : Records A)
-      → RecordsLack message level A start count entry fault
-      → AreRecords message level start count records → ⊥
+      → RecordsLack message pointers A start count entry fault
+      → AreRecords message pointers start count records → ⊥
   lack_records {A} start count entry fault records lacks =
       no_records start count fault records (fail_records start count entry fault lacks)

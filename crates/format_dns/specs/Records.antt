@@ -1,19 +1,20 @@
 -- Resource records in a message (RFC 1035, sections 3.2 and 4.1.3).
 use Rattle.std.specs.Prelude.{◌≡◌, ◌⊎◌, ◌≤◌, ◌<◌, ◌+◌, ℕ, List, length, take, Result}
-use Rattle.format_dns.specs.Data.{IsOfForm, NoForm, form_for}
+use Rattle.format_dns.specs.Data.{IsOfForm, NoForm, form_in}
 use Rattle.format_dns.specs.Fields.{AreRecordFields}
 use Rattle.format_dns.specs.Names.{At, HasNoName, Label}
 use Rattle.format_dns.specs.Questions.{HasName, IsShort, PartTold, Rows, RowsFail, RowsLack}
+use Rattle.format_dns.specs.Questions.{WantsMemory}
 use Rattle.format_dns.specs.declared.fault.Fault.{Fault}
 use Rattle.format_dns.specs.declared.fault.Fault.TheVariants.{Ends}
 use Rattle.format_dns.specs.declared.record.Record.{Record}
 use Rattle.format_dns.specs.declared.record.Records.{Records}
 
-module _ (message : List ℕ) (level : ℕ) where
+module _ (message : List ℕ) (pointers : ℕ) where
   -- At a place stands a name, after it a type, a class, a time to live and the length of the data,
   -- and after these the data of the type and the class, in the message up to their end.
   pub record IsRecord {A : Type 0} (start : ℕ) (it : Record A) : Type 0 where
-    pub name : HasName message level start it.name
+    pub name : HasName message pointers start it.name
     pub tokens : List ℕ
     pub rest : List ℕ
     pub fields_at : At message it.name.behind tokens
@@ -21,8 +22,8 @@ module _ (message : List ℕ) (level : ℕ) where
     pub fields : AreRecordFields it.kind it.class it.time_to_live size tokens rest
     pub behind : it.behind ≡ it.name.behind + 10 + size
     pub fits : it.behind ≤ length message
-    pub held : IsOfForm (take it.behind message) level (it.name.behind + 10)
-        (form_for it.kind it.class) it.data
+    pub held : IsOfForm (take it.behind message) pointers (it.name.behind + 10)
+        (form_in it.kind it.class size) it.data
 
   -- The data of that many octets are not there: the message ends within them, or they are none of
   -- the type and the class.
@@ -30,14 +31,14 @@ module _ (message : List ℕ) (level : ℕ) where
   HasNoData kind class start size fault =
       ((fault ≡ Ends start) × (length message < start + size))
       ⊎ ((start + size ≤ length message)
-      × NoForm (take (start + size) message) level start (form_for kind class) fault)
+      × NoForm (take (start + size) message) pointers start (form_in kind class size) fault)
 
   -- Why no record is at a place: there is no name, or the message ends within the fields after it,
   -- or the data are not there.
   abbrev pub HasNoRecord : ℕ → Fault → Type 0
   HasNoRecord start fault =
-      HasNoName message level 254 start fault
-      ⊎ ((labels : List Label) × (behind : ℕ) × IsShort message level start labels behind
+      HasNoName message pointers 254 start fault
+      ⊎ ((labels : List Label) × (behind : ℕ) × IsShort message pointers start labels behind
       × (((fault ≡ Ends behind) × (length message < behind + 10))
       ⊎ ((kind : ℕ) × (class : ℕ) × (time : ℕ) × (size : ℕ) × (tokens : List ℕ) × (rest : List ℕ)
       × At message behind tokens × AreRecordFields kind class time size tokens rest
@@ -59,6 +60,11 @@ module _ (message : List ℕ) (level : ℕ) where
   abbrev pub RecordsLack : Type 0 → ℕ → ℕ → ℕ → Fault → Type 0
   RecordsLack A =
       RowsLack (λ place (it : Record A). IsRecord place it) (λ it. it.behind) HasNoRecord
+
+  -- After that many records, fewer than are wanted, memory is wanting.
+  abbrev pub RecordsWant : Type 0 → ℕ → ℕ → ℕ → Fault → Type 0
+  RecordsWant A =
+      RowsLack (λ place (it : Record A). IsRecord place it) (λ it. it.behind) WantsMemory
 
   -- what is told of that many records
   abbrev pub RecordsTold : {A : Type 0} → ℕ → ℕ → Result (Records A) Fault → Type 0

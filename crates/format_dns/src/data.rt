@@ -2,7 +2,7 @@
 ghost use Rattle.format_dns.specs.Data.{AreStrings, HasMail, HasOtherSize, HasService, HasZone};
 ghost use Rattle.format_dns.specs.Data.{IsIpv4, IsIpv6, IsLastName, IsOfForm, NoForm, NoLastName};
 ghost use Rattle.format_dns.specs.Data.{NoMail, NoService, NoStrings, NoZone, form_for};
-ghost use Rattle.format_dns.specs.Data.{internet_form};
+ghost use Rattle.format_dns.specs.Data.{empty_form, form_in, internet_form};
 ghost use Rattle.format_dns.specs.Names.{At};
 ghost use Rattle.format_dns.specs.Questions.{PartTold};
 ghost use Rattle.std.specs.Prelude.{◌≡◌, length};
@@ -33,7 +33,8 @@ pub enum Data<'m, A: Allocator> {
     StartOfAuthority(StartOfAuthority<'m, A>),
     /// Of the type 33 (SRV).
     Service(Service<'m, A>),
-    /// Of any other type, or of a host's address or a service in any other class: as they are.
+    /// Of any other type, or of a host's address or a service in any other class: as they are. Or
+    /// none, of any type in the classes 254 (NONE) and 255 (ANY) (RFC 2136, sections 2.4 and 2.5).
     Other(&'m [u8]),
 }
 
@@ -111,7 +112,7 @@ fn internet_form_of(kind: u16) -> Form
 }
 
 /// What the data of a type and a class consist of.
-pub(crate) fn form_of(kind: u16, class: u16) -> Form
+fn form_of(kind: u16, class: u16) -> Form
     ensures { result ≡ form_for kind class }
 {
     match kind {
@@ -126,6 +127,27 @@ pub(crate) fn form_of(kind: u16, class: u16) -> Form
                 Form::Any
             }
         }
+    }
+}
+
+/// What data of no octets consist of: of a message that updates a zone, there may be none.
+fn empty_form_of(kind: u16, class: u16) -> Form
+    ensures { result ≡ empty_form kind class }
+{
+    match class {
+        254 | 255 => Form::Any,
+        _ => form_of(kind, class),
+    }
+}
+
+/// What data of that many octets consist of, by their type and class.
+pub(crate) fn form_in(kind: u16, class: u16, length: u16) -> Form
+    ensures { result ≡ form_in kind class length }
+{
+    if length == 0 {
+        empty_form_of(kind, class)
+    } else {
+        form_of(kind, class)
     }
 }
 
@@ -149,14 +171,15 @@ fn octets_to_end<'m>(message: &'m [u8], place: usize, size: usize) -> Result<&'m
 /// The name from a place to the end.
 fn name_to_end<'m, A: Allocator + Copy>(
     alloc: A,
-    level: usize,
+    pointers: usize,
     message: &'m [u8],
     place: usize,
 ) -> Result<Name<'m, A>, Fault>
-    ensures { PartTold (IsLastName message.now level place) (NoLastName message.now level place)
+    ensures { PartTold (IsLastName message.now pointers place)
+        (NoLastName message.now pointers place)
         result }
 {
-    let name = read_name(alloc, level, message, place)?;
+    let name = read_name(alloc, pointers, message, place)?;
     if name.behind != message.len() {
         return Err(Fault::Trailing(name.behind));
     }
@@ -187,14 +210,15 @@ fn strings_to_end<'m, A: Allocator + Copy>(
 /// The mail exchange from a place to the end.
 fn mail_to_end<'m, A: Allocator + Copy>(
     alloc: A,
-    level: usize,
+    pointers: usize,
     message: &'m [u8],
     place: usize,
 ) -> Result<MailExchange<'m, A>, Fault>
-    ensures { PartTold (HasMail message.now level place) (NoMail message.now level place) result }
+    ensures { PartTold (HasMail message.now pointers place) (NoMail message.now pointers place)
+        result }
 {
     let preference = short_at(message, place)?;
-    let exchange = name_to_end(alloc, level, message, place + 2)?;
+    let exchange = name_to_end(alloc, pointers, message, place + 2)?;
     Ok(MailExchange {
         preference,
         exchange,
@@ -204,14 +228,15 @@ fn mail_to_end<'m, A: Allocator + Copy>(
 /// The start of a zone from a place to the end.
 fn zone_to_end<'m, A: Allocator + Copy>(
     alloc: A,
-    level: usize,
+    pointers: usize,
     message: &'m [u8],
     place: usize,
 ) -> Result<StartOfAuthority<'m, A>, Fault>
-    ensures { PartTold (HasZone message.now level place) (NoZone message.now level place) result }
+    ensures { PartTold (HasZone message.now pointers place) (NoZone message.now pointers place)
+        result }
 {
-    let primary = read_name(alloc, level, message, place)?;
-    let mailbox = read_name(alloc, level, message, primary.behind)?;
+    let primary = read_name(alloc, pointers, message, place)?;
+    let mailbox = read_name(alloc, pointers, message, primary.behind)?;
     let zone = of_zone_at(message, mailbox.behind)?;
     let end = mailbox.behind + 20;
     if end != message.len() {
@@ -231,15 +256,16 @@ fn zone_to_end<'m, A: Allocator + Copy>(
 /// The service from a place to the end.
 fn service_to_end<'m, A: Allocator + Copy>(
     alloc: A,
-    level: usize,
+    pointers: usize,
     message: &'m [u8],
     place: usize,
 ) -> Result<Service<'m, A>, Fault>
-    ensures { PartTold (HasService message.now level place) (NoService message.now level place)
+    ensures { PartTold (HasService message.now pointers place)
+        (NoService message.now pointers place)
         result }
 {
     let service = of_service_at(message, place)?;
-    let target = name_to_end(alloc, level, message, place + 6)?;
+    let target = name_to_end(alloc, pointers, message, place + 6)?;
     Ok(Service {
         priority: service.priority,
         weight: service.weight,
@@ -270,13 +296,13 @@ fn ipv6_to_end(message: &[u8], place: usize) -> Result<Ipv6Addr, Fault>
 /// The data of a form, from a place to the end.
 pub(crate) fn read_data<'m, A: Allocator + Copy>(
     alloc: A,
-    level: usize,
+    pointers: usize,
     form: Form,
     message: &'m [u8],
     place: usize,
 ) -> Result<Data<'m, A>, Fault>
-    ensures { PartTold (IsOfForm message.now level place form)
-        (NoForm message.now level place form) result }
+    ensures { PartTold (IsOfForm message.now pointers place form)
+        (NoForm message.now pointers place form) result }
 {
     match form {
         Form::Four => {
@@ -288,11 +314,11 @@ pub(crate) fn read_data<'m, A: Allocator + Copy>(
             Ok(Data::Ipv6(address))
         }
         Form::OneName => {
-            let name = name_to_end(alloc, level, message, place)?;
+            let name = name_to_end(alloc, pointers, message, place)?;
             Ok(Data::Name(name))
         }
         Form::Mail => {
-            let mail = mail_to_end(alloc, level, message, place)?;
+            let mail = mail_to_end(alloc, pointers, message, place)?;
             Ok(Data::MailExchange(mail))
         }
         Form::Strings => {
@@ -300,11 +326,11 @@ pub(crate) fn read_data<'m, A: Allocator + Copy>(
             Ok(Data::Text(strings))
         }
         Form::Zone => {
-            let zone = zone_to_end(alloc, level, message, place)?;
+            let zone = zone_to_end(alloc, pointers, message, place)?;
             Ok(Data::StartOfAuthority(zone))
         }
         Form::Host => {
-            let service = service_to_end(alloc, level, message, place)?;
+            let service = service_to_end(alloc, pointers, message, place)?;
             Ok(Data::Service(service))
         }
         Form::Any => match message.get(place..) {

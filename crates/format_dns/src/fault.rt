@@ -49,7 +49,8 @@ pub enum Section {
     Additional,
 }
 
-/// Why bytes are no message: the first entry that is not there. All before it stand.
+/// Why no message is told: the first entry that is not there, or that memory is wanting for. All
+/// before it stand.
 ///
 /// ```
 /// use format_dns::fault::{Fault, MessageFault, Section};
@@ -65,6 +66,7 @@ pub struct MessageFault {
     pub section: Section,
     /// How many entries of the section stand before it.
     pub entry: usize,
-    /// Why it is not there, and where; or that a request for memory was refused as it was read.
+    /// Why it is not there, and where; or that a request for memory was refused as it was read, and
+    /// then it may be there.
     pub why: Fault,
 }

@@ -15,7 +15,8 @@
 //! - Of a record's data no name goes beyond their end, and octets after what their type has are a
 //!   fault. Names in them may be compressed in each type that is read, SRV too (RFC 3597, section
 //!   4). Those of A, AAAA and SRV are read in the class of the Internet, and in others as octets.
-//! - A record without data where its type has some, as an update of RFC 2136 has, is none here.
+//! - A record of the class 254 (NONE) or 255 (ANY) may have no data, whatever its type, as those of
+//!   an update have (RFC 2136); of any other class it has those of its type.
 //! - The name of a mailbox or a host is a name as any other, and so is that of a question. No type
 //!   and no class of a question is refused.
 //! - Bytes after the last record that the header counts are none of a message's: they are not read,

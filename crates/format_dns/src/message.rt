@@ -61,7 +61,7 @@ fn header_in(message: &[u8]) -> Result<Header, MessageFault>
 
 /// The message that the bytes begin with: a header of twelve bytes, and after it, one after the
 /// other, as many questions and records of the three sections as it counts, as [`read_question`]
-/// and [`read_record`] read each. Of pointers no more than `level` are followed, one after the
+/// and [`read_record`] read each. Of pointers no more than `pointers` are followed, one after the
 /// other; 127 suffice where each leads to a label.
 ///
 /// Bytes after the last record are not read, and no fault: [`behind`](Message::behind) says where
@@ -97,22 +97,22 @@ fn header_in(message: &[u8]) -> Result<Header, MessageFault>
 /// ```
 pub fn read_message<'m, A: Allocator + Copy>(
     alloc: A,
-    level: usize,
+    pointers: usize,
     message: &'m [u8],
 ) -> Result<Message<'m, A>, MessageFault>
-    ensures { MessageTold message.now level result }
+    ensures { MessageTold message.now pointers result }
 {
     let header = header_in(message)?;
-    let questions = questions_in(alloc, level, message, 12, header.question_count)?;
+    let questions = questions_in(alloc, pointers, message, 12, header.question_count)?;
     let place = questions.behind;
     let count = header.answer_count;
-    let answers = records_in(Section::Answer, alloc, level, message, place, count)?;
+    let answers = records_in(Section::Answer, alloc, pointers, message, place, count)?;
     let place = answers.behind;
     let count = header.authority_count;
-    let authority = records_in(Section::Authority, alloc, level, message, place, count)?;
+    let authority = records_in(Section::Authority, alloc, pointers, message, place, count)?;
     let place = authority.behind;
     let count = header.additional_count;
-    let additional = records_in(Section::Additional, alloc, level, message, place, count)?;
+    let additional = records_in(Section::Additional, alloc, pointers, message, place, count)?;
     Ok(Message {
         header,
         questions,

@@ -45,16 +45,16 @@ fn read_ending(rest: &[u8], place: usize) -> Result<Ending, Fault>
     }
 }
 
-/// The name that begins at a place, by no more than `level` pointers, whose labels have no more
-/// than `room` octets.
+/// The name that begins at a place, by as many `pointers` at most, whose labels have no more than
+/// `room` octets.
 fn read_within<'m, A: Allocator + Copy>(
     alloc: A,
-    level: usize,
+    pointers: usize,
     room: usize,
     message: &'m [u8],
     place: usize,
 ) -> Result<Name<'m, A>, Fault>
-    ensures { NameWithin message.now level room place result }
+    ensures { NameWithin message.now pointers room place result }
 {
     let Some(mut rest) = message.get(place..) else {
         return Err(Fault::Ends(place));
@@ -75,7 +75,7 @@ fn read_within<'m, A: Allocator + Copy>(
             if to >= place {
                 return Err(Fault::NotPrior(end));
             }
-            let Some(below) = level.checked_sub(1) else {
+            let Some(below) = pointers.checked_sub(1) else {
                 return Err(Fault::TooMany(end));
             };
             let further = read_within(alloc, below, left, message, to)?;
@@ -91,12 +91,12 @@ fn read_within<'m, A: Allocator + Copy>(
 }
 
 /// The name that begins at a place of a message, in bytes from its start: of 255 octets or less,
-/// with those of the lengths and of the root (RFC 1035, sections 2.3.4 and 4.1.4). No more than
-/// `level` pointers are followed, one after the other; 127 suffice where each leads to a label.
+/// with those of the lengths and of the root (RFC 1035, sections 2.3.4 and 4.1.4). Of pointers no
+/// more than `pointers` are followed, one after the other; 127 suffice where each leads to a label.
 ///
 /// No more than 128 labels are looked at, whatever the message; each that is kept is copied, as a
 /// slice, once for each pointer by which it was come to. So the time is that of 128 labels times
-/// one more than `level`.
+/// one more than `pointers`.
 ///
 /// An error says that no such name begins there, and where it fails first; or that memory is
 /// wanting.
@@ -111,11 +111,11 @@ fn read_within<'m, A: Allocator + Copy>(
 /// ```
 pub fn read_name<'m, A: Allocator + Copy>(
     alloc: A,
-    level: usize,
+    pointers: usize,
     message: &'m [u8],
     place: usize,
 ) -> Result<Name<'m, A>, Fault>
-    ensures { NameTold message.now level place result }
+    ensures { NameTold message.now pointers place result }
 {
-    read_within(alloc, level, 254, message, place)
+    read_within(alloc, pointers, 254, message, place)
 }

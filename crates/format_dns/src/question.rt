@@ -2,7 +2,8 @@
 ghost use Rattle.format_dns.specs.Fields.{AreAsked};
 ghost use Rattle.format_dns.specs.Names.{At};
 ghost use Rattle.format_dns.specs.Questions.{AreQuestions, FieldsTold, HasNoQuestion, IsQuestion};
-ghost use Rattle.format_dns.specs.Questions.{PartTold, QuestionsLack, QuestionsTold, SectionTold};
+ghost use Rattle.format_dns.specs.Questions.{PartTold, QuestionsLack, QuestionsTold, QuestionsWant};
+ghost use Rattle.format_dns.specs.Questions.{SectionTold};
 ghost use Rattle.std.specs.Prelude.{◌≤◌, length, IfOk, IsOk};
 
 use crate::fault::{Fault, MessageFault, Section};
@@ -56,7 +57,7 @@ fn asked_at(message: &[u8], place: usize) -> Result<Asked, Fault>
 }
 
 /// The question that begins at a place of a message, in bytes from its start. Of pointers no more
-/// than `level` are followed, one after the other, as by [`read_name`].
+/// than `pointers` are followed, one after the other, as by [`read_name`].
 ///
 /// An error says that no question begins there, and where it fails first: in its name, or where the
 /// message ends within the type and the class; or that memory is wanting.
@@ -71,14 +72,15 @@ fn asked_at(message: &[u8], place: usize) -> Result<Asked, Fault>
 /// ```
 pub fn read_question<'m, A: Allocator + Copy>(
     alloc: A,
-    level: usize,
+    pointers: usize,
     message: &'m [u8],
     place: usize,
 ) -> Result<Question<'m, A>, Fault>
-    ensures { PartTold (IsQuestion message.now level place) (HasNoQuestion message.now level place)
+    ensures { PartTold (IsQuestion message.now pointers place)
+        (HasNoQuestion message.now pointers place)
         result }
 {
-    let name = read_name(alloc, level, message, place)?;
+    let name = read_name(alloc, pointers, message, place)?;
     let asked = asked_at(message, name.behind)?;
     let behind = name.behind + 4;
     Ok(Question {
@@ -114,36 +116,38 @@ pub struct Questions<'m, A: Allocator> {
 /// ```
 pub fn read_questions<'m, A: Allocator + Copy>(
     alloc: A,
-    level: usize,
+    pointers: usize,
     message: &'m [u8],
     place: usize,
     count: u16,
 ) -> Result<Questions<'m, A>, Fault>
-    ensures { QuestionsTold message.now level place count result }
+    ensures { QuestionsTold message.now pointers place count result }
 {
-    match questions_in(alloc, level, message, place, count) {
+    match questions_in(alloc, pointers, message, place, count) {
         Ok(questions) => Ok(questions),
         Err(fault) => Err(fault.why),
     }
 }
 
-/// The same of a question section, with how many stand before the first that is not there.
+/// The same of a question section, with how many stand before the first that is not there, or that
+/// memory is wanting for.
 pub(crate) fn questions_in<'m, A: Allocator + Copy>(
     alloc: A,
-    level: usize,
+    pointers: usize,
     message: &'m [u8],
     place: usize,
     count: u16,
 ) -> Result<Questions<'m, A>, MessageFault>
-    ensures { SectionTold Section.Question (AreQuestions message.now level place count)
-        (QuestionsLack message.now level A place count) result }
+    ensures { SectionTold Section.Question (AreQuestions message.now pointers place count)
+        (QuestionsWant message.now pointers A place count)
+        (QuestionsLack message.now pointers A place count) result }
 {
     let section = Section::Question;
     let mut list = Vec::new(alloc);
     let mut behind = place;
     while list.len() < usize::from(count) {
         let entry = list.len();
-        let question = match read_question(alloc, level, message, behind) {
+        let question = match read_question(alloc, pointers, message, behind) {
             Ok(question) => question,
             Err(why) => return Err(MessageFault {
                 section,

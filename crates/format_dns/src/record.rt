@@ -1,9 +1,9 @@
 //! Resource records (RFC 1035, sections 3.2 and 4.1.3).
 ghost use Rattle.format_dns.specs.Questions.{PartTold, SectionTold};
 ghost use Rattle.format_dns.specs.Records.{AreRecords, HasNoRecord, IsRecord, RecordsLack};
-ghost use Rattle.format_dns.specs.Records.{RecordsTold};
+ghost use Rattle.format_dns.specs.Records.{RecordsTold, RecordsWant};
 
-use crate::data::{Data, form_of, read_data};
+use crate::data::{Data, form_in, read_data};
 use crate::fault::{Fault, MessageFault, Section};
 use crate::fields::record_fields_at;
 use crate::name::{Name, read_name};
@@ -28,8 +28,10 @@ pub struct Record<'m, A: Allocator> {
 }
 
 /// The record that begins at a place of a message, in bytes from its start. Of pointers no more
-/// than `level` are followed, one after the other, as by [`read_name`], for its name and for each
-/// in its data. The data go as far as their length says, and what their type has must end there.
+/// than `pointers` are followed, one after the other, as by [`read_name`], for its name and for
+/// each in its data. The data go as far as their length says, and what their type has must end
+/// there. Of each type there may be none in the classes 254 (NONE) and 255 (ANY), as in a message
+/// that updates a zone (RFC 2136, sections 2.4 and 2.5).
 ///
 /// An error says that no record begins there, and where it fails first: in its name, in the fields
 /// after it, or in the data; or that memory is wanting.
@@ -46,22 +48,23 @@ pub struct Record<'m, A: Allocator> {
 /// ```
 pub fn read_record<'m, A: Allocator + Copy>(
     alloc: A,
-    level: usize,
+    pointers: usize,
     message: &'m [u8],
     place: usize,
 ) -> Result<Record<'m, A>, Fault>
-    ensures { PartTold (IsRecord message.now level place) (HasNoRecord message.now level place)
+    ensures { PartTold (IsRecord message.now pointers place)
+        (HasNoRecord message.now pointers place)
         result }
 {
-    let name = read_name(alloc, level, message, place)?;
+    let name = read_name(alloc, pointers, message, place)?;
     let fields = record_fields_at(message, name.behind)?;
     let start = name.behind + 10;
     let behind = start + usize::from(fields.length);
     let Some(whole) = message.get(..behind) else {
         return Err(Fault::Ends(start));
     };
-    let form = form_of(fields.kind, fields.class);
-    let data = read_data(alloc, level, form, whole, start)?;
+    let form = form_in(fields.kind, fields.class, fields.length);
+    let data = read_data(alloc, pointers, form, whole, start)?;
     Ok(Record {
         name,
         kind: fields.kind,
@@ -97,36 +100,38 @@ pub struct Records<'m, A: Allocator> {
 /// ```
 pub fn read_records<'m, A: Allocator + Copy>(
     alloc: A,
-    level: usize,
+    pointers: usize,
     message: &'m [u8],
     place: usize,
     count: u16,
 ) -> Result<Records<'m, A>, Fault>
-    ensures { RecordsTold message.now level place count result }
+    ensures { RecordsTold message.now pointers place count result }
 {
-    match records_in(Section::Answer, alloc, level, message, place, count) {
+    match records_in(Section::Answer, alloc, pointers, message, place, count) {
         Ok(records) => Ok(records),
         Err(fault) => Err(fault.why),
     }
 }
 
-/// The same of a section, with how many stand before the first that is not there.
+/// The same of a section, with how many stand before the first that is not there, or that memory is
+/// wanting for.
 pub(crate) fn records_in<'m, A: Allocator + Copy>(
     section: Section,
     alloc: A,
-    level: usize,
+    pointers: usize,
     message: &'m [u8],
     place: usize,
     count: u16,
 ) -> Result<Records<'m, A>, MessageFault>
-    ensures { SectionTold section (AreRecords message.now level place count)
-        (RecordsLack message.now level A place count) result }
+    ensures { SectionTold section (AreRecords message.now pointers place count)
+        (RecordsWant message.now pointers A place count)
+        (RecordsLack message.now pointers A place count) result }
 {
     let mut list = Vec::new(alloc);
     let mut behind = place;
     while list.len() < usize::from(count) {
         let entry = list.len();
-        let record = match read_record(alloc, level, message, behind) {
+        let record = match read_record(alloc, pointers, message, behind) {
             Ok(record) => record,
             Err(why) => return Err(MessageFault {
                 section,

@@ -28,14 +28,14 @@ IsLocated bytes at = IsLocation bytes at.offset at
 abbrev pub IsReadable : List ℕ → ℕ → Type 0
 IsReadable bytes offset = IsUtf8 bytes ⊎ (offset < utf8_valid_len bytes)
 
--- What a fault tells of the bytes.
+-- What a fault tells of the bytes: that a bracket is one too many is told as such.
 abbrev pub Tells : ℕ → List ℕ → Fault → Type 0
 Tells level bytes (faults.Unexpected at expected) =
-    IsPlace level bytes at.offset expected × (at.offset < length bytes)
-    × IsReadable bytes at.offset × IsLocated bytes at
+    (expected ≡ NoDeeper → ⊥) × IsPlace level bytes at.offset expected
+    × (at.offset < length bytes) × IsReadable bytes at.offset × IsLocated bytes at
 Tells level bytes (faults.End at expected) =
-    IsPlace level bytes at.offset expected × (length bytes ≤ at.offset)
-    × IsReadable bytes at.offset × IsLocated bytes at
+    (expected ≡ NoDeeper → ⊥) × IsPlace level bytes at.offset expected
+    × (length bytes ≤ at.offset) × IsReadable bytes at.offset × IsLocated bytes at
 Tells level bytes (faults.TooDeep at most) =
     (most ≡ level) × IsPlace level bytes at.offset NoDeeper × IsReadable bytes at.offset
     × IsLocated bytes at

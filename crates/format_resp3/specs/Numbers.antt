@@ -1,4 +1,5 @@
--- Numbers of RESP3 that are kept as text: doubles and big numbers.
+-- Numbers of RESP3 that are kept as text: doubles and big numbers, as the Redis serialization
+-- protocol specification has them (its sections "Doubles" and "Big numbers").
 use Rattle.std.specs.Prelude.{◌≡◌, ◌⊎◌, ◌<◌, ℕ, List, [], ◌∷◌, ◌++◌, length}
 use Rattle.std.specs.List.{AllByRecursion}
 use Rattle.winnow.specs.AsChar.{IsDecDigit}

@@ -1,5 +1,5 @@
 //! What numbers and strings of JSON say.
-use super::{Kind, Value};
+use super::{unknown, Kind, Value};
 use crate::exports::{self, JsonText};
 use crate::{Error, Wanted};
 
@@ -73,8 +73,11 @@ impl<'i> Value<'i> {
 
 /// Whether the code says that an integer was written, where a number stands first.
 fn fits(code: u32) -> bool {
-    debug_assert!(matches!(code, exports::DONE | exports::NO_INTEGER));
-    code == exports::DONE
+    match code {
+        exports::DONE => true,
+        exports::NO_INTEGER => false,
+        code => unknown(code as usize),
+    }
 }
 
 /// The text of the string of JSON (RFC 8259) with which the bytes begin, written into the buffer

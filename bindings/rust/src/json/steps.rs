@@ -1,5 +1,5 @@
 //! A text of JSON from its start to its end.
-use super::{check, Kind, Value};
+use super::{check, unknown, Kind, Value};
 use crate::exports::{self, JsonItem};
 use crate::Error;
 
@@ -43,9 +43,10 @@ impl<'i> Iterator for Steps<'i> {
         // SAFETY: the pointers are those of live borrows, and the bytes are only read. The call takes up to
         // 1 KiB of stack (measured); where there is less, the thread's guard page ends the program.
         let code = unsafe { exports::exported_json_step(bytes.as_ptr(), bytes.len(), &mut out) };
-        if code != exports::DONE {
-            debug_assert_eq!(code, exports::END);
-            return None;
+        match code {
+            exports::DONE => {}
+            exports::END => return None,
+            code => unknown(code as usize),
         }
         let (front, left) = self.left.split_at(out.place.offset + out.place.length);
         let text = &front[out.place.offset..];
@@ -61,7 +62,7 @@ impl<'i> Iterator for Steps<'i> {
             exports::JSON_END_ARRAY => Step::EndArray,
             exports::JSON_BEGIN_OBJECT => Step::BeginObject,
             exports::JSON_END_OBJECT => Step::EndObject,
-            _ => return None,
+            kind => unknown(kind),
         };
         self.left = left;
         Some(step)

@@ -6,7 +6,7 @@ use Rattle.format_dns.proofs.data.name_to_end.Goals as goal
 
 pub returns-then-name-message : goal.returns-then-name-message
 returns-then-name-message g c =
-    let fails : NoLastName c.args.message.now c.args.level c.args.place
+    let fails : NoLastName c.args.message.now c.args.pointers c.args.place
     (Trailing c.in_ok-name.name.behind) = inr (
       c.in_ok-name.name.labels.items,
       c.in_ok-name.name.behind,
@@ -16,5 +16,5 @@ returns-then-name-message g c =
     ) in
     inr (
       fails,
-      λ name is. no_last_name c.args.message.now c.args.level c.args.place _ name fails is,
+      λ name is. no_last_name c.args.message.now c.args.pointers c.args.place _ name fails is,
     )

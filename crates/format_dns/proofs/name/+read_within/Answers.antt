@@ -26,9 +26,9 @@ returns-in_err-read_ending g t c =
     let at = octets_at c.args.message.now a in
     let few : octets c.in-Ok.labels.items ≤ c.args.room =
     omega (arith, at, c.in-Some-checked_sub.ensures.0) in
-    told_err c.args.message.now c.args.level c.args.room c.args.place c.from_residual.result
+    told_err c.args.message.now c.args.pointers c.args.room c.args.place c.from_residual.result
     c.from_residual.ensures.1
-    (inr (none_ends c.args.message.now a few c.args.level _ c.in_err-read_ending.ensures))
+    (inr (none_ends c.args.message.now a few c.args.pointers _ c.in_err-read_ending.ensures))
 
 pub returns-in-Root : goal.returns-in-Root
 returns-in-Root g t c =
@@ -40,7 +40,7 @@ returns-in-Root g t c =
     let at = octets_at c.args.message.now a in
     let few : octets c.in-Ok.labels.items ≤ c.args.room =
     omega (arith, at, c.in-Some-checked_sub.ensures.0) in (
-      name_ends c.args.message.now a c.args.level
+      name_ends c.args.message.now a c.args.pointers
           (told_root place c.in_ok-read_ending.field-0 c.in-Root.is c.in_ok-read_ending.ensures),
       few,
     )
@@ -57,14 +57,14 @@ returns-then-to-place g t c =
     omega (arith, at, c.in-Some-checked_sub.ensures.0) in
     let p = told_pointer place c.in_ok-read_ending.field-0 c.in-Pointer.is
     c.in_ok-read_ending.ensures in
-    told_fault c.args.message.now c.args.level c.args.room c.args.place _
-    (none_prior c.args.message.now a few c.args.level p c.if-to-place.true)
+    told_fault c.args.message.now c.args.pointers c.args.room c.args.place _
+    (none_prior c.args.message.now a few c.args.pointers p c.if-to-place.true)
 
 pub returns-in_default-checked_sub : goal.returns-in_default-checked_sub
 returns-in_default-checked_sub g t c =
     let (enough, end, is, size) = c.in-Some.ensures.lookup.0 in
-    told_fault c.args.message.now c.args.level c.args.room c.args.place _
-    (too_long c.args.message.now c.args.level c.args.place (c.args.room / 2 + 1) c.args.room _ _
+    told_fault c.args.message.now c.args.pointers c.args.room c.args.place _
+    (too_long c.args.message.now c.args.pointers c.args.place (c.args.room / 2 + 1) c.args.room _ _
     c.in-Ok.labels enough is (c.in-Ok.ensures.stands refl)
     (omega (arith, c.in_default-checked_sub.ensures)))
 
@@ -80,8 +80,8 @@ returns-in_default-checked_sub-2 g t c =
     omega (arith, at, c.in-Some-checked_sub.ensures.0) in
     let p = told_pointer place c.in_ok-read_ending.field-0 c.in-Pointer.is
     c.in_ok-read_ending.ensures in
-    told_fault c.args.message.now c.args.level c.args.room c.args.place _
-    (too_many c.args.message.now a few c.args.level p (search rules)
+    told_fault c.args.message.now c.args.pointers c.args.room c.args.place _
+    (too_many c.args.message.now a few c.args.pointers p (search rules)
     c.in_default-checked_sub-2.ensures)
 
 pub returns-in_err-further-in-Pointer : goal.returns-in_err-further-in-Pointer
@@ -96,10 +96,10 @@ returns-in_err-further-in-Pointer g t c =
     omega (arith, at, c.in-Some-checked_sub.ensures.0) in
     let p = told_pointer place c.in_ok-read_ending.field-0 c.in-Pointer.is
     c.in_ok-read_ending.ensures in
-    told_err c.args.message.now c.args.level c.args.room c.args.place
+    told_err c.args.message.now c.args.pointers c.args.room c.args.place
     c.from_residual-in_err-further-in-Pointer.result
     c.from_residual-in_err-further-in-Pointer.ensures.1
-    (err_further c.args.message.now a few c.args.level c.in-Some-checked_sub-2.below
+    (err_further c.args.message.now a few c.args.pointers c.in-Some-checked_sub-2.below
     c.in-Some-checked_sub.left c.in-Some-checked_sub-2.ensures.0
     c.in-Some-checked_sub-2.ensures.1 (omega (arith, at, c.in-Some-checked_sub.ensures.1)) p
     (search rules) c.in_err-further-in-Pointer.ensures)
@@ -119,7 +119,7 @@ returns-else-is_err g t c =
     let put = put_behind c.in-Ok.labels.items c.deref.result.now c.extend_from_slice.result
     c.extend_from_slice.ensures.items (sym c.is_err.ensures.value ∙ c.if-is_err.false)
     ∙ ap (λ l. c.in-Ok.labels.items ++ l) c.deref.ensures.value in (
-      name_goes_on c.args.message.now a c.args.level c.in-Some-checked_sub-2.below
+      name_goes_on c.args.message.now a c.args.pointers c.in-Some-checked_sub-2.below
           c.in-Some-checked_sub-2.ensures.0 c.in-Some-checked_sub-2.ensures.1 p (search rules) _ _
           _ c.in_ok-further-in-Pointer.ensures.0 put,
       omega (

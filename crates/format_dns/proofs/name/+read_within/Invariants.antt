@@ -1,5 +1,5 @@
 use Rattle.format_dns.proofs.name.+read_within.Given as goal
 
--- a pointer leads to a name of one level less
+-- a pointer leads to a name of one pointers less
 abbrev pub decreases-read_within : goal.decreases-read_within
-decreases-read_within g l = l.level
+decreases-read_within g l = l.pointers

@@ -10,9 +10,19 @@ loop-alloc-init g c = rw (c.new-list.ensures.items) (refl, omega arith)
 
 pub returns-in-Err : goal.returns-in-Err
 returns-in-Err g c = elim c.in-Err.ensures [
-  | inl memory ↦ inl memory
+  | inl memory ↦ (
+    refl,
+    inl (
+      c.loop-alloc.list.items,
+      c.loop-alloc.behind,
+      c.loop-alloc.invariant.0,
+      omega (arith, c.len-entry.ensures),
+      omega (arith, c.loop-alloc-test.true, c.len.ensures, c.len-entry.ensures, c.from.ensures),
+      memory,
+    ),
+  )
   | inr (fails, none) ↦
-      let all : QuestionsLack c.args.message.now c.args.level g.row.A.Denot c.args.place
+      let all : QuestionsLack c.args.message.now c.args.pointers g.row.A.Denot c.args.place
       c.args.count c.len-entry.result c.in-Err.why = (
         c.loop-alloc.list.items,
         c.loop-alloc.behind,
@@ -20,21 +30,35 @@ returns-in-Err g c = elim c.in-Err.ensures [
         omega (arith, c.len-entry.ensures),
         omega (arith, c.loop-alloc-test.true, c.len.ensures, c.len-entry.ensures, c.from.ensures),
         fails,
-      ) in
-      inr (
+      ) in (
         refl,
-        all,
-        λ questions. lack_questions c.args.message.now c.args.level c.args.place c.args.count
-            c.len-entry.result c.in-Err.why questions all,
+        inr (
+          all,
+          λ questions. lack_questions c.args.message.now c.args.pointers c.args.place c.args.count
+              c.len-entry.result c.in-Err.why questions all,
+        ),
       )
 ]
+
+pub returns-then-is_err : goal.returns-then-is_err
+returns-then-is_err g c = (
+  refl,
+  inl (
+    c.loop-alloc.list.items,
+    c.loop-alloc.behind,
+    c.loop-alloc.invariant.0,
+    omega (arith, c.len-entry.ensures),
+    omega (arith, c.loop-alloc-test.true, c.len.ensures, c.len-entry.ensures, c.from.ensures),
+    refl,
+  ),
+)
 
 pub loop-alloc-preserved : goal.loop-alloc-preserved
 loop-alloc-preserved g c =
     let put = put_behind c.loop-alloc.list.items (c.in-Ok.question ∷ []) c.push.result
     c.push.ensures.items (sym c.is_err.ensures.value ∙ c.if-is_err.false) in
     rw (put) (
-      rows_push (λ place question. IsQuestion c.args.message.now c.args.level place question)
+      rows_push (λ place question. IsQuestion c.args.message.now c.args.pointers place question)
           (λ question. question.behind) c.loop-alloc.list.items c.args.place c.loop-alloc.behind
           c.in-Ok.question c.loop-alloc.invariant.0 c.in-Ok.ensures,
       omega (

@@ -5,7 +5,7 @@ use Rattle.format_dns.proofs.question.questions_in.Given as goal
 -- the list has what was read so far, and no more than is wanted
 abbrev pub invariant-loop-alloc : goal.invariant-loop-alloc
 invariant-loop-alloc g l =
-    Rows (λ place question. IsQuestion l.fn.message l.fn.level place question)
+    Rows (λ place question. IsQuestion l.fn.message l.fn.pointers place question)
     (λ question. question.behind) l.fn.place l.list.items l.behind
     × (length l.list.items ≤ l.fn.count)
 

@@ -12,11 +12,11 @@ returns-in_err-asked g c =
       c.in_err-asked.ensures.0,
       c.in_err-asked.ensures.1,
     ) in
-    part_err (IsQuestion c.args.message.now c.args.level c.args.place)
-    (HasNoQuestion c.args.message.now c.args.level c.args.place)
+    part_err (IsQuestion c.args.message.now c.args.pointers c.args.place)
+    (HasNoQuestion c.args.message.now c.args.pointers c.args.place)
     c.from_residual-in_err-asked.result c.from_residual-in_err-asked.ensures.1
     (inr (
       fails,
-      λ question. no_question c.args.message.now c.args.level c.args.place _ question
+      λ question. no_question c.args.message.now c.args.pointers c.args.place _ question
           fails,
     ))

@@ -10,25 +10,25 @@ use Rattle.format_dns.proofs.record.read_record.Goals as goal
 
 pub returns-in_err-fields : goal.returns-in_err-fields
 returns-in_err-fields g c =
-    let fails : HasNoRecord c.args.message.now c.args.level c.args.place
+    let fails : HasNoRecord c.args.message.now c.args.pointers c.args.place
     c.in_err-fields.field-0.0 = inr (
       c.in_ok-name.name.labels.items,
       c.in_ok-name.name.behind,
       c.in_ok-name.ensures,
       inl (c.in_err-fields.ensures.0, c.in_err-fields.ensures.1),
     ) in
-    part_err (IsRecord c.args.message.now c.args.level c.args.place)
-    (HasNoRecord c.args.message.now c.args.level c.args.place)
+    part_err (IsRecord c.args.message.now c.args.pointers c.args.place)
+    (HasNoRecord c.args.message.now c.args.pointers c.args.place)
     c.from_residual-in_err-fields.result c.from_residual-in_err-fields.ensures.1
     (inr (
       fails,
-      λ it. no_record c.args.message.now c.args.level c.args.place _ it fails,
+      λ it. no_record c.args.message.now c.args.pointers c.args.place _ it fails,
     ))
 
 pub returns-in_default : goal.returns-in_default
 returns-in_default g c =
     let (tokens, rest, at, fields) = c.in_ok-fields.ensures in
-    let fails : HasNoRecord c.args.message.now c.args.level c.args.place
+    let fails : HasNoRecord c.args.message.now c.args.pointers c.args.place
     (Ends (c.in_ok-name.name.behind + 10)) = inr (
       c.in_ok-name.name.labels.items,
       c.in_ok-name.name.behind,
@@ -53,7 +53,7 @@ returns-in_default g c =
     ) in
     inr (
       fails,
-      λ it. no_record c.args.message.now c.args.level c.args.place _ it fails,
+      λ it. no_record c.args.message.now c.args.pointers c.args.place _ it fails,
     )
 
 pub returns-in_err-data : goal.returns-in_err-data
@@ -65,19 +65,19 @@ returns-in_err-data g c =
     omega (arith, c.from.ensures) in
     let whole = whole_is c.args.message.now (c.in_ok-name.name.behind + 10 + c.from.result)
     (c.in_ok-name.name.behind + 10 + c.in_ok-fields.fields.length) is end in
-    part_err (IsRecord c.args.message.now c.args.level c.args.place)
-    (HasNoRecord c.args.message.now c.args.level c.args.place)
+    part_err (IsRecord c.args.message.now c.args.pointers c.args.place)
+    (HasNoRecord c.args.message.now c.args.pointers c.args.place)
     c.from_residual-in_err-data.result c.from_residual-in_err-data.ensures.1
     (elim c.in_err-data.ensures [
       | inl memory ↦ inl memory
       | inr (none, never) ↦
-          let P : List ℕ → Type 0 = λ l. NoForm l c.args.level (c.in_ok-name.name.behind + 10)
-          c.form_of-form.result c.in_err-data.field-0.0 in
+          let P : List ℕ → Type 0 = λ l. NoForm l c.args.pointers (c.in_ok-name.name.behind + 10)
+          c.form_in-form.result c.in_err-data.field-0.0 in
           let Q : Form → Type 0 = λ f. NoForm
           (take (c.in_ok-name.name.behind + 10 + c.in_ok-fields.fields.length)
-          c.args.message.now) c.args.level (c.in_ok-name.name.behind + 10) f
+          c.args.message.now) c.args.pointers (c.in_ok-name.name.behind + 10) f
           c.in_err-data.field-0.0 in
-          let fails : HasNoRecord c.args.message.now c.args.level c.args.place
+          let fails : HasNoRecord c.args.message.now c.args.pointers c.args.place
           c.in_err-data.field-0.0 = inr (
             c.in_ok-name.name.labels.items,
             c.in_ok-name.name.behind,
@@ -93,13 +93,13 @@ returns-in_err-data g c =
               fields,
               inr (
                 omega (arith, enough, end),
-                subst Q c.form_of-form.ensures (subst P whole none),
+                subst Q c.form_in-form.ensures (subst P whole none),
               ),
             ),
           ) in
           inr (
             fails,
-            λ it. no_record c.args.message.now c.args.level c.args.place _ it fails,
+            λ it. no_record c.args.message.now c.args.pointers c.args.place _ it fails,
           )
     ])
 
@@ -107,12 +107,12 @@ pub returns : goal.returns
 returns g c =
     let (tokens, rest, at, fields) = c.in_ok-fields.ensures in
     let (least, enough, is, size) = c.in-Some.ensures.lookup.0 in
-    let P : List ℕ → Type 0 = λ l. IsOfForm l c.args.level (c.in_ok-name.name.behind + 10)
-    c.form_of-form.result c.in_ok-data.data in
+    let P : List ℕ → Type 0 = λ l. IsOfForm l c.args.pointers (c.in_ok-name.name.behind + 10)
+    c.form_in-form.result c.in_ok-data.data in
     let whole = whole_is c.args.message.now (c.in_ok-name.name.behind + 10 + c.from.result)
     (c.in_ok-name.name.behind + 10 + c.from.result) is refl in
     let Q : Form → Type 0 = λ f. IsOfForm
-    (take (c.in_ok-name.name.behind + 10 + c.from.result) c.args.message.now) c.args.level
+    (take (c.in_ok-name.name.behind + 10 + c.from.result) c.args.message.now) c.args.pointers
     (c.in_ok-name.name.behind + 10) f c.in_ok-data.data in record {
       name = c.in_ok-name.ensures;
       tokens = tokens;
@@ -122,5 +122,5 @@ returns g c =
       fields = fields;
       behind = omega (arith, c.from.ensures);
       fits = enough;
-      held = subst Q c.form_of-form.ensures (subst P whole c.in_ok-data.ensures);
+      held = subst Q c.form_in-form.ensures (subst P whole c.in_ok-data.ensures);
     }

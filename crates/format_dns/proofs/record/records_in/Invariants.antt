@@ -6,7 +6,7 @@ use Rattle.format_dns.proofs.record.records_in.Given as goal
 -- the list has what was read so far, and no more than is wanted
 abbrev pub invariant-loop-section : goal.invariant-loop-section
 invariant-loop-section g l =
-    Rows (λ place it. IsRecord l.fn.message l.fn.level place it)
+    Rows (λ place it. IsRecord l.fn.message l.fn.pointers place it)
     (λ it. it.behind) l.fn.place l.list.items l.behind
     × (length l.list.items ≤ l.fn.count)
 

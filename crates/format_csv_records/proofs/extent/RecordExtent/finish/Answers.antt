@@ -5,8 +5,8 @@ use Rattle.format_csv_records.specs.Extents.{IsLed}
 use Rattle.format_csv_records.specs.declared.buffers.RecordSize.{RecordSize}
 use Rattle.format_csv_records.proofs.extent.RecordExtent.finish.Goals as goal
 
-pub returns-in-None : goal.returns-in-None
-returns-in-None c here =
+pub returns-in-None-clause-told : goal.returns-in-None-clause-told
+returns-in-None-clause-told c here =
     let P : Option RecordSize → Type 0 = λ o. IsLed c.args.dialect c.args.self.now
     (drop c.args.self.now.passed c.args.bytes.now) c.advance.new.self (Ok o) in
     let (room, text, fields) = within c.args.dialect c.args.self.now c.args.bytes.now here in
