@@ -8,8 +8,8 @@ ghost use Rattle.exported.specs.Code.{done, incomplete, refused, too_small};
 ghost use Rattle.exported.specs.Http.{IsNoResponse, response_of};
 
 use crate::code::{DONE, INCOMPLETE, REFUSED, TOO_SMALL};
-use crate::http::{Field, Span};
 use format_http_places::places;
+pub use format_http_places::places::{Field, Span};
 use format_http_places::read::HeadError;
 use format_http_places::response::read_response_head_into;
 

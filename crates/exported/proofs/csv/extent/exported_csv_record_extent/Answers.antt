@@ -11,9 +11,7 @@ returns-in-Ok-Some-clause-told c =
     (λ _. (
       c.in-Ok-Some.size,
       c.in-Ok-Some.is ∙ ap Ok (rw c.in-Ok-Some.is at c.in-Ok-Some.field-0-is),
-      refl,
-      refl,
-      refl,
+      (refl, refl, refl),
     ))
     (λ other. absurd (omega (arith, other))) (λ other. absurd (omega (arith, other))) _
     c.dialect-dialect.ensures
