@@ -1,5 +1,5 @@
 -- What calls in turn tell of the end of a reply.
-use Rattle.std.specs.Prelude.{◌≡◌, ◌++◌, ◌∷◌, ℕ, List, [], Option, None, Some, Result, Ok, Err}
+use Rattle.std.specs.Prelude.{◌≡◌, ◌++◌, ℕ, List, [], Option, None, Some, Result, Ok, Err}
 use Rattle.std.specs.Prelude.{IfOk, OnOk}
 use Rattle.std.proofs.Common.{refl, sym, subst, arith}
 use Rattle.format_resp.specs.Extents.{IsOf, IsTold, IsWanting}

@@ -1,5 +1,5 @@
 -- Calls in turn leave a state of their bytes.
-use Rattle.std.specs.Prelude.{◌≡◌, ◌++◌, ◌∷◌, ℕ, List, []}
+use Rattle.std.specs.Prelude.{◌++◌, ◌∷◌, ℕ, List, []}
 use Rattle.std.proofs.Common.{subst, sym, append_assoc}
 use Rattle.std.proofs.lemmas.List.{append-nil}
 use Rattle.exported.specs.Code.{incomplete}

@@ -33,8 +33,8 @@ nothing = record { passed = 0; text = 0; fields = 0; place = 0 }
 
 -- What a call says of its bytes, by its code: whatever follows they begin with a record, of these
 -- sizes; or with none whatever follows, and with more bytes after them with one; or they never do,
--- and this is the first place at which none goes on. The state that it leaves is one of these bytes,
--- whatever comes after them.
+-- and this is the first place at which none goes on. The state that it leaves is one of these
+-- bytes, whatever comes after them.
 pub record TellsRecord (d : Dialect) (bytes : List ℕ) (code : ℕ) (out : Record)
     (state : CsvRecordExtent) : Type 0 where
   pub ends : code ≡ done → WantsRecord (IsForGood d) bytes out

@@ -1,6 +1,6 @@
 -- How far bytes that come in pieces are searched for the end of a reply, from call to call.
 use Rattle.std.specs.Prelude.{◌≡◌, ◌+◌, ◌*◌, ◌++◌, ℕ, zero, suc, List}
-use Rattle.std.specs.Prelude.{Option, Some, None, Ok}
+use Rattle.std.specs.Prelude.{Some, None, Ok}
 use Rattle.format_resp.specs.Extents.{IsOf, IsReply, IsTold, IsWanting, Stands}
 use Rattle.format_resp.specs.declared.extent.Extent.{Extent}
 use Rattle.exported.specs.Code.{done, incomplete, refused}

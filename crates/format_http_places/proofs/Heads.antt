@@ -1,17 +1,15 @@
 -- Heads of requests: that their language is theirs, and what is read of one.
-use Rattle.std.proofs.Common.{◌≡◌, ◌∙◌, ◌<◌, ◌≤◌, ◌+◌, ◌-◌, ◌++◌, ◌∷◌, [], ap, ℕ, zero, suc, List}
-use Rattle.std.proofs.Common.{length, sym, subst, arith, refl, append_assoc, length-append}
+use Rattle.std.proofs.Common.{◌≡◌, ◌∙◌, ◌<◌, ◌≤◌, ◌+◌, ◌-◌, ◌++◌, ◌∷◌, [], ap, ℕ, List}
+use Rattle.std.proofs.Common.{length, sym, subst, arith, refl, length-append}
 use Rattle.std.proofs.lemmas.List.Elements.{All-cons}
 use Rattle.std.specs.List.{All}
 use Rattle.std.specs.Prelude.{Err}
 use Rattle.format_http.specs.Heads.Bytes.{IsTokenByte, IsVisible, line_end}
-use Rattle.format_http.specs.Heads.FieldLine.{IsFieldLine}
-use Rattle.format_http.specs.Heads.Head.{AreFieldLines, IsHead, Pair, Request}
+use Rattle.format_http.specs.Heads.Head.{IsHead, Pair, Request}
 use Rattle.format_http.specs.Heads.RequestLine.{digits}
 use Rattle.format_http.specs.Pieces.Head.{BeginsHead, NoHead}
-use Rattle.format_http.proofs.PiecesLemmas.Values.{field_line_some}
-use Rattle.format_http_places.specs.Grammar.{Byte, FieldsText, HeadText, Language, LinesText}
-use Rattle.format_http_places.specs.Grammar.{LineText, OneOf, Run, Stops, Text}
+use Rattle.format_http_places.specs.Grammar.{Byte, FieldsText, HeadText, Language}
+use Rattle.format_http_places.specs.Grammar.{OneOf, Run, Stops, Text}
 use Rattle.format_http_places.specs.Grammar.{SomeOf, VersionText, protocol}
 use Rattle.format_http_places.specs.Places.{ShowsFields, ShowsLine}
 use Rattle.format_http_places.specs.Refusals.{IsErrorAt, IsRefused, NoneRead, ReadsHead, ReadsParts}

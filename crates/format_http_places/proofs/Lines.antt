@@ -4,17 +4,16 @@ use Rattle.std.proofs.Common.{length, sym, subst, arith, inl, inr, refl, append_
 use Rattle.std.specs.Prelude.{⊤}
 use Rattle.std.proofs.lemmas.List.Elements.{All-append, All-weaker}
 use Rattle.std.specs.List.{All}
-use Rattle.std.proofs.lemmas.List.{append-nil}
-use Rattle.format_http.specs.Heads.Bytes.{IsDigit, IsTokenByte, IsValueByte, IsVisible, IsWhite}
+use Rattle.format_http.specs.Heads.Bytes.{IsTokenByte, IsValueByte, IsVisible, IsWhite}
 use Rattle.format_http.specs.Heads.Bytes.{line_end}
 use Rattle.format_http.specs.Heads.FieldLine.{IsFieldLine}
 use Rattle.format_http.specs.Heads.RequestLine.{IsRequestLine, digits}
-use Rattle.format_http_places.specs.Grammar.{Byte, Differs, FieldsText, HeadText, Language}
-use Rattle.format_http_places.specs.Grammar.{LineText, LinesText, NoneAt, Nothing, OneOf, Run}
-use Rattle.format_http_places.specs.Grammar.{ProtocolText, SomeOf, Stops, Text, VersionText}
+use Rattle.format_http_places.specs.Grammar.{Byte, FieldsText, HeadText, Language}
+use Rattle.format_http_places.specs.Grammar.{LineText, LinesText, Nothing, OneOf, Run}
+use Rattle.format_http_places.specs.Grammar.{SomeOf, Stops, VersionText}
 use Rattle.format_http_places.specs.Grammar.{protocol}
 use Rattle.format_http_places.specs.Runs.{NotFirst}
-use Rattle.format_http_places.proofs.Behind.{Behind, Live, behind_both, behind_byte, behind_one}
+use Rattle.format_http_places.proofs.Behind.{Behind, Live, behind_both, behind_byte}
 use Rattle.format_http_places.proofs.Behind.{behind_run_end, behind_some_end, first_same, live_byte}
 use Rattle.format_http_places.proofs.Behind.{live_one, live_run, none_byte, not_empty, part_stops}
 use Rattle.format_http_places.proofs.Behind.{stops_at}

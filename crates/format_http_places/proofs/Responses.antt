@@ -1,9 +1,9 @@
 -- Heads of responses: that their language is theirs, and what is read of one.
-use Rattle.std.proofs.Common.{◌≡◌, ◌∙◌, ◌⊎◌, ◌<◌, ◌≤◌, ◌+◌, ◌*◌, ◌-◌, ◌++◌, ◌∷◌, [], ap, ℕ, List}
+use Rattle.std.proofs.Common.{◌≡◌, ◌∙◌, ◌≤◌, ◌+◌, ◌*◌, ◌-◌, ◌++◌, ◌∷◌, [], ap, ℕ, List}
 use Rattle.std.proofs.Common.{length, sym, subst, arith, inl, inr, refl, length-append}
 use Rattle.std.specs.Prelude.{Err}
 use Rattle.std.proofs.lemmas.List.Elements.{All-nil}
-use Rattle.format_http.specs.Heads.Bytes.{IsDigit, IsValueByte, line_end}
+use Rattle.format_http.specs.Heads.Bytes.{IsValueByte}
 use Rattle.format_http.specs.Heads.Head.{Pair}
 use Rattle.format_http.specs.Heads.RequestLine.{digits}
 use Rattle.format_http.specs.Pieces.ResponseHead.{BeginsResponseHead, NoResponseHead}

@@ -1,29 +1,26 @@
 -- Status lines: where they stop, and where their parts stand.
-use Rattle.std.proofs.Common.{◌≡◌, ◌∙◌, ◌⊎◌, ◌≤◌, ◌<◌, ◌+◌, ◌-◌, ◌++◌, ◌∷◌, [], ap, ℕ, List, length}
+use Rattle.std.proofs.Common.{◌≡◌, ◌∙◌, ◌<◌, ◌+◌, ◌-◌, ◌++◌, ◌∷◌, [], ap, ℕ, List, length}
 use Rattle.std.proofs.Common.{take, drop, sym, subst, arith, inl, inr, refl, append_assoc}
 use Rattle.std.proofs.Common.{length-append}
 use Rattle.std.proofs.lemmas.List.{length-take, take-append-drop}
 use Rattle.std.proofs.lemmas.List.Elements.{All-nil}
-use Rattle.std.specs.Borrow.{Bor}
 use Rattle.std.specs.List.{All}
 use Rattle.format_http.specs.Heads.Bytes.{IsDigit, IsValueByte, line_end}
 use Rattle.format_http.specs.Heads.RequestLine.{digits}
 use Rattle.format_http.specs.Pieces.StatusLine.{IsEnding}
 use Rattle.format_http.specs.Responses.StatusLine.{IsBehind, IsStatusLine, three}
 use Rattle.format_http_places.specs.Grammar.{Byte, CodeText, Differs, FieldsText, Language}
-use Rattle.format_http_places.specs.Grammar.{Nothing, OneOf, ProtocolText, ReasonText, ResponseText, Run}
-use Rattle.format_http_places.specs.Grammar.{Stops, Text, protocol}
+use Rattle.format_http_places.specs.Grammar.{Nothing, OneOf, ProtocolText, ReasonText}
+use Rattle.format_http_places.specs.Grammar.{ResponseText, Run, Stops, Text, protocol}
 use Rattle.format_http_places.specs.Places.{StandsAt}
 use Rattle.format_http_places.specs.Responses.{IsCodeFirst, ShowsReason, ShowsStatus}
 use Rattle.format_http_places.specs.Runs.{NotFirst, SoMany}
-use Rattle.format_http_places.specs.declared.places.Span.{Span}
 use Rattle.format_http_places.specs.declared.status.Reason.{Reason}
-use Rattle.format_http_places.specs.declared.status.StatusLine.{StatusLine}
 use Rattle.format_http_places.proofs.Behind.{Behind, Live, behind_both, behind_byte, behind_one}
 use Rattle.format_http_places.proofs.Behind.{behind_run_end, behind_text, live_byte, live_one}
 use Rattle.format_http_places.proofs.Behind.{live_text, none_byte, none_one, not_empty, part_stops}
 use Rattle.format_http_places.proofs.Behind.{run_stops, stops_at, stops_behind, text_stops}
-use Rattle.format_http_places.proofs.Lines.{live_value, value_no_return}
+use Rattle.format_http_places.proofs.Lines.{value_no_return}
 use Rattle.format_http_places.proofs.Versions.{a_digit, behind_numbers, is_digit, live_fields}
 use Rattle.format_http_places.proofs.Versions.{numbers_stop}
 
@@ -263,9 +260,6 @@ module _ (bytes : List ℕ) (a b : ℕ) (after : List ℕ) (less : a < 10) (smal
       at_reason : bytes ≡ front ++ rest
       at_reason =
           at_code ∙ ap (λ l. ((protocol ++ digits a b) ++ 32 ∷ []) ++ l) code.splits
-
-      pub reason_small : length rest ≤ length bytes
-      reason_small = omega (arith, ap length at_reason, length-append front rest)
 
       pub status_reason : (left : ℕ) → Stops ReasonText rest left → Stops ResponseText bytes left
       status_reason left it = stops_behind ResponseText ReasonText bytes front rest left

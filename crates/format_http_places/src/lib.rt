@@ -1,5 +1,5 @@
-//! Heads of requests and of responses of HTTP/1.1 (RFC 9112), whole or in pieces, as places in their
-//! bytes: one pass, and no memory is asked for.
+//! Heads of requests and of responses of HTTP/1.1 (RFC 9112), whole or in pieces, as places in
+//! their bytes: one pass, and no memory is asked for.
 #![tactic(auto)]
 
 pub mod extent;

@@ -142,10 +142,10 @@ pub extern "C" fn exported_csv_record_extent(
 }
 
 /// Where calls of `exported_csv_record_extent` follow one another, the first with a state of zeros,
-/// each with the state that the last one left and with its bytes and a piece more, all with the same
-/// line ends, and all ask for more: then the state that is left is one of these bytes, whatever
-/// comes after them. So what the next call tells, it tells of all of its bytes, as one call with a
-/// state of zeros would.
+/// each with the state that the last one left and with its bytes and a piece more, all with the
+/// same line ends, and all ask for more: then the state that is left is one of these bytes,
+/// whatever comes after them. So what the next call tells, it tells of all of its bytes, as one
+/// call with a state of zeros would.
 pub fn calls_in_turn_are_of_their_bytes()
     ensures { (line_feeds : ℕ) (pieces : List (List ℕ)) (state : CsvRecordExtent)
         → RecordCalls (dialect_of line_feeds) nothing [] pieces state

@@ -3,7 +3,8 @@
 ghost use Rattle.std.specs.Prelude.{◌≡◌, ◌⊎◌, ◌++◌, [], List, ℕ};
 ghost use Rattle.format_http_places.specs.Extents.{IsOf};
 ghost use Rattle.exported.specs.Code.{done, incomplete, refused};
-ghost use Rattle.exported.specs.HttpExtent.{HeadCalls, TellsHead, head_extent_of, nothing, place_at};
+ghost use Rattle.exported.specs.HttpExtent.{HeadCalls, TellsHead, head_extent_of, nothing};
+ghost use Rattle.exported.specs.HttpExtent.{place_at};
 ghost use Rattle.exported.specs.Turns.{all_of};
 ghost use Rattle.exported.specs.declared.http.extent.HttpHeadExtent.{HttpHeadExtent};
 
@@ -102,10 +103,10 @@ fn state_at(extent: HeadExtent) -> HttpHeadExtent
 /// For the first call the numbers of `state` are zeros. Each further call for the same head has the
 /// state that the last one left, and all of the bytes of the last one with more after them.
 ///
-/// `DONE`: that many of the first bytes are a head, which is written. For the next one, zeros are
-/// put into the state. `INCOMPLETE`: the bytes begin with no head, and with more after them they
-/// can; 0 is written. `REFUSED`: whatever comes after the bytes, they begin with no head; written is
-/// the first place at which none goes on.
+/// `DONE`: that many of the first bytes are a head; how many is written. For the next one, zeros
+/// are put into the state. `INCOMPLETE`: the bytes begin with no head, and with more after them
+/// they can; 0 is written. `REFUSED`: whatever comes after the bytes, they begin with no head;
+/// written is the first place at which none goes on.
 ///
 /// Of a state that calls left for other bytes, or that is changed, what is told may be wrong;
 /// nothing outside of the bytes is read then either.
