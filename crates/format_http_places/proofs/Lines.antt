@@ -1,5 +1,5 @@
 -- The lines of heads as languages.
-use Rattle.std.proofs.Common.{◌≡◌, ◌∙◌, ◌<◌, ◌+◌, ◌-◌, ◌++◌, ◌∷◌, [], ap, ℕ, zero, suc, List}
+use Rattle.std.proofs.Common.{◌≡◌, ◌∙◌, ◌<◌, ◌-◌, ◌++◌, ◌∷◌, [], ap, ℕ, zero, suc, List}
 use Rattle.std.proofs.Common.{length, sym, subst, arith, inl, inr, refl, append_assoc}
 use Rattle.std.specs.Prelude.{⊤}
 use Rattle.std.proofs.lemmas.List.Elements.{All-append, All-weaker}
