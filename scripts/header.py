@@ -42,8 +42,8 @@ KINDS = {
     "CHUNKED_": ("chunked_kind", "What is given out of a chunked body: what `kind` of a step is."),
 }
 # The types of single values: as Rust has them, and as C has them.
-PLAIN = {"u8": "uint8_t", "u32": "uint32_t", "u64": "uint64_t", "i64": "int64_t", "usize": "size_t",
-         "bool": "bool"}
+PLAIN = {"u8": "uint8_t", "u16": "uint16_t", "u32": "uint32_t", "u64": "uint64_t", "i64": "int64_t",
+         "usize": "size_t", "bool": "bool"}
 EXPORT = re.compile(r'pub extern "C" fn exported_(\w+)\(\s*(.*?)\s*\)\s*->\s*u32\b', re.DOTALL)
 CONSTANT = re.compile(r"pub const (\w+): (u32|usize) = (\d+);")
 TAKEN = re.compile(r"pub use (\w+)::(\w+)::\{?([\w, ]+)\}?;")

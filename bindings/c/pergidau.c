@@ -27,6 +27,12 @@ uint32_t exported_csv_record_in_pieces(
     struct pergidau_span *fields,
     size_t fields_length,
     struct pergidau_record *out);
+uint32_t exported_csv_record_extent(
+    struct pergidau_csv_record_extent *state,
+    const uint8_t *bytes,
+    size_t bytes_length,
+    uint32_t line_feeds,
+    struct pergidau_record *out);
 uint32_t exported_http_head(
     const uint8_t *bytes,
     size_t bytes_length,
@@ -44,6 +50,23 @@ uint32_t exported_http_chunked(
     const uint8_t *bytes,
     size_t bytes_length,
     struct pergidau_chunked_step *out);
+uint32_t exported_http_head_extent(
+    struct pergidau_http_head_extent *state,
+    const uint8_t *bytes,
+    size_t bytes_length,
+    size_t *out);
+uint32_t exported_http_response_head(
+    const uint8_t *bytes,
+    size_t bytes_length,
+    struct pergidau_field *fields,
+    size_t fields_length,
+    struct pergidau_response_head *out);
+uint32_t exported_http_response_head_in_pieces(
+    const uint8_t *bytes,
+    size_t bytes_length,
+    struct pergidau_field *fields,
+    size_t fields_length,
+    struct pergidau_response_head *out);
 uint32_t exported_ini_pair(
     const uint8_t *bytes,
     size_t bytes_length,
@@ -109,7 +132,7 @@ uint32_t exported_text_position(
     size_t offset,
     struct pergidau_position *out);
 
-const char pergidau_0_0_0_declared_b5c22dfa = 0;
+const char pergidau_0_0_0_declared_36c53897 = 0;
 
 const char *pergidau_version(void)
 {
@@ -267,6 +290,32 @@ enum pergidau_code pergidau_csv_record_in_pieces(
     return (enum pergidau_code)exported_csv_record_in_pieces(bytes, bytes_length, line_feeds, text, text_length, fields, fields_length, out);
 }
 
+enum pergidau_code pergidau_csv_record_extent(
+    struct pergidau_csv_record_extent *state,
+    const uint8_t *bytes,
+    size_t bytes_length,
+    uint32_t line_feeds,
+    struct pergidau_record *out)
+{
+    const uint8_t no_bytes = {0};
+    if (state == NULL) {
+        return PERGIDAU_NULL;
+    }
+    if (bytes_length > PTRDIFF_MAX / sizeof(uint8_t)) {
+        return PERGIDAU_TOO_LONG;
+    }
+    if (bytes == NULL && bytes_length > 0) {
+        return PERGIDAU_NULL;
+    }
+    if (out == NULL) {
+        return PERGIDAU_NULL;
+    }
+    if (bytes == NULL) {
+        bytes = &no_bytes;
+    }
+    return (enum pergidau_code)exported_csv_record_extent(state, bytes, bytes_length, line_feeds, out);
+}
+
 enum pergidau_code pergidau_http_head(
     const uint8_t *bytes,
     size_t bytes_length,
@@ -356,6 +405,97 @@ enum pergidau_code pergidau_http_chunked(
         bytes = &no_bytes;
     }
     return (enum pergidau_code)exported_http_chunked(state, bytes, bytes_length, out);
+}
+
+enum pergidau_code pergidau_http_head_extent(
+    struct pergidau_http_head_extent *state,
+    const uint8_t *bytes,
+    size_t bytes_length,
+    size_t *out)
+{
+    const uint8_t no_bytes = {0};
+    if (state == NULL) {
+        return PERGIDAU_NULL;
+    }
+    if (bytes_length > PTRDIFF_MAX / sizeof(uint8_t)) {
+        return PERGIDAU_TOO_LONG;
+    }
+    if (bytes == NULL && bytes_length > 0) {
+        return PERGIDAU_NULL;
+    }
+    if (out == NULL) {
+        return PERGIDAU_NULL;
+    }
+    if (bytes == NULL) {
+        bytes = &no_bytes;
+    }
+    return (enum pergidau_code)exported_http_head_extent(state, bytes, bytes_length, out);
+}
+
+enum pergidau_code pergidau_http_response_head(
+    const uint8_t *bytes,
+    size_t bytes_length,
+    struct pergidau_field *fields,
+    size_t fields_length,
+    struct pergidau_response_head *out)
+{
+    const uint8_t no_bytes = {0};
+    struct pergidau_field no_fields = {0};
+    if (bytes_length > PTRDIFF_MAX / sizeof(uint8_t)) {
+        return PERGIDAU_TOO_LONG;
+    }
+    if (bytes == NULL && bytes_length > 0) {
+        return PERGIDAU_NULL;
+    }
+    if (fields_length > PTRDIFF_MAX / sizeof(struct pergidau_field)) {
+        return PERGIDAU_TOO_LONG;
+    }
+    if (fields == NULL && fields_length > 0) {
+        return PERGIDAU_NULL;
+    }
+    if (out == NULL) {
+        return PERGIDAU_NULL;
+    }
+    if (bytes == NULL) {
+        bytes = &no_bytes;
+    }
+    if (fields == NULL) {
+        fields = &no_fields;
+    }
+    return (enum pergidau_code)exported_http_response_head(bytes, bytes_length, fields, fields_length, out);
+}
+
+enum pergidau_code pergidau_http_response_head_in_pieces(
+    const uint8_t *bytes,
+    size_t bytes_length,
+    struct pergidau_field *fields,
+    size_t fields_length,
+    struct pergidau_response_head *out)
+{
+    const uint8_t no_bytes = {0};
+    struct pergidau_field no_fields = {0};
+    if (bytes_length > PTRDIFF_MAX / sizeof(uint8_t)) {
+        return PERGIDAU_TOO_LONG;
+    }
+    if (bytes == NULL && bytes_length > 0) {
+        return PERGIDAU_NULL;
+    }
+    if (fields_length > PTRDIFF_MAX / sizeof(struct pergidau_field)) {
+        return PERGIDAU_TOO_LONG;
+    }
+    if (fields == NULL && fields_length > 0) {
+        return PERGIDAU_NULL;
+    }
+    if (out == NULL) {
+        return PERGIDAU_NULL;
+    }
+    if (bytes == NULL) {
+        bytes = &no_bytes;
+    }
+    if (fields == NULL) {
+        fields = &no_fields;
+    }
+    return (enum pergidau_code)exported_http_response_head_in_pieces(bytes, bytes_length, fields, fields_length, out);
 }
 
 enum pergidau_code pergidau_ini_pair(

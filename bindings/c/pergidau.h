@@ -37,10 +37,10 @@ extern "C" {
  * includes this header refers to it, so that it links with no other library. Define
  * PERGIDAU_NO_LINK_CHECK before the header for a file that is not linked with the library.
  */
-extern const char pergidau_0_0_0_declared_b5c22dfa;
+extern const char pergidau_0_0_0_declared_36c53897;
 #if defined(__GNUC__) && !defined(PERGIDAU_NO_LINK_CHECK)
 __attribute__((__used__, __unused__)) static const char *const pergidau_linked =
-    &pergidau_0_0_0_declared_b5c22dfa;
+    &pergidau_0_0_0_declared_36c53897;
 #endif
 
 /* The version of the library that is linked, as PERGIDAU_VERSION is written. */
@@ -196,6 +196,22 @@ struct pergidau_record {
     size_t place;
 };
 
+/*
+ * How far bytes were searched for the end of a record of comma separated values. The numbers
+ * are for the calls alone, and all zeros say that nothing was passed: so it is begun for each
+ * record.
+ */
+struct pergidau_csv_record_extent {
+    /* How many bytes were passed. */
+    size_t passed;
+    /* How many bytes the fields have that were passed, as they are meant. */
+    size_t text;
+    /* How many fields were passed with the comma after them. */
+    size_t fields;
+    /* Where in the record the next byte is due: 0 where a field begins. */
+    size_t place;
+};
+
 /* The places of a field. */
 struct pergidau_field {
     /* The name. */
@@ -262,6 +278,35 @@ struct pergidau_chunked_step {
      * PERGIDAU_CHUNKED_FAULT_SIZE on. Else 0.
      */
     size_t fault;
+};
+
+/*
+ * How far bytes were searched for the end of the head of a request. The numbers are for the
+ * calls alone, and all zeros say that nothing was passed: so it is begun for each head.
+ */
+struct pergidau_http_head_extent {
+    /* How many bytes were passed. */
+    size_t passed;
+    /* Where in the head the next one is due: 0 where it begins. */
+    size_t place;
+};
+
+/* The numbers and the places of the parts of the head of a response. */
+struct pergidau_response_head {
+    /* The reason. One without bytes stands at the end of its line. */
+    struct pergidau_span reason;
+    /* How many fields there are. */
+    size_t fields;
+    /* How many bytes the head has, the empty line after the fields among them. */
+    size_t length;
+    /* Where the bytes are refused: how many stand before the place. Else 0. */
+    size_t place;
+    /* The status code, below 1000. */
+    uint16_t status;
+    /* The number before the point of the version, below 10. */
+    uint8_t major;
+    /* The number after the point of the version, below 10. */
+    uint8_t minor;
 };
 
 /* The places of a key and its value. */
@@ -445,6 +490,40 @@ enum pergidau_code pergidau_csv_record_in_pieces(
     struct pergidau_record *out);
 
 /*
+ * Where the record of comma separated values (RFC 4180) ends whose bytes come in pieces: what
+ * a call passed, no call looks at again, so all calls for a record take a time that is linear
+ * in its bytes, however many there are. Its fields are then written by one call for a whole
+ * one, with that many bytes and the same line_feeds.
+ *
+ * For the first call the numbers of state are zeros. Each further call for the same record has
+ * the state that the last one left, all of the bytes of the last one with more after them, and
+ * the same line_feeds.
+ *
+ * PERGIDAU_DONE: whatever follows, the bytes begin with a record, its line end among them;
+ * written is how many fields it has, how many bytes these have together, and how many bytes
+ * the record has. For the next one, zeros are put into the state. PERGIDAU_INCOMPLETE: no
+ * record with its line end is there, and with three bytes more at most they can begin with
+ * one. A field in quotes that are not closed goes on for ever, so the caller bounds how many
+ * bytes are held. The last record may have no line end: where no more bytes come, the call for
+ * whole ones reads it. PERGIDAU_REFUSED: whatever comes after the bytes, they begin with no
+ * record, and that is answered as soon as the byte is there at which none goes on, whose place
+ * is written.
+ *
+ * Of a state that calls left for other bytes, or that is changed, what is told may be wrong;
+ * nothing outside of the bytes is read then either.
+ *
+ * The caller owes a state at state that can be read and written, bytes_length bytes at bytes
+ * that can be read and that nothing changes while the call runs, room for one record at out,
+ * each apart from the others, and 16 KiB of stack.
+ */
+enum pergidau_code pergidau_csv_record_extent(
+    struct pergidau_csv_record_extent *state,
+    const uint8_t *bytes,
+    size_t bytes_length,
+    uint32_t line_feeds,
+    struct pergidau_record *out);
+
+/*
  * The head of a request of HTTP/1.1 (RFC 9112) with which the bytes begin: a request line,
  * field lines one after the other, and an empty line. What stands after it is not looked at.
  *
@@ -523,6 +602,82 @@ enum pergidau_code pergidau_http_chunked(
     const uint8_t *bytes,
     size_t bytes_length,
     struct pergidau_chunked_step *out);
+
+/*
+ * Where the head of a request of HTTP/1.1 (RFC 9112) ends whose bytes come in pieces: what a
+ * call passed, no call looks at again, so all calls for a head take a time that is linear in
+ * its bytes, however many there are. The parts of the head are then read by one call for a
+ * whole one.
+ *
+ * For the first call the numbers of state are zeros. Each further call for the same head has
+ * the state that the last one left, and all of the bytes of the last one with more after them.
+ *
+ * PERGIDAU_DONE: that many of the first bytes are a head; how many is written. For the next
+ * one, zeros are put into the state. PERGIDAU_INCOMPLETE: the bytes begin with no head, and
+ * with more after them they can; 0 is written. PERGIDAU_REFUSED: whatever comes after the
+ * bytes, they begin with no head; written is the first place at which none goes on.
+ *
+ * Of a state that calls left for other bytes, or that is changed, what is told may be wrong;
+ * nothing outside of the bytes is read then either.
+ *
+ * The caller owes a state at state that can be read and written, bytes_length bytes at bytes
+ * that can be read and that nothing changes while the call runs, room for one length at out,
+ * each apart from the others, and 16 KiB of stack.
+ */
+enum pergidau_code pergidau_http_head_extent(
+    struct pergidau_http_head_extent *state,
+    const uint8_t *bytes,
+    size_t bytes_length,
+    size_t *out);
+
+/*
+ * The head of a response of HTTP/1.1 (RFC 9112) with which the bytes begin: a status line,
+ * field lines one after the other, and an empty line. What stands after it is not looked at.
+ *
+ * PERGIDAU_DONE: the version, the status code and the place of the reason are written, and the
+ * places of that many fields, in order. The status code is three digits, of which the first
+ * may be any. The reason may have no bytes, and then the space before it may be wanting too.
+ * PERGIDAU_REFUSED: the bytes begin with no head; written is the first place at which none
+ * goes on, which is their end where they end within one. PERGIDAU_TOO_SMALL: they begin with
+ * one that has more fields than the buffer has entries; how many it has is written. Where it
+ * does not answer PERGIDAU_DONE, any entry of the buffer may be written: the fields are
+ * written as they are read.
+ *
+ * Whether a body follows, and how long it is, the method of the request, the status code and
+ * the fields say (RFC 9112, section 6.3). The bytes are read once, and no memory is asked for.
+ *
+ * The caller owes bytes_length bytes at bytes that can be read and that nothing changes while
+ * the call runs, fields_length entries at fields that can be written, room for one head at
+ * out, each apart from the others, and 16 KiB of stack.
+ */
+enum pergidau_code pergidau_http_response_head(
+    const uint8_t *bytes,
+    size_t bytes_length,
+    struct pergidau_field *fields,
+    size_t fields_length,
+    struct pergidau_response_head *out);
+
+/*
+ * The same head where the bytes come in pieces: it answers as soon as the empty line is there.
+ *
+ * PERGIDAU_DONE, PERGIDAU_TOO_SMALL: as for a head that is whole. PERGIDAU_INCOMPLETE: the
+ * bytes begin with no head, and with more after them they can. PERGIDAU_REFUSED: whatever
+ * comes after the bytes, they begin with no head; written is the first place at which none
+ * goes on: with the bytes before it a head can begin, and with these and the byte there none
+ * does.
+ *
+ * Each call reads from the first byte on.
+ *
+ * The caller owes bytes_length bytes at bytes that can be read and that nothing changes while
+ * the call runs, fields_length entries at fields that can be written, room for one head at
+ * out, each apart from the others, and 16 KiB of stack.
+ */
+enum pergidau_code pergidau_http_response_head_in_pieces(
+    const uint8_t *bytes,
+    size_t bytes_length,
+    struct pergidau_field *fields,
+    size_t fields_length,
+    struct pergidau_response_head *out);
 
 /*
  * The key and the value of one line: a key of one or more ASCII letters or digits, =, a value

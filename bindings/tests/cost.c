@@ -60,12 +60,13 @@ void *__wrap_realloc(void *block, size_t size)
 }
 
 enum call { CALC, PAIR, DOCUMENT, CHECK, VALUE, NEXT, STEP, STRING, INTEGER, NATURAL, HEAD,
-            HEAD_IN_PIECES, RECORD, RECORD_IN_PIECES, REPLY, REPLY_IN_PIECES, EXTENT, CHUNKED,
-            POSITION };
+            HEAD_IN_PIECES, HEAD_EXTENT, RESPONSE, RESPONSE_IN_PIECES, RECORD, RECORD_IN_PIECES,
+            RECORD_EXTENT, REPLY, REPLY_IN_PIECES, EXTENT, CHUNKED, POSITION };
 static const char *const names[] = {
     "calc_value", "ini_pair", "ini_document", "json_check", "json_value", "json_next", "json_step",
-    "json_string", "json_integer", "json_natural", "http_head", "http_head_in_pieces", "csv_record",
-    "csv_record_in_pieces", "resp_reply", "resp_reply_in_pieces", "resp_extent", "http_chunked",
+    "json_string", "json_integer", "json_natural", "http_head", "http_head_in_pieces",
+    "http_head_extent", "http_response_head", "http_response_head_in_pieces", "csv_record",
+    "csv_record_in_pieces", "csv_record_extent", "resp_reply", "resp_reply_in_pieces", "resp_extent", "http_chunked",
     "text_position",
 };
 
@@ -110,6 +111,11 @@ static const struct {
     {HEAD, "GET / HTTP/1.1\r\n", "a:\r\n", "", POWER + 1, 0, 16},
     {HEAD_IN_PIECES, "GET / HTTP/1.1\r\n", "a:\r\n", "\r\n", LENGTH / 4, 0, 16},
     {HEAD_IN_PIECES, "GET / HTTP/1.1\r\n", "a:\r\n", "", POWER + 1, 0, 16},
+    {HEAD_EXTENT, "GET / HTTP/1.1\r\n", "a:\r\n", "\r\n", LENGTH / 4, 0, 16},
+    {HEAD_EXTENT, "GET / HTTP/1.1\r\na: ", "b", "", LENGTH, 0, 16},
+    {RESPONSE, "HTTP/1.1 200 OK\r\n", "a:\r\n", "\r\n", LENGTH / 4, 0, 16},
+    {RESPONSE, "HTTP/1.1 200 ", "b", "\r\n\r\n", LENGTH, 0, 16},
+    {RESPONSE_IN_PIECES, "HTTP/1.1 200\r\n", "a:\r\n", "", POWER + 1, 0, 16},
     {RECORD, "", ",", "\n", LENGTH, 0, 16},
     {RECORD, "", "a,", "\n", LENGTH / 2, 0, 16},
     {RECORD, "\"", "\"\"", "\"", LENGTH / 2, 0, 16},
@@ -118,6 +124,8 @@ static const struct {
     {RECORD_IN_PIECES, "", ",", "\n", LENGTH, 0, 16},
     {RECORD_IN_PIECES, "", "a,", "", LENGTH / 2, 0, 16},
     {RECORD_IN_PIECES, "", ",", "\"\"x", LENGTH, 0, 16},
+    {RECORD_EXTENT, "", ",", "\n", LENGTH, 0, 16},
+    {RECORD_EXTENT, "\"", "\"\"", "", LENGTH / 2, 0, 16},
     {REPLY, "", "*1\r\n", ":1\r\n", 512, 32, 512},
     {REPLY, "", "*1\r\n", ":1\r\n", LENGTH / 4, 32, 512},
     {REPLY, "*262144\r\n", ":1\r\n", "", 262144, 32, 512},
@@ -151,7 +159,10 @@ static enum pergidau_code call(enum call which, size_t levels)
     int64_t integer;
     uint64_t natural;
     struct pergidau_head head;
+    struct pergidau_http_head_extent passed = {0};
+    struct pergidau_response_head response;
     struct pergidau_record record;
+    struct pergidau_csv_record_extent fields = {0};
     struct pergidau_reply reply;
     struct pergidau_resp_extent state = {0};
     /* With no limits, so that all of the bytes are taken. */
@@ -184,10 +195,18 @@ static enum pergidau_code call(enum call which, size_t levels)
         return pergidau_http_head(bytes, length, NULL, 0, &head);
     case HEAD_IN_PIECES:
         return pergidau_http_head_in_pieces(bytes, length, NULL, 0, &head);
+    case HEAD_EXTENT:
+        return pergidau_http_head_extent(&passed, bytes, length, &found);
+    case RESPONSE:
+        return pergidau_http_response_head(bytes, length, NULL, 0, &response);
+    case RESPONSE_IN_PIECES:
+        return pergidau_http_response_head_in_pieces(bytes, length, NULL, 0, &response);
     case RECORD:
         return pergidau_csv_record(bytes, length, 1, NULL, 0, NULL, 0, &record);
     case RECORD_IN_PIECES:
         return pergidau_csv_record_in_pieces(bytes, length, 1, NULL, 0, NULL, 0, &record);
+    case RECORD_EXTENT:
+        return pergidau_csv_record_extent(&fields, bytes, length, 1, &record);
     case REPLY:
         return pergidau_resp_reply(bytes, length, levels, &reply);
     case REPLY_IN_PIECES:

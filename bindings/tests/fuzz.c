@@ -371,6 +371,7 @@ static void read_chunked(const uint8_t *bytes, size_t length)
     free(given[1]);
 }
 
+#include "heads_fuzz.h"
 #include "json_fuzz.h"
 
 static void read_place(const uint8_t *bytes, size_t length)
@@ -389,7 +390,10 @@ static void read_all(const uint8_t *bytes, size_t length)
     read_tokens(bytes, length);
     read_document(bytes, length);
     read_head(bytes, length);
+    read_response(bytes, length);
+    read_head_extent(bytes, length);
     read_record(bytes, length);
+    read_record_extent(bytes, length);
     read_reply(bytes, length);
     read_extent(bytes, length);
     read_chunked(bytes, length);

@@ -56,6 +56,8 @@ static const char *const seeds[] = {
     "4\r\nWiki\r\n5;a=\"b\"\r\npedia\r\n0\r\nA: b\r\n\r\nrest",
     "1\r\na\r\n2 ; c = d\r\n\r\n\r\n00\r\n\r\n",
     "PUT /x HTTP/1.0\r\nX: 1\r\nX:\t2 \r\nY:\r\nZ: \t \r\n\r\nbody",
+    "HTTP/1.1 404 Not Found, and no other page\r\nServer: a\r\nX: \t \r\n\r\nbody",
+    "HTTP/1.0 200\r\nA:b\r\n\r\n",
 };
 enum { SEEDS = sizeof seeds / sizeof *seeds };
 

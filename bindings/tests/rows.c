@@ -1037,6 +1037,8 @@ static void test_library(void)
     same("the size of a kind", "RESP", sizeof reply.kind, sizeof(size_t));
 }
 
+#include "heads_rows.h"
+
 int main(void)
 {
     test_library();
@@ -1049,7 +1051,10 @@ int main(void)
     test_walks();
     test_documents();
     test_heads();
+    test_responses();
+    test_head_extents();
     test_records();
+    test_record_extents();
     test_replies();
     test_extents();
     test_bodies();

@@ -75,8 +75,8 @@ READERS = [
         "the content and the trailers of the body that the bytes of all calls begin, where it ends, "
         "or the first byte with which none goes on"),
     ("HTTP/1.1 heads, as places", "format_http_places", "no",
-        "the places of the parts of a head, or where no head goes on, or that the bytes end within "
-        "one; where it ends, by one pass over pieces"),
+        "the places of the parts of the head of a request or of a response, or where none goes on, or "
+        "that the bytes end within one; where that of a request ends, by one pass over pieces"),
     ("DNS: headers, compressed names, questions, records, messages", "format_dns", "names",
         "`Ok` exactly where the bytes begin with a message, else which entry of which section is not "
         "there, why and where; the header, and which part is missing; the name at a place, "

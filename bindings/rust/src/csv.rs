@@ -7,6 +7,10 @@
 //! assert_eq!(records?, [[b"a".to_vec(), b"b, c".to_vec()], [b"1".to_vec(), b"2".to_vec()]]);
 //! # Ok::<(), pergidau::Error>(())
 //! ```
+mod extent;
+
+pub use self::extent::{Extent, Size};
+
 use crate::{at, exports, Error, Place, Span, Wanted};
 
 /// What ends a line.
@@ -116,7 +120,8 @@ pub fn record<'i, 'b>(
 /// line end is there, and that with three bytes more at most they can begin with one;
 /// [`Error::Refused`], that they begin with none, whatever comes after them. A field in quotes that
 /// are not closed goes on for ever, so a caller bounds how many bytes are held. Where no more bytes
-/// come, [`record`] reads a last record that has no line end.
+/// come, [`record`] reads a last record that has no line end. Each call reads from the first byte on:
+/// of a long record in many pieces an [`Extent`] finds the end.
 ///
 /// ```
 /// use pergidau::csv::{self, LineEnd};

@@ -155,6 +155,21 @@ pub struct Record {
     pub place: usize,
 }
 
+/// How far bytes were searched for the end of a record of comma separated values. The numbers are
+/// for the calls alone, and all zeros say that nothing was passed: so it is begun for each record.
+#[repr(C)]
+#[derive(Clone, Copy, Debug, Default, PartialEq, Eq)]
+pub struct CsvRecordExtent {
+    /// How many bytes were passed.
+    pub passed: usize,
+    /// How many bytes the fields have that were passed, as they are meant.
+    pub text: usize,
+    /// How many fields were passed with the comma after them.
+    pub fields: usize,
+    /// Where in the record the next byte is due: 0 where a field begins.
+    pub place: usize,
+}
+
 /// The places of a field.
 #[repr(C)]
 #[derive(Clone, Copy, Debug, Default, PartialEq, Eq)]
@@ -223,6 +238,37 @@ pub struct ChunkedStep {
     /// Why the byte after those that were taken is refused: a number of those from
     /// `CHUNKED_FAULT_SIZE` on. Else 0.
     pub fault: usize,
+}
+
+/// How far bytes were searched for the end of the head of a request. The numbers are for the calls
+/// alone, and all zeros say that nothing was passed: so it is begun for each head.
+#[repr(C)]
+#[derive(Clone, Copy, Debug, Default, PartialEq, Eq)]
+pub struct HttpHeadExtent {
+    /// How many bytes were passed.
+    pub passed: usize,
+    /// Where in the head the next one is due: 0 where it begins.
+    pub place: usize,
+}
+
+/// The numbers and the places of the parts of the head of a response.
+#[repr(C)]
+#[derive(Clone, Copy, Debug, Default, PartialEq, Eq)]
+pub struct ResponseHead {
+    /// The reason. One without bytes stands at the end of its line.
+    pub reason: Span,
+    /// How many fields there are.
+    pub fields: usize,
+    /// How many bytes the head has, the empty line after the fields among them.
+    pub length: usize,
+    /// Where the bytes are refused: how many stand before the place. Else 0.
+    pub place: usize,
+    /// The status code, below 1000.
+    pub status: u16,
+    /// The number before the point of the version, below 10.
+    pub major: u8,
+    /// The number after the point of the version, below 10.
+    pub minor: u8,
 }
 
 /// The places of a key and its value.
@@ -329,7 +375,7 @@ pub struct Position {
 
 extern "C" {
     /// Stands in a library of this version and with these declarations alone.
-    #[link_name = "pergidau_0_0_0_declared_b5c22dfa"]
+    #[link_name = "pergidau_0_0_0_declared_36c53897"]
     static VERSION_LINKED: c_char;
 
     /// The version of the library that is linked.
@@ -418,6 +464,38 @@ extern "C" {
         out: *mut Record,
     ) -> u32;
 
+    /// Where the record of comma separated values (RFC 4180) ends whose bytes come in pieces: what a
+    /// call passed, no call looks at again, so all calls for a record take a time that is linear in its
+    /// bytes, however many there are. Its fields are then written by one call for a whole one, with
+    /// that many bytes and the same `line_feeds`.
+    ///
+    /// For the first call the numbers of `state` are zeros. Each further call for the same record has
+    /// the state that the last one left, all of the bytes of the last one with more after them, and the
+    /// same `line_feeds`.
+    ///
+    /// `DONE`: whatever follows, the bytes begin with a record, its line end among them; written is how
+    /// many fields it has, how many bytes these have together, and how many bytes the record has. For
+    /// the next one, zeros are put into the state. `INCOMPLETE`: no record with its line end is there,
+    /// and with three bytes more at most they can begin with one. A field in quotes that are not closed
+    /// goes on for ever, so the caller bounds how many bytes are held. The last record may have no line
+    /// end: where no more bytes come, the call for whole ones reads it. `REFUSED`: whatever comes after
+    /// the bytes, they begin with no record, and that is answered as soon as the byte is there at which
+    /// none goes on, whose place is written.
+    ///
+    /// Of a state that calls left for other bytes, or that is changed, what is told may be wrong;
+    /// nothing outside of the bytes is read then either.
+    ///
+    /// The caller owes a state at `state` that can be read and written, `bytes_length` bytes at `bytes`
+    /// that can be read and that nothing changes while the call runs, room for one record at `out`,
+    /// each apart from the others, and 16 KiB of stack.
+    pub fn exported_csv_record_extent(
+        state: *mut CsvRecordExtent,
+        bytes: *const u8,
+        bytes_length: usize,
+        line_feeds: u32,
+        out: *mut Record,
+    ) -> u32;
+
     /// The head of a request of HTTP/1.1 (RFC 9112) with which the bytes begin: a request line, field
     /// lines one after the other, and an empty line. What stands after it is not looked at.
     ///
@@ -491,6 +569,76 @@ extern "C" {
         bytes: *const u8,
         bytes_length: usize,
         out: *mut ChunkedStep,
+    ) -> u32;
+
+    /// Where the head of a request of HTTP/1.1 (RFC 9112) ends whose bytes come in pieces: what a call
+    /// passed, no call looks at again, so all calls for a head take a time that is linear in its bytes,
+    /// however many there are. The parts of the head are then read by one call for a whole one.
+    ///
+    /// For the first call the numbers of `state` are zeros. Each further call for the same head has the
+    /// state that the last one left, and all of the bytes of the last one with more after them.
+    ///
+    /// `DONE`: that many of the first bytes are a head; how many is written. For the next one, zeros
+    /// are put into the state. `INCOMPLETE`: the bytes begin with no head, and with more after them
+    /// they can; 0 is written. `REFUSED`: whatever comes after the bytes, they begin with no head;
+    /// written is the first place at which none goes on.
+    ///
+    /// Of a state that calls left for other bytes, or that is changed, what is told may be wrong;
+    /// nothing outside of the bytes is read then either.
+    ///
+    /// The caller owes a state at `state` that can be read and written, `bytes_length` bytes at `bytes`
+    /// that can be read and that nothing changes while the call runs, room for one length at `out`,
+    /// each apart from the others, and 16 KiB of stack.
+    pub fn exported_http_head_extent(
+        state: *mut HttpHeadExtent,
+        bytes: *const u8,
+        bytes_length: usize,
+        out: *mut usize,
+    ) -> u32;
+
+    /// The head of a response of HTTP/1.1 (RFC 9112) with which the bytes begin: a status line, field
+    /// lines one after the other, and an empty line. What stands after it is not looked at.
+    ///
+    /// `DONE`: the version, the status code and the place of the reason are written, and the places of
+    /// that many fields, in order. The status code is three digits, of which the first may be any. The
+    /// reason may have no bytes, and then the space before it may be wanting too. `REFUSED`: the bytes
+    /// begin with no head; written is the first place at which none goes on, which is their end where
+    /// they end within one. `TOO_SMALL`: they begin with one that has more fields than the buffer has
+    /// entries; how many it has is written. Where it does not answer `DONE`, any entry of the buffer
+    /// may be written: the fields are written as they are read.
+    ///
+    /// Whether a body follows, and how long it is, the method of the request, the status code and the
+    /// fields say (RFC 9112, section 6.3). The bytes are read once, and no memory is asked for.
+    ///
+    /// The caller owes `bytes_length` bytes at `bytes` that can be read and that nothing changes while
+    /// the call runs, `fields_length` entries at `fields` that can be written, room for one head at
+    /// `out`, each apart from the others, and 16 KiB of stack.
+    pub fn exported_http_response_head(
+        bytes: *const u8,
+        bytes_length: usize,
+        fields: *mut Field,
+        fields_length: usize,
+        out: *mut ResponseHead,
+    ) -> u32;
+
+    /// The same head where the bytes come in pieces: it answers as soon as the empty line is there.
+    ///
+    /// `DONE`, `TOO_SMALL`: as for a head that is whole. `INCOMPLETE`: the bytes begin with no head,
+    /// and with more after them they can. `REFUSED`: whatever comes after the bytes, they begin with
+    /// no head; written is the first place at which none goes on: with the bytes before it a head can
+    /// begin, and with these and the byte there none does.
+    ///
+    /// Each call reads from the first byte on.
+    ///
+    /// The caller owes `bytes_length` bytes at `bytes` that can be read and that nothing changes while
+    /// the call runs, `fields_length` entries at `fields` that can be written, room for one head at
+    /// `out`, each apart from the others, and 16 KiB of stack.
+    pub fn exported_http_response_head_in_pieces(
+        bytes: *const u8,
+        bytes_length: usize,
+        fields: *mut Field,
+        fields_length: usize,
+        out: *mut ResponseHead,
     ) -> u32;
 
     /// The key and the value of one line: a key of one or more ASCII letters or digits, `=`, a value of

@@ -1,4 +1,4 @@
-//! Heads of requests of HTTP/1.1, whole and in pieces, and chunked bodies, in pieces.
+//! Heads of requests and of responses of HTTP/1.1, whole and in pieces, and chunked bodies, in pieces.
 //!
 //! ```
 //! use pergidau::http::{self, Field};
@@ -11,6 +11,11 @@
 //! assert_eq!(head.rest(), b"body");
 //! # Ok::<(), pergidau::Error>(())
 //! ```
+mod extent;
+mod response;
+
+pub use self::extent::HeadExtent;
+pub use self::response::{response_head, response_head_in_pieces, ResponseHead};
 pub use crate::exports::Field;
 
 use crate::exports;
@@ -95,7 +100,8 @@ pub fn head<'i, 'f>(bytes: &'i [u8], fields: &'f mut [Field]) -> Result<Head<'i,
 
 /// The same head where the bytes come in pieces: [`Error::Incomplete`] says that with more bytes
 /// after them they can begin with one, and [`Error::Refused`] that they cannot, and the first place
-/// at which none goes on.
+/// at which none goes on. Each call reads from the first byte on: of a head in many pieces a
+/// [`HeadExtent`] finds the end.
 ///
 /// ```
 /// let head = pergidau::http::head_in_pieces(b"GET / HTT", &mut []);

@@ -10,7 +10,7 @@
 //! |---|---|
 //! | [`calc`] | formulas of whole numbers |
 //! | [`csv`] | records of comma separated values |
-//! | [`http`] | heads of requests of HTTP/1.1, and chunked bodies |
+//! | [`http`] | heads of requests and of responses of HTTP/1.1, and chunked bodies |
 //! | [`ini`] | lines of a key and a value, and documents of them |
 //! | [`json`] | texts of JSON, and the values in them |
 //! | [`resp`] | replies of Redis |

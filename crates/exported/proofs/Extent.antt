@@ -1,15 +1,16 @@
 -- What calls in turn tell of the end of a reply.
-use Rattle.std.specs.Prelude.{◌≡◌, ◌++◌, ◌∷◌, ℕ, List, [], Option, None, Some, Result, Ok, Err}
+use Rattle.std.specs.Prelude.{◌≡◌, ◌++◌, ℕ, List, [], Option, None, Some, Result, Ok, Err}
 use Rattle.std.specs.Prelude.{IfOk, OnOk}
-use Rattle.std.proofs.Common.{refl, sym, ap, subst, ◌∙◌, arith, append_assoc}
-use Rattle.std.proofs.lemmas.List.{append-nil}
+use Rattle.std.proofs.Common.{refl, sym, subst, arith}
 use Rattle.format_resp.specs.Extents.{IsOf, IsTold, IsWanting}
 use Rattle.format_resp.specs.declared.extent.Extent.{Extent}
 use Rattle.format_resp.specs.declared.extent.Refused.{Refused}
 use Rattle.format_resp.proofs.Passing.{none_passed}
 use Rattle.exported.specs.Code.{done, incomplete, refused}
-use Rattle.exported.specs.Extent.{CallsInTurn, TellsEnd, all_of, extent_of, nothing}
+use Rattle.exported.specs.Extent.{CallsInTurn, TellsEnd, extent_of, nothing}
+use Rattle.exported.specs.Turns.{all_of}
 use Rattle.exported.specs.declared.resp.RespExtent.{RespExtent}
+use Rattle.exported.proofs.Turns.{calls_from_nothing}
 
 -- ---- one call, by what was answered of the extent
 
@@ -78,23 +79,10 @@ module _ (old new : Extent) (bytes : List ℕ) (answer : Result (Option ℕ) Ref
 
 -- ---- calls in turn
 
-turn_by_turn : (pieces : List (List ℕ)) (state last : RespExtent) (bytes : List ℕ)
-    → ((more : List ℕ) → IsOf (extent_of state) (bytes ++ more))
-    → CallsInTurn state bytes pieces last
-    → (more : List ℕ) → IsOf (extent_of last) ((bytes ++ all_of pieces) ++ more)
-unfolding CallsInTurn
-turn_by_turn [] state last bytes is same more =
-    let P : RespExtent → Type 0 = λ s. IsOf (extent_of s) ((bytes ++ []) ++ more) in
-    let Q : List ℕ → Type 0 = λ l. IsOf (extent_of state) (l ++ more) in
-    subst P same (subst Q (sym (append-nil bytes)) (is more))
-turn_by_turn (piece ∷ pieces) state last bytes is (count, next, tells, others) more =
-    let P : List ℕ → Type 0 = λ l. IsOf (extent_of last) (l ++ more) in
-    subst P (append_assoc bytes piece (all_of pieces))
-    (turn_by_turn pieces next last (bytes ++ piece)
-    ((tells (is piece)).kept (λ e. omega (arith, e))) others more)
-
 pub calls_in_turn : (pieces : List (List ℕ)) (state : RespExtent)
     → CallsInTurn nothing [] pieces state
     → (more : List ℕ) → IsOf (extent_of state) (all_of pieces ++ more)
-calls_in_turn pieces state calls =
-    turn_by_turn pieces nothing state [] (λ more. none_passed _ more refl refl refl refl) calls
+calls_in_turn pieces state calls more =
+    calls_from_nothing (λ s. IsOf (extent_of s)) TellsEnd
+    (λ bytes count next told. told.kept (λ e. omega (arith, e))) pieces nothing state
+    (λ bytes. none_passed _ bytes refl refl refl refl) calls more

@@ -2,10 +2,13 @@ pub mod Chunked
 pub mod Entries
 pub mod ErrorKinds
 pub mod Extent
+pub mod HeadExtent
 pub mod Items
 pub mod JsonIntegers
 pub mod JsonTexts
 pub mod Pieces
+pub mod RecordExtent
 pub mod Records
 pub mod Refusals
 pub mod Replies
+pub mod Turns

@@ -46,6 +46,16 @@ open_still : (A B : Type 0) (b : Bool) → MatchBool b A B → b ≡ false → B
 open_still A B true it is = cc
 open_still A B false it is = it
 
+-- a record that stands there whatever follows, by its size
+pub wanted : (d : Dialect) (input : List ℕ) (size : RecordSize) (found : Record)
+    → Tells found size → size.ended ≡ true → IsSized d input size
+    → WantsRecord (IsForGood d) input found
+wanted d input size found tells is (fields, it) = (
+  fields,
+  counts (IsForGood d) d input fields size found it tells
+      (ended _ _ size.ended it.ended is),
+)
+
 module _ (d : Dialect) (line_feeds : ℕ) (same : d ≡ dialect_of line_feeds) (input : List ℕ) where
   module _ (size : RecordSize) (found : Record) (tells : Tells found size) where
     pub shown_for_good : size.ended ≡ true → (text : List ℕ) (places : List Span)
@@ -63,13 +73,9 @@ module _ (d : Dialect) (line_feeds : ℕ) (same : d ≡ dialect_of line_feeds) (
 
     pub wanted_for_good : size.ended ≡ true → IsSized d input size
         → WantsRecord (IsForGood (dialect_of line_feeds)) input found
-    wanted_for_good is (fields, it) =
+    wanted_for_good is it =
         let P : Dialect → Type 0 = λ x. WantsRecord (IsForGood x) input found in
-        subst P same (
-          fields,
-          counts (IsForGood d) d input fields size found it tells
-              (ended _ _ size.ended it.ended is),
-        )
+        subst P same (wanted d input size found tells is it)
 
   none_yet : ((fields : List (List ℕ)) (rest : List ℕ) → IsRecord d input fields rest → ⊥)
       → NoneForGood (dialect_of line_feeds) input

@@ -1,10 +1,10 @@
 -- How far bytes that come in pieces are searched for the end of a reply, from call to call.
-use Rattle.std.specs.Prelude.{◌≡◌, ◌+◌, ◌*◌, ◌++◌, ℕ, zero, suc, List, [], ◌∷◌}
-use Rattle.std.specs.Prelude.{Option, Some, None, Ok}
-use Rattle.std.specs.List.{flat_map}
+use Rattle.std.specs.Prelude.{◌≡◌, ◌+◌, ◌*◌, ◌++◌, ℕ, zero, suc, List}
+use Rattle.std.specs.Prelude.{Some, None, Ok}
 use Rattle.format_resp.specs.Extents.{IsOf, IsReply, IsTold, IsWanting, Stands}
 use Rattle.format_resp.specs.declared.extent.Extent.{Extent}
 use Rattle.exported.specs.Code.{done, incomplete, refused}
+use Rattle.exported.specs.Turns.{CallsFrom}
 use Rattle.exported.specs.declared.resp.RespExtent.{RespExtent}
 
 -- what is due, by the number that says it: nothing was passed; or a line; or the bytes of a string
@@ -43,16 +43,7 @@ pub record TellsEnd (bytes : List ℕ) (code count : ℕ) (state : RespExtent) :
       → (more left : List ℕ) → Stands IsReply (bytes ++ more) left → ⊥
   pub kept : (code ≡ refused → ⊥) → (more : List ℕ) → IsOf (extent_of state) (bytes ++ more)
 
--- ---- calls in turn
-
--- the bytes of pieces, one after the other
-abbrev pub all_of : List (List ℕ) → List ℕ
-all_of pieces = flat_map (λ piece. piece) pieces
-
--- Calls that follow one another from a state and some bytes on, each with a piece more, and all ask
--- for more; and the state that the last one leaves.
-unfoldable pub CallsInTurn : RespExtent → List ℕ → List (List ℕ) → RespExtent → Type 0
-CallsInTurn state bytes [] last = state ≡ last
-CallsInTurn state bytes (piece ∷ pieces) last = (count : ℕ) × (next : RespExtent)
-    × (IsOf (extent_of state) (bytes ++ piece) → TellsEnd (bytes ++ piece) incomplete count next)
-    × CallsInTurn next (bytes ++ piece) pieces last
+-- Calls that follow one another, and all ask for more.
+abbrev pub CallsInTurn : RespExtent → List ℕ → List (List ℕ) → RespExtent → Type 0
+CallsInTurn state bytes pieces last =
+    CallsFrom (λ s. IsOf (extent_of s)) TellsEnd state bytes pieces last

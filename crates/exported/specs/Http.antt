@@ -1,9 +1,13 @@
--- Heads of requests as callers see them.
+-- Heads of requests and of responses as callers see them.
 use Rattle.std.specs.Prelude.{◌≡◌, ◌⊎◌, ℕ, List, length}
 use Rattle.format_http.specs.Pieces.Head.{BeginsHead}
+use Rattle.format_http.specs.Pieces.ResponseHead.{BeginsResponseHead}
 use Rattle.format_http_places.specs.Refusals.{IsRefused, NoneRead}
+use Rattle.format_http_places.specs.Responses.{IsResponseRefused, NoResponseRead}
 use Rattle.format_http_places.specs.declared.places.Head.{Head as Places}
+use Rattle.format_http_places.specs.declared.places.ResponseHead.{ResponseHead as ResponsePlaces}
 use Rattle.exported.specs.declared.http.Head.{Head}
+use Rattle.exported.specs.declared.http.response.ResponseHead.{ResponseHead}
 
 -- the places of a head
 abbrev pub places_of : Head → Places
@@ -21,3 +25,22 @@ places_of head = record {
 abbrev pub IsNoHead : List ℕ → ℕ → Type 0
 IsNoHead bytes place = IsRefused bytes place
     ⊎ ((place ≡ length bytes) × BeginsHead bytes × NoneRead bytes)
+
+-- ---- responses
+
+-- the numbers and the places of a head
+abbrev pub response_of : ResponseHead → ResponsePlaces
+response_of head = record {
+  reason = head.reason;
+  fields = head.fields;
+  length = head.length;
+  status = head.status;
+  major = head.major;
+  minor = head.minor;
+}
+
+-- The bytes begin with no head: at this place none goes on, or it is their end, and they end
+-- within one.
+abbrev pub IsNoResponse : List ℕ → ℕ → Type 0
+IsNoResponse bytes place = IsResponseRefused bytes place
+    ⊎ ((place ≡ length bytes) × BeginsResponseHead bytes × NoResponseRead bytes)

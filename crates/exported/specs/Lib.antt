@@ -2,8 +2,10 @@
 pub mod Chunked
 pub mod Code
 pub mod Csv
+pub mod CsvExtent
 pub mod Extent
 pub mod Http
+pub mod HttpExtent
 pub mod Ini
 pub mod Json
 pub mod JsonInteger
@@ -12,3 +14,4 @@ pub mod JsonString
 pub mod Pieces
 pub mod Resp
 pub mod Span
+pub mod Turns

@@ -10,6 +10,8 @@ ghost use Rattle.exported.specs.Csv.{IsRefusedAt, NoRecord, ShowsRecord, WantsRe
 ghost use Rattle.exported.specs.Csv.{dialect_of};
 ghost use Rattle.exported.specs.Span.{span_of};
 
+pub mod extent;
+
 use crate::code::{DONE, INCOMPLETE, REFUSED, TOO_SMALL};
 use crate::span::Span;
 use format_csv_records::buffers::{RecordSize, record_size, write_fields};
@@ -31,7 +33,7 @@ pub struct Record {
 }
 
 /// A refusal at a place, or no record.
-fn none_at(place: usize) -> Record
+pub(crate) fn none_at(place: usize) -> Record
     ensures { result.place ≡ place }
 {
     Record {
@@ -43,7 +45,7 @@ fn none_at(place: usize) -> Record
 }
 
 /// Commas, double quotes, and what ends a line.
-fn dialect(line_feeds: u32) -> Dialect
+pub(crate) fn dialect(line_feeds: u32) -> Dialect
     ensures { result ≡ dialect_of line_feeds }
 {
     let mut dialect = Dialect::standard();

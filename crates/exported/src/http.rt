@@ -1,4 +1,5 @@
-//! The heads of requests.
+//! The heads of requests; and, in modules of their own, those of responses, where a head ends whose
+//! bytes come in pieces, and chunked bodies.
 
 ghost use Rattle.std.specs.Prelude.{◌≡◌, ◌⊎◌, ◌<◌, List, length, take, ℕ};
 ghost use Rattle.format_http.specs.Heads.Head.{IsHead, Pair, Request};
@@ -9,6 +10,8 @@ ghost use Rattle.exported.specs.Code.{done, incomplete, refused, too_small};
 ghost use Rattle.exported.specs.Http.{IsNoHead, places_of};
 
 pub mod chunked;
+pub mod extent;
+pub mod response;
 
 use crate::code::{DONE, INCOMPLETE, REFUSED, TOO_SMALL};
 use format_http_places::places;

@@ -297,3 +297,34 @@ run_stops P c text K bytes size left not live ((room, all), ends) it =
           other = other;
           size = long;
         }))
+
+-- ---- a part of a language
+
+not_before : (before back more : List ℕ) (b : ℕ) (P : ℕ → Type 0) → NotFirst P (before ++ b ∷ back)
+    → NotFirst P (before ++ b ∷ more)
+not_before [] back more b P not = not
+not_before (x ∷ before) back more b P not = not
+
+-- what has a part alone of some first bytes stops where that does
+pub part_stops : (P : ℕ → Type 0) (L K : Language) (bytes : List ℕ) (left : ℕ) → NotFirst P bytes
+    → ((text rest : List ℕ) → K text rest → L text rest)
+    → ((text rest : List ℕ) → NotFirst P text → L text rest → K text rest)
+    → Stops K bytes left → Stops L bytes left
+part_stops P L K bytes left not there back it = record {
+  before = it.before;
+  back = it.back;
+  splits = it.splits;
+  size = it.size;
+  more = it.more;
+  live = there (it.before ++ it.more) [] it.live;
+  none = none it.before it.back (subst (λ l. NotFirst P l) it.splits not) it.none;
+}
+  where
+    none : (before behind : List ℕ) → NotFirst P (before ++ behind) → NoneAt K before behind
+        → NoneAt L before behind
+    none before [] first never = λ rest all.
+        let Q : List ℕ → Type 0 = λ l. NotFirst P l in
+        never rest (back before rest (subst Q (append-nil before) first) all)
+    none before (b ∷ bs) first never = λ more rest all.
+        never more rest (back (before ++ b ∷ more) rest
+        (not_before before bs more b P first) all)

@@ -17,8 +17,8 @@ use Rattle.format_http_places.proofs.Behind.{Behind, Live, NoneFirst, behind_bot
 use Rattle.format_http_places.proofs.Behind.{live_byte, live_one, live_run, live_text}
 use Rattle.format_http_places.proofs.Behind.{none_byte, none_one, none_run, stops_at}
 use Rattle.format_http_places.proofs.Heads.{refused_at, text_head, wanting}
-use Rattle.format_http_places.proofs.Lines.{a_token, fields_line, live_fields}
-use Rattle.format_http_places.proofs.Lines.{live_target, live_value, live_version}
+use Rattle.format_http_places.proofs.Lines.{a_token, fields_line, live_target, live_value}
+use Rattle.format_http_places.proofs.Versions.{live_fields, live_version}
 use Rattle.format_http_places.proofs.PlaceSteps.{InName, behind_of, leads_both, leads_none}
 
 -- ---- some bytes are due at each place

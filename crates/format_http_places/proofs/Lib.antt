@@ -1,11 +1,16 @@
 pub mod Behind
 pub mod Counts
 pub mod Extents
+pub mod FieldLines
 pub mod Heads
 pub mod Lines
 pub mod Passed
 pub mod PlaceSteps
+pub mod Responses
 pub mod Shown
 pub mod Sixteen
+pub mod StatusLines
+pub mod Stops
 pub mod Tests
 pub mod Trimmed
+pub mod Versions

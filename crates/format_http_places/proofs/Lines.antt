@@ -1,23 +1,23 @@
 -- The lines of heads as languages.
-use Rattle.std.proofs.Common.{◌≡◌, ◌∙◌, ◌<◌, ◌+◌, ◌++◌, ◌∷◌, [], ap, ℕ, zero, suc, List}
+use Rattle.std.proofs.Common.{◌≡◌, ◌∙◌, ◌<◌, ◌-◌, ◌++◌, ◌∷◌, [], ap, ℕ, zero, suc, List}
 use Rattle.std.proofs.Common.{length, sym, subst, arith, inl, inr, refl, append_assoc}
 use Rattle.std.specs.Prelude.{⊤}
 use Rattle.std.proofs.lemmas.List.Elements.{All-append, All-weaker}
 use Rattle.std.specs.List.{All}
-use Rattle.std.proofs.lemmas.List.{append-nil}
-use Rattle.format_http.specs.Heads.Bytes.{IsDigit, IsTokenByte, IsValueByte, IsVisible, IsWhite}
+use Rattle.format_http.specs.Heads.Bytes.{IsTokenByte, IsValueByte, IsVisible, IsWhite}
 use Rattle.format_http.specs.Heads.Bytes.{line_end}
 use Rattle.format_http.specs.Heads.FieldLine.{IsFieldLine}
 use Rattle.format_http.specs.Heads.RequestLine.{IsRequestLine, digits}
-use Rattle.format_http_places.specs.Grammar.{Byte, Differs, FieldsText, HeadText, Language}
-use Rattle.format_http_places.specs.Grammar.{LineText, LinesText, NoneAt, Nothing, OneOf, Run}
-use Rattle.format_http_places.specs.Grammar.{SomeOf, Stops, Text, VersionText, protocol}
+use Rattle.format_http_places.specs.Grammar.{Byte, FieldsText, HeadText, Language}
+use Rattle.format_http_places.specs.Grammar.{LineText, LinesText, Nothing, OneOf, Run}
+use Rattle.format_http_places.specs.Grammar.{SomeOf, Stops, VersionText}
+use Rattle.format_http_places.specs.Grammar.{protocol}
 use Rattle.format_http_places.specs.Runs.{NotFirst}
-use Rattle.format_http_places.proofs.Behind.{Behind, Live, behind_both, behind_byte, behind_one}
-use Rattle.format_http_places.proofs.Behind.{behind_run_end, behind_some_end, behind_text}
-use Rattle.format_http_places.proofs.Behind.{first_same, live_byte, live_one, live_run, live_text}
-use Rattle.format_http_places.proofs.Behind.{none_byte, none_one, not_empty, stops_at, stops_behind}
-use Rattle.format_http_places.proofs.Behind.{text_stops}
+use Rattle.format_http_places.proofs.Behind.{Behind, Live, behind_both, behind_byte}
+use Rattle.format_http_places.proofs.Behind.{behind_run_end, behind_some_end, first_same, live_byte}
+use Rattle.format_http_places.proofs.Behind.{live_one, live_run, none_byte, not_empty, part_stops}
+use Rattle.format_http_places.proofs.Behind.{stops_at}
+use Rattle.format_http_places.proofs.Versions.{behind_version, live_fields, live_version}
 use Rattle.format_http_places.proofs.Tests.{token_not, value_not, visible_not}
 
 pub token_no_space : IsTokenByte 32 → ⊥
@@ -41,109 +41,6 @@ a_token = inr (inl (omega arith, omega arith))
 pub a_visible : IsVisible 65
 a_visible = (omega arith, omega arith)
 
--- ---- versions
-
-abbrev Ended : Language
-Ended = Text line_end FieldsText
-
-abbrev Minor : Language
-Minor = OneOf IsDigit Ended
-
-abbrev Pointed : Language
-Pointed = Byte 46 Minor
-
-abbrev Major : Language
-Major = OneOf IsDigit Pointed
-
-pub live_fields : Live FieldsText
-unfolding FieldsText Byte
-live_fields = record {
-  bytes = line_end;
-  is = (0, (10 ∷ [], refl, ([], refl, refl)));
-}
-
-a_digit : IsDigit 48
-a_digit = (omega arith, omega arith)
-
-pub is_digit : (n : ℕ) → n < 10 → IsDigit (48 + n)
-is_digit n less = (omega arith, omega (arith, less))
-
-live_ended : Live Ended
-live_ended = live_text line_end FieldsText live_fields
-
-live_minor : Live Minor
-live_minor = live_one IsDigit 48 Ended a_digit live_ended
-
-live_pointed : Live Pointed
-live_pointed = live_byte 46 Minor live_minor
-
-live_major : Live Major
-live_major = live_one IsDigit 48 Pointed a_digit live_pointed
-
-pub live_version : Live VersionText
-unfolding VersionText
-live_version = live_text protocol Major live_major
-
-module _ (bytes : List ℕ) (left : ℕ) where
-  pub stops_protocol : Differs protocol bytes left → Stops VersionText bytes left
-  unfolding VersionText
-  stops_protocol it = text_stops protocol bytes left Major live_major it
-
-  module _ (first : List ℕ) (at : bytes ≡ protocol ++ first) where
-    behind_protocol : Behind VersionText protocol Major
-    unfolding VersionText
-    behind_protocol = behind_text protocol [] Major
-
-    pub stops_major : NotFirst IsDigit first → left ≡ length first → Stops VersionText bytes left
-    stops_major not size =
-        stops_at VersionText Major bytes protocol first left behind_protocol live_major
-        (none_one IsDigit Pointed first not) at size
-
-    module _ (a : ℕ) (point : List ℕ) (less : a < 10) (major : first ≡ (48 + a) ∷ point) where
-      behind_major : Behind VersionText (protocol ++ (48 + a) ∷ []) Pointed
-      behind_major = behind_both VersionText Major Pointed protocol ((48 + a) ∷ [])
-          behind_protocol (behind_one IsDigit (48 + a) Pointed (is_digit a less))
-
-      at_point : bytes ≡ (protocol ++ (48 + a) ∷ []) ++ point
-      at_point = at ∙ ap (λ l. protocol ++ l) major
-
-      pub stops_point : NotFirst (λ b. b ≡ 46) point → left ≡ length point
-          → Stops VersionText bytes left
-      stops_point not size =
-          stops_at VersionText Pointed bytes (protocol ++ (48 + a) ∷ []) point left behind_major
-          live_pointed (none_byte 46 Minor point not) at_point size
-
-      module _ (second : List ℕ) (pointed : point ≡ 46 ∷ second) where
-        abbrev front : List ℕ
-        front = (protocol ++ (48 + a) ∷ []) ++ 46 ∷ []
-
-        behind_point : Behind VersionText front Minor
-        behind_point = behind_both VersionText Pointed Minor (protocol ++ (48 + a) ∷ []) (46 ∷ [])
-            behind_major (behind_byte 46 Minor)
-
-        at_second : bytes ≡ front ++ second
-        at_second = at_point ∙ ap (λ l. (protocol ++ (48 + a) ∷ []) ++ l) pointed
-
-        pub stops_minor : NotFirst IsDigit second → left ≡ length second
-            → Stops VersionText bytes left
-        stops_minor not size =
-            stops_at VersionText Minor bytes front second left behind_point live_minor
-            (none_one IsDigit Ended second not) at_second size
-
-        module _ (b : ℕ) (end : List ℕ) (small : b < 10) (minor : second ≡ (48 + b) ∷ end) where
-          pub stops_end : Differs line_end end left → Stops VersionText bytes left
-          stops_end it =
-              stops_behind VersionText Ended bytes (front ++ (48 + b) ∷ []) end left
-              (behind_both VersionText Minor Ended front ((48 + b) ∷ []) behind_point
-              (behind_one IsDigit (48 + b) Ended (is_digit b small)))
-              (at_second ∙ ap (λ l. front ++ l) minor)
-              (text_stops line_end end left FieldsText live_fields it)
-
-          pub version_at : (rest : List ℕ) → end ≡ line_end ++ rest
-              → bytes ≡ protocol ++ (digits a b ++ (line_end ++ rest))
-          version_at rest ended = at_second ∙ ap (λ l. front ++ l) (minor
-              ∙ ap (λ l. (48 + b) ∷ l) ended)
-
 -- ---- request lines
 
 abbrev Target : Language
@@ -163,19 +60,6 @@ pub behind_target : (target : List ℕ) → 0 < length target → All IsVisible 
     → Behind Target (target ++ 32 ∷ []) VersionText
 behind_target target some all =
     behind_some_end IsVisible 32 VersionText target all visible_no_space some
-
-behind_version : (a b : ℕ) → a < 10 → b < 10
-    → Behind VersionText (protocol ++ (digits a b ++ line_end)) FieldsText
-unfolding VersionText
-behind_version a b less small =
-    behind_both VersionText Major FieldsText protocol (digits a b ++ line_end)
-    (behind_text protocol [] Major)
-    (behind_both Major Pointed FieldsText ((48 + a) ∷ []) (46 ∷ (48 + b) ∷ line_end)
-    (behind_one IsDigit (48 + a) Pointed (is_digit a less))
-    (behind_both Pointed Minor FieldsText (46 ∷ []) ((48 + b) ∷ line_end) (behind_byte 46 Minor)
-    (behind_both Minor Ended FieldsText ((48 + b) ∷ []) line_end
-    (behind_one IsDigit (48 + b) Ended (is_digit b small))
-    (behind_text line_end [] FieldsText))))
 
 -- after a request line are fields
 pub behind_request : (m t : List ℕ) (a b : ℕ) (bytes rest : List ℕ)
@@ -313,32 +197,11 @@ fields_line (b ∷ bs) rest not (zero, it) = absurd (not (first_same b 13 bs it.
 fields_line bytes rest not (suc n, it) =
     line_map (LinesText n) FieldsText bytes rest (λ more lines. (n, lines)) it
 
-not_before : (before back more : List ℕ) (b : ℕ) (P : ℕ → Type 0) → NotFirst P (before ++ b ∷ back)
-    → NotFirst P (before ++ b ∷ more)
-not_before [] back more b P not = not
-not_before (x ∷ before) back more b P not = not
-
 -- where no line goes on, no fields do
 pub fields_stop : (bytes : List ℕ) (left : ℕ) → NotFirst (λ b. b ≡ 13) bytes
     → Stops (LineText FieldsText) bytes left → Stops FieldsText bytes left
-fields_stop bytes left not it = record {
-  before = it.before;
-  back = it.back;
-  splits = it.splits;
-  size = it.size;
-  more = it.more;
-  live = line_fields (it.before ++ it.more) [] it.live;
-  none = none it.before it.back (subst (λ l. NotFirst (λ b. b ≡ 13) l) it.splits not) it.none;
-}
-  where
-    none : (before back : List ℕ) → NotFirst (λ b. b ≡ 13) (before ++ back)
-        → NoneAt (LineText FieldsText) before back → NoneAt FieldsText before back
-    none before [] first never = λ rest fields.
-        let P : List ℕ → Type 0 = λ l. NotFirst (λ b. b ≡ 13) l in
-        never rest (fields_line before rest (subst P (append-nil before) first) fields)
-    none before (b ∷ bs) first never = λ more rest fields.
-        never more rest (fields_line (before ++ b ∷ more) rest
-        (not_before before bs more b (λ x. x ≡ 13) first) fields)
+fields_stop bytes left not it = part_stops (λ b. b ≡ 13) FieldsText (LineText FieldsText) bytes
+    left not line_fields fields_line it
 
 -- after a field line are fields
 pub behind_field : (name value bytes rest : List ℕ) (is : IsFieldLine name value bytes rest)

@@ -16,9 +16,9 @@ use Rattle.format_http_places.specs.Runs.{SoMany}
 use Rattle.format_http_places.specs.declared.places.Span.{Span}
 use Rattle.format_http_places.proofs.Behind.{run_stops, some_stops, stops_behind}
 use Rattle.format_http_places.proofs.Lines.{a_token, a_visible, behind_method, behind_name}
-use Rattle.format_http_places.proofs.Lines.{behind_target, live_fields, live_target, live_value}
-use Rattle.format_http_places.proofs.Lines.{live_version, token_no_colon, token_no_space}
-use Rattle.format_http_places.proofs.Lines.{value_no_return, visible_no_space}
+use Rattle.format_http_places.proofs.Lines.{behind_target, live_target, live_value, token_no_colon}
+use Rattle.format_http_places.proofs.Lines.{token_no_space, value_no_return, visible_no_space}
+use Rattle.format_http_places.proofs.Versions.{live_fields, live_version}
 
 size_of : (n : ℕ) (bytes : List ℕ) → n ≤ length bytes → length (take n bytes) ≡ n
 size_of n bytes room = omega (arith, length-take n bytes, room)
@@ -159,6 +159,9 @@ module _ (bytes text : List ℕ) (name : ℕ) (run : SoMany IsTokenByte bytes na
           begins_bare = bare.begins_bare;
           ends_bare = bare.ends_bare;
         }
+
+    pub is_field_line : IsFieldLine (take name bytes) bare.value bytes rest
+    is_field_line = is_line
 
     pub field_shown : (whole : ℕ) (input before : List ℕ) → input ≡ before ++ bytes
         → length input ≡ whole → ShowsField input (record {

@@ -52,13 +52,30 @@ FieldsText bytes rest = (n : ℕ) × LinesText n bytes rest
 abbrev pub protocol : List ℕ
 protocol = 72 ∷ 84 ∷ 84 ∷ 80 ∷ 47 ∷ []
 
+-- a version, and then that
+abbrev pub ProtocolText : Language → Language
+ProtocolText behind = Text protocol (OneOf IsDigit (Byte 46 (OneOf IsDigit behind)))
+
 -- a version and a line end, and then fields
 unfoldable pub VersionText : Language
-VersionText = Text protocol (OneOf IsDigit (Byte 46 (OneOf IsDigit (Text line_end FieldsText))))
+VersionText = ProtocolText (Text line_end FieldsText)
 
 -- a method and a target, and then a version
 unfoldable pub HeadText : Language
 HeadText = SomeOf IsTokenByte 32 (SomeOf IsVisible 32 VersionText)
+
+-- the three digits of a status code, and then that
+abbrev pub CodeText : Language → Language
+CodeText behind = OneOf IsDigit (OneOf IsDigit (OneOf IsDigit behind))
+
+-- a space and a reason, or nothing, and a line end, and then fields
+unfoldable pub ReasonText : Language
+ReasonText bytes rest = Byte 32 (Run IsValueByte 13 (Byte 10 FieldsText)) bytes rest
+    ⊎ Text line_end FieldsText bytes rest
+
+-- a version, a space and a status code, and then a reason
+unfoldable pub ResponseText : Language
+ResponseText = ProtocolText (Byte 32 (CodeText ReasonText))
 
 -- No bytes of this begin with these and the byte after them; or none is after them, and they are
 -- none.

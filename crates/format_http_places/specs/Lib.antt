@@ -3,4 +3,5 @@ pub mod Extents
 pub mod Grammar
 pub mod Places
 pub mod Refusals
+pub mod Responses
 pub mod Runs

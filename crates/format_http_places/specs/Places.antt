@@ -1,9 +1,9 @@
 -- Where the parts of a head stand.
-use Rattle.std.specs.Prelude.{◌≡◌, ◌+◌, ℕ, List, [], ◌∷◌, ◌++◌, length}
+use Rattle.std.specs.Prelude.{◌≡◌, ◌≤◌, ◌+◌, ℕ, List, [], ◌∷◌, ◌++◌, length, take}
 use Rattle.std.specs.List.{All}
 use Rattle.format_http.specs.Heads.Bytes.{IsWhite, line_end}
 use Rattle.format_http.specs.Heads.FieldLine.{BeginsBare, EndsBare, IsFieldLine}
-use Rattle.format_http.specs.Heads.Head.{IsHead, Pair, Request}
+use Rattle.format_http.specs.Heads.Head.{AreFields, IsHead, Pair, Request}
 use Rattle.format_http.specs.Heads.RequestLine.{IsRequestLine, digits, protocol}
 use Rattle.format_http_places.specs.declared.line.FieldLine.{FieldLine}
 use Rattle.format_http_places.specs.declared.line.RequestLine.{RequestLine}
@@ -95,8 +95,19 @@ pub record ShowsLine (input : List ℕ) (line : RequestLine) : Type 0 where
   pub target_at : StandsAt input line.target target
       (version_on line.major line.minor line.rest.now)
 
+-- Fields and an empty line are first in what an input of such a length ends with, that many fields.
+-- Where there is room, these stand at the first places.
+pub record ShowsFields (whole : ℕ) (bytes : List ℕ) (count : ℕ) (places : List Field)
+    (rest : List ℕ) : Type 0 where
+  pub fields : List Pair
+  pub are_fields : AreFields fields bytes rest
+  pub counts : count ≡ length fields
+  pub shows : count ≤ length places → (input before : List ℕ) → input ≡ before ++ bytes
+      → length input ≡ whole → AreShown input bytes (take count places) fields (line_end ++ rest)
+
 -- This field line is first in what an input of such a length ends with.
 pub record ShowsFieldLine (whole : ℕ) (bytes : List ℕ) (line : FieldLine) : Type 0 where
   pub field : Pair
+  pub is_line : IsFieldLine field.0 field.1 bytes line.rest.now
   pub shows : (input before : List ℕ) → input ≡ before ++ bytes → length input ≡ whole
       → ShowsField input line.field field bytes line.rest.now

@@ -1,5 +1,5 @@
 -- What bytes are read as: a head, or where none goes on.
-use Rattle.std.specs.Prelude.{◌≡◌, ◌<◌, ◌≤◌, ℕ, List, [], ◌∷◌, ◌++◌, length, take}
+use Rattle.std.specs.Prelude.{◌≡◌, ◌<◌, ◌≤◌, ◌-◌, ℕ, List, [], ◌∷◌, ◌++◌, length, take}
 use Rattle.std.specs.Prelude.{Result, Ok, Err}
 use Rattle.format_http.specs.Heads.Head.{IsHead, Pair, Request}
 use Rattle.format_http.specs.Pieces.Head.{BeginsHead, NoHead}
@@ -15,16 +15,21 @@ abbrev pub NoneRead : List ℕ → Type 0
 NoneRead bytes = (line : Request) (fields : List Pair) (rest : List ℕ)
     → IsHead line fields bytes rest → ⊥
 
--- This is the first place at which no head goes on: some head begins with the bytes before it, and
--- none with these and the byte there.
-pub record IsRefused (bytes : List ℕ) (place : ℕ) : Type 0 where
+-- This is the first place at which bytes go on no more: what is asked of beginnings is so of the
+-- bytes before it, and of these and the byte there it is so that none begins with them.
+pub record IsRefusedBy (starts never : List ℕ → Type 0) (bytes : List ℕ) (place : ℕ) : Type 0 where
   pub before : List ℕ
   pub byte : ℕ
   pub behind : List ℕ
   pub splits : bytes ≡ before ++ byte ∷ behind
   pub at : place ≡ length before
-  pub begins : BeginsHead before
-  pub none : NoHead (before ++ byte ∷ [])
+  pub begins : starts before
+  pub none : never (before ++ byte ∷ [])
+
+-- This is the first place at which no head goes on: some head begins with the bytes before it, and
+-- none with these and the byte there.
+abbrev pub IsRefused : List ℕ → ℕ → Type 0
+IsRefused bytes place = IsRefusedBy BeginsHead NoHead bytes place
 
 -- What is read of the bytes: a head, whose fields stand in the first entries; one with more fields
 -- than there are entries; where no head goes on; or that a longer input begins with a head, and
@@ -42,3 +47,9 @@ abbrev pub ReadsParts : List ℕ → Head → List Field → Type 0
 ReadsParts bytes head fields =
     (head.fields ≤ length fields → ShowsHead bytes head (take head.fields fields))
     × IsWanted bytes head.fields
+
+-- where a stop is, or that more is asked for, of bytes of such a length of which that many are left
+abbrev pub IsErrorAt : ℕ → ℕ → HeadError → Type 0
+IsErrorAt whole left (TooManyFields count) = ⊥
+IsErrorAt whole left (Refused place) = (0 < left) × (place ≡ whole - left)
+IsErrorAt whole left Incomplete = left ≡ 0

@@ -4,7 +4,8 @@ ghost use Rattle.std.specs.Prelude.{◌≡◌, ◌≤◌, ◌<◌, ◌+◌, ◌�
 ghost use Rattle.format_http.specs.Heads.Bytes.{IsDigit, line_end};
 ghost use Rattle.format_http.specs.Heads.RequestLine.{digits};
 ghost use Rattle.format_http_places.specs.Grammar.{Differs, FieldsText, HeadText, LineText};
-ghost use Rattle.format_http_places.specs.Grammar.{Stops, Unended, VersionText, protocol};
+ghost use Rattle.format_http_places.specs.Grammar.{Nothing, ProtocolText, Stops, Unended};
+ghost use Rattle.format_http_places.specs.Grammar.{VersionText, protocol};
 ghost use Rattle.format_http_places.specs.Places.{ShowsFieldLine, ShowsLine};
 ghost use Rattle.format_http_places.specs.Runs.{NotFirst};
 
@@ -22,7 +23,7 @@ pub(crate) struct RequestLine<'i> {
     pub rest: &'i [u8],
 }
 
-/// The numbers of a version, and what stands after the line that it ends.
+/// The numbers of a version, and what stands after them, or after the line that they end.
 #[derive(Clone, Copy)]
 pub(crate) struct Version<'i> {
     pub major: u8,
@@ -53,7 +54,7 @@ fn ended(bytes: &[u8], size: usize, byte: u8) -> Result<&[u8], Stop>
 
 /// What stands after a line end.
 #[inline(always)]
-fn read_line_end(bytes: &[u8]) -> Result<&[u8], Stop>
+pub(crate) fn read_line_end(bytes: &[u8]) -> Result<&[u8], Stop>
     ensures { MatchResult result (λ rest. bytes.now ≡ line_end ++ rest.now)
         (λ stop. Differs line_end bytes.now stop.left) }
 {
@@ -62,7 +63,8 @@ fn read_line_end(bytes: &[u8]) -> Result<&[u8], Stop>
 }
 
 /// The number of a digit, and what stands after it.
-fn read_digit(bytes: &[u8]) -> Result<(u8, &[u8]), Stop>
+#[inline(always)]
+pub(crate) fn read_digit(bytes: &[u8]) -> Result<(u8, &[u8]), Stop>
     ensures { MatchResult result
         (λ digit. (digit.0 < 10) × (bytes.now ≡ (48 + digit.0) ∷ digit.1.now))
         (λ stop. NotFirst IsDigit bytes.now × (stop.left ≡ length bytes.now)) }
@@ -73,6 +75,21 @@ fn read_digit(bytes: &[u8]) -> Result<(u8, &[u8]), Stop>
     }
 }
 
+/// The numbers of a version, with what stands before them.
+#[inline(always)]
+pub(crate) fn read_numbers(bytes: &[u8]) -> Result<Version<'_>, Stop>
+    ensures { MatchResult result
+        (λ version. (version.major < 10) × (version.minor < 10)
+        × (bytes.now ≡ protocol ++ (digits version.major version.minor ++ version.rest.now)))
+        (λ stop. Stops (ProtocolText Nothing) bytes.now stop.left) }
+{
+    let first = read_text(bytes, b"HTTP/".as_slice())?;
+    let (major, point) = read_digit(first)?;
+    let second = read_byte(point, b'.')?;
+    let (minor, rest) = read_digit(second)?;
+    Ok(Version { major, minor, rest })
+}
+
 /// A version and the line end after it.
 fn read_version(bytes: &[u8]) -> Result<Version<'_>, Stop>
     ensures { MatchResult result
@@ -81,12 +98,13 @@ fn read_version(bytes: &[u8]) -> Result<Version<'_>, Stop>
         ++ (line_end ++ version.rest.now))))
         (λ stop. Stops VersionText bytes.now stop.left) }
 {
-    let first = read_text(bytes, b"HTTP/".as_slice())?;
-    let (major, point) = read_digit(first)?;
-    let second = read_byte(point, b'.')?;
-    let (minor, end) = read_digit(second)?;
-    let rest = read_line_end(end)?;
-    Ok(Version { major, minor, rest })
+    let numbers = read_numbers(bytes)?;
+    let rest = read_line_end(numbers.rest)?;
+    Ok(Version {
+        major: numbers.major,
+        minor: numbers.minor,
+        rest,
+    })
 }
 
 /// The request line with which the bytes begin.

@@ -37,7 +37,7 @@ pub struct Field {
     pub value: Span,
 }
 
-/// The places of the parts of a head.
+/// The places of the parts of the head of a request.
 ///
 /// ```
 /// use format_http_places::places::{Head, Span};
@@ -58,6 +58,32 @@ pub struct Head {
     pub fields: usize,
     /// How many bytes the head has, the empty line after the fields among them.
     pub length: usize,
+    /// The number before the point of the version, below 10.
+    pub major: u8,
+    /// The number after the point of the version, below 10.
+    pub minor: u8,
+}
+
+/// The numbers and the places of the parts of the head of a response.
+///
+/// ```
+/// use format_http_places::places::{ResponseHead, Span};
+///
+/// let reason = Span { offset: 13, length: 2 };
+/// let head = ResponseHead { reason, fields: 0, length: 19, status: 200, major: 1, minor: 1 };
+/// assert!(rt; head.reason.offset < head.length);
+/// ```
+#[repr(C)]
+#[derive(Clone, Copy, Debug, PartialEq, Eq, Drop)]
+pub struct ResponseHead {
+    /// The reason. One without bytes stands at the end of its line.
+    pub reason: Span,
+    /// How many fields there are.
+    pub fields: usize,
+    /// How many bytes the head has, the empty line after the fields among them.
+    pub length: usize,
+    /// The status code, below 1000.
+    pub status: u16,
     /// The number before the point of the version, below 10.
     pub major: u8,
     /// The number after the point of the version, below 10.

@@ -4,13 +4,14 @@
 //! targets and values are looked at sixteen bytes at a time. These are loops over bytes and not
 //! parsers of the library.
 
-ghost use Rattle.std.specs.Prelude.{◌≡◌, ◌<◌, MatchResult, length, slice_set};
+ghost use Rattle.std.specs.Prelude.{◌≤◌, MatchResult};
 ghost use Rattle.format_http_places.specs.Grammar.{HeadText, Stops};
-ghost use Rattle.format_http_places.specs.Refusals.{ReadsHead, ReadsParts};
+ghost use Rattle.format_http_places.specs.Refusals.{IsErrorAt, ReadsHead, ReadsParts};
 
-use crate::line::{read_field_line, read_request_line};
+use crate::fields::read_fields;
+use crate::line::read_request_line;
 use crate::places::{Field, Head};
-use crate::stop::{Stop, read_byte};
+use crate::stop::Stop;
 use std::error::Error;
 use std::fmt;
 use std::fmt::{Display, Formatter};
@@ -45,14 +46,16 @@ impl Display for HeadError {
 
 impl Error for HeadError {}
 
-/// Writes an entry, if there is one of this number.
+/// Why no head was read of bytes of such a length, where they stop there.
 #[inline(always)]
-fn write(fields: &mut [Field], number: usize, field: Field)
-    ensures put { number < length fields.old → fields.new ≡ slice_set fields.old number field }
-    ensures same { length fields.new ≡ length fields.old }
+pub(crate) fn error_at(whole: usize, stop: Stop) -> HeadError
+    requires { stop.left ≤ whole }
+    ensures { IsErrorAt whole stop.left result }
 {
-    if number < fields.len() {
-        fields[number] = field;
+    if stop.left == 0 {
+        HeadError::Incomplete
+    } else {
+        HeadError::Refused(whole - stop.left)
     }
 }
 
@@ -62,26 +65,15 @@ fn read_parts(bytes: &[u8], fields: &mut [Field]) -> Result<Head, Stop>
         (λ stop. Stops HeadText bytes.now stop.left) }
 {
     let line = read_request_line(bytes)?;
-    let whole = bytes.len();
-    let mut rest = line.rest;
-    let mut count = 0;
-    'fields: loop {
-        if let Ok(end) = read_byte(rest, b'\r') {
-            let left = read_byte(end, b'\n')?;
-            return Ok(Head {
-                method: line.method,
-                target: line.target,
-                fields: count,
-                length: whole - left.len(),
-                major: line.major,
-                minor: line.minor,
-            });
-        }
-        let found = read_field_line(whole, rest)?;
-        write(fields, count, found.field);
-        count += 1;
-        rest = found.rest;
-    }
+    let found = read_fields(bytes.len(), line.rest, fields)?;
+    Ok(Head {
+        method: line.method,
+        target: line.target,
+        fields: found.count,
+        length: bytes.len() - found.rest.len(),
+        major: line.major,
+        minor: line.minor,
+    })
 }
 
 /// The head of a request of HTTP/1.1 (RFC 9112, section 2.1) with which the bytes begin: a request
@@ -124,12 +116,6 @@ pub fn read_head_into(bytes: &[u8], fields: &mut [Field]) -> Result<Head, HeadEr
                 Err(HeadError::TooManyFields(head.fields))
             }
         }
-        Err(stop) => {
-            if stop.left == 0 {
-                Err(HeadError::Incomplete)
-            } else {
-                Err(HeadError::Refused(bytes.len() - stop.left))
-            }
-        }
+        Err(stop) => Err(error_at(bytes.len(), stop)),
     }
 }

@@ -1,7 +1,8 @@
 //! How far bytes were searched for the end of a reply, as numbers that a caller keeps.
 
 ghost use Rattle.std.specs.Prelude.{◌≡◌, ◌++◌, [], List, ℕ};
-ghost use Rattle.exported.specs.Extent.{CallsInTurn, all_of, extent_of, nothing};
+ghost use Rattle.exported.specs.Extent.{CallsInTurn, extent_of, nothing};
+ghost use Rattle.exported.specs.Turns.{all_of};
 ghost use Rattle.exported.specs.declared.resp.RespExtent.{RespExtent};
 ghost use Rattle.format_resp.specs.Extents.{IsOf};
 

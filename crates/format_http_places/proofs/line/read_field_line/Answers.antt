@@ -1,7 +1,7 @@
 use Rattle.std.proofs.Common.{◌∙◌, List, ℕ, subst, sym, take}
 use Rattle.format_http_places.specs.Places.{IsBare}
 use Rattle.format_http_places.proofs.Passed.{passed}
-use Rattle.format_http_places.proofs.Shown.{field_shown, name_stops, value_stops}
+use Rattle.format_http_places.proofs.Shown.{field_shown, is_field_line, name_stops, value_stops}
 use Rattle.format_http_places.proofs.line.read_field_line.Goals as goal
 
 pub returns-in_err-text : goal.returns-in_err-text
@@ -25,6 +25,10 @@ returns c =
     subst P c.front.ensures c.bare-value.ensures in
     record {
       field = (take c.token_len-name.result c.args.bytes.now, bare.value);
+      is_line = is_field_line c.args.bytes.now c.in_ok-text.text.now c.token_len-name.result
+          c.token_len-name.ensures text.0 text.1 c.value_len-size.result c.value_len-size.ensures
+          c.in_ok-rest.rest.now (sym c.behind.ensures ∙ c.in_ok-rest.ensures)
+          c.bare-value.result bare;
       shows = λ input before e size.
           field_shown c.args.bytes.now c.in_ok-text.text.now c.token_len-name.result
           c.token_len-name.ensures text.0 text.1 c.value_len-size.result c.value_len-size.ensures

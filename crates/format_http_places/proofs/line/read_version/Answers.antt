@@ -1,66 +1,27 @@
-use Rattle.std.proofs.Common.{List, ℕ, subst, ◌∙◌, ◌++◌, ap}
-use Rattle.format_http_places.specs.Grammar.{Differs}
-use Rattle.format_http_places.proofs.Lines.{stops_end, stops_major, stops_minor, stops_point}
-use Rattle.format_http_places.proofs.Lines.{stops_protocol, version_at}
+use Rattle.std.proofs.Common.{◌∙◌, ◌++◌, ap}
+use Rattle.format_http.specs.Heads.RequestLine.{digits}
+use Rattle.format_http_places.specs.Grammar.{protocol}
 use Rattle.format_http_places.proofs.Passed.{passed}
+use Rattle.format_http_places.proofs.Versions.{version_ends, version_stops}
 use Rattle.format_http_places.proofs.line.read_version.Goals as goal
 
-pub returns-in_err-first : goal.returns-in_err-first
-returns-in_err-first c =
-    let left = c.in_err-first.field-0.0.left in
-    let P : List ℕ → Type 0 = λ t. Differs t c.args.bytes.now left in
-    passed _ _ _ c.in_err-first.field-0.0 c.from_residual.ensures.1
-    (stops_protocol c.args.bytes.now left (subst P c.as_slice.ensures c.in_err-first.ensures))
-
-pub returns-in_err-major : goal.returns-in_err-major
-returns-in_err-major c =
-    let first = c.in_ok-first.first.now in
-    passed _ _ _ c.in_err-major.field-0.0 c.from_residual-in_err-major.ensures.1
-    (stops_major c.args.bytes.now c.in_err-major.field-0.0.left first
-    (c.in_ok-first.ensures ∙ ap (λ l. l ++ first) c.as_slice.ensures)
-    c.in_err-major.ensures.0 c.in_err-major.ensures.1)
-
-pub returns-in_err-second : goal.returns-in_err-second
-returns-in_err-second c =
-    let first = c.in_ok-first.first.now in
-    let major = c.in_ok-major.ensures in
-    passed _ _ _ c.in_err-second.field-0.0 c.from_residual-in_err-second.ensures.1
-    (stops_point c.args.bytes.now c.in_err-second.field-0.0.left first
-    (c.in_ok-first.ensures ∙ ap (λ l. l ++ first) c.as_slice.ensures) c.in_ok-major.major
-    c.in_ok-major.point.now major.0 major.1
-    c.in_err-second.ensures.0 c.in_err-second.ensures.1)
-
-pub returns-in_err-minor : goal.returns-in_err-minor
-returns-in_err-minor c =
-    let first = c.in_ok-first.first.now in
-    let major = c.in_ok-major.ensures in
-    passed _ _ _ c.in_err-minor.field-0.0 c.from_residual-in_err-minor.ensures.1
-    (stops_minor c.args.bytes.now c.in_err-minor.field-0.0.left first
-    (c.in_ok-first.ensures ∙ ap (λ l. l ++ first) c.as_slice.ensures) c.in_ok-major.major
-    c.in_ok-major.point.now major.0 major.1 c.in_ok-second.second.now c.in_ok-second.ensures
-    c.in_err-minor.ensures.0 c.in_err-minor.ensures.1)
+pub returns-in_err-numbers : goal.returns-in_err-numbers
+returns-in_err-numbers c = passed _ _ _ c.in_err-numbers.field-0.0 c.from_residual.ensures.1
+    (version_stops c.args.bytes.now c.in_err-numbers.field-0.0.left c.in_err-numbers.ensures)
 
 pub returns-in_err-rest : goal.returns-in_err-rest
 returns-in_err-rest c =
-    let first = c.in_ok-first.first.now in
-    let major = c.in_ok-major.ensures in
-    let minor = c.in_ok-minor.ensures in
+    let numbers = c.in_ok-numbers.numbers in
+    let (less, small, at) = c.in_ok-numbers.ensures in
     passed _ _ _ c.in_err-rest.field-0.0 c.from_residual-in_err-rest.ensures.1
-    (stops_end c.args.bytes.now c.in_err-rest.field-0.0.left first
-    (c.in_ok-first.ensures ∙ ap (λ l. l ++ first) c.as_slice.ensures) c.in_ok-major.major
-    c.in_ok-major.point.now major.0 major.1 c.in_ok-second.second.now c.in_ok-second.ensures
-    c.in_ok-minor.minor c.in_ok-minor.end.now minor.0 minor.1 c.in_err-rest.ensures)
+    (version_ends c.args.bytes.now numbers.rest.now numbers.major numbers.minor
+    c.in_err-rest.field-0.0.left less small at c.in_err-rest.ensures)
 
 pub returns : goal.returns
 returns c =
-    let first = c.in_ok-first.first.now in
-    let major = c.in_ok-major.ensures in
-    let minor = c.in_ok-minor.ensures in (
-      major.0,
-      minor.0,
-      version_at c.args.bytes.now 0 first
-          (c.in_ok-first.ensures ∙ ap (λ l. l ++ first) c.as_slice.ensures) c.in_ok-major.major
-          c.in_ok-major.point.now major.0 major.1 c.in_ok-second.second.now
-          c.in_ok-second.ensures c.in_ok-minor.minor c.in_ok-minor.end.now minor.0 minor.1
-          c.in_ok-rest.rest.now c.in_ok-rest.ensures,
+    let numbers = c.in_ok-numbers.numbers in
+    let (less, small, at) = c.in_ok-numbers.ensures in (
+      less,
+      small,
+      at ∙ ap (λ l. protocol ++ (digits numbers.major numbers.minor ++ l)) c.in_ok-rest.ensures,
     )

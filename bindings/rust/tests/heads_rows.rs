@@ -1,0 +1,143 @@
+//! Rows of heads of responses, and of heads of requests and records whose end is found in pieces.
+use pergidau::csv::{Extent, LineEnd, Size};
+use pergidau::http::{self, Field, HeadExtent};
+use pergidau::{Error, Place, Wanted};
+
+/// How many bytes stand before the place of a refusal.
+fn offset_of(error: Error) -> Option<usize> {
+    match error {
+        Error::Refused(place) => place.map(|it| it.offset),
+        _ => None,
+    }
+}
+
+/// Of the response of RFC 9110, section 3.9, some fields, and the beginning of its content.
+const HELLO: &[u8] = b"HTTP/1.1 200 OK\r\nDate: Mon, 27 Jul 2009 12:28:53 GMT\r\n\
+Server: Apache\r\nContent-Length: 51\r\n\r\nHello";
+
+#[test]
+fn http_response_head_of_responses() {
+    let want: [(&[u8], &[u8]); 3] = [
+        (b"Date", b"Mon, 27 Jul 2009 12:28:53 GMT"),
+        (b"Server", b"Apache"),
+        (b"Content-Length", b"51"),
+    ];
+    let mut fields = [Field::default(); 4];
+    let head = http::response_head(HELLO, &mut fields).unwrap();
+    assert_eq!((head.status(), head.reason()), (200, &b"OK"[..]));
+    assert_eq!(head.version(), (1, 1));
+    assert_eq!(head.rest(), b"Hello");
+    assert_eq!(head.fields().collect::<Vec<_>>(), want);
+    let whole = HELLO.len() - 5;
+    for end in 0..whole {
+        let piece = http::response_head_in_pieces(&HELLO[..end], &mut fields);
+        assert_eq!(piece.unwrap_err(), Error::Incomplete, "{end}");
+        let place = Place::of(&HELLO[..end], end);
+        let short = http::response_head(&HELLO[..end], &mut fields).unwrap_err();
+        assert_eq!(short, Error::Refused(Some(place)), "{end}");
+    }
+    let head = http::response_head_in_pieces(&HELLO[..whole], &mut fields).unwrap();
+    assert_eq!((head.status(), head.fields().len()), (200, 3));
+    let small = http::response_head(HELLO, &mut fields[..2]).unwrap_err();
+    assert_eq!(small.to_string(), "the buffer is too small: 3 entries are wanted");
+    let rows: [(&[u8], (u8, u8), u16, &[u8]); 4] = [
+        (b"HTTP/1.1 404 Not Found\r\n\r\n", (1, 1), 404, b"Not Found"),
+        (b"HTTP/1.0 200 \r\n\r\n", (1, 0), 200, b""),
+        (b"HTTP/2.9 999\r\n\r\n", (2, 9), 999, b""),
+        (b"HTTP/0.1 000 \xe9\t\r\n\r\n", (0, 1), 0, b"\xe9\t"),
+    ];
+    for (bytes, version, status, reason) in rows {
+        let head = http::response_head(bytes, &mut []).unwrap();
+        assert_eq!((head.version(), head.status(), head.reason()), (version, status, reason));
+        assert_eq!(head.fields().count(), 0);
+    }
+    for (bytes, begins) in [
+        (&b"GET / HTTP/1.1\r\n\r\n"[..], 0),
+        (b"HTTP/1.1\r\n\r\n", 8),
+        (b"HTTP/1.1 20 OK\r\n\r\n", 11),
+        (b"HTTP/1.1 200OK\r\n\r\n", 12),
+        (b"HTTP/1.1 200 O\0K\r\n\r\n", 14),
+    ] {
+        for cut in 0..=bytes.len() {
+            let error = http::response_head_in_pieces(&bytes[..cut], &mut []).unwrap_err();
+            assert_eq!(offset_of(error), (cut > begins).then_some(begins), "{bytes:?} {cut}");
+        }
+        let error = http::response_head(bytes, &mut []).unwrap_err();
+        assert_eq!(offset_of(error), Some(begins), "{bytes:?}");
+    }
+}
+
+#[test]
+fn http_head_extent_of_pieces() {
+    let rows: [(&[u8], usize); 3] = [
+        (b"A b HTTP/1.1\r\n\r\n\r\n", 16),
+        (b"GET /hello.txt HTTP/1.1\r\nHost: www.example.com\r\n\r\nbody", 50),
+        (b"PUT /x HTTP/1.1\r\nX: 1\r\nX:\t2 \r\nY:\r\n\r\nX: 3\r\n\r\n", 36),
+    ];
+    for (bytes, whole) in rows {
+        for step in 1..=bytes.len() {
+            let (mut extent, mut have) = (HeadExtent::new(), 0);
+            let end = loop {
+                have = bytes.len().min(have + step);
+                match extent.advance(&bytes[..have]).unwrap() {
+                    Some(end) => break end,
+                    None => assert!(have < whole, "{bytes:?} {step}"),
+                }
+            };
+            assert_eq!(end, whole, "{bytes:?} {step}");
+            assert!(have - end < step);
+        }
+    }
+    // What was passed is kept.
+    let mut extent = HeadExtent::new();
+    assert_eq!(extent.advance(b"GET /"), Ok(None));
+    assert_ne!(extent, HeadExtent::new());
+    for (bytes, begins) in [(&b"GET  / HTTP/1.1\r\n"[..], 4), (b"A b HTTP/1.1\n", 12), (b"(", 0)] {
+        let mut extent = HeadExtent::new();
+        for have in 0..=begins {
+            assert_eq!(extent.advance(&bytes[..have]), Ok(None), "{bytes:?} {have}");
+        }
+        for have in begins + 1..=bytes.len() {
+            let refused = extent.advance(&bytes[..have]).unwrap_err();
+            assert_eq!(offset_of(refused), Some(begins), "{bytes:?}");
+        }
+    }
+}
+
+#[test]
+fn csv_extent_of_pieces() {
+    let rows: [(&[u8], LineEnd, usize, usize, usize); 4] = [
+        (b"aaa,bbb,ccc\r\nzzz", LineEnd::CrLf, 13, 3, 9),
+        (b"\"aaa\",\"b\r\nbb\",\"\"\r\n", LineEnd::CrLf, 18, 3, 8),
+        (b"\"b\"\"bb\"\n,", LineEnd::Lf, 8, 1, 4),
+        (b"\n\n", LineEnd::Lf, 1, 1, 0),
+    ];
+    for (bytes, end, length, entries, text) in rows {
+        let want = Size { length, wanted: Wanted { entries, bytes: text } };
+        for step in 1..=bytes.len() {
+            let (mut extent, mut have) = (Extent::new(end), 0);
+            let size = loop {
+                have = bytes.len().min(have + step);
+                match extent.advance(&bytes[..have]).unwrap() {
+                    Some(size) => break size,
+                    None => assert!(have < length, "{bytes:?} {step}"),
+                }
+            };
+            assert_eq!(size, want, "{bytes:?} {step}");
+        }
+    }
+    // What was passed is kept.
+    let mut extent = Extent::new(LineEnd::Lf);
+    assert_eq!(extent.advance(b"a,\"b"), Ok(None));
+    assert_ne!(extent, Extent::new(LineEnd::Lf));
+    for (bytes, end, begins) in [
+        (&b"x\"y,z"[..], LineEnd::CrLf, 1),
+        (b"\"a\"b\r\n", LineEnd::CrLf, 3),
+        (b"a\r\n", LineEnd::Lf, 1),
+    ] {
+        let mut extent = Extent::new(end);
+        assert_eq!(extent.advance(&bytes[..begins]), Ok(None), "{bytes:?}");
+        let refused = extent.advance(bytes).unwrap_err();
+        assert_eq!(offset_of(refused), Some(begins), "{bytes:?}");
+    }
+}

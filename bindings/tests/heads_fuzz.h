@@ -1,0 +1,172 @@
+/* Random inputs of heads of responses, and of heads of requests and records whose end is found in
+ * pieces, for `fuzz.c`. */
+#ifndef HEADS_FUZZ_H
+#define HEADS_FUZZ_H
+
+/* ---- heads of responses, beside a reader by hand */
+
+static bool is_digit(uint8_t byte)
+{
+    return byte >= '0' && byte <= '9';
+}
+
+/* A byte of a name (RFC 9110, section 5.6.2). */
+static bool is_name(uint8_t byte)
+{
+    return byte != 0 && strchr("!#$%&'*+-.^_`|~0123456789abcdefghijklmnopqrstuvwxyz"
+                               "ABCDEFGHIJKLMNOPQRSTUVWXYZ", byte) != NULL;
+}
+
+/* A byte of a reason and of a value (RFC 9112, sections 4 and 5). */
+static bool is_value(uint8_t byte)
+{
+    return byte == '\t' || (byte >= ' ' && byte != 0x7f);
+}
+
+/* How a reader by hand ends: at a head of so many fields; at a byte with which none goes on; or at the
+ * end of the bytes, within one. */
+struct by_hand {
+    enum pergidau_code code;
+    size_t at, fields, reason, reason_length;
+    unsigned status;
+};
+
+/* One byte at a time, by what is due: the bytes of `form`, where 'd' is a digit; then a reason, the
+ * line end, and lines of fields. */
+static struct by_hand response_by_hand(const uint8_t *bytes, size_t length)
+{
+    static const char form[] = "HTTP/d.d ddd";
+    struct by_hand made = {.code = PERGIDAU_INCOMPLETE};
+    enum { LINE, REASON, FEED, START, NAME, VALUE, LAST } due = LINE;
+    for (size_t i = 0; i < length; i++) {
+        uint8_t byte = bytes[i];
+        bool goes = false;
+        made.at = i;
+        switch (due) {
+        case LINE:
+            if (i < sizeof form - 1) {
+                goes = form[i] == 'd' ? is_digit(byte) : byte == (uint8_t)form[i];
+                if (i > 8 && goes) {
+                    made.status = made.status * 10 + (byte - (unsigned)'0');
+                }
+                break;
+            }
+            goes = byte == ' ' || byte == '\r';
+            made.reason = byte == ' ' ? i + 1 : i;
+            due = byte == ' ' ? REASON : FEED;
+            break;
+        case REASON:
+        case VALUE:
+            goes = is_value(byte) || byte == '\r';
+            made.reason_length += due == REASON && byte != '\r';
+            due = byte == '\r' ? FEED : due;
+            break;
+        case FEED:
+            goes = byte == '\n';
+            due = START;
+            break;
+        case START:
+            goes = byte == '\r' || is_name(byte);
+            made.fields += byte != '\r';
+            due = byte == '\r' ? LAST : NAME;
+            break;
+        case NAME:
+            goes = byte == ':' || is_name(byte);
+            due = byte == ':' ? VALUE : NAME;
+            break;
+        case LAST:
+            goes = byte == '\n';
+            made.at = i + 1;
+            made.code = PERGIDAU_DONE;
+            break;
+        }
+        if (!goes) {
+            made.code = PERGIDAU_REFUSED;
+            made.at = i;
+        }
+        if (made.code != PERGIDAU_INCOMPLETE) {
+            return made;
+        }
+    }
+    made.at = length;
+    return made;
+}
+
+static void read_response(const uint8_t *bytes, size_t length)
+{
+    struct pergidau_response_head out, cut;
+    struct by_hand want = response_by_hand(bytes, length);
+    size_t count = below(6), size = count * sizeof(struct pergidau_field);
+    /* The last entry ends where the room does. */
+    struct pergidau_field *fields =
+        (struct pergidau_field *)(void *)(buffer_room + PAGES * page - size);
+    enum pergidau_code code = pergidau_http_response_head(bytes, length, fields, count, &out);
+    enum pergidau_code piece =
+        pergidau_http_response_head_in_pieces(bytes, length, fields, count, &cut);
+    if (want.code != PERGIDAU_DONE) {
+        HOLDS(code == PERGIDAU_REFUSED && out.place == want.at);
+        HOLDS(piece == want.code);
+        HOLDS(cut.place == (piece == PERGIDAU_REFUSED ? want.at : 0));
+        return;
+    }
+    HOLDS(piece == code && cut.fields == want.fields && out.fields == want.fields);
+    HOLDS((code == PERGIDAU_TOO_SMALL) == (want.fields > count));
+    if (code == PERGIDAU_TOO_SMALL) {
+        HOLDS(want.fields <= MOST_FIELDS);
+        count = want.fields;
+        fields = (struct pergidau_field *)(void *)(buffer_room + PAGES * page
+                                                   - count * sizeof *fields);
+        code = pergidau_http_response_head(bytes, length, fields, count, &out);
+    }
+    HOLDS(code == PERGIDAU_DONE && out.length == want.at && out.status == want.status);
+    HOLDS(out.major == bytes[5] - '0' && out.minor == bytes[7] - '0');
+    HOLDS(out.reason.offset == want.reason && out.reason.length == want.reason_length);
+    for (size_t i = 0; i < out.fields; i++) {
+        struct pergidau_span name = fields[i].name, value = fields[i].value;
+        HOLDS(within(name, out.length) && within(value, out.length) && name.length > 0);
+        HOLDS(bytes[name.offset + name.length] == ':');
+        HOLDS(name.offset + name.length < value.offset);
+        HOLDS(i == 0 || fields[i - 1].value.offset < name.offset);
+    }
+}
+
+/* ---- where heads of requests and records end, in turn and by one call for all bytes */
+
+static void read_head_extent(const uint8_t *bytes, size_t length)
+{
+    struct pergidau_http_head_extent state = {0};
+    struct pergidau_head head;
+    struct pergidau_field fields[MOST_FIELDS];
+    size_t out = 0, have = 0;
+    enum pergidau_code code = pergidau_http_head_extent(&state, bytes, 0, &out);
+    while (code == PERGIDAU_INCOMPLETE && have < length) {
+        HOLDS(out == 0 && state.passed == have);
+        have += 1 + below(length - have);
+        code = pergidau_http_head_extent(&state, bytes, have, &out);
+    }
+    enum pergidau_code whole =
+        pergidau_http_head_in_pieces(bytes, length, fields, MOST_FIELDS, &head);
+    HOLDS(code == whole && state.passed <= have);
+    HOLDS(out == (code == PERGIDAU_DONE ? head.length : head.place));
+}
+
+static void read_record_extent(const uint8_t *bytes, size_t length)
+{
+    struct pergidau_csv_record_extent state = {0};
+    struct pergidau_record out, record;
+    uint32_t line_feeds = (uint32_t)below(2);
+    size_t have = 0;
+    enum pergidau_code code = pergidau_csv_record_extent(&state, bytes, 0, line_feeds, &out);
+    while (code == PERGIDAU_INCOMPLETE && have < length) {
+        HOLDS(out.length == 0 && state.passed == have);
+        have += 1 + below(length - have);
+        code = pergidau_csv_record_extent(&state, bytes, have, line_feeds, &out);
+    }
+    enum pergidau_code whole =
+        pergidau_csv_record_in_pieces(bytes, length, line_feeds, NULL, 0, NULL, 0, &record);
+    HOLDS(code == (whole == PERGIDAU_TOO_SMALL ? PERGIDAU_DONE : whole));
+    HOLDS(out.fields == record.fields && out.text == record.text);
+    HOLDS(out.length == record.length && out.place == record.place);
+}
+
+#endif

@@ -1,0 +1,280 @@
+/* Rows of heads of responses, and of heads of requests and records whose end is found in pieces, for
+ * `rows.c`: it has those of heads and of records, which are found here too. */
+#ifndef HEADS_ROWS_H
+#define HEADS_ROWS_H
+
+/* ---- heads of responses */
+
+static const struct {
+    const char *text, *reason, *fields[3][2];
+    size_t count, rest;
+    /* The numbers of the version, the status code, and where the reason stands. */
+    int major, minor, status;
+    size_t offset;
+} responses[] = {
+    /* Of the response of RFC 9110, section 3.9, some fields. */
+    {"HTTP/1.1 200 OK\r\nDate: Mon, 27 Jul 2009 12:28:53 GMT\r\nServer: Apache\r\n"
+     "Content-Length: 51\r\n\r\nHello World!",
+     "OK",
+     {{"Date", "Mon, 27 Jul 2009 12:28:53 GMT"}, {"Server", "Apache"}, {"Content-Length", "51"}},
+     3,
+     12,
+     1,
+     1,
+     200,
+     13},
+    {"HTTP/1.1 404 Not Found\r\nX:\r\n\r\n", "Not Found", {{"X", ""}}, 1, 0, 1, 1, 404, 13},
+    {"HTTP/1.1 200 \r\n\r\n", "", {{0}}, 0, 0, 1, 1, 200, 13},
+    {"HTTP/1.1 200\r\n\r\n", "", {{0}}, 0, 0, 1, 1, 200, 12},
+    {"HTTP/1.0 301  a\t\r\n\r\n\r\n", " a\t", {{0}}, 0, 2, 1, 0, 301, 13},
+    {"HTTP/2.9 999 9\r\n\r\n", "9", {{0}}, 0, 0, 2, 9, 999, 13},
+    {"HTTP/0.1 000 \xe9\xff\r\n\r\n", "\xe9\xff", {{0}}, 0, 0, 0, 1, 0, 13},
+};
+
+/* With more behind them these are none either: what begins one, and what cannot go on there. */
+static const char *no_responses[][2] = {
+    {"", "\r\nHTTP/1.1 200 OK\r\n\r\n"},   {"", "GET / HTTP/1.1\r\n\r\n"},
+    {"HTTP/", "x.1 200 OK\r\n\r\n"},       {"HTTP/1", "1 200 OK\r\n\r\n"},
+    {"HTTP/1.", "x 200 OK\r\n\r\n"},       {"HTTP/1.1", "1 200 OK\r\n\r\n"},
+    {"HTTP/1.1", "\r\n\r\n"},              {"HTTP/1.1 ", " 200 OK\r\n\r\n"},
+    {"HTTP/1.1 ", "x00 OK\r\n\r\n"},       {"HTTP/1.1 2", "x0 OK\r\n\r\n"},
+    {"HTTP/1.1 20", " OK\r\n\r\n"},        {"HTTP/1.1 200", "0 OK\r\n\r\n"},
+    {"HTTP/1.1 200", "OK\r\n\r\n"},        {"HTTP/1.1 200", "\tOK\r\n\r\n"},
+    {"HTTP/1.1 200", "\n\r\n"},            {"HTTP/1.1 200\r", "\r\n"},
+    {"HTTP/1.1 200 ", "\n\r\n"},           {"HTTP/1.1 200 O", "\x7fK\r\n"},
+    {"HTTP/1.1 200 OK", "\n\r\n"},         {"HTTP/1.1 200 OK\r", "X\r\n"},
+    {"HTTP/1.1 200 OK\r\n", "\n"},         {"HTTP/1.1 200 OK\r\n\r", "\r\n"},
+    {"HTTP/1.1 200 OK\r\nX: 1\r\n", " 2\r\n\r\n"},
+};
+
+static void test_response(size_t i)
+{
+    struct pergidau_response_head out;
+    const char *row = responses[i].text;
+    size_t length = strlen(row), count = responses[i].count;
+    uint8_t *text = copied(row, length);
+    struct pergidau_field *fields = malloc((count ? count : 1) * sizeof *fields);
+    if (fields == NULL) {
+        exit(2);
+    }
+    for (int in_pieces = 0; in_pieces < 2; in_pieces++) {
+        same("http_response_head", row,
+             (in_pieces ? pergidau_http_response_head_in_pieces : pergidau_http_response_head)(
+                 text, length, fields, count, &out),
+             PERGIDAU_DONE);
+        shown(row, text, out.reason, responses[i].reason);
+        same("the reason's place", row, (long long)out.reason.offset,
+             (long long)responses[i].offset);
+        same("the major version", row, out.major, responses[i].major);
+        same("the minor version", row, out.minor, responses[i].minor);
+        same("the status code", row, out.status, responses[i].status);
+        same("the length", row, (long long)out.length, (long long)(length - responses[i].rest));
+        same("the fields", row, (long long)out.fields, (long long)count);
+        same("no place", row, (long long)out.place, 0);
+        for (size_t k = 0; k < count; k++) {
+            shown(row, text, fields[k].name, responses[i].fields[k][0]);
+            shown(row, text, fields[k].value, responses[i].fields[k][1]);
+        }
+    }
+    for (size_t room = 0; room < count; room++) {
+        same("too small", row, pergidau_http_response_head(text, length, fields, room, &out),
+             PERGIDAU_TOO_SMALL);
+        same("wanted", row, (long long)out.fields, (long long)count);
+    }
+    for (size_t end = 0; end + responses[i].rest < length; end++) {
+        uint8_t *front = copied(row, end);
+        same("a beginning", row, pergidau_http_response_head(front, end, fields, count, &out),
+             PERGIDAU_REFUSED);
+        same("its end", row, (long long)out.place, (long long)end);
+        same("a piece", row,
+             pergidau_http_response_head_in_pieces(front, end, fields, count, &out),
+             PERGIDAU_INCOMPLETE);
+        free(front);
+    }
+    free(fields);
+    free(text);
+}
+
+static void test_responses(void)
+{
+    struct pergidau_response_head out;
+    struct pergidau_field fields[4];
+    for (size_t i = 0; i < sizeof responses / sizeof *responses; i++) {
+        test_response(i);
+    }
+    for (size_t i = 0; i < sizeof no_responses / sizeof *no_responses; i++) {
+        char row[64];
+        size_t place = strlen(no_responses[i][0]);
+        size_t length =
+            (size_t)snprintf(row, sizeof row, "%s%s", no_responses[i][0], no_responses[i][1]);
+        uint8_t *text = copied(row, length);
+        same("no response", row, pergidau_http_response_head(text, length, fields, 4, &out),
+             PERGIDAU_REFUSED);
+        same("the place", row, (long long)out.place, (long long)place);
+        same("no response", row,
+             pergidau_http_response_head_in_pieces(text, length, fields, 4, &out),
+             PERGIDAU_REFUSED);
+        same("the place", row, (long long)out.place, (long long)place);
+        free(text);
+    }
+    const uint8_t *bytes = (const uint8_t *)"H";
+    size_t far = (size_t)PTRDIFF_MAX + 1;
+    same("null", "response", pergidau_http_response_head(NULL, 1, fields, 1, &out), PERGIDAU_NULL);
+    same("null", "response", pergidau_http_response_head(bytes, 1, NULL, 1, &out), PERGIDAU_NULL);
+    same("null", "response", pergidau_http_response_head(bytes, 1, fields, 1, NULL),
+         PERGIDAU_NULL);
+    same("too long", "response", pergidau_http_response_head(bytes, far, fields, 1, &out),
+         PERGIDAU_TOO_LONG);
+    same("too long", "response",
+         pergidau_http_response_head(bytes, 1, fields, (size_t)PTRDIFF_MAX / sizeof *fields + 1,
+                                     &out),
+         PERGIDAU_TOO_LONG);
+    same("no room", "response", pergidau_http_response_head(bytes, 1, NULL, 0, &out),
+         PERGIDAU_REFUSED);
+    same("nothing", "response", pergidau_http_response_head_in_pieces(NULL, 0, NULL, 0, &out),
+         PERGIDAU_INCOMPLETE);
+}
+
+/* ---- where heads of requests end */
+
+/* Calls in turn, each with so many bytes more: what the last one answers, and writes. */
+static enum pergidau_code head_in_turn(const char *row, size_t length, size_t step, size_t *out)
+{
+    struct pergidau_http_head_extent state = {0};
+    enum pergidau_code code = PERGIDAU_INCOMPLETE;
+    for (size_t have = 0; code == PERGIDAU_INCOMPLETE && have <= length;
+         have += length - have < step && have < length ? length - have : step) {
+        uint8_t *bytes = copied(row, have);
+        code = pergidau_http_head_extent(&state, bytes, have, out);
+        same("what was passed", row, (long long)state.passed,
+             code == PERGIDAU_INCOMPLETE ? (long long)have : (long long)*out);
+        free(bytes);
+    }
+    return code;
+}
+
+static void test_head_extents(void)
+{
+    size_t out = 1;
+    for (size_t i = 0; i < sizeof heads / sizeof *heads; i++) {
+        const char *row = heads[i].text;
+        size_t length = strlen(row), whole = length - heads[i].rest;
+        for (size_t step = 1; step <= length; step++) {
+            same("a head", row, head_in_turn(row, length, step, &out), PERGIDAU_DONE);
+            same("its end", row, (long long)out, (long long)whole);
+        }
+        same("a part", row, head_in_turn(row, whole - 1, 1, &out), PERGIDAU_INCOMPLETE);
+        same("no end", row, (long long)out, 0);
+    }
+    for (size_t i = 0; i < sizeof no_heads / sizeof *no_heads; i++) {
+        char row[64];
+        size_t place = strlen(no_heads[i][0]);
+        size_t length = (size_t)snprintf(row, sizeof row, "%s%s", no_heads[i][0], no_heads[i][1]);
+        for (size_t step = 1; step <= length; step++) {
+            same("no head", row, head_in_turn(row, length, step, &out), PERGIDAU_REFUSED);
+            same("its place", row, (long long)out, (long long)place);
+        }
+        same("it begins", row, head_in_turn(row, place, 1, &out), PERGIDAU_INCOMPLETE);
+    }
+    struct pergidau_http_head_extent state = {0};
+    const uint8_t *bytes = (const uint8_t *)"A b HTTP/1.1\r\n\r\n";
+    same("null", "state", pergidau_http_head_extent(NULL, bytes, 16, &out), PERGIDAU_NULL);
+    same("null", "head", pergidau_http_head_extent(&state, NULL, 1, &out), PERGIDAU_NULL);
+    same("null", "head", pergidau_http_head_extent(&state, bytes, 16, NULL), PERGIDAU_NULL);
+    same("too long", "head",
+         pergidau_http_head_extent(&state, bytes, (size_t)PTRDIFF_MAX + 1, &out),
+         PERGIDAU_TOO_LONG);
+    same("nothing", "head", pergidau_http_head_extent(&state, NULL, 0, &out),
+         PERGIDAU_INCOMPLETE);
+    same("a state that went on", "head", pergidau_http_head_extent(&state, bytes, 16, &out),
+         PERGIDAU_DONE);
+    same("it is done again", "head", pergidau_http_head_extent(&state, bytes, 16, &out),
+         PERGIDAU_DONE);
+    same("its end", "head", (long long)out, 16);
+    /* Of numbers that no call left, it may say anything, and reads the bytes alone. */
+    for (size_t place = 0; place < 20; place++) {
+        state = (struct pergidau_http_head_extent){SIZE_MAX, place};
+        (void)pergidau_http_head_extent(&state, bytes, 16, &out);
+        state = (struct pergidau_http_head_extent){place, SIZE_MAX - place};
+        (void)pergidau_http_head_extent(&state, bytes, 16, &out);
+    }
+}
+
+/* ---- where records end */
+
+/* Calls in turn, each with so many bytes more: what the last one answers, and writes. */
+static enum pergidau_code record_in_turn(const char *row, size_t length, uint32_t line_feeds,
+                                         size_t step, struct pergidau_record *out)
+{
+    struct pergidau_csv_record_extent state = {0};
+    enum pergidau_code code = PERGIDAU_INCOMPLETE;
+    for (size_t have = 0; code == PERGIDAU_INCOMPLETE && have <= length;
+         have += length - have < step && have < length ? length - have : step) {
+        uint8_t *bytes = copied(row, have);
+        code = pergidau_csv_record_extent(&state, bytes, have, line_feeds, out);
+        same("no place", row, (long long)out->place,
+             code == PERGIDAU_REFUSED ? (long long)state.passed : 0);
+        free(bytes);
+    }
+    return code;
+}
+
+static void test_record_extents(void)
+{
+    struct pergidau_record out;
+    for (size_t i = 0; i < sizeof records / sizeof *records; i++) {
+        const char *row = records[i].text;
+        uint32_t line_feeds = records[i].line_feeds;
+        size_t length = strlen(row), whole = length - records[i].rest, text = 0;
+        /* A record whose line end is wanting is none as yet. */
+        bool ended = whole > 0 && row[whole - 1] == '\n';
+        for (size_t k = 0; k < records[i].count; k++) {
+            text += strlen(records[i].fields[k]);
+        }
+        for (size_t step = 1; step <= length; step++) {
+            enum pergidau_code code = record_in_turn(row, length, line_feeds, step, &out);
+            same("a record", row, code, ended ? PERGIDAU_DONE : PERGIDAU_INCOMPLETE);
+            same("its fields", row, (long long)out.fields,
+                 ended ? (long long)records[i].count : 0);
+            same("its text", row, (long long)out.text, ended ? (long long)text : 0);
+            same("its length", row, (long long)out.length, ended ? (long long)whole : 0);
+        }
+        same("a part", row, record_in_turn(row, whole - 1, line_feeds, 1, &out),
+             PERGIDAU_INCOMPLETE);
+    }
+    for (size_t i = 0; i < sizeof no_records / sizeof *no_records; i++) {
+        const char *row = no_records[i].text;
+        uint32_t line_feeds = no_records[i].line_feeds;
+        size_t length = strlen(row), begins = no_records[i].begins;
+        for (size_t step = 1; step <= length; step++) {
+            same("no record", row, record_in_turn(row, length, line_feeds, step, &out),
+                 begins < length ? PERGIDAU_REFUSED : PERGIDAU_INCOMPLETE);
+            same("its place", row, (long long)out.place,
+                 begins < length ? (long long)begins : 0);
+        }
+        same("it begins", row, record_in_turn(row, begins, line_feeds, 1, &out),
+             PERGIDAU_INCOMPLETE);
+    }
+    struct pergidau_csv_record_extent state = {0};
+    const uint8_t *bytes = (const uint8_t *)"a,\"\"\r\n";
+    same("null", "state", pergidau_csv_record_extent(NULL, bytes, 6, 0, &out), PERGIDAU_NULL);
+    same("null", "record", pergidau_csv_record_extent(&state, NULL, 1, 0, &out), PERGIDAU_NULL);
+    same("null", "record", pergidau_csv_record_extent(&state, bytes, 6, 0, NULL), PERGIDAU_NULL);
+    same("too long", "record",
+         pergidau_csv_record_extent(&state, bytes, (size_t)PTRDIFF_MAX + 1, 0, &out),
+         PERGIDAU_TOO_LONG);
+    same("nothing", "record", pergidau_csv_record_extent(&state, NULL, 0, 0, &out),
+         PERGIDAU_INCOMPLETE);
+    same("a state that went on", "record", pergidau_csv_record_extent(&state, bytes, 6, 0, &out),
+         PERGIDAU_DONE);
+    same("its fields", "record", (long long)out.fields, 2);
+    /* Of numbers that no call left, it may say anything, and reads the bytes alone. */
+    for (size_t place = 0; place < 8; place++) {
+        state = (struct pergidau_csv_record_extent){0, SIZE_MAX, SIZE_MAX, place};
+        (void)pergidau_csv_record_extent(&state, bytes, 6, 0, &out);
+        state = (struct pergidau_csv_record_extent){SIZE_MAX, place, SIZE_MAX, place};
+        (void)pergidau_csv_record_extent(&state, bytes, 6, 1, &out);
+    }
+}
+
+#endif

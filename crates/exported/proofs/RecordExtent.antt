@@ -1,0 +1,62 @@
+-- What calls in turn tell of the end of a record.
+use Rattle.std.specs.Prelude.{◌≡◌, ◌++◌, ℕ, List, [], Option, None, Some, Result, Ok, Err}
+use Rattle.std.proofs.Common.{inr, refl, sym, subst}
+use Rattle.format_csv_records.specs.Extents.{IsOf, IsTold}
+use Rattle.format_csv_records.specs.Refused.{IsRefused}
+use Rattle.format_csv_records.specs.declared.buffers.RecordSize.{RecordSize}
+use Rattle.format_csv_records.specs.declared.dialect.Dialect.{Dialect}
+use Rattle.format_csv_records.specs.declared.extent.RecordExtent.{RecordExtent}
+use Rattle.format_csv_records.specs.declared.read.RecordFault.{RecordFault}
+use Rattle.format_csv_records.proofs.Extents.{of_none}
+use Rattle.exported.specs.Code.{done, incomplete, refused}
+use Rattle.exported.specs.CsvExtent.{RecordCalls, TellsRecord, nothing, record_extent_of}
+use Rattle.exported.specs.Turns.{all_of}
+use Rattle.exported.specs.declared.csv.Record.{Record}
+use Rattle.exported.specs.declared.csv.extent.CsvRecordExtent.{CsvRecordExtent}
+use Rattle.exported.proofs.Records.{Tells, wanted}
+use Rattle.exported.proofs.Turns.{calls_from_nothing}
+
+-- one call, by what was answered of the extent
+module _ (d : Dialect) (old new : RecordExtent) (bytes : List ℕ)
+    (answer : Result (Option RecordSize) RecordFault) (before after : CsvRecordExtent) (code : ℕ)
+    (out : Record) (told : IsOf d old bytes → IsTold d bytes answer)
+    (kept : IsOf d old bytes → (more : List ℕ) → IsOf d new (bytes ++ more))
+    (was : old ≡ record_extent_of before) (is : record_extent_of after ≡ new)
+    (ends : code ≡ done → (size : RecordSize) × (answer ≡ Ok (Some size)) × Tells out size)
+    (wants : code ≡ incomplete → answer ≡ Ok None)
+    (never : code ≡ refused
+    → (fault : RecordFault) × (answer ≡ Err fault) × (out.place ≡ fault.offset)) where
+  tells_of : IsOf d old bytes → TellsRecord d bytes code out after
+  tells_of it =
+      let Q : Result (Option RecordSize) RecordFault → Type 0 = λ a. IsTold d bytes a in
+      record {
+        ends = λ e.
+            let (size, at, counts) = ends e in
+            let (sized, ended) = subst Q at (told it) in
+            wanted d bytes size out counts ended sized;
+        wants = λ e. let (goes, none) = subst Q (wants e) (told it) in (none, goes);
+        never = λ e.
+            let (fault, at, place) = never e in
+            let (first, none) = subst Q at (told it) in
+            let P : ℕ → Type 0 = λ n. IsRefused d bytes (record { offset = n; why = fault.why }) in
+            (none, inr (fault.why, subst P (sym place) first));
+        kept = λ more.
+            let R : RecordExtent → Type 0 = λ x. IsOf d x (bytes ++ more) in
+            subst R (sym is) (kept it more);
+      }
+
+  pub tells_record : (other : Dialect) → d ≡ other → IsOf other (record_extent_of before) bytes
+      → TellsRecord other bytes code out after
+  tells_record other same here =
+      let P : Dialect → Type 0 = λ x. IsOf x (record_extent_of before) bytes in
+      let R : RecordExtent → Type 0 = λ e. IsOf d e bytes in
+      let T : Dialect → Type 0 = λ x. TellsRecord x bytes code out after in
+      subst T same (tells_of (subst R (sym was) (subst P (sym same) here)))
+
+pub record_calls : (d : Dialect) (pieces : List (List ℕ)) (state : CsvRecordExtent)
+    → RecordCalls d nothing [] pieces state
+    → (more : List ℕ) → IsOf d (record_extent_of state) (all_of pieces ++ more)
+record_calls d pieces state calls more =
+    calls_from_nothing (λ s. IsOf d (record_extent_of s)) (TellsRecord d)
+    (λ bytes out next told. told.kept) pieces nothing state
+    (λ bytes. of_none d _ bytes refl refl refl refl) calls more

@@ -1,0 +1,78 @@
+//! Heads of responses, whole and in pieces, into entries of the caller's: by the same lanes, field
+//! lines and refusals as those of requests.
+
+ghost use Rattle.std.specs.Prelude.{MatchResult};
+ghost use Rattle.format_http_places.specs.Grammar.{ResponseText, Stops};
+ghost use Rattle.format_http_places.specs.Responses.{ReadsResponse, ReadsResponseParts};
+
+use crate::fields::read_fields;
+use crate::places::{Field, ResponseHead};
+use crate::read::{HeadError, error_at};
+use crate::status::read_status_line;
+use crate::stop::Stop;
+
+/// The head with which the bytes begin. Its fields are written as far as there is room.
+fn read_response_parts(bytes: &[u8], fields: &mut [Field]) -> Result<ResponseHead, Stop>
+    ensures { MatchResult result (λ head. ReadsResponseParts bytes.now head fields.new)
+        (λ stop. Stops ResponseText bytes.now stop.left) }
+{
+    let line = read_status_line(bytes)?;
+    let found = read_fields(bytes.len(), line.rest, fields)?;
+    Ok(ResponseHead {
+        reason: line.reason,
+        fields: found.count,
+        length: bytes.len() - found.rest.len(),
+        status: line.status,
+        major: line.major,
+        minor: line.minor,
+    })
+}
+
+/// The head of a response of HTTP/1.1 (RFC 9112, section 2.1) with which the bytes begin: a status
+/// line, field lines one after the other, and an empty line. Returned are its numbers and the
+/// places of its parts, and the first entries are those of its fields, in order. What stands after
+/// the head is not looked at.
+///
+/// The status code is three digits, of which the first may be any. The reason may have no bytes,
+/// and then the space before it may be wanting too: it stands at the end of the line.
+///
+/// The errors are those of [`read_head_into`](crate::read::read_head_into), of heads of responses:
+/// [`Refused`](HeadError::Refused) tells the first place at which none goes on,
+/// [`Incomplete`](HeadError::Incomplete) that the bytes end within one, and
+/// [`TooManyFields`](HeadError::TooManyFields) how many entries are wanted. At an error any entry
+/// may be written.
+///
+/// ```
+/// use format_http_places::places::{Field, Span};
+/// use format_http_places::read::HeadError;
+/// use format_http_places::response::read_response_head_into;
+///
+/// let nowhere = Span { offset: 0, length: 0 };
+/// let mut fields = [Field { name: nowhere, value: nowhere }; 2];
+/// let text = b"HTTP/1.1 404 Not Found\r\nServer: a\r\n\r\nrest".as_slice();
+/// let head = read_response_head_into(text, &mut fields);
+/// assert!(rt; matches!(head, Ok(head) if head.status == 404 && head.length == 37));
+/// assert!(rt; matches!(head, Ok(head) if head.reason == Span { offset: 13, length: 9 }));
+/// assert!(rt; fields[0].value == Span { offset: 32, length: 1 });
+/// let head = read_response_head_into(&text[..11], &mut fields);
+/// assert!(rt; head == Err(HeadError::Incomplete));
+/// let head = read_response_head_into(b"HTTP/1.1 20 OK\r\n".as_slice(), &mut fields);
+/// assert!(rt; head == Err(HeadError::Refused(11)));
+/// ```
+pub fn read_response_head_into(
+    bytes: &[u8],
+    fields: &mut [Field],
+) -> Result<ResponseHead, HeadError>
+    ensures { ReadsResponse bytes.now result fields.new }
+{
+    match read_response_parts(bytes, fields) {
+        Ok(head) => {
+            if head.fields <= fields.len() {
+                Ok(head)
+            } else {
+                Err(HeadError::TooManyFields(head.fields))
+            }
+        }
+        Err(stop) => Err(error_at(bytes.len(), stop)),
+    }
+}
