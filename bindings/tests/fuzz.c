@@ -371,6 +371,7 @@ static void read_chunked(const uint8_t *bytes, size_t length)
     free(given[1]);
 }
 
+#include "ini_fuzz.h"
 #include "json_fuzz.h"
 
 static void read_place(const uint8_t *bytes, size_t length)
@@ -388,6 +389,7 @@ static void read_all(const uint8_t *bytes, size_t length)
     read_values(bytes, length);
     read_tokens(bytes, length);
     read_document(bytes, length);
+    read_ini(bytes, length);
     read_head(bytes, length);
     read_record(bytes, length);
     read_reply(bytes, length);

@@ -2,6 +2,7 @@
 pub mod Chunked
 pub mod Code
 pub mod Csv
+pub mod Dialects
 pub mod Extent
 pub mod Http
 pub mod Ini
