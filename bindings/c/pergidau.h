@@ -300,13 +300,13 @@ struct pergidau_head {
 
 /*
  * How far a chunked body was decoded, as numbers, for a caller who keeps it where no type of
- * Rust can be. They are for the calls alone, and all zeros say that nothing of a body was
- * taken: so it is begun for each body, with the limits for a server, 4,096 bytes for each size
- * line and 8,192 of the trailer section. For other limits place is 1, room and size_line are
- * the one, and trailer_room and trailers the other.
+ * Rust can be. They are for the calls alone, and a place of 0 says that nothing of a body was
+ * taken, whatever the others are: so it is begun for each body, with the limits for a server,
+ * 4,096 bytes between data and 8,192 of the trailer section. For other limits place is 1, room
+ * and size_line are the one, and trailer_room and trailers the other.
  */
 struct pergidau_chunked_state {
-    /* Where in the body the next byte is due: 0 where nothing was taken. */
+    /* Where in the body the next byte is due: 0 or 1 where nothing was taken. */
     size_t place;
     /* Where in a size line, or in a field line. */
     size_t within;
@@ -596,17 +596,18 @@ enum pergidau_code pergidau_http_head_in_pieces(
  * pieces: data, bytes of trailers, or its end. What a call took, no other looks at again, so
  * all calls for a body take a time that is linear in its bytes, however many there are.
  *
- * For the first call the numbers of state are zeros. Each further call for the same body has
- * the state that the last one left, and bytes that follow those that it took.
+ * For the first call the numbers of state are zeros, or those of other limits. Each further
+ * call for the same body has the state that the last one left, and bytes that follow those
+ * that it took.
  *
  * PERGIDAU_DONE: what is given out and its place are written; after one another the data are
  * the content of the body, and the bytes of trailers are its trailer section, without the line
  * end after it. PERGIDAU_END: the body is whole, and what is after the bytes that were taken
- * is after it; so it is told of the same state again. For the next body, zeros are put into
- * the state. PERGIDAU_INCOMPLETE: all bytes are taken, they are no body as yet, and with more
- * after them they can be. PERGIDAU_REFUSED: with the byte after those that were taken no body
- * goes on, or one that has 2^64 bytes or more; or one byte more is taken than the limits let.
- * With these three no kind and no place are written.
+ * is after it; so it is told of the same state again. For the next body, the first numbers are
+ * put into the state. PERGIDAU_INCOMPLETE: all bytes are taken, they are no body as yet, and
+ * with more after them they can be. PERGIDAU_REFUSED: with the byte after those that were
+ * taken no body goes on, or one that has 2^64 bytes or more; or the limits do not let it be
+ * taken. With these three no kind and no place are written.
  *
  * Extensions of size lines are passed over. Bytes of data are not looked at. Of a state that
  * is changed, or with bytes that do not follow, what is told may be wrong; nothing outside of

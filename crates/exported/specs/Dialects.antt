@@ -129,8 +129,8 @@ Writes (Err (stops.Refused reason)) offset code out =
 
 -- What a call says is what the reader of entries answers that goes on where the state says, and the
 -- state that it leaves is of where that one is then.
-pub record TellsEntry (dialect : ℕ) (old new : IniState) (bytes : List ℕ) (code : ℕ) (out : IniEntry)
-    : Type 0 where
+pub record TellsEntry (dialect : ℕ) (old new : IniState) (bytes : List ℕ) (code : ℕ)
+    (out : IniEntry) : Type 0 where
   pub from : Reading
   pub begins : IsFrom old bytes from
   pub answer : Result (Option Placed) Stop

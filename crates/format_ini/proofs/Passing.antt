@@ -64,12 +64,14 @@ module _ (bytes left line : List ℕ) (offset size behind : ℕ) (less : offset 
         omega (arith, more, left_long, line_long),
       )
 
-  pub line_last : (size < length left → ⊥) → behind ≡ offset + size → HereIs bytes offset line behind
+  pub line_last : (size < length left → ⊥) → behind ≡ offset + size
+      → HereIs bytes offset line behind
   line_last none at =
       let all : size ≡ length left = omega (arith, none, stops.0) in
       let P : List ℕ → List ℕ → Type 0 = λ t rest. FirstLine t line rest in
       let same : left ≡ line = sym (is ∙ take_all size left (omega (arith, all))) in
-      let end : drop behind bytes ≡ [] = drop_all behind bytes (omega (arith, at, all, left_long)) in
+      let end : drop behind bytes ≡ [] =
+      drop_all behind bytes (omega (arith, at, all, left_long)) in
       let others : All (IsOther 10) line = subst (λ l. All (IsOther 10) l) (sym is) stops.1 in (
         subst (λ t. P t (drop behind bytes)) here
             (others, inr (same, end, omega (arith, all, left_long, less, line_long))),

@@ -45,7 +45,8 @@ returns-then-goes_on-clause-said c =
     let some : 0 < length text = first_of (search rules, omega arith) in
     let inside : 0 < length (trimmed kept) = omega (arith, some, ap (λ l. length l) t) in
     more_line c.args.dialect c.args.state line kept text c.trim-indent.result.0 c.goes_on.result is
-    t (c.trim-indent.ensures.indent ∙ line_indent c.args.dialect.inline_comments line kept is inside)
+    t (c.trim-indent.ensures.indent
+    ∙ line_indent c.args.dialect.inline_comments line kept is inside)
     c.goes_on.ensures c.if-goes_on.true some c.if-is_comment.ensures
 
 pub returns-then-goes_on-clause-at : goal.returns-then-goes_on-clause-at
@@ -67,7 +68,8 @@ returns-clause-said c =
     let some : 0 < length text = first_of (search rules, omega arith) in
     let inside : 0 < length (trimmed kept) = omega (arith, some, ap (λ l. length l) t) in
     own_line c.args.dialect c.args.state line kept text c.trim-indent.result.0 c.goes_on.result is
-    t (c.trim-indent.ensures.indent ∙ line_indent c.args.dialect.inline_comments line kept is inside)
+    t (c.trim-indent.ensures.indent
+    ∙ line_indent c.args.dialect.inline_comments line kept is inside)
     c.goes_on.ensures c.if-goes_on.false some c.if-is_comment.ensures c.read_own.result
     c.read_own.ensures.said
 
