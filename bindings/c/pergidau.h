@@ -679,19 +679,20 @@ enum pergidau_code pergidau_ini_document(
  *
  * dialect is a sum of flags: PERGIDAU_INI_DIALECT_PYTHON, PERGIDAU_INI_DIALECT_DESKTOP,
  * PERGIDAU_INI_DIALECT_LENIENT, or others from PERGIDAU_INI_DIALECT_EQUALS to
- * PERGIDAU_INI_DIALECT_BEFORE_SECTIONS. Other bits are passed over.
+ * PERGIDAU_INI_DIALECT_BEFORE_SECTIONS. Other bits count for nothing.
  *
  * For the first call the numbers of state are zeros. Each further call has the state that the
  * last one left, with the same bytes, all of the document, and the same dialect. What a call
  * passed, no other looks at again, so all calls for a document take a time that is linear in
  * its bytes.
  *
- * PERGIDAU_DONE: what the entry is and the places of its texts are written. A value that lines
- * go on comes as a pair and one PERGIDAU_INI_MORE for each further line. PERGIDAU_END: no
- * entry is left. PERGIDAU_REFUSED: the next line is none of the dialect; where it begins, and
- * why, is written. PERGIDAU_NO_TEXT: the next line is no UTF-8; where it begins is written.
- * With these three no kind and no texts are written, and a further call tells the same. Lines
- * are checked one by one: what stands after the line that a call tells may be no text.
+ * PERGIDAU_DONE: what the entry is and the places of its texts are written; its line is UTF-8.
+ * A value of more lines comes as a pair and one PERGIDAU_INI_MORE for each further line.
+ * PERGIDAU_END: no entry is left. PERGIDAU_REFUSED: the next line is none of the dialect;
+ * where it begins, and why, is written. PERGIDAU_NO_TEXT: the next line is no UTF-8; where it
+ * begins is written. With these three no kind and no texts are written, and a further call
+ * tells the same. Lines are checked one by one, so entries are told of a document in which a
+ * later line is no UTF-8.
  *
  * Of a state that calls left for other bytes, or that is changed, what is told may be wrong;
  * nothing outside of the bytes is read then either.

@@ -1,5 +1,5 @@
-/* Random bytes for what tells entries of INI in any dialect, held against a reader written here from
- * what the header says. `fuzz.c` includes it behind what it uses. */
+/* Random bytes for what tells entries of INI in any dialect, held against a reader written here
+ * from what the header says. `fuzz.c` includes it behind what it uses. */
 
 static bool is_blank(uint8_t byte)
 {
@@ -43,16 +43,17 @@ static struct pergidau_span without_blanks(const uint8_t *bytes, size_t from, si
     return (struct pergidau_span){from, to - from};
 }
 
-/* What the lines before say for the next one: whether a section has begun, and the blanks before the
- * pair that it may go on, or less than none. */
+/* What the lines before say for the next one: whether a section has begun, and the blanks before
+ * the pair that it may go on, or less than none. */
 struct before {
     bool section;
     long blanks;
 };
 
 /* A section or a pair: what stands there, between two places. */
-static enum pergidau_code own_by_hand(const uint8_t *bytes, struct pergidau_span text, size_t dialect,
-                                      struct before *before, struct pergidau_ini_entry *out)
+static enum pergidau_code own_by_hand(const uint8_t *bytes, struct pergidau_span text,
+                                      size_t dialect, struct before *before,
+                                      struct pergidau_ini_entry *out)
 {
     size_t end = text.offset + text.length, at = text.offset;
     if (bytes[at] == '[') {
@@ -90,8 +91,9 @@ static enum pergidau_code own_by_hand(const uint8_t *bytes, struct pergidau_span
 }
 
 /* The next entry from a place on, which is then behind its line. */
-static enum pergidau_code next_by_hand(const uint8_t *bytes, size_t length, size_t dialect, size_t *at,
-                                       struct before *before, struct pergidau_ini_entry *out)
+static enum pergidau_code next_by_hand(const uint8_t *bytes, size_t length, size_t dialect,
+                                       size_t *at, struct before *before,
+                                       struct pergidau_ini_entry *out)
 {
     for (; *at < length;) {
         *out = (struct pergidau_ini_entry){0};
@@ -106,7 +108,7 @@ static enum pergidau_code next_by_hand(const uint8_t *bytes, size_t length, size
         }
         for (; kept < end; kept++) {
             if ((kept == start || is_blank(bytes[kept - 1]))
-                && is_one(dialect, PERGIDAU_INI_DIALECT_INLINE_NUMBER_SIGN, bytes[kept], '#', ';')) {
+                && is_one(dialect, 16, bytes[kept], '#', ';')) {
                 break;
             }
         }

@@ -1,5 +1,5 @@
-/* Rows of INI files of any dialect, entry by entry: included by rows.c. What is wanted of rows in the
- * dialect of Python is what its configparser has. */
+/* Rows of INI files of any dialect, entry by entry: included by rows.c. What is wanted of rows in
+ * the dialect of Python is what its configparser has. */
 
 enum {
     PYTHON = PERGIDAU_INI_DIALECT_PYTHON,
@@ -17,10 +17,12 @@ static const struct {
     {PYTHON, "", "", PERGIDAU_END, 0, 0},
     {PYTHON, "\n# a\n ; b\n\t\r\n", "", PERGIDAU_END, 0, 0},
     {PYTHON, "[s]\na = b\n", "[s]|a=b|", PERGIDAU_END, 0, 0},
-    {PYTHON, "[a b ]\nkey of two  :\tvalue = c\r\n", "[a b ]|key of two=value = c|", PERGIDAU_END, 0, 0},
+    {PYTHON, "[a b ]\nkey of two  :\tvalue = c\r\n", "[a b ]|key of two=value = c|",
+     PERGIDAU_END, 0, 0},
     {PYTHON, "[s]\na=\n", "[s]|a=|", PERGIDAU_END, 0, 0},
     {PYTHON, "[s]\na=a", "[s]|a=a|", PERGIDAU_END, 0, 0},
-    {PYTHON, "[s]\na = b\n  c\n\n # d\n\te = f\ng = h\n", "[s]|a=b|+c|+|+e = f|g=h|", PERGIDAU_END, 0, 0},
+    {PYTHON, "[s]\na = b\n  c\n\n # d\n\te = f\ng = h\n", "[s]|a=b|+c|+|+e = f|g=h|",
+     PERGIDAU_END, 0, 0},
     {PYTHON, "[s]\n  a = b\n  c = d\n", "[s]|a=b|c=d|", PERGIDAU_END, 0, 0},
     {PYTHON, "[s]\na = b ; c\n", "[s]|a=b ; c|", PERGIDAU_END, 0, 0},
     {PYTHON, "\xef\xbb\xbf[\xc3\xa9]\n", "[\xc3\xa9]|", PERGIDAU_END, 0, 0},
@@ -38,7 +40,7 @@ static const struct {
      PERGIDAU_END, 0, 0},
     {DESKTOP, "[s]\na=b\n c=d\n", "[s]|a=b|c=d|", PERGIDAU_END, 0, 0},
     {DESKTOP, "[s]\na:b\n", "[s]|", PERGIDAU_REFUSED, 4, PERGIDAU_INI_FAULT_NO_DELIMITER},
-    {LENIENT, "a # b\nc = d;e ;f\n[s];g\n", "a|c=d;e|[s];g|", PERGIDAU_END, 0, 0},
+    {LENIENT, "a # b\nc = d;e ;f\n[s] ;g\n", "a|c=d;e|[s]|", PERGIDAU_END, 0, 0},
     {LENIENT, "a = b\n  c\n", "a=b|c|", PERGIDAU_END, 0, 0},
     /* Each flag by itself, and what else a sum may have. */
     {PERGIDAU_INI_DIALECT_COLON, "[s]\na=b:c\n", "[s]|a=b=c|", PERGIDAU_END, 0, 0},
@@ -46,9 +48,11 @@ static const struct {
     {0, "[s]\na:b=c\n#=d\n", "[s]|a=b=c|#=d|", PERGIDAU_END, 0, 0},
     {PERGIDAU_INI_DIALECT_NUMBER_SIGN, "[s]\n#a\n;=b#\n", "[s]|;=b#|", PERGIDAU_END, 0, 0},
     {PERGIDAU_INI_DIALECT_SEMICOLON, "[s]\n;a\n#=b;\n", "[s]|#=b;|", PERGIDAU_END, 0, 0},
-    {PERGIDAU_INI_DIALECT_INLINE_NUMBER_SIGN, "[s]\na=b ;c #d\n", "[s]|a=b ;c|", PERGIDAU_END, 0, 0},
+    {PERGIDAU_INI_DIALECT_INLINE_NUMBER_SIGN, "[s]\na=b ;c #d\n", "[s]|a=b ;c|",
+     PERGIDAU_END, 0, 0},
     {PERGIDAU_INI_DIALECT_INLINE_SEMICOLON, "[s]\na=b #c ;d\n", "[s]|a=b #c|", PERGIDAU_END, 0, 0},
-    {PERGIDAU_INI_DIALECT_UNTIL_EMPTY, "[s]\na=b\n c\n\n d=e\n", "[s]|a=b|+c|d=e|", PERGIDAU_END, 0, 0},
+    {PERGIDAU_INI_DIALECT_UNTIL_EMPTY, "[s]\na=b\n c\n\n d=e\n", "[s]|a=b|+c|d=e|",
+     PERGIDAU_END, 0, 0},
     {PERGIDAU_INI_DIALECT_PAST_EMPTY | PERGIDAU_INI_DIALECT_UNTIL_EMPTY, "[s]\na=b\n c\n\n d\n",
      "[s]|a=b|+c|+|+d|", PERGIDAU_END, 0, 0},
     {PERGIDAU_INI_DIALECT_VALUELESS, "[s]\na\n", "[s]|a|", PERGIDAU_END, 0, 0},

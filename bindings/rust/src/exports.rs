@@ -645,19 +645,20 @@ extern "C" {
     /// Quotes are kept, and keys and sections may come twice.
     ///
     /// `dialect` is a sum of flags: `INI_DIALECT_PYTHON`, `INI_DIALECT_DESKTOP`, `INI_DIALECT_LENIENT`,
-    /// or others from `INI_DIALECT_EQUALS` to `INI_DIALECT_BEFORE_SECTIONS`. Other bits are passed over.
+    /// or others from `INI_DIALECT_EQUALS` to `INI_DIALECT_BEFORE_SECTIONS`. Other bits count for
+    /// nothing.
     ///
     /// For the first call the numbers of `state` are zeros. Each further call has the state that the
     /// last one left, with the same bytes, all of the document, and the same dialect. What a call
     /// passed, no other looks at again, so all calls for a document take a time that is linear in its
     /// bytes.
     ///
-    /// `DONE`: what the entry is and the places of its texts are written. A value that lines go on comes
-    /// as a pair and one `INI_MORE` for each further line. `END`: no entry is left. `REFUSED`: the next
-    /// line is none of the dialect; where it begins, and why, is written. `NO_TEXT`: the next line is no
-    /// UTF-8; where it begins is written. With these three no kind and no texts are written, and a
-    /// further call tells the same. Lines are checked one by one: what stands after the line that a call
-    /// tells may be no text.
+    /// `DONE`: what the entry is and the places of its texts are written; its line is UTF-8. A value of
+    /// more lines comes as a pair and one `INI_MORE` for each further line. `END`: no entry is left.
+    /// `REFUSED`: the next line is none of the dialect; where it begins, and why, is written.
+    /// `NO_TEXT`: the next line is no UTF-8; where it begins is written. With these three no kind and no
+    /// texts are written, and a further call tells the same. Lines are checked one by one, so entries
+    /// are told of a document in which a later line is no UTF-8.
     ///
     /// Of a state that calls left for other bytes, or that is changed, what is told may be wrong;
     /// nothing outside of the bytes is read then either.

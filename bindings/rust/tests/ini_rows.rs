@@ -1,5 +1,5 @@
-//! Rows of INI files of any dialect, entry by entry, from Rust. What is wanted of rows in the dialect
-//! of Python is what its `configparser` has.
+//! Rows of INI files of any dialect, entry by entry, from Rust. What is wanted of rows in the
+//! dialect of Python is what its `configparser` has.
 use pergidau::ini::dialects::{entries, Continued, Delimiters, Dialect, Entry, Marks, Refusal};
 
 /// The entries of a document, in short, and why and in which line and column one is refused.
@@ -52,8 +52,16 @@ fn entries_of_other_dialects() {
         (Dialect { comments: Marks::Either, ..BARE }, "[s]\n;a\n#b\n", "[s]|"),
         (Dialect { inline_comments: Marks::NumberSign, ..BARE }, "[s]\na=b ;c #d\n", "[s]|a=b ;c|"),
         (Dialect { inline_comments: Marks::Semicolon, ..BARE }, "[s]\na=b #c ;d\n", "[s]|a=b #c|"),
-        (Dialect { continued: Continued::UntilEmpty, ..BARE }, "[s]\na=b\n c\n\n d=e\n", "[s]|a=b|+c|d=e|"),
-        (Dialect { continued: Continued::PastEmpty, ..BARE }, "[s]\na=b\n c\n\n d=e\n", "[s]|a=b|+c|+|+d=e|"),
+        (
+            Dialect { continued: Continued::UntilEmpty, ..BARE },
+            "[s]\na=b\n c\n\n d=e\n",
+            "[s]|a=b|+c|d=e|",
+        ),
+        (
+            Dialect { continued: Continued::PastEmpty, ..BARE },
+            "[s]\na=b\n c\n\n d=e\n",
+            "[s]|a=b|+c|+|+d=e|",
+        ),
         (Dialect { valueless: true, ..BARE }, "[s]\na\n", "[s]|a|"),
         (Dialect { before_sections: true, ..BARE }, "a=b\n", "a=b|"),
     ];

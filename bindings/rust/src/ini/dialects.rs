@@ -79,8 +79,8 @@ pub struct Dialect {
 }
 
 impl Dialect {
-    /// The dialect of Python's `configparser`, unless it is told another: `=` and `:`, `#` and `;` at
-    /// the start of lines, continued lines with empty lines within.
+    /// The dialect of Python's `configparser`, unless it is told another: `=` and `:`, `#` and `;`
+    /// at the start of lines, continued lines with empty lines within.
     pub const PYTHON: Dialect = Dialect {
         delimiters: Delimiters::Either,
         comments: Marks::Either,
@@ -112,39 +112,47 @@ impl Dialect {
     };
 
     /// The sum of its flags.
-    fn flags(self) -> usize {
-        let marked = |marks, number_sign, semicolon| match marks {
-            Marks::Neither => 0,
-            Marks::NumberSign => number_sign,
-            Marks::Semicolon => semicolon,
-            Marks::Either => number_sign | semicolon,
-        };
+    const fn flags(self) -> usize {
         let delimiters = match self.delimiters {
             Delimiters::Equals => exports::INI_DIALECT_EQUALS,
             Delimiters::Colon => exports::INI_DIALECT_COLON,
             Delimiters::Either => exports::INI_DIALECT_EQUALS | exports::INI_DIALECT_COLON,
         };
+        let comments = self.comments.flags(
+            exports::INI_DIALECT_NUMBER_SIGN,
+            exports::INI_DIALECT_SEMICOLON,
+        );
+        let inline_comments = self.inline_comments.flags(
+            exports::INI_DIALECT_INLINE_NUMBER_SIGN,
+            exports::INI_DIALECT_INLINE_SEMICOLON,
+        );
         let continued = match self.continued {
             Continued::Never => 0,
             Continued::UntilEmpty => exports::INI_DIALECT_UNTIL_EMPTY,
             Continued::PastEmpty => exports::INI_DIALECT_PAST_EMPTY,
         };
-        delimiters
-            | marked(
-                self.comments,
-                exports::INI_DIALECT_NUMBER_SIGN,
-                exports::INI_DIALECT_SEMICOLON,
-            )
-            | marked(
-                self.inline_comments,
-                exports::INI_DIALECT_INLINE_NUMBER_SIGN,
-                exports::INI_DIALECT_INLINE_SEMICOLON,
-            )
-            | continued
-            | if self.valueless { exports::INI_DIALECT_VALUELESS } else { 0 }
-            | if self.before_sections { exports::INI_DIALECT_BEFORE_SECTIONS } else { 0 }
+        let valueless = if self.valueless { exports::INI_DIALECT_VALUELESS } else { 0 };
+        let before = if self.before_sections { exports::INI_DIALECT_BEFORE_SECTIONS } else { 0 };
+        delimiters | comments | inline_comments | continued | valueless | before
     }
 }
+
+impl Marks {
+    /// The sum of those of these flags that it has.
+    const fn flags(self, number_sign: usize, semicolon: usize) -> usize {
+        match self {
+            Marks::Neither => 0,
+            Marks::NumberSign => number_sign,
+            Marks::Semicolon => semicolon,
+            Marks::Either => number_sign | semicolon,
+        }
+    }
+}
+
+// The dialects with names are those of the library.
+const _: () = assert!(Dialect::PYTHON.flags() == exports::INI_DIALECT_PYTHON);
+const _: () = assert!(Dialect::DESKTOP.flags() == exports::INI_DIALECT_DESKTOP);
+const _: () = assert!(Dialect::LENIENT.flags() == exports::INI_DIALECT_LENIENT);
 
 /// What a line says.
 #[derive(Clone, Copy, Debug, PartialEq, Eq)]
@@ -158,8 +166,8 @@ pub enum Entry<'i> {
         /// The value, without white space at either end; none where no delimiter stands.
         value: Option<&'i str>,
     },
-    /// One more line of the value of the pair before, without white space at either end. It is empty
-    /// for an empty line, also where no other line of the value follows.
+    /// One more line of the value of the pair before, without white space at either end. It is
+    /// empty for an empty line, also where no other line of the value follows.
     More(&'i str),
 }
 
@@ -230,7 +238,7 @@ impl fmt::Display for LineError {
 #[cfg(feature = "std")]
 impl std::error::Error for LineError {}
 
-/// The entries of a document, in order, as [`entries`] makes them. After an error there are no more.
+/// The entries of a document, in order, as [`entries`] makes them. After an error there are none.
 #[derive(Clone, Debug)]
 pub struct Entries<'i> {
     text: &'i str,
@@ -240,8 +248,8 @@ pub struct Entries<'i> {
 }
 
 /// The entries of a document, one after the other; a byte order mark in front is passed over. The
-/// first line that is none of the dialect is an error, with its line, its column and why. Nothing is
-/// allocated, and all calls for a document take a time that is linear in its length.
+/// first line that is none of the dialect is an error, with its line, its column and why. Nothing
+/// is allocated, and all calls for a document take a time that is linear in its length.
 ///
 /// ```
 /// use pergidau::ini::dialects::{entries, Dialect, Entry, Refusal};
@@ -267,8 +275,9 @@ impl<'i> Iterator for Entries<'i> {
         }
         let mut out = IniEntry::default();
         let (text, bytes) = (self.text, self.text.as_bytes());
-        // SAFETY: the pointers are those of live borrows, and the bytes are only read. The call takes up to
-        // 1 KiB of stack (measured); where there is less, the thread's guard page ends the program.
+        // SAFETY: the pointers are those of live borrows, and the bytes are only read. The call
+        // takes up to 1 KiB of stack (measured); where there is less, the thread's guard page ends
+        // the program.
         let code = unsafe {
             exports::exported_ini_next(
                 &mut self.state, bytes.as_ptr(), bytes.len(), self.flags, &mut out,
