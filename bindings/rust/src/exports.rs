@@ -656,9 +656,9 @@ extern "C" {
     /// `DONE`: what the entry is and the places of its texts are written; its line is UTF-8. A value of
     /// more lines comes as a pair and one `INI_MORE` for each further line. `END`: no entry is left.
     /// `REFUSED`: the next line is none of the dialect; where it begins, and why, is written.
-    /// `NO_TEXT`: the next line is no UTF-8; where it begins is written. With these three no kind and no
-    /// texts are written, and a further call tells the same. Lines are checked one by one, so entries
-    /// are told of a document in which a later line is no UTF-8.
+    /// `NO_TEXT`: the next line is no UTF-8; where it begins is written. With these three no kind and
+    /// no texts are written, and a further call tells the same. Lines are checked one by one, so
+    /// entries are told of a document in which a later line is no UTF-8.
     ///
     /// Of a state that calls left for other bytes, or that is changed, what is told may be wrong;
     /// nothing outside of the bytes is read then either.
