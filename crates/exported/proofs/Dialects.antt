@@ -3,6 +3,7 @@ use Rattle.std.specs.Prelude.{◌≡◌, ◌+◌, ◌<◌, ◌++◌, ℕ, List, 
 use Rattle.std.specs.Prelude.{Option, Some, None, Result, Ok, Err}
 use Rattle.std.proofs.Common.{ap, append_assoc, arith, inl, inr, length-drop, refl, subst, sym}
 use Rattle.std.proofs.Common.{◌∙◌}
+use Rattle.std.specs.Str.{IsUtf8}
 use Rattle.std.proofs.lemmas.List.{append-nil, drop_all}
 use Rattle.format_ini.proofs.Reading.{reads_more, reads_next, reads_none}
 use Rattle.format_ini.specs.Documents.{BehindMark, IsDocument, IsRefused, ReadsLines, start}
@@ -15,7 +16,8 @@ use Rattle.format_ini.specs.declared.places.Placed.{Placed}
 use Rattle.format_ini.specs.declared.places.Reading.{Reading}
 use Rattle.format_ini.specs.declared.places.Stop.{Stop}
 use Rattle.format_ini.specs.declared.places.Stop.TheVariants as stops
-use Rattle.exported.specs.Code.{done, end, refused}
+use Rattle.exported.proofs.DialectTexts.{line_text, mark_text, rest_text}
+use Rattle.exported.specs.Code.{done, end, no_text, refused}
 use Rattle.exported.specs.Dialects.{EntriesInTurn, IsFrom, TellsEntry, Writes, dialect_of}
 use Rattle.exported.specs.Dialects.{fault_number, reading_at, said_by, zeros}
 use Rattle.exported.specs.declared.ini.dialects.IniEntry.{IniEntry}
@@ -172,6 +174,24 @@ refused_by dialect bytes said from new (Ok (Some it)) out next (code, none) here
 refused_by dialect bytes said from new (Err stops.NoText) out next (code, none) here =
     absurd (omega (arith, code))
 
+-- where a line is no text
+no_text_by : (dialect : ℕ) (bytes : List ℕ) (said : List Said) (from new : Reading)
+    (answer : Result (Option Placed) Stop) (out : IniEntry)
+    → NextPlaced (dialect_of dialect) bytes from answer new
+    → Writes answer new.offset no_text out → SoFar dialect bytes said from → IsUtf8 bytes → ⊥
+no_text_by dialect bytes said from new (Err stops.NoText) out
+    ((least, passes), less, (line, behind, first, bad)) writes here is =
+    let (lines, mark, (every, are, says)) = passed dialect bytes said from new here passes in
+    let left = drop new.offset bytes in
+    bad (line_text left line behind first
+    (rest_text every lines left are (mark_text bytes lines mark is))).0
+no_text_by dialect bytes said from new (Ok None) out next (code, none) here is =
+    omega (arith, code)
+no_text_by dialect bytes said from new (Ok (Some it)) out next (code, none) here is =
+    omega (arith, code)
+no_text_by dialect bytes said from new (Err (stops.Refused reason)) out next (code, none) here is =
+    omega (arith, code)
+
 module _ (dialect : ℕ) (bytes : List ℕ) (outs : List IniEntry) (said : List Said)
     (state next : IniState) (out : IniEntry)
     (turns : EntriesInTurn dialect bytes zeros outs said state) where
@@ -187,4 +207,8 @@ module _ (dialect : ℕ) (bytes : List ℕ) (outs : List IniEntry) (said : List 
       → (reason : Refusal) × (out.fault ≡ fault_number reason)
       × IsRefused (dialect_of dialect) bytes (record { offset = out.place; why = reason })
   refuses last = refused_by dialect bytes said last.from (reading_at next) last.answer out
+      last.next last.writes (here last.from last.begins)
+
+  pub no_texts : TellsEntry dialect state next bytes no_text out → IsUtf8 bytes → ⊥
+  no_texts last = no_text_by dialect bytes said last.from (reading_at next) last.answer out
       last.next last.writes (here last.from last.begins)

@@ -1,6 +1,7 @@
 //! Documents of any dialect of INI, an entry a call.
 
 ghost use Rattle.std.specs.Prelude.{◌≡◌, ◌⊎◌, ◌<◌, List, length, ℕ};
+ghost use Rattle.std.specs.Str.{IsUtf8};
 ghost use Rattle.format_ini.specs.Documents.{IsDocument, IsRefused};
 ghost use Rattle.format_ini.specs.Lines.{Said};
 ghost use Rattle.format_ini.specs.declared.lines.Refusal.{Refusal};
@@ -341,9 +342,9 @@ fn told_of(found: Result<Option<Placed<'_>>, Stop>, offset: usize) -> (u32, IniE
 /// `DONE`: what the entry is and the places of its texts are written; its line is UTF-8. A value of
 /// more lines comes as a pair and one `INI_MORE` for each further line. `END`: no entry is left.
 /// `REFUSED`: the next line is none of the dialect; where it begins, and why, is written.
-/// `NO_TEXT`: the next line is no UTF-8; where it begins is written. With these three no kind and no
-/// texts are written, and a further call tells the same. Lines are checked one by one, so entries
-/// are told of a document in which a later line is no UTF-8.
+/// `NO_TEXT`: the next line is no UTF-8; where it begins is written. With these three no kind and
+/// no texts are written, and a further call tells the same. Lines are checked one by one, so
+/// entries are told of a document in which a later line is no UTF-8.
 ///
 /// Of a state that calls left for other bytes, or that is changed, what is told may be wrong;
 /// nothing outside of the bytes is read then either.
@@ -373,7 +374,8 @@ pub extern "C" fn exported_ini_next(
 /// Where calls of `exported_ini_next` follow one another, the first with a state of zeros, and a
 /// call then says that no entry is left: the bytes are the document that says what these calls
 /// told, all of it, once and in order. Where it refuses a line: the document is refused there, and
-/// for that. So calls in turn tell what `format_ini`'s `read_document` reads.
+/// for that. So calls in turn tell what `format_ini`'s `read_document` reads. Where it says that a
+/// line is no UTF-8, the bytes are none.
 pub fn entries_in_turn_are_of_the_document()
     ensures whole { (dialect : ℕ) (bytes : List ℕ) (outs : List IniEntry) (said : List Said)
         (state next : IniState) (out : IniEntry)
@@ -386,4 +388,8 @@ pub fn entries_in_turn_are_of_the_document()
         → TellsEntry dialect state next bytes refused out
         → (why : Refusal) × (out.fault ≡ fault_number why)
         × IsRefused (dialect_of dialect) bytes (record { offset = out.place; why = why }) }
+    ensures text { (dialect : ℕ) (bytes : List ℕ) (outs : List IniEntry) (said : List Said)
+        (state next : IniState) (out : IniEntry)
+        → EntriesInTurn dialect bytes zeros outs said state
+        → TellsEntry dialect state next bytes no_text out → IsUtf8 bytes → ⊥ }
 {}
