@@ -40,6 +40,9 @@ KINDS = {
     "RESP_": ("resp_kind", "What a reply of Redis is: what `kind` of a reply is."),
     "CHUNKED_FAULT_": ("chunked_fault", "Why a byte of a chunked body is refused: what `fault` of a step is."),
     "CHUNKED_": ("chunked_kind", "What is given out of a chunked body: what `kind` of a step is."),
+    "INI_FAULT_": ("ini_fault", "Why a line is none of a dialect: what `fault` of an entry of INI is."),
+    "INI_DIALECT_": ("ini_dialect", "How lines of INI are read: flags, of which a dialect is a sum, and three dialects."),
+    "INI_": ("ini_kind", "What a line of INI says: what `kind` of an entry of INI is."),
 }
 # The types of single values: as Rust has them, and as C has them.
 PLAIN = {"u8": "uint8_t", "u16": "uint16_t", "u32": "uint32_t", "u64": "uint64_t", "i64": "int64_t",
@@ -170,11 +173,11 @@ def type_in_c(name):
 
 
 def comment(words, codes, indent=""):
-    """A comment in C. A code or a function is named as C names it."""
-    text = re.sub(r"`exported_(\w+)`", r"pergidau_\1", "\n".join(words))
+    """A comment in C. Codes and calls are named as C names them."""
+    text = "\n".join(words)
     for code in codes:
         text = re.sub(rf"`{code.name}`", f"PERGIDAU_{code.name}", text)
-    text = text.replace("`", "")
+    text = re.sub(r"`exported_(\w+)`", r"pergidau_\1", text).replace("`", "")
     lines = []
     for paragraph in text.split("\n\n"):
         lines += [*textwrap.wrap(" ".join(paragraph.split("\n")), 92 - len(indent)), ""]

@@ -79,6 +79,12 @@ uint32_t exported_ini_document(
     struct pergidau_entry *entries,
     size_t entries_length,
     struct pergidau_document *out);
+uint32_t exported_ini_next(
+    struct pergidau_ini_state *state,
+    const uint8_t *bytes,
+    size_t bytes_length,
+    size_t dialect,
+    struct pergidau_ini_entry *out);
 uint32_t exported_json_check(
     const uint8_t *text,
     size_t text_length,
@@ -132,7 +138,7 @@ uint32_t exported_text_position(
     size_t offset,
     struct pergidau_position *out);
 
-const char pergidau_0_0_0_declared_36c53897 = 0;
+const char pergidau_0_0_0_declared_181de244 = 0;
 
 const char *pergidau_version(void)
 {
@@ -562,6 +568,32 @@ enum pergidau_code pergidau_ini_document(
         entries = &no_entries;
     }
     return (enum pergidau_code)exported_ini_document(bytes, bytes_length, text, text_length, entries, entries_length, out);
+}
+
+enum pergidau_code pergidau_ini_next(
+    struct pergidau_ini_state *state,
+    const uint8_t *bytes,
+    size_t bytes_length,
+    size_t dialect,
+    struct pergidau_ini_entry *out)
+{
+    const uint8_t no_bytes = {0};
+    if (state == NULL) {
+        return PERGIDAU_NULL;
+    }
+    if (bytes_length > PTRDIFF_MAX / sizeof(uint8_t)) {
+        return PERGIDAU_TOO_LONG;
+    }
+    if (bytes == NULL && bytes_length > 0) {
+        return PERGIDAU_NULL;
+    }
+    if (out == NULL) {
+        return PERGIDAU_NULL;
+    }
+    if (bytes == NULL) {
+        bytes = &no_bytes;
+    }
+    return (enum pergidau_code)exported_ini_next(state, bytes, bytes_length, dialect, out);
 }
 
 enum pergidau_code pergidau_json_check(

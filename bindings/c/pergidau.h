@@ -37,10 +37,10 @@ extern "C" {
  * includes this header refers to it, so that it links with no other library. Define
  * PERGIDAU_NO_LINK_CHECK before the header for a file that is not linked with the library.
  */
-extern const char pergidau_0_0_0_declared_36c53897;
+extern const char pergidau_0_0_0_declared_181de244;
 #if defined(__GNUC__) && !defined(PERGIDAU_NO_LINK_CHECK)
 __attribute__((__used__, __unused__)) static const char *const pergidau_linked =
-    &pergidau_0_0_0_declared_36c53897;
+    &pergidau_0_0_0_declared_181de244;
 #endif
 
 /* The version of the library that is linked, as PERGIDAU_VERSION is written. */
@@ -163,6 +163,79 @@ enum pergidau_chunked_kind {
      * lines, whole ones, each with its line end.
      */
     PERGIDAU_CHUNKED_TRAILERS = 1,
+};
+
+/* Why a line is none of a dialect: what fault of an entry of INI is. */
+enum pergidau_ini_fault {
+    /* No ] stands after the [ that begins the line. */
+    PERGIDAU_INI_FAULT_OPEN_SECTION = 0,
+    /* Nothing stands between [ and ]. */
+    PERGIDAU_INI_FAULT_EMPTY_SECTION = 1,
+    /* Something stands after the ]. */
+    PERGIDAU_INI_FAULT_TEXT_BEHIND_SECTION = 2,
+    /* No section stands before the pair. */
+    PERGIDAU_INI_FAULT_NO_SECTION = 3,
+    /* No key stands before the delimiter. */
+    PERGIDAU_INI_FAULT_NO_KEY = 4,
+    /* There is no delimiter. */
+    PERGIDAU_INI_FAULT_NO_DELIMITER = 5,
+};
+
+/* How lines of INI are read: flags, of which a dialect is a sum, and three dialects. */
+enum pergidau_ini_dialect {
+    /* = ends a key. Where neither this is set nor the next, both end one. */
+    PERGIDAU_INI_DIALECT_EQUALS = 1,
+    /* : ends a key. */
+    PERGIDAU_INI_DIALECT_COLON = 2,
+    /* # begins a comment where it is the first of a line, after white space. */
+    PERGIDAU_INI_DIALECT_NUMBER_SIGN = 4,
+    /* ; does. */
+    PERGIDAU_INI_DIALECT_SEMICOLON = 8,
+    /* # begins a comment at the start of a line, or after white space in it. */
+    PERGIDAU_INI_DIALECT_INLINE_NUMBER_SIGN = 16,
+    /* ; does. */
+    PERGIDAU_INI_DIALECT_INLINE_SEMICOLON = 32,
+    /*
+     * A line that is indented deeper than the pair before it goes on the value of that pair,
+     * until an empty line or a comment.
+     */
+    PERGIDAU_INI_DIALECT_UNTIL_EMPTY = 64,
+    /*
+     * Such a line goes on the value, and empty lines within are part of it; comments within
+     * are passed over. With this the flag before counts for nothing.
+     */
+    PERGIDAU_INI_DIALECT_PAST_EMPTY = 128,
+    /* A line without a delimiter is a key without a value; else it is refused. */
+    PERGIDAU_INI_DIALECT_VALUELESS = 256,
+    /* Pairs may stand before the first section; else they are refused. */
+    PERGIDAU_INI_DIALECT_BEFORE_SECTIONS = 512,
+    /*
+     * The dialect of Python's configparser, unless it is told another: = and :, # and ; at the
+     * start of lines, continued lines with empty lines within.
+     */
+    PERGIDAU_INI_DIALECT_PYTHON = 143,
+    /* The dialect of desktop entries: =, # at the start of lines, a line for each pair. */
+    PERGIDAU_INI_DIALECT_DESKTOP = 5,
+    /*
+     * The dialect that reads most: = and :, comments after white space too, keys without
+     * values, pairs before the first section, a line for each pair.
+     */
+    PERGIDAU_INI_DIALECT_LENIENT = 831,
+};
+
+/* What a line of INI says: what kind of an entry of INI is. */
+enum pergidau_ini_kind {
+    /* The name of a section, which begins there. */
+    PERGIDAU_INI_SECTION = 0,
+    /* A key with its value, or with the first line of that. */
+    PERGIDAU_INI_PAIR = 1,
+    /* A key without a delimiter, and so without a value. */
+    PERGIDAU_INI_KEY = 2,
+    /*
+     * One more line of the value of the pair before. It is empty for an empty line, also where
+     * no other line of the value follows.
+     */
+    PERGIDAU_INI_MORE = 3,
 };
 
 /* A place in the caller's bytes: that many of them, from one on. */
@@ -338,6 +411,32 @@ struct pergidau_document {
     size_t text;
     /* Where the document is refused: how many bytes stand before the place. Else 0. */
     size_t place;
+};
+
+/* How far a document is read. Zeros stand for its start. */
+struct pergidau_ini_state {
+    /* How many bytes are read: the next line begins after them. */
+    size_t offset;
+    /* 1 where a section has begun. Else 0. */
+    size_t section;
+    /* 1 where the next line may go on the value of a pair. Else 0. */
+    size_t pair;
+    /* How many blanks stand before that pair. Else 0. */
+    size_t indent;
+};
+
+/* What a line says. */
+struct pergidau_ini_entry {
+    /* What it is: a number of those from PERGIDAU_INI_SECTION to PERGIDAU_INI_MORE. */
+    size_t kind;
+    /* The name of a section, or the key of a pair. Else nothing. */
+    struct pergidau_span key;
+    /* The value of a pair, or one more line of it. Else nothing. */
+    struct pergidau_span value;
+    /* Where the line begins that is refused, or is no UTF-8. Else 0. */
+    size_t place;
+    /* Why it is refused: a number of those from PERGIDAU_INI_FAULT_OPEN_SECTION on. Else 0. */
+    size_t fault;
 };
 
 /* A value, or a name in an object; or a bracket, by pergidau_json_step alone. */
@@ -727,6 +826,44 @@ enum pergidau_code pergidau_ini_document(
     struct pergidau_document *out);
 
 /*
+ * The next entry of an INI file, as people have them, in any dialect: .ini, .cfg, .desktop. A
+ * line feed ends a line. [name] begins a section; any other line is a key, a delimiter and a
+ * value, without white space at the ends of either; empty lines and comments are passed over,
+ * and so is a byte order mark in front. White space is tab, form feed, carriage return and
+ * space. Quotes are kept, and keys and sections may come twice.
+ *
+ * dialect is a sum of flags: PERGIDAU_INI_DIALECT_PYTHON, PERGIDAU_INI_DIALECT_DESKTOP,
+ * PERGIDAU_INI_DIALECT_LENIENT, or others from PERGIDAU_INI_DIALECT_EQUALS to
+ * PERGIDAU_INI_DIALECT_BEFORE_SECTIONS. Other bits count for nothing.
+ *
+ * For the first call the numbers of state are zeros. Each further call has the state that the
+ * last one left, with the same bytes, all of the document, and the same dialect. What a call
+ * passed, no other looks at again, so all calls for a document take a time that is linear in
+ * its bytes.
+ *
+ * PERGIDAU_DONE: what the entry is and the places of its texts are written; its line is UTF-8.
+ * A value of more lines comes as a pair and one PERGIDAU_INI_MORE for each further line.
+ * PERGIDAU_END: no entry is left. PERGIDAU_REFUSED: the next line is none of the dialect;
+ * where it begins, and why, is written. PERGIDAU_NO_TEXT: the next line is no UTF-8; where it
+ * begins is written. With these three no kind and no texts are written, and a further call
+ * tells the same. Lines are checked one by one, so entries are told of a document in which a
+ * later line is no UTF-8.
+ *
+ * Of a state that calls left for other bytes, or that is changed, what is told may be wrong;
+ * nothing outside of the bytes is read then either.
+ *
+ * The caller owes a state at state that can be read and written, bytes_length bytes at bytes
+ * that can be read and that nothing changes while the call runs, room for one entry at out,
+ * each apart from the others, and 16 KiB of stack.
+ */
+enum pergidau_code pergidau_ini_next(
+    struct pergidau_ini_state *state,
+    const uint8_t *bytes,
+    size_t bytes_length,
+    size_t dialect,
+    struct pergidau_ini_entry *out);
+
+/*
  * Whether a text is one of JSON (RFC 8259): a value with white space round it, in which no
  * more than levels arrays and objects stand in one another. What has a surrogate that is
  * escaped alone, as \ud800, is none, since no character is meant by it, though the grammar of
@@ -770,8 +907,9 @@ enum pergidau_code pergidau_json_value(
  * after its first byte on: a value at each call, of the bytes after the place of the last one.
  * What an object has in it are names and values in turn. Their levels are one less than those
  * of the value that they stand in. So a walk through all levels reads each byte once for each
- * level that it stands in. Of bytes that were not checked as a text, more than JSON allows is
- * passed, as a comma before the first value.
+ * level that it stands in; a walk by pergidau_json_step reads each byte once, however deep it
+ * stands, in a time that is linear in the text. Of bytes that were not checked as a text, more
+ * than JSON allows is passed, as a comma before the first value.
  *
  * PERGIDAU_DONE: what it is and its place are written. PERGIDAU_END: after white space stands
  * a closing bracket, or nothing. PERGIDAU_REFUSED: neither stands there. PERGIDAU_TOO_DEEP:

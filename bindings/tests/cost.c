@@ -59,11 +59,11 @@ void *__wrap_realloc(void *block, size_t size)
     return grown;
 }
 
-enum call { CALC, PAIR, DOCUMENT, CHECK, VALUE, NEXT, STEP, STRING, INTEGER, NATURAL, HEAD,
+enum call { CALC, PAIR, DOCUMENT, ENTRY, CHECK, VALUE, NEXT, STEP, STRING, INTEGER, NATURAL, HEAD,
             HEAD_IN_PIECES, HEAD_EXTENT, RESPONSE, RESPONSE_IN_PIECES, RECORD, RECORD_IN_PIECES,
             RECORD_EXTENT, REPLY, REPLY_IN_PIECES, EXTENT, CHUNKED, POSITION };
 static const char *const names[] = {
-    "calc_value", "ini_pair", "ini_document", "json_check", "json_value", "json_next", "json_step",
+    "calc_value", "ini_pair", "ini_document", "ini_next", "json_check", "json_value", "json_next", "json_step",
     "json_string", "json_integer", "json_natural", "http_head", "http_head_in_pieces",
     "http_head_extent", "http_response_head", "http_response_head_in_pieces", "csv_record",
     "csv_record_in_pieces", "csv_record_extent", "resp_reply", "resp_reply_in_pieces", "resp_extent", "http_chunked",
@@ -93,6 +93,9 @@ static const struct {
     {DOCUMENT, "", "[]a=\na=\n", "", POWER + 1, 100, 16},
     {DOCUMENT, "", "[]", "x", POWER + 1, 100, 16},
     {DOCUMENT, "[]\na=", "b", "", LENGTH, 100, 16},
+    {ENTRY, "", "#\n", "", LENGTH / 2, 0, 16},
+    {ENTRY, "", " ", "a", LENGTH, 0, 16},
+    {ENTRY, "[", "a", "]", LENGTH, 0, 16},
     {CHECK, "", "[", "", LENGTH, 0, 512},
     {CHECK, "", "{\"a\":", "", LENGTH / 5, 0, 512},
     {CHECK, "[", "[{}],", "1]", LENGTH / 5, 0, 512},
@@ -154,6 +157,8 @@ static enum pergidau_code call(enum call which, size_t levels)
     struct pergidau_number number;
     struct pergidau_pair pair;
     struct pergidau_document document;
+    struct pergidau_ini_state reading = {0};
+    struct pergidau_ini_entry entry;
     struct pergidau_json_item item;
     struct pergidau_json_text text;
     int64_t integer;
@@ -177,6 +182,8 @@ static enum pergidau_code call(enum call which, size_t levels)
         return pergidau_ini_pair(bytes, length, &pair);
     case DOCUMENT:
         return pergidau_ini_document(bytes, length, NULL, 0, NULL, 0, &document);
+    case ENTRY:
+        return pergidau_ini_next(&reading, bytes, length, PERGIDAU_INI_DIALECT_LENIENT, &entry);
     case CHECK:
         return pergidau_json_check(bytes, length, levels);
     case VALUE:

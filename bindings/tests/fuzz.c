@@ -372,6 +372,7 @@ static void read_chunked(const uint8_t *bytes, size_t length)
 }
 
 #include "heads_fuzz.h"
+#include "ini_fuzz.h"
 #include "json_fuzz.h"
 
 static void read_place(const uint8_t *bytes, size_t length)
@@ -389,6 +390,7 @@ static void read_all(const uint8_t *bytes, size_t length)
     read_values(bytes, length);
     read_tokens(bytes, length);
     read_document(bytes, length);
+    read_ini(bytes, length);
     read_head(bytes, length);
     read_response(bytes, length);
     read_head_extent(bytes, length);

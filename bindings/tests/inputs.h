@@ -44,6 +44,8 @@ static const char *const seeds[] = {
     "a=\xc3\xa9;b c\t=",
     "[a]\nx = 1 ; one\r\n\n",
     "; c\n[]\n[b c]x=2\nx=\xc3\xa9",
+    "[a]\n  b = c\n    d\n\n  # e\n   f: g\n",
+    "\xef\xbb\xbf# a\n[b]\nc\nd = e ;f\n[g]h\n=i\n",
     ", 1 ]",
     "{\"a\": [1, -2.5e3, true, {\"b\": null}], \"\\u00e9\\n\": \"x\"} ",
     "[[[[[[]]]]]]",

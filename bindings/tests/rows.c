@@ -27,6 +27,7 @@ static uint8_t *copied(const char *text, size_t length)
     return bytes;
 }
 
+#include "ini_rows.h"
 #include "json_rows.h"
 
 static const struct {
@@ -1031,6 +1032,8 @@ static void test_library(void)
     same("kinds", "RESP", PERGIDAU_RESP_NULL_ARRAY, 6);
     same("kinds", "a chunked body", PERGIDAU_CHUNKED_TRAILERS, 1);
     same("faults", "a chunked body", PERGIDAU_CHUNKED_FAULT_TRAILERS_TOO_LONG, 6);
+    same("kinds", "INI", PERGIDAU_INI_MORE, 3);
+    same("faults", "INI", PERGIDAU_INI_FAULT_NO_DELIMITER, 5);
     struct pergidau_json_item item;
     struct pergidau_reply reply;
     same("the size of a kind", "JSON", sizeof item.kind, sizeof(size_t));
@@ -1050,6 +1053,8 @@ int main(void)
     test_integers();
     test_walks();
     test_documents();
+    test_lines_of_ini();
+    test_places_of_ini();
     test_heads();
     test_responses();
     test_head_extents();

@@ -59,6 +59,80 @@ pub const CHUNKED_FAULT_TRAILERS: usize = 5;
 /// The trailer section would have more bytes than the limit lets.
 pub const CHUNKED_FAULT_TRAILERS_TOO_LONG: usize = 6;
 
+/// The name of a section, which begins there.
+pub const INI_SECTION: usize = 0;
+
+/// A key with its value, or with the first line of that.
+pub const INI_PAIR: usize = 1;
+
+/// A key without a delimiter, and so without a value.
+pub const INI_KEY: usize = 2;
+
+/// One more line of the value of the pair before. It is empty for an empty line, also where no
+/// other line of the value follows.
+pub const INI_MORE: usize = 3;
+
+/// No `]` stands after the `[` that begins the line.
+pub const INI_FAULT_OPEN_SECTION: usize = 0;
+
+/// Nothing stands between `[` and `]`.
+pub const INI_FAULT_EMPTY_SECTION: usize = 1;
+
+/// Something stands after the `]`.
+pub const INI_FAULT_TEXT_BEHIND_SECTION: usize = 2;
+
+/// No section stands before the pair.
+pub const INI_FAULT_NO_SECTION: usize = 3;
+
+/// No key stands before the delimiter.
+pub const INI_FAULT_NO_KEY: usize = 4;
+
+/// There is no delimiter.
+pub const INI_FAULT_NO_DELIMITER: usize = 5;
+
+/// `=` ends a key. Where neither this is set nor the next, both end one.
+pub const INI_DIALECT_EQUALS: usize = 1;
+
+/// `:` ends a key.
+pub const INI_DIALECT_COLON: usize = 2;
+
+/// `#` begins a comment where it is the first of a line, after white space.
+pub const INI_DIALECT_NUMBER_SIGN: usize = 4;
+
+/// `;` does.
+pub const INI_DIALECT_SEMICOLON: usize = 8;
+
+/// `#` begins a comment at the start of a line, or after white space in it.
+pub const INI_DIALECT_INLINE_NUMBER_SIGN: usize = 16;
+
+/// `;` does.
+pub const INI_DIALECT_INLINE_SEMICOLON: usize = 32;
+
+/// A line that is indented deeper than the pair before it goes on the value of that pair, until an
+/// empty line or a comment.
+pub const INI_DIALECT_UNTIL_EMPTY: usize = 64;
+
+/// Such a line goes on the value, and empty lines within are part of it; comments within are passed
+/// over. With this the flag before counts for nothing.
+pub const INI_DIALECT_PAST_EMPTY: usize = 128;
+
+/// A line without a delimiter is a key without a value; else it is refused.
+pub const INI_DIALECT_VALUELESS: usize = 256;
+
+/// Pairs may stand before the first section; else they are refused.
+pub const INI_DIALECT_BEFORE_SECTIONS: usize = 512;
+
+/// The dialect of Python's `configparser`, unless it is told another: `=` and `:`, `#` and `;` at
+/// the start of lines, continued lines with empty lines within.
+pub const INI_DIALECT_PYTHON: usize = 143;
+
+/// The dialect of desktop entries: `=`, `#` at the start of lines, a line for each pair.
+pub const INI_DIALECT_DESKTOP: usize = 5;
+
+/// The dialect that reads most: `=` and `:`, comments after white space too, keys without values,
+/// pairs before the first section, a line for each pair.
+pub const INI_DIALECT_LENIENT: usize = 831;
+
 /// How many levels of arrays and objects in one another may be asked for. Each takes some of the
 /// stack.
 pub const MOST_LEVELS: usize = 512;
@@ -305,6 +379,36 @@ pub struct Document {
     pub place: usize,
 }
 
+/// How far a document is read. Zeros stand for its start.
+#[repr(C)]
+#[derive(Clone, Copy, Debug, Default, PartialEq, Eq)]
+pub struct IniState {
+    /// How many bytes are read: the next line begins after them.
+    pub offset: usize,
+    /// 1 where a section has begun. Else 0.
+    pub section: usize,
+    /// 1 where the next line may go on the value of a pair. Else 0.
+    pub pair: usize,
+    /// How many blanks stand before that pair. Else 0.
+    pub indent: usize,
+}
+
+/// What a line says.
+#[repr(C)]
+#[derive(Clone, Copy, Debug, Default, PartialEq, Eq)]
+pub struct IniEntry {
+    /// What it is: a number of those from `INI_SECTION` to `INI_MORE`.
+    pub kind: usize,
+    /// The name of a section, or the key of a pair. Else nothing.
+    pub key: Span,
+    /// The value of a pair, or one more line of it. Else nothing.
+    pub value: Span,
+    /// Where the line begins that is refused, or is no UTF-8. Else 0.
+    pub place: usize,
+    /// Why it is refused: a number of those from `INI_FAULT_OPEN_SECTION` on. Else 0.
+    pub fault: usize,
+}
+
 /// A value, or a name in an object; or a bracket, by `exported_json_step` alone.
 #[repr(C)]
 #[derive(Clone, Copy, Debug, Default, PartialEq, Eq)]
@@ -375,7 +479,7 @@ pub struct Position {
 
 extern "C" {
     /// Stands in a library of this version and with these declarations alone.
-    #[link_name = "pergidau_0_0_0_declared_36c53897"]
+    #[link_name = "pergidau_0_0_0_declared_181de244"]
     static VERSION_LINKED: c_char;
 
     /// The version of the library that is linked.
@@ -685,6 +789,42 @@ extern "C" {
         out: *mut Document,
     ) -> u32;
 
+    /// The next entry of an INI file, as people have them, in any dialect: `.ini`, `.cfg`, `.desktop`.
+    /// A line feed ends a line. `[name]` begins a section; any other line is a key, a delimiter and a
+    /// value, without white space at the ends of either; empty lines and comments are passed over, and
+    /// so is a byte order mark in front. White space is tab, form feed, carriage return and space.
+    /// Quotes are kept, and keys and sections may come twice.
+    ///
+    /// `dialect` is a sum of flags: `INI_DIALECT_PYTHON`, `INI_DIALECT_DESKTOP`, `INI_DIALECT_LENIENT`,
+    /// or others from `INI_DIALECT_EQUALS` to `INI_DIALECT_BEFORE_SECTIONS`. Other bits count for
+    /// nothing.
+    ///
+    /// For the first call the numbers of `state` are zeros. Each further call has the state that the
+    /// last one left, with the same bytes, all of the document, and the same dialect. What a call
+    /// passed, no other looks at again, so all calls for a document take a time that is linear in its
+    /// bytes.
+    ///
+    /// `DONE`: what the entry is and the places of its texts are written; its line is UTF-8. A value of
+    /// more lines comes as a pair and one `INI_MORE` for each further line. `END`: no entry is left.
+    /// `REFUSED`: the next line is none of the dialect; where it begins, and why, is written.
+    /// `NO_TEXT`: the next line is no UTF-8; where it begins is written. With these three no kind and
+    /// no texts are written, and a further call tells the same. Lines are checked one by one, so
+    /// entries are told of a document in which a later line is no UTF-8.
+    ///
+    /// Of a state that calls left for other bytes, or that is changed, what is told may be wrong;
+    /// nothing outside of the bytes is read then either.
+    ///
+    /// The caller owes a state at `state` that can be read and written, `bytes_length` bytes at `bytes`
+    /// that can be read and that nothing changes while the call runs, room for one entry at `out`, each
+    /// apart from the others, and 16 KiB of stack.
+    pub fn exported_ini_next(
+        state: *mut IniState,
+        bytes: *const u8,
+        bytes_length: usize,
+        dialect: usize,
+        out: *mut IniEntry,
+    ) -> u32;
+
     /// Whether a text is one of JSON (RFC 8259): a value with white space round it, in which no more
     /// than `levels` arrays and objects stand in one another. What has a surrogate that is escaped
     /// alone, as `\ud800`, is none, since no character is meant by it, though the grammar of the
@@ -726,8 +866,9 @@ extern "C" {
     /// after its first byte on: a value at each call, of the bytes after the place of the last one.
     /// What an object has in it are names and values in turn. Their levels are one less than those of
     /// the value that they stand in. So a walk through all levels reads each byte once for each level
-    /// that it stands in. Of bytes that were not checked as a text, more than JSON allows is passed, as
-    /// a comma before the first value.
+    /// that it stands in; a walk by `exported_json_step` reads each byte once, however deep it stands,
+    /// in a time that is linear in the text. Of bytes that were not checked as a text, more than JSON
+    /// allows is passed, as a comma before the first value.
     ///
     /// `DONE`: what it is and its place are written. `END`: after white space stands a closing
     /// bracket, or nothing. `REFUSED`: neither stands there. `TOO_DEEP`: more than 512 levels are asked

@@ -1,4 +1,5 @@
-//! Lines of a key and a value, and documents of them in sections.
+//! Lines of a key and a value, documents of them in sections, and, in [`dialects`], INI files as
+//! people have them.
 //!
 //! ```
 //! use pergidau::ini::{self, Entry};
@@ -12,6 +13,8 @@
 //! }
 //! # Ok::<(), pergidau::Error>(())
 //! ```
+pub mod dialects;
+
 pub use crate::exports::Entry;
 
 use crate::{at, exports, Error, Place, Wanted, NOTHING};

@@ -11,7 +11,7 @@
 //! | [`calc`] | formulas of whole numbers |
 //! | [`csv`] | records of comma separated values |
 //! | [`http`] | heads of requests and of responses of HTTP/1.1, and chunked bodies |
-//! | [`ini`] | lines of a key and a value, and documents of them |
+//! | [`ini`] | lines of a key and a value, documents of them, and INI files of any dialect |
 //! | [`json`] | texts of JSON, and the values in them |
 //! | [`resp`] | replies of Redis |
 //!

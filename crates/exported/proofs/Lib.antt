@@ -1,4 +1,6 @@
 pub mod Chunked
+pub mod DialectTexts
+pub mod Dialects
 pub mod Entries
 pub mod ErrorKinds
 pub mod Extent

@@ -3,6 +3,7 @@ pub mod Chunked
 pub mod Code
 pub mod Csv
 pub mod CsvExtent
+pub mod Dialects
 pub mod Extent
 pub mod Http
 pub mod HttpExtent

@@ -7,6 +7,7 @@ ghost use Rattle.readers.specs.Sections.{pair_text};
 ghost use Rattle.exported.specs.Code.{done, no_memory, refused, too_small};
 ghost use Rattle.exported.specs.Ini.{AreEntries, ShowsDocument, ShowsPair, WantsDocument, text_of};
 
+pub mod dialects;
 pub mod entries;
 
 use crate::code::{DONE, NO_MEMORY, REFUSED, TOO_SMALL};

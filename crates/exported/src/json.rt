@@ -156,8 +156,9 @@ pub extern "C" fn exported_json_value(bytes: &[u8], levels: usize, out: &mut usi
 /// after its first byte on: a value at each call, of the bytes after the place of the last one.
 /// What an object has in it are names and values in turn. Their levels are one less than those of
 /// the value that they stand in. So a walk through all levels reads each byte once for each level
-/// that it stands in. Of bytes that were not checked as a text, more than JSON allows is passed, as
-/// a comma before the first value.
+/// that it stands in; a walk by `exported_json_step` reads each byte once, however deep it stands,
+/// in a time that is linear in the text. Of bytes that were not checked as a text, more than JSON
+/// allows is passed, as a comma before the first value.
 ///
 /// `DONE`: what it is and its place are written. `END`: after white space stands a closing
 /// bracket, or nothing. `REFUSED`: neither stands there. `TOO_DEEP`: more than 512 levels are asked

@@ -1,10 +1,10 @@
 -- A line that is neither empty nor a comment.
 use Rattle.std.specs.Prelude.{◌≡◌, ◌<◌, ℕ, List, [], ◌∷◌, length, Result, Ok, Err, MatchResult}
-use Rattle.std.proofs.Common.{subst, inl, inr, arith, sym, ◌∙◌}
+use Rattle.std.proofs.Common.{ap, subst, inl, inr, arith, refl, sym, ◌∙◌}
 use Rattle.std.specs.Prelude.{Bool, true, false}
 use Rattle.format_ini.specs.Front.{IsKept, NotFirst, indent_of, trimmed}
 use Rattle.format_ini.specs.Lines.{IsIdle, Lacks, LacksOwn, OwnSays, Step, is_deeper}
-use Rattle.format_ini.specs.Lines.{said_of}
+use Rattle.format_ini.specs.Lines.{more, said_of}
 use Rattle.format_ini.specs.Marks.{IsMark}
 use Rattle.format_ini.specs.declared.dialect.Dialect.{Dialect}
 use Rattle.format_ini.specs.declared.lines.Line.{Line}
@@ -20,6 +20,24 @@ not_idle d (b ∷ bs) some not (inr is) = not is
 
 other : {b : Bool} → b ≡ false → b ≡ true → ⊥
 other {b} e f = cc
+
+-- what a line says that goes on
+pub more_line : (d : Dialect) (s : State) (line kept text : List ℕ) (depth : ℕ) (on : Bool)
+    → IsKept d.inline_comments line kept → text ≡ trimmed kept → depth ≡ indent_of line
+    → on ≡ is_deeper s.pair depth → on ≡ true → 0 < length text
+    → NotFirst (IsMark d.comments) text → Step d s line (more text ∷ []) s
+more_line d s line kept text depth on is e h o goes some not =
+    let P : List ℕ → Type 0 = λ t. IsIdle d t → ⊥ in
+    let S : ℕ → Type 0 = λ n. is_deeper s.pair n ≡ true in (
+      kept,
+      is,
+      inr (inl (
+        subst P e (not_idle d text some not),
+        subst S h (sym o ∙ goes),
+        ap (λ l. more l ∷ []) e,
+        refl,
+      )),
+    )
 
 -- what a line of its own says the line says
 pub own_line : (d : Dialect) (s : State) (line kept text : List ℕ) (depth : ℕ) (on : Bool)

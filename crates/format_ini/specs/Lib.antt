@@ -3,3 +3,4 @@ pub mod Documents
 pub mod Front
 pub mod Lines
 pub mod Marks
+pub mod Places

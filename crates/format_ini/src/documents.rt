@@ -78,7 +78,7 @@ impl<'i> Entries<'i> {
             match first_line(self.rest) {
                 None => return Ok(None),
                 Some((line, behind)) => {
-                    let read = read_line(self.dialect, self.state, line)?;
+                    let read = read_line(self.dialect, self.state, 0, line)?;
                     self.rest = behind;
                     self.state = read.next;
                     if let Some(entry) = read.entry {

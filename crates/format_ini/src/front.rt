@@ -52,6 +52,13 @@ fn run_len(stop: Stop, bytes: &[u8]) -> usize
     bytes.len()
 }
 
+// How many bytes the first line has, without its line feed.
+pub(crate) fn line_len(bytes: &[u8]) -> usize
+    ensures { StopsAt Stop.LineFeed bytes.now result }
+{
+    run_len(Stop::LineFeed, bytes)
+}
+
 // What stands before the first of these, and what after it; `None` where there is none.
 pub(crate) fn cut(stop: Stop, text: &str) -> Option<(&str, &str)>
     ensures { MatchOption result (All (λ b. IsStop stop b → ⊥) text.now)
@@ -101,18 +108,13 @@ pub(crate) fn first_line(text: &str) -> Option<(&str, &str)>
     }
 }
 
-// How many blanks stand first in a line.
-pub(crate) fn indent(line: &str) -> usize
-    ensures { result ≡ indent_of line.now }
+// How many blanks stand first in a text, and the text without the blanks at both ends.
+pub(crate) fn trim(text: &str) -> (usize, &str)
+    ensures indent { result.0 ≡ indent_of text.now }
+    ensures text { result.1.now ≡ trimmed text.now }
 {
-    line.len() - line.trim_ascii_start().len()
-}
-
-// A text without the blanks at both ends.
-pub(crate) fn trim(text: &str) -> &str
-    ensures { result.now ≡ trimmed text.now }
-{
-    text.trim_ascii()
+    let behind = text.trim_ascii_start();
+    (text.len() - behind.len(), behind.trim_ascii_end())
 }
 
 // Whether a comment begins with this byte, where one may.

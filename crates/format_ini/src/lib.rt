@@ -30,4 +30,5 @@ pub mod documents;
 mod front;
 pub mod laws;
 pub mod lines;
+pub mod places;
 mod shown;

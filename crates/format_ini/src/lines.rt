@@ -1,13 +1,15 @@
 //! What one line says.
 
-ghost use Rattle.std.specs.Prelude.{◌≡◌, ◌<◌, length, MatchResult};
+ghost use Rattle.std.specs.Prelude.{◌≡◌, ◌<◌, ◌+◌, ◌^◌, List, length, IfOk, MatchResult, ℕ};
 ghost use Rattle.format_ini.specs.Front.{Begins};
 ghost use Rattle.format_ini.specs.Lines.{IdleSays, IsPair, IsSection, Lacks, LacksOwn, NoPair};
 ghost use Rattle.format_ini.specs.Lines.{NoSection, OwnSays, Step, is_deeper, pair_at, said_of};
 ghost use Rattle.format_ini.specs.Lines.{value_of};
+ghost use Rattle.format_ini.specs.Places.{BehindBlanks, SaidAt, ValueAt};
+ghost use Rattle.format_ini.specs.declared.dialect.Dialect.{Dialect};
 
 use crate::dialect::{Continued, Dialect};
-use crate::front::{Stop, around, cut, first_is, indent, is_comment, trim, without_comment};
+use crate::front::{Stop, around, cut, first_is, is_comment, trim, without_comment};
 
 /// What a line says.
 #[derive(Clone, Copy, Debug, PartialEq, Eq)]
@@ -52,11 +54,39 @@ pub struct State {
     pub pair: Option<usize>,
 }
 
-// What a line says, and the state after it.
+/// Where the texts of an entry begin.
+#[derive(Clone, Copy, Debug, PartialEq, Eq)]
+pub struct Places {
+    /// Where the name of a section begins, a key, or one more line of a value.
+    pub head: usize,
+    /// Where the value of a pair begins; of an entry without one it is the same as `head`.
+    pub value: usize,
+}
+
+// What a line says, where that stands, and the state after it.
 #[derive(Clone, Copy)]
 pub(crate) struct Line<'i> {
     pub(crate) entry: Option<Entry<'i>>,
+    pub(crate) at: Places,
     pub(crate) next: State,
+}
+
+// A key, its value, and where both begin.
+#[derive(Clone, Copy)]
+struct Pair<'i> {
+    key: &'i str,
+    value: Option<&'i str>,
+    at: Places,
+}
+
+// The same place for both.
+fn both_at(place: usize) -> Places
+    ensures { (result.head ≡ place) × (result.value ≡ place) }
+{
+    Places {
+        head: place,
+        value: place,
+    }
 }
 
 // The name of the section that begins.
@@ -74,15 +104,35 @@ fn read_section(text: &str) -> Result<&str, Refusal>
     }
 }
 
-// The key and the value of a pair.
-fn read_pair(dialect: Dialect, text: &str) -> Result<(&str, Option<&str>), Refusal>
-    ensures { MatchResult result (λ it. IsPair dialect text.now it.0.now (value_of it.1))
+// The key and the value of a pair that begins at this place.
+fn read_pair<'i>(dialect: Dialect, place: usize, text: &'i str) -> Result<Pair<'i>, Refusal>
+    requires { place + length text.now < 2 ^ 63 }
+    ensures pair { MatchResult result
+        (λ it. IsPair dialect text.now it.key.now (value_of it.value))
         (λ why. NoPair dialect text.now why) }
+    ensures key { IfOk result (λ it. BehindBlanks place text.now it.key.now it.at.head) }
+    ensures value { IfOk result (λ it. ValueAt dialect place text.now (value_of it.value) it.at) }
 {
     match cut(Stop::Delimiter(dialect.delimiters), text) {
-        Some((key, _)) if key.is_empty() => Err(Refusal::NoKey),
-        Some((key, value)) => Ok((trim(key), Some(trim(value)))),
-        None if dialect.valueless => Ok((text, None)),
+        Some((before, _)) if before.is_empty() => Err(Refusal::NoKey),
+        Some((before, behind)) => {
+            let (lead, key) = trim(before);
+            let (gap, value) = trim(behind);
+            let at = Places {
+                head: place + lead,
+                value: place + before.len() + 1 + gap,
+            };
+            Ok(Pair {
+                key,
+                value: Some(value),
+                at,
+            })
+        }
+        None if dialect.valueless => Ok(Pair {
+            key: text,
+            value: None,
+            at: both_at(place),
+        }),
         None => Err(Refusal::NoDelimiter),
     }
 }
@@ -100,17 +150,20 @@ fn behind_pair(continued: Continued, indent: usize, value: Option<&str>) -> Opti
     }
 }
 
-// What a line of its own says.
+// What a line of its own says, whose text begins at this place.
 fn read_own<'i>(
     dialect: Dialect,
     state: State,
     indent: usize,
+    place: usize,
     text: &'i str,
 ) -> Result<Line<'i>, Refusal>
-    requires { 0 < length text.now }
-    ensures { MatchResult result
+    requires some { 0 < length text.now }
+    requires within { place + length text.now < 2 ^ 63 }
+    ensures said { MatchResult result
         (λ line. OwnSays dialect state indent text.now (said_of line.entry) line.next)
         (λ why. LacksOwn dialect state text.now why) }
+    ensures at { IfOk result (λ line. SaidAt dialect place text.now line.entry line.at) }
 {
     if first_is(text, b'[') {
         let name = read_section(text)?;
@@ -120,34 +173,41 @@ fn read_own<'i>(
         };
         return Ok(Line {
             entry: Some(Entry::Section(name)),
+            at: both_at(place + 1),
             next,
         });
     }
     if !state.section && !dialect.before_sections {
         return Err(Refusal::NoSection);
     }
-    let (key, value) = read_pair(dialect, text)?;
+    let Pair { key, value, at } = read_pair(dialect, place, text)?;
     let next = State {
         section: state.section,
         pair: behind_pair(dialect.continued, indent, value),
     };
     Ok(Line {
         entry: Some(Entry::Pair { key, value }),
+        at,
         next,
     })
 }
 
-// What an empty line or a comment says.
-fn read_idle<'i>(continued: Continued, state: State, is_empty: bool) -> Line<'i>
-    ensures { IdleSays continued state is_empty (said_of result.entry) result.next }
+// What an empty line or a comment says that begins at this place.
+fn read_idle<'i>(continued: Continued, state: State, is_empty: bool, place: usize) -> Line<'i>
+    ensures said { IdleSays continued state is_empty (said_of result.entry) result.next }
+    ensures at { (dialect : Dialect) (line : List ℕ)
+        → SaidAt dialect place line result.entry result.at }
 {
+    let at = both_at(place);
     match continued {
         Continued::Never => Line {
             entry: None,
+            at,
             next: state,
         },
         Continued::UntilEmpty => Line {
             entry: None,
+            at,
             next: State {
                 section: state.section,
                 pair: None,
@@ -159,6 +219,7 @@ fn read_idle<'i>(continued: Continued, state: State, is_empty: bool) -> Line<'i>
             } else {
                 None
             },
+            at,
             next: state,
         },
     }
@@ -174,28 +235,31 @@ fn goes_on(pair: Option<usize>, depth: usize) -> bool
     }
 }
 
-// What a line says.
+// What a line says that begins at this place.
 pub(crate) fn read_line<'i>(
     dialect: Dialect,
     state: State,
+    place: usize,
     line: &'i str,
 ) -> Result<Line<'i>, Refusal>
-    ensures { MatchResult result
+    requires { place + length line.now < 2 ^ 63 }
+    ensures said { MatchResult result
         (λ it. Step dialect state line.now (said_of it.entry) it.next)
         (λ why. Lacks dialect state line.now why) }
+    ensures at { IfOk result (λ it. SaidAt dialect place line.now it.entry it.at) }
 {
     let kept = without_comment(dialect.inline_comments, line);
-    let text = trim(kept);
+    let (indent, text) = trim(kept);
     if text.is_empty() || is_comment(dialect.comments, text) {
         let is_empty = text.is_empty() && kept.len() == line.len();
-        return Ok(read_idle(dialect.continued, state, is_empty));
+        return Ok(read_idle(dialect.continued, state, is_empty, place));
     }
-    let depth = indent(line);
-    if goes_on(state.pair, depth) {
+    if goes_on(state.pair, indent) {
         return Ok(Line {
             entry: Some(Entry::More(text)),
+            at: both_at(place + indent),
             next: state,
         });
     }
-    read_own(dialect, state, depth, text)
+    read_own(dialect, state, indent, place + indent, text)
 }

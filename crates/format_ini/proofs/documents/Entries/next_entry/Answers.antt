@@ -15,7 +15,7 @@ returns-in_err-read-in-Some-clause-read c =
     rw (p.1, p.2) (next_err self.dialect c.lines.self.dialect c.lines.invariant.same self.state
     c.lines.self.state self.rest.now c.lines.self.rest.now c.lines.invariant.read
     c.in-Some.line.now c.in-Some.behind.now c.in_err-read-in-Some.field-0.0 c.in-Some.ensures
-    c.in_err-read-in-Some.ensures)
+    c.in_err-read-in-Some.ensures.said)
 
 pub returns-in-Some-entry-clause-read : goal.returns-in-Some-entry-clause-read
 returns-in-Some-entry-clause-read c =
@@ -23,7 +23,7 @@ returns-in-Some-entry-clause-read c =
     next_some self.dialect c.lines.self.dialect c.lines.invariant.same self.state
     c.lines.self.state self.rest.now c.lines.self.rest.now c.lines.invariant.read
     c.in-Some.line.now c.in-Some.behind.now c.in_ok-read-in-Some.read.next c.in-Some-entry.entry
-    c.in-Some.ensures (rw c.in-Some-entry.is at c.in_ok-read-in-Some.ensures)
+    c.in-Some.ensures (rw c.in-Some-entry.is at c.in_ok-read-in-Some.ensures.said)
 
 pub lines-preserved : goal.lines-preserved
 lines-preserved c =
@@ -34,6 +34,6 @@ lines-preserved c =
       read = more_lines self.dialect c.lines.self.dialect c.lines.invariant.same self.state
           c.lines.self.state self.rest.now c.lines.self.rest.now c.lines.invariant.read
           c.in-Some.line.now c.in-Some.behind.now read.next c.in-Some.ensures
-          (rw none at c.in_ok-read-in-Some.ensures);
+          (rw none at c.in_ok-read-in-Some.ensures.said);
       same = c.lines.invariant.same;
     }

@@ -1,0 +1,310 @@
+//! INI files as people have them, entry by entry, in any dialect: `.ini`, `.cfg`, `.desktop`.
+//!
+//! ```
+//! use pergidau::ini::dialects::{entries, Dialect, Entry};
+//!
+//! let text = "[server]\nport: 80\nhosts = a\n  b\n";
+//! let mut found = entries(text, Dialect::PYTHON);
+//! assert_eq!(found.next(), Some(Ok(Entry::Section("server"))));
+//! assert_eq!(found.next(), Some(Ok(Entry::Pair { key: "port", value: Some("80") })));
+//! assert_eq!(found.next(), Some(Ok(Entry::Pair { key: "hosts", value: Some("a") })));
+//! assert_eq!(found.next(), Some(Ok(Entry::More("b"))));
+//! assert_eq!(found.next(), None);
+//! let refused = entries("[server]\nport\n", Dialect::PYTHON).last().unwrap().unwrap_err();
+//! assert_eq!(refused.to_string(), "no delimiter after the key, at line 2, column 1");
+//! ```
+use crate::exports::{self, IniEntry, IniState};
+use crate::{Place, Span};
+use core::fmt;
+
+/// What ends a key: the first of these in a line.
+#[derive(Clone, Copy, Debug, PartialEq, Eq)]
+pub enum Delimiters {
+    /// `=` alone; a colon is part of a key.
+    Equals,
+    /// `:` alone; an equals sign is part of a key.
+    Colon,
+    /// One or the other.
+    Either,
+}
+
+/// What begins a comment.
+#[derive(Clone, Copy, Debug, PartialEq, Eq)]
+pub enum Marks {
+    /// Nothing: there are no such comments.
+    Neither,
+    /// `#` alone.
+    NumberSign,
+    /// `;` alone.
+    Semicolon,
+    /// One or the other.
+    Either,
+}
+
+/// What a line means that is indented deeper than the pair before it.
+#[derive(Clone, Copy, Debug, PartialEq, Eq)]
+pub enum Continued {
+    /// It is a line of its own.
+    Never,
+    /// It goes on the value of that pair, until an empty line or a comment.
+    UntilEmpty,
+    /// It goes on the value of that pair, and empty lines within are part of the value. Comments
+    /// within are passed over.
+    PastEmpty,
+}
+
+/// How lines are read.
+///
+/// ```
+/// use pergidau::ini::dialects::{entries, Delimiters, Dialect, Entry};
+///
+/// let dialect = Dialect { delimiters: Delimiters::Colon, ..Dialect::LENIENT };
+/// let found = entries("a=b: c", dialect).next();
+/// assert_eq!(found, Some(Ok(Entry::Pair { key: "a=b", value: Some("c") })));
+/// ```
+#[derive(Clone, Copy, Debug, PartialEq, Eq)]
+pub struct Dialect {
+    /// What ends a key.
+    pub delimiters: Delimiters,
+    /// What begins a comment where it is the first of a line, after white space.
+    pub comments: Marks,
+    /// What begins a comment at the start of a line, or after white space in it.
+    pub inline_comments: Marks,
+    /// What a line means that is indented deeper than the pair before it.
+    pub continued: Continued,
+    /// Whether a line without a delimiter is a key without a value; else it is refused.
+    pub valueless: bool,
+    /// Whether pairs may stand before the first section; else they are refused.
+    pub before_sections: bool,
+}
+
+impl Dialect {
+    /// The dialect of Python's `configparser`, unless it is told another: `=` and `:`, `#` and `;`
+    /// at the start of lines, continued lines with empty lines within.
+    pub const PYTHON: Dialect = Dialect {
+        delimiters: Delimiters::Either,
+        comments: Marks::Either,
+        inline_comments: Marks::Neither,
+        continued: Continued::PastEmpty,
+        valueless: false,
+        before_sections: false,
+    };
+
+    /// The dialect of desktop entries: `=`, `#` at the start of lines, a line for each pair.
+    pub const DESKTOP: Dialect = Dialect {
+        delimiters: Delimiters::Equals,
+        comments: Marks::NumberSign,
+        inline_comments: Marks::Neither,
+        continued: Continued::Never,
+        valueless: false,
+        before_sections: false,
+    };
+
+    /// The dialect that reads most: `=` and `:`, comments after white space too, keys without
+    /// values, pairs before the first section, a line for each pair.
+    pub const LENIENT: Dialect = Dialect {
+        delimiters: Delimiters::Either,
+        comments: Marks::Either,
+        inline_comments: Marks::Either,
+        continued: Continued::Never,
+        valueless: true,
+        before_sections: true,
+    };
+
+    /// The sum of its flags.
+    const fn flags(self) -> usize {
+        let delimiters = match self.delimiters {
+            Delimiters::Equals => exports::INI_DIALECT_EQUALS,
+            Delimiters::Colon => exports::INI_DIALECT_COLON,
+            Delimiters::Either => exports::INI_DIALECT_EQUALS | exports::INI_DIALECT_COLON,
+        };
+        let comments = self.comments.flags(
+            exports::INI_DIALECT_NUMBER_SIGN,
+            exports::INI_DIALECT_SEMICOLON,
+        );
+        let inline_comments = self.inline_comments.flags(
+            exports::INI_DIALECT_INLINE_NUMBER_SIGN,
+            exports::INI_DIALECT_INLINE_SEMICOLON,
+        );
+        let continued = match self.continued {
+            Continued::Never => 0,
+            Continued::UntilEmpty => exports::INI_DIALECT_UNTIL_EMPTY,
+            Continued::PastEmpty => exports::INI_DIALECT_PAST_EMPTY,
+        };
+        let valueless = if self.valueless { exports::INI_DIALECT_VALUELESS } else { 0 };
+        let before = if self.before_sections { exports::INI_DIALECT_BEFORE_SECTIONS } else { 0 };
+        delimiters | comments | inline_comments | continued | valueless | before
+    }
+}
+
+impl Marks {
+    /// The sum of those of these flags that it has.
+    const fn flags(self, number_sign: usize, semicolon: usize) -> usize {
+        match self {
+            Marks::Neither => 0,
+            Marks::NumberSign => number_sign,
+            Marks::Semicolon => semicolon,
+            Marks::Either => number_sign | semicolon,
+        }
+    }
+}
+
+// The dialects with names are those of the library.
+const _: () = assert!(Dialect::PYTHON.flags() == exports::INI_DIALECT_PYTHON);
+const _: () = assert!(Dialect::DESKTOP.flags() == exports::INI_DIALECT_DESKTOP);
+const _: () = assert!(Dialect::LENIENT.flags() == exports::INI_DIALECT_LENIENT);
+
+/// What a line says.
+#[derive(Clone, Copy, Debug, PartialEq, Eq)]
+pub enum Entry<'i> {
+    /// `[name]` begins a section.
+    Section(&'i str),
+    /// A pair, with its value, or what stands of that on this line.
+    Pair {
+        /// The key, without white space at either end.
+        key: &'i str,
+        /// The value, without white space at either end; none where no delimiter stands.
+        value: Option<&'i str>,
+    },
+    /// One more line of the value of the pair before, without white space at either end. It is
+    /// empty for an empty line, also where no other line of the value follows.
+    More(&'i str),
+}
+
+/// Why a line is none of the dialect.
+#[derive(Clone, Copy, Debug, PartialEq, Eq)]
+#[non_exhaustive]
+pub enum Refusal {
+    /// No `]` stands after the `[` that begins the line.
+    OpenSection,
+    /// Nothing stands between `[` and `]`.
+    EmptySection,
+    /// Something stands after the `]`.
+    TextBehindSection,
+    /// No section stands before the pair.
+    NoSection,
+    /// No key stands before the delimiter.
+    NoKey,
+    /// There is no delimiter.
+    NoDelimiter,
+    /// The library said what this crate does not know: it is another one.
+    Unknown(usize),
+}
+
+impl Refusal {
+    /// The reason of this number.
+    fn of(number: usize) -> Refusal {
+        match number {
+            exports::INI_FAULT_OPEN_SECTION => Refusal::OpenSection,
+            exports::INI_FAULT_EMPTY_SECTION => Refusal::EmptySection,
+            exports::INI_FAULT_TEXT_BEHIND_SECTION => Refusal::TextBehindSection,
+            exports::INI_FAULT_NO_SECTION => Refusal::NoSection,
+            exports::INI_FAULT_NO_KEY => Refusal::NoKey,
+            exports::INI_FAULT_NO_DELIMITER => Refusal::NoDelimiter,
+            number => Refusal::Unknown(number),
+        }
+    }
+}
+
+impl fmt::Display for Refusal {
+    fn fmt(&self, f: &mut fmt::Formatter<'_>) -> fmt::Result {
+        f.write_str(match self {
+            Refusal::OpenSection => "no `]` after `[`",
+            Refusal::EmptySection => "a section without a name",
+            Refusal::TextBehindSection => "text after a section",
+            Refusal::NoSection => "a pair before the first section",
+            Refusal::NoKey => "no key before the delimiter",
+            Refusal::NoDelimiter => "no delimiter after the key",
+            Refusal::Unknown(_) => "a line for a reason that is not known",
+        })
+    }
+}
+
+/// The line that is none of the dialect: where it begins, and why.
+#[derive(Clone, Copy, Debug, PartialEq, Eq)]
+pub struct LineError {
+    /// Where the line begins.
+    pub place: Place,
+    /// Why it is none.
+    pub why: Refusal,
+}
+
+impl fmt::Display for LineError {
+    fn fmt(&self, f: &mut fmt::Formatter<'_>) -> fmt::Result {
+        write!(f, "{}, at {}", self.why, self.place)
+    }
+}
+
+#[cfg(feature = "std")]
+impl std::error::Error for LineError {}
+
+/// The entries of a document, in order, as [`entries`] makes them. After an error there are none.
+#[derive(Clone, Debug)]
+pub struct Entries<'i> {
+    text: &'i str,
+    flags: usize,
+    state: IniState,
+    is_over: bool,
+}
+
+/// The entries of a document, one after the other; a byte order mark in front is passed over. The
+/// first line that is none of the dialect is an error, with its line, its column and why. Nothing
+/// is allocated, and all calls for a document take a time that is linear in its length.
+///
+/// ```
+/// use pergidau::ini::dialects::{entries, Dialect, Entry, Refusal};
+///
+/// let text = "[Desktop Entry]\n# a comment\nExec=run --now\n=x\n";
+/// let mut found = entries(text, Dialect::DESKTOP);
+/// assert_eq!(found.next(), Some(Ok(Entry::Section("Desktop Entry"))));
+/// assert_eq!(found.next(), Some(Ok(Entry::Pair { key: "Exec", value: Some("run --now") })));
+/// let refused = found.next().unwrap().unwrap_err();
+/// assert_eq!((refused.place.line, refused.why), (4, Refusal::NoKey));
+/// assert_eq!(found.next(), None);
+/// ```
+pub fn entries(text: &str, dialect: Dialect) -> Entries<'_> {
+    Entries { text, flags: dialect.flags(), state: IniState::default(), is_over: false }
+}
+
+impl<'i> Iterator for Entries<'i> {
+    type Item = Result<Entry<'i>, LineError>;
+
+    fn next(&mut self) -> Option<Result<Entry<'i>, LineError>> {
+        if self.is_over {
+            return None;
+        }
+        let mut out = IniEntry::default();
+        let (text, bytes) = (self.text, self.text.as_bytes());
+        // SAFETY: the pointers are those of live borrows, and the bytes are only read. The call
+        // takes up to 1 KiB of stack (measured); where there is less, the thread's guard page ends
+        // the program.
+        let code = unsafe {
+            exports::exported_ini_next(
+                &mut self.state, bytes.as_ptr(), bytes.len(), self.flags, &mut out,
+            )
+        };
+        let at = |place: Span| &text[place.offset..][..place.length];
+        match (code, out.kind) {
+            (exports::DONE, exports::INI_SECTION) => Some(Ok(Entry::Section(at(out.key)))),
+            (exports::DONE, exports::INI_PAIR) => {
+                Some(Ok(Entry::Pair { key: at(out.key), value: Some(at(out.value)) }))
+            }
+            (exports::DONE, exports::INI_KEY) => {
+                Some(Ok(Entry::Pair { key: at(out.key), value: None }))
+            }
+            (exports::DONE, exports::INI_MORE) => Some(Ok(Entry::More(at(out.value)))),
+            (exports::REFUSED, _) => {
+                self.is_over = true;
+                let place = Place::of(bytes, out.place);
+                Some(Err(LineError { place, why: Refusal::of(out.fault) }))
+            }
+            (code, _) => {
+                debug_assert_eq!(code, exports::END);
+                self.is_over = true;
+                None
+            }
+        }
+    }
+}
+
+impl core::iter::FusedIterator for Entries<'_> {}

@@ -1,0 +1,91 @@
+//! Rows of INI files of any dialect, entry by entry, from Rust. What is wanted of rows in the
+//! dialect of Python is what its `configparser` has.
+use pergidau::ini::dialects::{entries, Continued, Delimiters, Dialect, Entry, Marks, Refusal};
+
+/// The entries of a document, in short, and why and in which line and column one is refused.
+fn told(text: &str, dialect: Dialect) -> String {
+    let mut shown = String::new();
+    for entry in entries(text, dialect) {
+        shown += &match entry {
+            Ok(Entry::Section(name)) => format!("[{name}]|"),
+            Ok(Entry::Pair { key, value: Some(value) }) => format!("{key}={value}|"),
+            Ok(Entry::Pair { key, value: None }) => format!("{key}|"),
+            Ok(Entry::More(line)) => format!("+{line}|"),
+            Err(error) => format!("{:?} {} {}", error.why, error.place.line, error.place.column),
+        };
+    }
+    shown
+}
+
+const BARE: Dialect = Dialect {
+    delimiters: Delimiters::Either,
+    comments: Marks::Neither,
+    inline_comments: Marks::Neither,
+    continued: Continued::Never,
+    valueless: false,
+    before_sections: false,
+};
+
+#[test]
+fn entries_of_known_dialects() {
+    let rows = [
+        (Dialect::PYTHON, "", ""),
+        (Dialect::PYTHON, "\u{feff}[é]\n# a\n;b\nc : d\n  e\n\n f\n", "[é]|c=d|+e|+|+f|"),
+        (Dialect::PYTHON, "[s]\na=\nb = c ; d\n", "[s]|a=|b=c ; d|"),
+        (Dialect::DESKTOP, "[s]\n#a\n;=b:c\n d=e\n", "[s]|;=b:c|d=e|"),
+        (Dialect::LENIENT, "a # b\nc=d;e ;f\n", "a|c=d;e|"),
+    ];
+    for (dialect, text, want) in rows {
+        assert_eq!(told(text, dialect), want, "{text}");
+    }
+}
+
+#[test]
+fn entries_of_other_dialects() {
+    let rows = [
+        (Dialect { delimiters: Delimiters::Equals, ..BARE }, "[s]\na:b=c\n", "[s]|a:b=c|"),
+        (Dialect { delimiters: Delimiters::Colon, ..BARE }, "[s]\na=b:c\n", "[s]|a=b=c|"),
+        (BARE, "[s]\na:b=c\n#=d\n;=e\n", "[s]|a=b=c|#=d|;=e|"),
+        (BARE, "[s]\na=b:c\n", "[s]|a=b:c|"),
+        (Dialect { comments: Marks::NumberSign, ..BARE }, "[s]\n#a\n;=b #\n", "[s]|;=b #|"),
+        (Dialect { comments: Marks::Semicolon, ..BARE }, "[s]\n;a\n#=b ;\n", "[s]|#=b ;|"),
+        (Dialect { comments: Marks::Either, ..BARE }, "[s]\n;a\n#b\n", "[s]|"),
+        (Dialect { inline_comments: Marks::NumberSign, ..BARE }, "[s]\na=b ;c #d\n", "[s]|a=b ;c|"),
+        (Dialect { inline_comments: Marks::Semicolon, ..BARE }, "[s]\na=b #c ;d\n", "[s]|a=b #c|"),
+        (
+            Dialect { continued: Continued::UntilEmpty, ..BARE },
+            "[s]\na=b\n c\n\n d=e\n",
+            "[s]|a=b|+c|d=e|",
+        ),
+        (
+            Dialect { continued: Continued::PastEmpty, ..BARE },
+            "[s]\na=b\n c\n\n d=e\n",
+            "[s]|a=b|+c|+|+d=e|",
+        ),
+        (Dialect { valueless: true, ..BARE }, "[s]\na\n", "[s]|a|"),
+        (Dialect { before_sections: true, ..BARE }, "a=b\n", "a=b|"),
+    ];
+    for (dialect, text, want) in rows {
+        assert_eq!(told(text, dialect), want, "{text}");
+    }
+}
+
+#[test]
+fn refused_lines() {
+    let rows = [
+        ("\u{feff}a = b\n", "NoSection 1 2"),
+        ("[s]\n\n  abc\nd=e\n", "[s]|NoDelimiter 3 1"),
+        ("[s]\n = b\n", "[s]|NoKey 2 1"),
+        ("[s]\né=f\n[s", "[s]|é=f|OpenSection 3 1"),
+        ("[]\n", "EmptySection 1 1"),
+        ("[s] x\n", "TextBehindSection 1 1"),
+    ];
+    for (text, want) in rows {
+        assert_eq!(told(text, Dialect::PYTHON), want, "{text}");
+    }
+    let mut found = entries("[s]\na\nb=c\n", Dialect::PYTHON);
+    let refused = found.nth(1).unwrap().unwrap_err();
+    assert_eq!((refused.place.offset, refused.why), (4, Refusal::NoDelimiter));
+    assert_eq!(refused.to_string(), "no delimiter after the key, at line 2, column 1");
+    assert_eq!(found.next(), None);
+}

@@ -1,0 +1,173 @@
+/* Random bytes for what tells entries of INI in any dialect, held against a reader written here
+ * from what the header says. `fuzz.c` includes it behind what it uses. */
+
+static bool is_blank(uint8_t byte)
+{
+    return byte == ' ' || byte == '\t' || byte == '\f' || byte == '\r';
+}
+
+/* Whether the bytes are UTF-8 (RFC 3629). */
+static bool is_text(const uint8_t *bytes, size_t length)
+{
+    for (size_t at = 0; at < length;) {
+        uint8_t lead = bytes[at++], least = 0x80, most = 0xBF;
+        size_t more = lead < 0x80 ? 0 : lead < 0xE0 ? 1 : lead < 0xF0 ? 2 : 3;
+        if ((lead >= 0x80 && lead < 0xC2) || lead > 0xF4 || more > length - at) {
+            return false;
+        }
+        least = lead == 0xE0 ? 0xA0 : lead == 0xF0 ? 0x90 : least;
+        most = lead == 0xED ? 0x9F : lead == 0xF4 ? 0x8F : most;
+        for (; more > 0; more--, at++, least = 0x80, most = 0xBF) {
+            if (bytes[at] < least || bytes[at] > most) {
+                return false;
+            }
+        }
+    }
+    return true;
+}
+
+static bool is_one(size_t dialect, size_t first, uint8_t byte, char a, char b)
+{
+    return ((dialect & first) && byte == a) || ((dialect & (first << 1)) && byte == b);
+}
+
+/* The bytes between two places without the blanks at both ends. */
+static struct pergidau_span without_blanks(const uint8_t *bytes, size_t from, size_t to)
+{
+    while (from < to && is_blank(bytes[from])) {
+        from++;
+    }
+    while (from < to && is_blank(bytes[to - 1])) {
+        to--;
+    }
+    return (struct pergidau_span){from, to - from};
+}
+
+/* What the lines before say for the next one: whether a section has begun, and the blanks before
+ * the pair that it may go on, or less than none. */
+struct before {
+    bool section;
+    long blanks;
+};
+
+/* A section or a pair: what stands there, between two places. */
+static enum pergidau_code own_by_hand(const uint8_t *bytes, struct pergidau_span text,
+                                      size_t dialect, struct before *before,
+                                      struct pergidau_ini_entry *out)
+{
+    size_t end = text.offset + text.length, at = text.offset;
+    if (bytes[at] == '[') {
+        const uint8_t *closed = memchr(bytes + at, ']', text.length);
+        size_t name = closed ? (size_t)(closed - bytes) - at - 1 : 0;
+        if (closed == NULL || name == 0 || at + name + 2 < end) {
+            out->fault = closed == NULL ? PERGIDAU_INI_FAULT_OPEN_SECTION
+                : name == 0             ? PERGIDAU_INI_FAULT_EMPTY_SECTION
+                                        : PERGIDAU_INI_FAULT_TEXT_BEHIND_SECTION;
+            return PERGIDAU_REFUSED;
+        }
+        *before = (struct before){true, -1};
+        out->kind = PERGIDAU_INI_SECTION;
+        out->key = (struct pergidau_span){at + 1, name};
+        return PERGIDAU_DONE;
+    }
+    if (!before->section && !(dialect & PERGIDAU_INI_DIALECT_BEFORE_SECTIONS)) {
+        out->fault = PERGIDAU_INI_FAULT_NO_SECTION;
+        return PERGIDAU_REFUSED;
+    }
+    size_t ends = dialect & 3 ? dialect & 3 : 3;
+    while (at < end && !is_one(ends, 1, bytes[at], '=', ':')) {
+        at++;
+    }
+    if (at == text.offset || (at == end && !(dialect & PERGIDAU_INI_DIALECT_VALUELESS))) {
+        out->fault = at == end ? PERGIDAU_INI_FAULT_NO_DELIMITER : PERGIDAU_INI_FAULT_NO_KEY;
+        return PERGIDAU_REFUSED;
+    }
+    out->kind = at < end ? PERGIDAU_INI_PAIR : PERGIDAU_INI_KEY;
+    out->key = without_blanks(bytes, text.offset, at);
+    if (at < end) {
+        out->value = without_blanks(bytes, at + 1, end);
+    }
+    return PERGIDAU_DONE;
+}
+
+/* The next entry from a place on, which is then behind its line. */
+static enum pergidau_code next_by_hand(const uint8_t *bytes, size_t length, size_t dialect,
+                                       size_t *at, struct before *before,
+                                       struct pergidau_ini_entry *out)
+{
+    for (; *at < length;) {
+        *out = (struct pergidau_ini_entry){0};
+        size_t start = *at, end = start;
+        while (end < length && bytes[end] != '\n') {
+            end++;
+        }
+        size_t behind = end + (end < length), kept = start;
+        if (!is_text(bytes + start, end - start)) {
+            out->place = start;
+            return PERGIDAU_NO_TEXT;
+        }
+        for (; kept < end; kept++) {
+            if ((kept == start || is_blank(bytes[kept - 1]))
+                && is_one(dialect, 16, bytes[kept], '#', ';')) {
+                break;
+            }
+        }
+        struct pergidau_span text = without_blanks(bytes, start, kept);
+        bool past = dialect & PERGIDAU_INI_DIALECT_PAST_EMPTY;
+        bool until = !past && (dialect & PERGIDAU_INI_DIALECT_UNTIL_EMPTY);
+        if (text.length == 0 || is_one(dialect, 4, bytes[text.offset], '#', ';')) {
+            *at = behind;
+            before->blanks = until ? -1 : before->blanks;
+            if (past && before->blanks >= 0 && text.length == 0 && kept == end) {
+                out->kind = PERGIDAU_INI_MORE;
+                out->value.offset = start;
+                return PERGIDAU_DONE;
+            }
+            continue;
+        }
+        long blanks = (long)(text.offset - start);
+        if (before->blanks >= 0 && blanks > before->blanks) {
+            *at = behind;
+            out->kind = PERGIDAU_INI_MORE;
+            out->value = text;
+            return PERGIDAU_DONE;
+        }
+        enum pergidau_code code = own_by_hand(bytes, text, dialect, before, out);
+        if (code == PERGIDAU_REFUSED) {
+            out->place = start;
+            return code;
+        }
+        if (out->kind != PERGIDAU_INI_SECTION) {
+            before->blanks = (past || until) && out->kind == PERGIDAU_INI_PAIR ? blanks : -1;
+        }
+        *at = behind;
+        return code;
+    }
+    *out = (struct pergidau_ini_entry){0};
+    return PERGIDAU_END;
+}
+
+static void read_ini(const uint8_t *bytes, size_t length)
+{
+    static const size_t known[] = {
+        PERGIDAU_INI_DIALECT_PYTHON, PERGIDAU_INI_DIALECT_DESKTOP, PERGIDAU_INI_DIALECT_LENIENT,
+    };
+    size_t dialect = below(2) ? known[below(3)] : below(2048);
+    struct pergidau_ini_state ours = {0};
+    struct pergidau_ini_entry out, want;
+    struct before before = {false, -1};
+    size_t at = length >= 3 && !memcmp(bytes, "\xef\xbb\xbf", 3) ? 3 : 0;
+    enum pergidau_code code;
+    do {
+        enum pergidau_code by_hand = next_by_hand(bytes, length, dialect, &at, &before, &want);
+        code = pergidau_ini_next(&ours, bytes, length, dialect, &out);
+        HOLDS(code == by_hand);
+        HOLDS(!memcmp(&out, &want, sizeof out));
+        HOLDS(ours.offset == at || at == 3);
+    } while (code == PERGIDAU_DONE);
+    /* A state that is none. */
+    struct pergidau_ini_state other = {below(length + 3), below(3), below(3), below(5)};
+    code = pergidau_ini_next(&other, bytes, length, dialect, &out);
+    HOLDS(code != PERGIDAU_DONE || (within(out.key, length) && within(out.value, length)));
+    HOLDS(out.place <= length);
+}

@@ -1,0 +1,136 @@
+/* Rows of INI files of any dialect, entry by entry: included by rows.c. What is wanted of rows in
+ * the dialect of Python is what its configparser has. */
+
+enum {
+    PYTHON = PERGIDAU_INI_DIALECT_PYTHON,
+    DESKTOP = PERGIDAU_INI_DIALECT_DESKTOP,
+    LENIENT = PERGIDAU_INI_DIALECT_LENIENT,
+};
+
+/* Entries, each with a vertical bar behind it; then how the last call ended, where, and why. */
+static const struct {
+    size_t dialect;
+    const char *text, *entries;
+    enum pergidau_code code;
+    size_t place, fault;
+} lines_of_ini[] = {
+    {PYTHON, "", "", PERGIDAU_END, 0, 0},
+    {PYTHON, "\n# a\n ; b\n\t\r\n", "", PERGIDAU_END, 0, 0},
+    {PYTHON, "[s]\na = b\n", "[s]|a=b|", PERGIDAU_END, 0, 0},
+    {PYTHON, "[a b ]\nkey of two  :\tvalue = c\r\n", "[a b ]|key of two=value = c|",
+     PERGIDAU_END, 0, 0},
+    {PYTHON, "[s]\na=\n", "[s]|a=|", PERGIDAU_END, 0, 0},
+    {PYTHON, "[s]\na=a", "[s]|a=a|", PERGIDAU_END, 0, 0},
+    {PYTHON, "[s]\na = b\n  c\n\n # d\n\te = f\ng = h\n", "[s]|a=b|+c|+|+e = f|g=h|",
+     PERGIDAU_END, 0, 0},
+    {PYTHON, "[s]\n  a = b\n  c = d\n", "[s]|a=b|c=d|", PERGIDAU_END, 0, 0},
+    {PYTHON, "[s]\na = b ; c\n", "[s]|a=b ; c|", PERGIDAU_END, 0, 0},
+    {PYTHON, "\xef\xbb\xbf[\xc3\xa9]\n", "[\xc3\xa9]|", PERGIDAU_END, 0, 0},
+    {PYTHON, "a = b\n", "", PERGIDAU_REFUSED, 0, PERGIDAU_INI_FAULT_NO_SECTION},
+    {PYTHON, "\xef\xbb\xbf# a\nb = c\n", "", PERGIDAU_REFUSED, 7, PERGIDAU_INI_FAULT_NO_SECTION},
+    {PYTHON, "[s]\n\nabc\n", "[s]|", PERGIDAU_REFUSED, 5, PERGIDAU_INI_FAULT_NO_DELIMITER},
+    {PYTHON, "[s]\n = b\n", "[s]|", PERGIDAU_REFUSED, 4, PERGIDAU_INI_FAULT_NO_KEY},
+    {PYTHON, "[s", "", PERGIDAU_REFUSED, 0, PERGIDAU_INI_FAULT_OPEN_SECTION},
+    {PYTHON, "[s]\n[]\n", "[s]|", PERGIDAU_REFUSED, 4, PERGIDAU_INI_FAULT_EMPTY_SECTION},
+    {PYTHON, "[s] x\n", "", PERGIDAU_REFUSED, 0, PERGIDAU_INI_FAULT_TEXT_BEHIND_SECTION},
+    {PYTHON, "[s]\na = \xff\nb = c\n", "[s]|", PERGIDAU_NO_TEXT, 4, 0},
+    {PYTHON, "[s]\n# \xff\n", "[s]|", PERGIDAU_NO_TEXT, 4, 0},
+    {PYTHON, "[s]\na\xff = \n", "[s]|", PERGIDAU_NO_TEXT, 4, 0},
+    {DESKTOP, "[Desktop Entry]\nName[de]=a:b\n; = c\n", "[Desktop Entry]|Name[de]=a:b|;=c|",
+     PERGIDAU_END, 0, 0},
+    {DESKTOP, "[s]\na=b\n c=d\n", "[s]|a=b|c=d|", PERGIDAU_END, 0, 0},
+    {DESKTOP, "[s]\na:b\n", "[s]|", PERGIDAU_REFUSED, 4, PERGIDAU_INI_FAULT_NO_DELIMITER},
+    {LENIENT, "a # b\nc = d;e ;f\n[s] ;g\n", "a|c=d;e|[s]|", PERGIDAU_END, 0, 0},
+    {LENIENT, "a = b\n  c\n", "a=b|c|", PERGIDAU_END, 0, 0},
+    /* Each flag by itself, and what else a sum may have. */
+    {PERGIDAU_INI_DIALECT_COLON, "[s]\na=b:c\n", "[s]|a=b=c|", PERGIDAU_END, 0, 0},
+    {PERGIDAU_INI_DIALECT_EQUALS, "[s]\na:b=c\n", "[s]|a:b=c|", PERGIDAU_END, 0, 0},
+    {0, "[s]\na:b=c\n#=d\n", "[s]|a=b=c|#=d|", PERGIDAU_END, 0, 0},
+    {PERGIDAU_INI_DIALECT_NUMBER_SIGN, "[s]\n#a\n;=b#\n", "[s]|;=b#|", PERGIDAU_END, 0, 0},
+    {PERGIDAU_INI_DIALECT_SEMICOLON, "[s]\n;a\n#=b;\n", "[s]|#=b;|", PERGIDAU_END, 0, 0},
+    {PERGIDAU_INI_DIALECT_INLINE_NUMBER_SIGN, "[s]\na=b ;c #d\n", "[s]|a=b ;c|",
+     PERGIDAU_END, 0, 0},
+    {PERGIDAU_INI_DIALECT_INLINE_SEMICOLON, "[s]\na=b #c ;d\n", "[s]|a=b #c|", PERGIDAU_END, 0, 0},
+    {PERGIDAU_INI_DIALECT_UNTIL_EMPTY, "[s]\na=b\n c\n\n d=e\n", "[s]|a=b|+c|d=e|",
+     PERGIDAU_END, 0, 0},
+    {PERGIDAU_INI_DIALECT_PAST_EMPTY | PERGIDAU_INI_DIALECT_UNTIL_EMPTY, "[s]\na=b\n c\n\n d\n",
+     "[s]|a=b|+c|+|+d|", PERGIDAU_END, 0, 0},
+    {PERGIDAU_INI_DIALECT_VALUELESS, "[s]\na\n", "[s]|a|", PERGIDAU_END, 0, 0},
+    {PERGIDAU_INI_DIALECT_BEFORE_SECTIONS, "a=b\n", "a=b|", PERGIDAU_END, 0, 0},
+    {PYTHON | 1024, "[s]\na=b\n", "[s]|a=b|", PERGIDAU_END, 0, 0},
+};
+
+/* Puts an entry behind others. */
+static char *put_entry(char *into, const char *text, const struct pergidau_ini_entry *entry)
+{
+    int key = (int)entry->key.length, value = (int)entry->value.length;
+    const char *name = text + entry->key.offset, *said = text + entry->value.offset;
+    switch (entry->kind) {
+    case PERGIDAU_INI_SECTION:
+        return into + sprintf(into, "[%.*s]|", key, name);
+    case PERGIDAU_INI_PAIR:
+        return into + sprintf(into, "%.*s=%.*s|", key, name, value, said);
+    case PERGIDAU_INI_KEY:
+        return into + sprintf(into, "%.*s|", key, name);
+    default:
+        return into + sprintf(into, "+%.*s|", value, said);
+    }
+}
+
+static void test_lines_of_ini(void)
+{
+    for (size_t i = 0; i < sizeof lines_of_ini / sizeof *lines_of_ini; i++) {
+        const char *text = lines_of_ini[i].text;
+        size_t length = strlen(text);
+        uint8_t *bytes = copied(text, length);
+        struct pergidau_ini_state state = {0};
+        struct pergidau_ini_entry entry;
+        enum pergidau_code code;
+        char found[200] = "", *end = found;
+        while ((code = pergidau_ini_next(&state, bytes, length, lines_of_ini[i].dialect, &entry))
+               == PERGIDAU_DONE) {
+            end = put_entry(end, (const char *)bytes, &entry);
+            same("no place", text, (long long)(entry.place + entry.fault), 0);
+        }
+        same("the entries", text, strcmp(found, lines_of_ini[i].entries), 0);
+        for (int again = 0; again < 2; again++) {
+            same("the end", text, code, lines_of_ini[i].code);
+            same("the place", text, (long long)entry.place, (long long)lines_of_ini[i].place);
+            same("the fault", text, (long long)entry.fault, (long long)lines_of_ini[i].fault);
+            same("no text", text, (long long)(entry.key.length + entry.value.length), 0);
+            code = pergidau_ini_next(&state, bytes, length, lines_of_ini[i].dialect, &entry);
+        }
+        free(bytes);
+    }
+}
+
+/* Where texts stand that come twice in a line, and the state between calls. */
+static void test_places_of_ini(void)
+{
+    const uint8_t *bytes = (const uint8_t *)"[[]\n  a = a\n    a\n";
+    struct pergidau_ini_state state = {0};
+    struct pergidau_ini_entry entry;
+    pergidau_ini_next(&state, bytes, 18, PYTHON, &entry);
+    same("a name", "[[]", (long long)entry.key.offset, 1);
+    same("what is read", "[[]", (long long)state.offset, 4);
+    same("a section", "[[]", (long long)state.section, 1);
+    same("no pair", "[[]", (long long)state.pair, 0);
+    pergidau_ini_next(&state, bytes, 18, PYTHON, &entry);
+    same("a key", "a = a", (long long)entry.key.offset, 6);
+    same("a value", "a = a", (long long)entry.value.offset, 10);
+    same("a pair", "a = a", (long long)state.pair, 1);
+    same("its blanks", "a = a", (long long)state.indent, 2);
+    pergidau_ini_next(&state, bytes, 18, PYTHON, &entry);
+    same("a line more", "a", (long long)entry.value.offset, 16);
+    same("the end", "a", pergidau_ini_next(&state, bytes, 18, PYTHON, &entry), PERGIDAU_END);
+    state.offset = 19;
+    same("past the end", "a", pergidau_ini_next(&state, bytes, 18, PYTHON, &entry), PERGIDAU_END);
+    same("null", "next", pergidau_ini_next(NULL, bytes, 1, PYTHON, &entry), PERGIDAU_NULL);
+    same("null", "next", pergidau_ini_next(&state, NULL, 1, PYTHON, &entry), PERGIDAU_NULL);
+    same("null", "next", pergidau_ini_next(&state, bytes, 1, PYTHON, NULL), PERGIDAU_NULL);
+    same("too long", "next",
+         pergidau_ini_next(&state, bytes, (size_t)PTRDIFF_MAX + 1, PYTHON, &entry),
+         PERGIDAU_TOO_LONG);
+    state = (struct pergidau_ini_state){0};
+    same("nothing", "next", pergidau_ini_next(&state, NULL, 0, PYTHON, &entry), PERGIDAU_END);
+}

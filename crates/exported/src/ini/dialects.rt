@@ -1,0 +1,395 @@
+//! Documents of any dialect of INI, an entry a call.
+
+ghost use Rattle.std.specs.Prelude.{◌≡◌, ◌⊎◌, ◌<◌, List, length, ℕ};
+ghost use Rattle.std.specs.Str.{IsUtf8};
+ghost use Rattle.format_ini.specs.Documents.{IsDocument, IsRefused};
+ghost use Rattle.format_ini.specs.Lines.{Said};
+ghost use Rattle.format_ini.specs.declared.lines.Refusal.{Refusal};
+ghost use Rattle.exported.specs.Code.{done, end, no_text, refused};
+ghost use Rattle.exported.specs.Dialects.{EntriesInTurn, IsFrom, ShowsEntry, TellsEntry, Writes};
+ghost use Rattle.exported.specs.Dialects.{continued_of, delimiters_of, dialect_of, fault_number};
+ghost use Rattle.exported.specs.Dialects.{has, is_set, marks_of, reading_at, zeros};
+ghost use Rattle.exported.specs.declared.ini.dialects.IniEntry.{IniEntry};
+ghost use Rattle.exported.specs.declared.ini.dialects.IniState.{IniState};
+
+use crate::code::{DONE, END, NO_TEXT, REFUSED};
+use crate::span::{NOWHERE, Span};
+use format_ini::dialect::{Continued, Delimiters, Dialect, Marks};
+use format_ini::lines::{Entry, Places, Refusal, State};
+use format_ini::places::{Placed, Reading, Stop, next_placed};
+
+/// The name of a section, which begins there.
+pub const INI_SECTION: usize = 0;
+
+/// A key with its value, or with the first line of that.
+pub const INI_PAIR: usize = 1;
+
+/// A key without a delimiter, and so without a value.
+pub const INI_KEY: usize = 2;
+
+/// One more line of the value of the pair before. It is empty for an empty line, also where no
+/// other line of the value follows.
+pub const INI_MORE: usize = 3;
+
+/// No `]` stands after the `[` that begins the line.
+pub const INI_FAULT_OPEN_SECTION: usize = 0;
+
+/// Nothing stands between `[` and `]`.
+pub const INI_FAULT_EMPTY_SECTION: usize = 1;
+
+/// Something stands after the `]`.
+pub const INI_FAULT_TEXT_BEHIND_SECTION: usize = 2;
+
+/// No section stands before the pair.
+pub const INI_FAULT_NO_SECTION: usize = 3;
+
+/// No key stands before the delimiter.
+pub const INI_FAULT_NO_KEY: usize = 4;
+
+/// There is no delimiter.
+pub const INI_FAULT_NO_DELIMITER: usize = 5;
+
+/// `=` ends a key. Where neither this is set nor the next, both end one.
+pub const INI_DIALECT_EQUALS: usize = 1;
+
+/// `:` ends a key.
+pub const INI_DIALECT_COLON: usize = 2;
+
+/// `#` begins a comment where it is the first of a line, after white space.
+pub const INI_DIALECT_NUMBER_SIGN: usize = 4;
+
+/// `;` does.
+pub const INI_DIALECT_SEMICOLON: usize = 8;
+
+/// `#` begins a comment at the start of a line, or after white space in it.
+pub const INI_DIALECT_INLINE_NUMBER_SIGN: usize = 16;
+
+/// `;` does.
+pub const INI_DIALECT_INLINE_SEMICOLON: usize = 32;
+
+/// A line that is indented deeper than the pair before it goes on the value of that pair, until an
+/// empty line or a comment.
+pub const INI_DIALECT_UNTIL_EMPTY: usize = 64;
+
+/// Such a line goes on the value, and empty lines within are part of it; comments within are passed
+/// over. With this the flag before counts for nothing.
+pub const INI_DIALECT_PAST_EMPTY: usize = 128;
+
+/// A line without a delimiter is a key without a value; else it is refused.
+pub const INI_DIALECT_VALUELESS: usize = 256;
+
+/// Pairs may stand before the first section; else they are refused.
+pub const INI_DIALECT_BEFORE_SECTIONS: usize = 512;
+
+/// The dialect of Python's `configparser`, unless it is told another: `=` and `:`, `#` and `;` at
+/// the start of lines, continued lines with empty lines within.
+pub const INI_DIALECT_PYTHON: usize = 143;
+
+/// The dialect of desktop entries: `=`, `#` at the start of lines, a line for each pair.
+pub const INI_DIALECT_DESKTOP: usize = 5;
+
+/// The dialect that reads most: `=` and `:`, comments after white space too, keys without values,
+/// pairs before the first section, a line for each pair.
+pub const INI_DIALECT_LENIENT: usize = 831;
+
+/// How far a document is read. Zeros stand for its start.
+#[repr(C)]
+#[derive(Clone, Copy, Drop)]
+pub struct IniState {
+    /// How many bytes are read: the next line begins after them.
+    pub offset: usize,
+    /// 1 where a section has begun. Else 0.
+    pub section: usize,
+    /// 1 where the next line may go on the value of a pair. Else 0.
+    pub pair: usize,
+    /// How many blanks stand before that pair. Else 0.
+    pub indent: usize,
+}
+
+/// What a line says.
+#[repr(C)]
+#[derive(Clone, Copy, Drop)]
+pub struct IniEntry {
+    /// What it is: a number of those from `INI_SECTION` to `INI_MORE`.
+    pub kind: usize,
+    /// The name of a section, or the key of a pair. Else nothing.
+    pub key: Span,
+    /// The value of a pair, or one more line of it. Else nothing.
+    pub value: Span,
+    /// Where the line begins that is refused, or is no UTF-8. Else 0.
+    pub place: usize,
+    /// Why it is refused: a number of those from `INI_FAULT_OPEN_SECTION` on. Else 0.
+    pub fault: usize,
+}
+
+/// Nothing.
+const NO_ENTRY: IniEntry = IniEntry {
+    kind: INI_SECTION,
+    key: NOWHERE,
+    value: NOWHERE,
+    place: 0,
+    fault: 0,
+};
+
+/// Whether a flag is set.
+fn has(dialect: usize, flag: usize) -> bool
+    requires { 0 < flag }
+    ensures { result ≡ has dialect flag }
+{
+    dialect / flag % 2 == 1
+}
+
+fn delimiters_of(equals: bool, colon: bool) -> Delimiters
+    ensures { result ≡ delimiters_of equals colon }
+{
+    match (equals, colon) {
+        (true, false) => Delimiters::Equals,
+        (false, true) => Delimiters::Colon,
+        _ => Delimiters::Either,
+    }
+}
+
+fn marks_of(number_sign: bool, semicolon: bool) -> Marks
+    ensures { result ≡ marks_of number_sign semicolon }
+{
+    match (number_sign, semicolon) {
+        (false, false) => Marks::Neither,
+        (true, false) => Marks::NumberSign,
+        (false, true) => Marks::Semicolon,
+        (true, true) => Marks::Either,
+    }
+}
+
+fn continued_of(until_empty: bool, past_empty: bool) -> Continued
+    ensures { result ≡ continued_of until_empty past_empty }
+{
+    match (until_empty, past_empty) {
+        (_, true) => Continued::PastEmpty,
+        (true, false) => Continued::UntilEmpty,
+        (false, false) => Continued::Never,
+    }
+}
+
+/// The dialect with these flags.
+fn dialect_of(flags: usize) -> Dialect
+    ensures { result ≡ dialect_of flags }
+{
+    Dialect {
+        delimiters: delimiters_of(
+            has(flags, INI_DIALECT_EQUALS),
+            has(flags, INI_DIALECT_COLON),
+        ),
+        comments: marks_of(
+            has(flags, INI_DIALECT_NUMBER_SIGN),
+            has(flags, INI_DIALECT_SEMICOLON),
+        ),
+        inline_comments: marks_of(
+            has(flags, INI_DIALECT_INLINE_NUMBER_SIGN),
+            has(flags, INI_DIALECT_INLINE_SEMICOLON),
+        ),
+        continued: continued_of(
+            has(flags, INI_DIALECT_UNTIL_EMPTY),
+            has(flags, INI_DIALECT_PAST_EMPTY),
+        ),
+        valueless: has(flags, INI_DIALECT_VALUELESS),
+        before_sections: has(flags, INI_DIALECT_BEFORE_SECTIONS),
+    }
+}
+
+fn is_set(number: usize) -> bool
+    ensures { result ≡ is_set number }
+{
+    match number {
+        0 => false,
+        _ => true,
+    }
+}
+
+/// Where a state says that reading goes on.
+fn reading_of(state: IniState, bytes: &[u8]) -> Reading
+    ensures { IsFrom state bytes.now result }
+{
+    if state.offset == 0 {
+        return Reading::begin(bytes);
+    }
+    Reading {
+        offset: state.offset,
+        state: State {
+            section: is_set(state.section),
+            pair: if is_set(state.pair) {
+                Some(state.indent)
+            } else {
+                None
+            },
+        },
+    }
+}
+
+/// The state that says so.
+fn state_of(reading: Reading) -> IniState
+    ensures { reading_at result ≡ reading }
+{
+    let (pair, indent) = match reading.state.pair {
+        None => (0, 0),
+        Some(indent) => (1, indent),
+    };
+    IniState {
+        offset: reading.offset,
+        section: if reading.state.section { 1 } else { 0 },
+        pair,
+        indent,
+    }
+}
+
+/// The number of why a line is refused.
+fn fault_number(why: Refusal) -> usize
+    ensures { result ≡ fault_number why }
+{
+    match why {
+        Refusal::OpenSection => INI_FAULT_OPEN_SECTION,
+        Refusal::EmptySection => INI_FAULT_EMPTY_SECTION,
+        Refusal::TextBehindSection => INI_FAULT_TEXT_BEHIND_SECTION,
+        Refusal::NoSection => INI_FAULT_NO_SECTION,
+        Refusal::NoKey => INI_FAULT_NO_KEY,
+        Refusal::NoDelimiter => INI_FAULT_NO_DELIMITER,
+    }
+}
+
+/// The place of a text that begins there.
+fn place_of(offset: usize, text: &str) -> Span
+    ensures { (result.offset ≡ offset) × (result.length ≡ length text.now) }
+{
+    Span {
+        offset,
+        length: text.len(),
+    }
+}
+
+/// An entry, by the places of its texts.
+fn entry_of(entry: Entry<'_>, at: Places) -> IniEntry
+    ensures { ShowsEntry entry.entry at result }
+{
+    match entry {
+        Entry::Section(name) => IniEntry {
+            kind: INI_SECTION,
+            key: place_of(at.head, name),
+            ..NO_ENTRY
+        },
+        Entry::Pair {
+            key,
+            value: Some(value),
+        } => IniEntry {
+            kind: INI_PAIR,
+            key: place_of(at.head, key),
+            value: place_of(at.value, value),
+            ..NO_ENTRY
+        },
+        Entry::Pair { key, value: None } => IniEntry {
+            kind: INI_KEY,
+            key: place_of(at.head, key),
+            ..NO_ENTRY
+        },
+        Entry::More(value) => IniEntry {
+            kind: INI_MORE,
+            value: place_of(at.head, value),
+            ..NO_ENTRY
+        },
+    }
+}
+
+/// What is written where the next line that says something begins at this place.
+fn told_of(found: Result<Option<Placed<'_>>, Stop>, offset: usize) -> (u32, IniEntry)
+    ensures writes { Writes found.entry offset result.0 result.1 }
+    ensures codes { (result.0 ≡ done) ⊎ ((result.0 ≡ end) ⊎ ((result.0 ≡ refused)
+        ⊎ (result.0 ≡ no_text))) }
+{
+    match found {
+        Ok(Some(placed)) => (DONE, entry_of(placed.entry, placed.at)),
+        Ok(None) => (END, NO_ENTRY),
+        Err(Stop::NoText) => (
+            NO_TEXT,
+            IniEntry {
+                place: offset,
+                ..NO_ENTRY
+            },
+        ),
+        Err(Stop::Refused(why)) => (
+            REFUSED,
+            IniEntry {
+                place: offset,
+                fault: fault_number(why),
+                ..NO_ENTRY
+            },
+        ),
+    }
+}
+
+/// The next entry of an INI file, as people have them, in any dialect: `.ini`, `.cfg`, `.desktop`.
+/// A line feed ends a line. `[name]` begins a section; any other line is a key, a delimiter and a
+/// value, without white space at the ends of either; empty lines and comments are passed over, and
+/// so is a byte order mark in front. White space is tab, form feed, carriage return and space.
+/// Quotes are kept, and keys and sections may come twice.
+///
+/// `dialect` is a sum of flags: `INI_DIALECT_PYTHON`, `INI_DIALECT_DESKTOP`, `INI_DIALECT_LENIENT`,
+/// or others from `INI_DIALECT_EQUALS` to `INI_DIALECT_BEFORE_SECTIONS`. Other bits count for
+/// nothing.
+///
+/// For the first call the numbers of `state` are zeros. Each further call has the state that the
+/// last one left, with the same bytes, all of the document, and the same dialect. What a call
+/// passed, no other looks at again, so all calls for a document take a time that is linear in its
+/// bytes.
+///
+/// `DONE`: what the entry is and the places of its texts are written; its line is UTF-8. A value of
+/// more lines comes as a pair and one `INI_MORE` for each further line. `END`: no entry is left.
+/// `REFUSED`: the next line is none of the dialect; where it begins, and why, is written.
+/// `NO_TEXT`: the next line is no UTF-8; where it begins is written. With these three no kind and
+/// no texts are written, and a further call tells the same. Lines are checked one by one, so
+/// entries are told of a document in which a later line is no UTF-8.
+///
+/// Of a state that calls left for other bytes, or that is changed, what is told may be wrong;
+/// nothing outside of the bytes is read then either.
+///
+/// The caller owes a state at `state` that can be read and written, `bytes_length` bytes at `bytes`
+/// that can be read and that nothing changes while the call runs, room for one entry at `out`, each
+/// apart from the others, and 16 KiB of stack.
+#[unsafe(no_mangle)]
+pub extern "C" fn exported_ini_next(
+    state: &mut IniState,
+    bytes: &[u8],
+    dialect: usize,
+    out: &mut IniEntry,
+) -> u32
+    ensures told { TellsEntry dialect state.old state.new bytes.now result out.new }
+    ensures codes { (result ≡ done) ⊎ ((result ≡ end) ⊎ ((result ≡ refused)
+        ⊎ (result ≡ no_text))) }
+{
+    let mut reading = reading_of(*state, bytes);
+    let found = next_placed(dialect_of(dialect), bytes, &mut reading);
+    *state = state_of(reading);
+    let (code, entry) = told_of(found, reading.offset);
+    *out = entry;
+    code
+}
+
+/// Where calls of `exported_ini_next` follow one another, the first with a state of zeros, and a
+/// call then says that no entry is left: the bytes are the document that says what these calls
+/// told, all of it, once and in order. Where it refuses a line: the document is refused there, and
+/// for that. So calls in turn tell what `format_ini`'s `read_document` reads. Where it says that a
+/// line is no UTF-8, the bytes are none.
+pub fn entries_in_turn_are_of_the_document()
+    ensures whole { (dialect : ℕ) (bytes : List ℕ) (outs : List IniEntry) (said : List Said)
+        (state next : IniState) (out : IniEntry)
+        → EntriesInTurn dialect bytes zeros outs said state
+        → TellsEntry dialect state next bytes end out
+        → IsDocument (dialect_of dialect) bytes said }
+    ensures refuses { (dialect : ℕ) (bytes : List ℕ) (outs : List IniEntry) (said : List Said)
+        (state next : IniState) (out : IniEntry)
+        → EntriesInTurn dialect bytes zeros outs said state
+        → TellsEntry dialect state next bytes refused out
+        → (why : Refusal) × (out.fault ≡ fault_number why)
+        × IsRefused (dialect_of dialect) bytes (record { offset = out.place; why = why }) }
+    ensures text { (dialect : ℕ) (bytes : List ℕ) (outs : List IniEntry) (said : List Said)
+        (state next : IniState) (out : IniEntry)
+        → EntriesInTurn dialect bytes zeros outs said state
+        → TellsEntry dialect state next bytes no_text out → IsUtf8 bytes → ⊥ }
+{}
