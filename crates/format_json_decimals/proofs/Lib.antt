@@ -1,0 +1,5 @@
+pub mod Coefficients
+pub mod Going
+pub mod Powers
+pub mod Scaled
+pub mod Tens
