@@ -74,15 +74,17 @@ fraction_goes text n is rest digits joins begins = by is.is_fraction
         absurd (no_digit_first is.exponent n.power is.is_exponent 46 digits e (inr refl))
     by (inr some) =
         let there : digits ≡ n.fraction ++ is.exponent =
-        same_others (sym begins ∙ joins ∙ ap (λ l. l ++ is.exponent) some.0) in
-        (there, record {
-          digits = n.fraction;
-          are_digits = some.1.1;
-          joins = there;
-          makes = digits_joined 0 n.whole n.fraction;
-          ends = λ b more e digit. no_digit_first is.exponent n.power is.is_exponent b more e
-              (inl digit);
-        })
+        same_others (sym begins ∙ joins ∙ ap (λ l. l ++ is.exponent) some.0) in (
+          there,
+          record {
+            digits = n.fraction;
+            are_digits = some.1.1;
+            joins = there;
+            makes = digits_joined 0 n.whole n.fraction;
+            ends = λ b more e digit. no_digit_first is.exponent n.power is.is_exponent b more e
+                (inl digit);
+          },
+        )
 
 append_nothing : (xs : List ℕ) → xs ++ [] ≡ xs
 append_nothing [] = refl
@@ -102,10 +104,11 @@ fraction_none text n is rest digits zeros joins not small = by is.is_fraction
         × IsReduced (digits_value 10 (n.whole ++ n.fraction)) digits zeros
     by (inl none) =
         let same : digits_value 10 n.whole ≡ digits_value 10 (n.whole ++ n.fraction) =
-        ap (digits_value 10) (sym (append_nothing n.whole) ∙ ap (λ l. n.whole ++ l) (sym none.1)) in
-        (joins ∙ ap (λ l. l ++ is.exponent) none.0,
-        sym (ap (λ (l : List ℕ). length l) none.1),
-        subst (λ k. IsReduced k digits zeros) same small)
+        ap (digits_value 10) (sym (append_nothing n.whole) ∙ ap (λ l. n.whole ++ l) (sym none.1)) in (
+          joins ∙ ap (λ l. l ++ is.exponent) none.0,
+          sym (ap (λ (l : List ℕ). length l) none.1),
+          subst (λ k. IsReduced k digits zeros) same small,
+        )
     by (inr some) =
         absurd (not (n.fraction ++ is.exponent) (joins ∙ ap (λ l. l ++ is.exponent) some.0))
 

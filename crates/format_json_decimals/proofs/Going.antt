@@ -1,12 +1,12 @@
 -- Digits go on to where they end.
-use Rattle.std.proofs.Common.{◌≡◌, ◌∙◌, ◌<◌, ◌≤◌, ◌⊎◌, ◌+◌, ◌-◌, ◌*◌, ◌^◌, ℕ, zero, suc, List, []}
-use Rattle.std.proofs.Common.{◌∷◌, ◌++◌, ap, arith, inl, inr, length, refl, subst, sym}
+use Rattle.std.proofs.Common.{◌≡◌, ◌∙◌, ◌<◌, ◌≤◌, ◌+◌, ◌-◌, ◌*◌, ◌^◌, ℕ, zero, suc, List, []}
+use Rattle.std.proofs.Common.{◌∷◌, ◌++◌, ap, arith, subst, sym}
 use Rattle.std.proofs.Math.Nat.{le-mul_of_pos_right, pow-le-pow_right}
 use Rattle.std.proofs.lemmas.Str.{digit_value_digit}
 use Rattle.std.specs.Char.{digit_value}
 use Rattle.std.specs.List.{AllByRecursion}
 use Rattle.std.specs.Str.Parse.{digits_value_after}
-use Rattle.format_json_decimals.proofs.Tens.{push_digit, push_too_long, push_zero}
+use Rattle.format_json_decimals.proofs.Tens.{push_too_long, push_zero}
 use Rattle.format_json_decimals.specs.Numbers.{IsDigit}
 use Rattle.format_json_decimals.specs.Reading.{Continues, IsReduced, IsTooLong}
 

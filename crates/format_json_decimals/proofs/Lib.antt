@@ -1,4 +1,5 @@
 pub mod Coefficients
+pub mod Equal
 pub mod Going
 pub mod Powers
 pub mod Scaled

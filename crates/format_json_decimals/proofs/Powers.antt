@@ -1,9 +1,8 @@
 -- What exponents say.
-use Rattle.std.proofs.Common.{◌≡◌, ◌∙◌, ◌<◌, ◌≤◌, ◌⊎◌, ◌+◌, ℕ, zero, suc, ℤ, Bool, false, cond, drop}
-use Rattle.std.proofs.Common.{List, [], ◌∷◌, ◌++◌, ap, arith, inl, inr, length, refl, subst, sym}
+use Rattle.std.proofs.Common.{◌≡◌, ◌∙◌, ◌<◌, ◌⊎◌, ℕ, zero, suc, ℤ, Bool, false, cond, drop}
+use Rattle.std.proofs.Common.{List, [], ◌∷◌, ◌++◌, ap, arith, inl, inr, length, subst, sym}
 use Rattle.std.proofs.lemmas.Bool.{ne_eqb}
 use Rattle.std.proofs.lemmas.Str.{IsUtf8-from_ascii, digit_value_digit}
-use Rattle.std.specs.Char.{digit_value}
 use Rattle.std.specs.List.{AllByRecursion}
 use Rattle.std.specs.Str.{IsAscii, IsUtf8}
 use Rattle.std.specs.Prelude.{◌==◌}
@@ -15,7 +14,7 @@ use Rattle.std.specs.Result.{result_ok}
 use Rattle.std.specs.Prelude.{Err, FitsSigned, Ok, Option}
 use Rattle.std.specs.declared.result.Result.{Result}
 use Rattle.format_json_decimals.proofs.Going.{same_others}
-use Rattle.format_json_decimals.specs.Numbers.{AreDigits, IsDigit, IsExponent, IsPower}
+use Rattle.format_json_decimals.specs.Numbers.{AreDigits, IsDigit, IsExponent}
 
 all_digits : (text : List ℕ) → AllByRecursion IsDigit text → AllDigits 10 text
 all_digits [] are = tt
@@ -50,10 +49,11 @@ pub behind_letter : (exponent text : List ℕ) (power : ℤ) (first : ℕ) → I
 behind_letter exponent text power first (inl none) e =
     absurd (omega (arith, ap (λ (l : List ℕ). length l) (sym none.0 ∙ e)))
 behind_letter exponent text power first (inr p) e =
-    let same : p.sign ++ p.digits ≡ text = same_others (sym p.joins ∙ e) in
-    (subst (λ t. IsNumeral 10 (without_leading_sign t)) same
-    (numeral p.sign p.digits p.is_sign p.are_digits),
-    p.says ∙ ap (signed_digits_value 10) same)
+    let same : p.sign ++ p.digits ≡ text = same_others (sym p.joins ∙ e) in (
+      subst (λ t. IsNumeral 10 (without_leading_sign t)) same
+          (numeral p.sign p.digits p.is_sign p.are_digits),
+      p.says ∙ ap (signed_digits_value 10) same,
+    )
 
 -- it is ASCII
 ascii_more : (b : ℕ) (text : List ℕ) → b < 128 → IsAscii text → IsAscii (b ∷ text)

@@ -1,13 +1,13 @@
 -- Integers times powers of ten.
-use Rattle.std.proofs.Common.{◌≡◌, ◌≢◌, ◌∙◌, ◌<◌, ◌≤◌, ◌⊎◌, ◌+◌, ◌*◌, ◌^◌, ◌%◌, ◌+ℤ◌, ◌-ℤ◌, ◌*ℤ◌, ◌++◌, negsuc, neg_ℤ}
-use Rattle.std.proofs.Common.{Bool, false, true, ℕ, zero, suc, ℤ, pos, ap, arith, inl, inr, length, refl, subst, sym}
+use Rattle.std.proofs.Common.{◌≡◌, ◌∙◌, ◌<◌, ◌≤◌, ◌+◌, ◌*◌, ◌^◌, ◌+ℤ◌, ◌-ℤ◌, ◌*ℤ◌, ◌++◌, neg_ℤ}
+use Rattle.std.proofs.Common.{Bool, false, true, ℕ, zero, suc, ℤ, pos, ap, arith, inl, inr, length, refl, sym}
 use Rattle.std.proofs.lemmas.Int.{ints}
 use Rattle.std.proofs.Math.Nat.{mul_assoc}
 use Rattle.std.proofs.lemmas.Nat.{pow-add}
 use Rattle.std.specs.Int.{w32, w128}
 use Rattle.std.specs.Prelude.{FitsSigned}
 use Rattle.std.specs.Str.Parse.{digits_value}
-use Rattle.format_json_decimals.specs.Decimals.{AreEqual, IsDecimal, IsShortest}
+use Rattle.format_json_decimals.specs.Decimals.{AreEqual, IsDecimal}
 use Rattle.format_json_decimals.specs.Numbers.{Number, coefficient, scale, with_sign}
 use Rattle.format_json_decimals.specs.Reading.{IsReduced, IsTooLong}
 
@@ -38,7 +38,6 @@ pub not_wide : (power : ℤ) (z places : ℕ) → z < 2 ^ 64 → places < 2 ^ 64
 not_wide power z places less few not fits =
     not (omega (arith, ints, less, few, fits))
 
-
 pub reduced_decimal : (n : Number) (m z : ℕ) (exponent : ℤ) → (m ≡ 0 → ⊥)
     → IsReduced (digits_value 10 (n.whole ++ n.fraction)) m z
     → exponent ≡ n.power +ℤ pos z -ℤ pos (length n.fraction)
@@ -68,9 +67,13 @@ is_zero n m z none (is, _) = (λ i j _. equal i j, inr (refl, refl, refl))
 pub too_long : (n : Number) → IsTooLong (digits_value 10 (n.whole ++ n.fraction))
     → (negative : Bool) × (digits : ℕ) × (exponent : ℤ)
     × IsDecimal n negative digits exponent × (2 ^ 64 ≤ digits)
-too_long n (m, z, is, long) =
-    (n.negative, m, n.power +ℤ pos z -ℤ pos (length n.fraction),
-    reduced_decimal n m z _ (λ e. omega (arith, e, long)) is refl, long)
+too_long n (m, z, is, long) = (
+  n.negative,
+  m,
+  n.power +ℤ pos z -ℤ pos (length n.fraction),
+  reduced_decimal n m z _ (λ e. omega (arith, e, long)) is refl,
+  long,
+)
 
 pub not_fitting : (n : Number) (m z : ℕ) → (m ≡ 0 → ⊥) → m < 2 ^ 64
     → IsReduced (digits_value 10 (n.whole ++ n.fraction)) m z
@@ -78,9 +81,13 @@ pub not_fitting : (n : Number) (m z : ℕ) → (m ≡ 0 → ⊥) → m < 2 ^ 64
     → (negative : Bool) × (digits : ℕ) × (exponent : ℤ)
     × IsDecimal n negative digits exponent
     × ((digits < 2 ^ 64) × (FitsSigned w32 exponent → ⊥))
-not_fitting n m z some less is not =
-    (n.negative, m, n.power +ℤ pos z -ℤ pos (length n.fraction),
-    reduced_decimal n m z _ some is refl, (less, not))
+not_fitting n m z some less is not = (
+  n.negative,
+  m,
+  n.power +ℤ pos z -ℤ pos (length n.fraction),
+  reduced_decimal n m z _ some is refl,
+  (less, not),
+)
 
 pub moved_is : (said power : ℤ) (z places many : ℕ) → said ≡ power → places ≡ many
     → said +ℤ pos z -ℤ pos places ≡ power +ℤ pos z -ℤ pos many

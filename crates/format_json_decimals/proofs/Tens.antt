@@ -1,6 +1,6 @@
 -- Powers of ten, and numbers without the zeros at their ends.
-use Rattle.std.proofs.Common.{◌≡◌, ◌≢◌, ◌∙◌, ◌<◌, ◌≤◌, ◌⊎◌, ◌+◌, ◌*◌, ◌^◌, ◌%◌, ℕ, ap, arith, inl, inr}
-use Rattle.std.proofs.Common.{refl, subst, sym}
+use Rattle.std.proofs.Common.{◌≡◌, ◌∙◌, ◌<◌, ◌≤◌, ◌+◌, ◌*◌, ◌^◌, ℕ, ap, arith, inl, inr}
+use Rattle.std.proofs.Common.{sym}
 use Rattle.std.proofs.Math.Nat.{mul_assoc, mul-le-mul_left, pow-le-pow_right}
 use Rattle.std.proofs.lemmas.Nat.{mod-mul-add, pow-add}
 use Rattle.format_json_decimals.specs.Reading.{IsReduced, IsTooLong}
@@ -36,3 +36,6 @@ part_too_long n m z k at is less there long =
     let most : m * 10 ^ (k + 1) ≤ m * 10 ^ (z + 1) =
     mul-le-mul_left m (pow-le-pow_right (omega arith) (omega (arith, less))) in
     omega (arith, next_is n m z is, there, times_ten m k, long, most)
+
+pub some_tens : (k : ℕ) → 0 < 10 ^ k
+some_tens k = pow-le-pow_right (omega arith) {i = 0} {j = k} (omega arith)

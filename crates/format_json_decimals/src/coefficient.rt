@@ -26,8 +26,8 @@ pub(crate) fn read_coefficient<'i>(unsigned: &'i [u8]) -> Option<Coefficient<'i>
     ensures { (text : List ℕ) (n : Number) (is : IsWritten text n)
         → unsigned.now ≡ n.whole ++ (is.point ++ is.exponent)
         → MatchOption result (IsTooLong (digits_value 10 (n.whole ++ n.fraction)))
-            (λ read. (read.exponent.now ≡ is.exponent) × (read.places ≡ length n.fraction)
-            × IsReduced (digits_value 10 (n.whole ++ n.fraction)) read.digits read.zeros) }
+        (λ read. (read.exponent.now ≡ is.exponent) × (read.places ≡ length n.fraction)
+        × IsReduced (digits_value 10 (n.whole ++ n.fraction)) read.digits read.zeros) }
 {
     let none = Significand {
         digits: 0,

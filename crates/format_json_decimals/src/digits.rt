@@ -19,7 +19,7 @@ fn push(read: Significand, digit: u64) -> Option<Significand>
     ensures reduced { MatchOption result
         ((n : ℕ) → IsReduced n read.digits read.zeros → IsTooLong (n * 10 + digit))
         (λ after. (n : ℕ) → IsReduced n read.digits read.zeros
-            → IsReduced (n * 10 + digit) after.digits after.zeros) }
+        → IsReduced (n * 10 + digit) after.digits after.zeros) }
     ensures longer { IfSome result (λ after. after.zeros ≤ read.zeros + 1) }
 {
     if digit == 0 {
@@ -43,15 +43,12 @@ fn push(read: Significand, digit: u64) -> Option<Significand>
 
 /// The same with all digits with which the bytes begin, and the bytes behind these.
 #[inline]
-pub(crate) fn push_digits<'i>(
-    read: Significand,
-    bytes: &'i [u8],
-) -> Option<(Significand, &'i [u8])>
+pub(crate) fn push_digits<'i>(read: Significand, bytes: &'i [u8]) -> Option<(Significand, &'i [u8])>
     requires { read.zeros + length bytes.now < 2 ^ 64 }
     ensures reduced { (n total : ℕ) (rest : List ℕ) → IsReduced n read.digits read.zeros
         → Continues n bytes.now total rest
         → MatchOption result (IsTooLong total)
-            (λ (after, behind). (behind.now ≡ rest) × IsReduced total after.digits after.zeros) }
+        (λ (after, behind). (behind.now ≡ rest) × IsReduced total after.digits after.zeros) }
     ensures longer { IfSome result (λ (after, behind).
         (after.zeros + length behind.now ≤ read.zeros + length bytes.now)
         × (length behind.now ≤ length bytes.now)) }

@@ -1,10 +1,7 @@
-use Rattle.std.proofs.Common.{◌≡◌, ◌∙◌, ◌∷◌, ◌++◌, ◌-◌, List, [], ℕ, ap, arith, length, length-append, rules, sym}
-use Rattle.format_json_decimals.specs.Numbers.{IsWritten, Number}
-use Rattle.format_json_decimals.specs.Reading.{IsReduced, IsTooLong}
+use Rattle.std.proofs.Common.{◌≡◌, ◌∙◌, ◌∷◌, List, ℕ, ap, arith, length, length-append, rules, sym}
 use Rattle.format_json_decimals.proofs.Coefficients.{fraction_goes, fraction_none, nothing_read}
 use Rattle.format_json_decimals.proofs.Coefficients.{whole_goes, whole_too_long}
 use Rattle.format_json_decimals.proofs.Going.{same_first}
-use Rattle.std.specs.Str.Parse.{digits_value}
 use Rattle.format_json_decimals.proofs.coefficient.read_coefficient.Goals as goal
 use Rattle.format_json_decimals.proofs.coefficient.read_coefficient.Goals.{in-Some+else-first-eq46}
 use Rattle.format_json_decimals.proofs.coefficient.read_coefficient.Goals.{in-None}
@@ -34,9 +31,16 @@ returns-then-first-eq46 c = λ text n is joins.
     search rules in
     let (split, goes) = fraction_goes text n is _ c.in-Some.digits.now there
     (begins ∙ ap (λ b. b ∷ c.in-Some.digits.now) c.if-first-eq46.true) in
-    let (end, all) = c.in_ok-all-in-Some.ensures.reduced _ _ _ small goes in
-    (end, omega (arith, ap (λ (l : List ℕ). length l) split, length-append n.fraction is.exponent,
-    ap (λ (l : List ℕ). length l) end), all)
+    let (end, all) = c.in_ok-all-in-Some.ensures.reduced _ _ _ small goes in (
+      end,
+      omega (
+        arith,
+        ap (λ (l : List ℕ). length l) split,
+        length-append n.fraction is.exponent,
+        ap (λ (l : List ℕ). length l) end,
+      ),
+      all,
+    )
 
 pub returns : goal.returns
 returns c = λ text n is joins.
@@ -44,10 +48,10 @@ returns c = λ text n is joins.
     (whole_goes text n is _ joins) in
     let none : (more : List ℕ) → c.in_ok-whole.rest.now ≡ 46 ∷ more → ⊥ = λ more e.
     elim c.match-split_first.branch [
-    | in-Some+else-first-eq46 w ↦
-    let begins : c.in_ok-whole.rest.now ≡ w.in-Some.first.now ∷ w.in-Some.digits.now =
-    w.in-Some.ensures.cases.0 in
-    w.if-first-eq46.false (same_first (sym begins ∙ e))
-    | in-None w ↦ omega (arith, w.in-None.ensures.cases, ap (λ (l : List ℕ). length l) e)
+      | in-Some+else-first-eq46 w ↦
+          let begins : c.in_ok-whole.rest.now ≡ w.in-Some.first.now ∷ w.in-Some.digits.now =
+          w.in-Some.ensures.cases.0 in
+          w.if-first-eq46.false (same_first (sym begins ∙ e))
+      | in-None w ↦ omega (arith, w.in-None.ensures.cases, ap (λ (l : List ℕ). length l) e)
     ] in
     fraction_none text n is _ c.in_ok-whole.whole.digits c.in_ok-whole.whole.zeros there none small

@@ -1,5 +1,5 @@
 -- What is left goes on where the digits that were read end.
-use Rattle.std.proofs.Common.{◌≡◌, ◌+◌, ◌≤◌, ℕ, List, length}
+use Rattle.std.proofs.Common.{◌+◌, ◌≤◌, ℕ, List, length}
 use Rattle.format_json_decimals.specs.Reading.{Continues, IsReduced}
 use Rattle.format_json_decimals.proofs.digits.push_digits.Given as goal
 
