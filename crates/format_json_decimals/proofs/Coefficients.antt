@@ -61,7 +61,8 @@ digits_joined n (x ∷ xs) ys = digits_joined (n * 10 + digit_value x) xs ys
 pub fraction_goes : (text : List ℕ) (n : Number) (is : IsWritten text n) (rest digits : List ℕ)
     → rest ≡ is.point ++ is.exponent → rest ≡ 46 ∷ digits
     → (digits ≡ n.fraction ++ is.exponent)
-    × Continues (digits_value 10 n.whole) digits (digits_value 10 (n.whole ++ n.fraction)) is.exponent
+    × Continues (digits_value 10 n.whole) digits (digits_value 10 (n.whole ++ n.fraction))
+    is.exponent
 fraction_goes text n is rest digits joins begins = by is.is_fraction
   where
     by : IsFraction is.point n.fraction
@@ -104,7 +105,8 @@ fraction_none text n is rest digits zeros joins not small = by is.is_fraction
         × IsReduced (digits_value 10 (n.whole ++ n.fraction)) digits zeros
     by (inl none) =
         let same : digits_value 10 n.whole ≡ digits_value 10 (n.whole ++ n.fraction) =
-        ap (digits_value 10) (sym (append_nothing n.whole) ∙ ap (λ l. n.whole ++ l) (sym none.1)) in (
+        ap (digits_value 10)
+        (sym (append_nothing n.whole) ∙ ap (λ l. n.whole ++ l) (sym none.1)) in (
           joins ∙ ap (λ l. l ++ is.exponent) none.0,
           sym (ap (λ (l : List ℕ). length l) none.1),
           subst (λ k. IsReduced k digits zeros) same small,

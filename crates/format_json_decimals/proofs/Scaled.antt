@@ -1,6 +1,7 @@
 -- Integers times powers of ten.
 use Rattle.std.proofs.Common.{◌≡◌, ◌∙◌, ◌<◌, ◌≤◌, ◌+◌, ◌*◌, ◌^◌, ◌+ℤ◌, ◌-ℤ◌, ◌*ℤ◌, ◌++◌, neg_ℤ}
-use Rattle.std.proofs.Common.{Bool, false, true, ℕ, zero, suc, ℤ, pos, ap, arith, inl, inr, length, refl, sym}
+use Rattle.std.proofs.Common.{Bool, false, true, ℕ, zero, suc, ℤ, pos, ap, arith, inl, inr, length}
+use Rattle.std.proofs.Common.{refl, sym}
 use Rattle.std.proofs.lemmas.Int.{ints}
 use Rattle.std.proofs.Math.Nat.{mul_assoc}
 use Rattle.std.proofs.lemmas.Nat.{pow-add}

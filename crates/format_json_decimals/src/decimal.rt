@@ -7,9 +7,9 @@ ghost use Rattle.std.specs.Prelude.{◌≡◌, ◌++◌};
 use crate::coefficient::read_coefficient;
 use crate::power::{power_of, shifted};
 
-/// An integer times a power of ten, written the one shortest way: the digits do not end in zero, and
-/// zero is digits 0, exponent 0, with no sign. So two numbers are equal exactly where their decimals
-/// are, as those of `1500`, `1.50e3` and `15E+2`.
+/// An integer times a power of ten, written the one shortest way: the digits do not end in zero,
+/// and zero is digits 0, exponent 0, with no sign. So two numbers are equal exactly where their
+/// decimals are, as those of `1500`, `1.50e3` and `15E+2`.
 ///
 /// ```
 /// use format_json_decimals::{Decimal, as_decimal};

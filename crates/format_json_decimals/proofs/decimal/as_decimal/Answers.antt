@@ -1,5 +1,5 @@
 use Rattle.std.proofs.Common.{◌∙◌, ◌<◌, ◌^◌, FitsSigned, length, of_z, rules, subst, sym}
-use Rattle.std.proofs.Common.{to_z}
+use Rattle.std.proofs.Common.{Bool, to_z}
 use Rattle.std.proofs.lemmas.Int.{to_z-of_z}
 use Rattle.std.specs.Int.{w32, w128}
 use Rattle.format_json_decimals.proofs.Scaled.{is_zero, moved_is, not_fitting, not_wide}
@@ -38,11 +38,15 @@ returns-in-Some-shifted c = λ n is.
     let power = subst (λ t. IsExponent t n.power) (sym behind) is.is_exponent in
     let (wide, said) = c.in-Some-power_of.ensures n.power power in
     let (fits, exponent) = c.in-Some-shifted.ensures in
-    let whole = to_z-of_z w128 c.in-Some-power_of.power (subst (FitsSigned w128) (sym said) wide) in
-    let moved = moved_is (to_z w128 (of_z w128 c.in-Some-power_of.power)) n.power c.in-Some.read.zeros
-    c.in-Some.read.places (length n.fraction) (whole ∙ said) places in
-    let kept = to_z-of_z w32 c.in-Some-shifted.exponent (subst (FitsSigned w32) (sym exponent) fits) in
-    subst (λ b. IsDecimal n b c.in-Some.read.digits (to_z w32 (of_z w32 c.in-Some-shifted.exponent))) (sym signed)
+    let whole = to_z-of_z w128 c.in-Some-power_of.power
+    (subst (FitsSigned w128) (sym said) wide) in
+    let moved = moved_is (to_z w128 (of_z w128 c.in-Some-power_of.power)) n.power
+    c.in-Some.read.zeros c.in-Some.read.places (length n.fraction) (whole ∙ said) places in
+    let kept = to_z-of_z w32 c.in-Some-shifted.exponent
+    (subst (FitsSigned w32) (sym exponent) fits) in
+    let P : Bool → Type 0 = λ b. IsDecimal n b c.in-Some.read.digits
+    (to_z w32 (of_z w32 c.in-Some-shifted.exponent)) in
+    subst P (sym signed)
     (reduced_decimal n c.in-Some.read.digits c.in-Some.read.zeros _ c.if-read-eq0.false small
     (kept ∙ exponent ∙ moved))
 
@@ -53,8 +57,9 @@ returns-in-None c = λ n is.
     let digits : c.in-Some.read.digits < 2 ^ 64 = search rules in
     let power = subst (λ t. IsExponent t n.power) (sym behind) is.is_exponent in
     let (wide, said) = c.in-Some-power_of.ensures n.power power in
-    let whole = to_z-of_z w128 c.in-Some-power_of.power (subst (FitsSigned w128) (sym said) wide) in
-    let moved = moved_is (to_z w128 (of_z w128 c.in-Some-power_of.power)) n.power c.in-Some.read.zeros
-    c.in-Some.read.places (length n.fraction) (whole ∙ said) places in
+    let whole = to_z-of_z w128 c.in-Some-power_of.power
+    (subst (FitsSigned w128) (sym said) wide) in
+    let moved = moved_is (to_z w128 (of_z w128 c.in-Some-power_of.power)) n.power
+    c.in-Some.read.zeros c.in-Some.read.places (length n.fraction) (whole ∙ said) places in
     not_fitting n c.in-Some.read.digits c.in-Some.read.zeros c.if-read-eq0.false digits small
     (λ fits. c.in-None.ensures (subst (FitsSigned w32) (sym moved) fits))

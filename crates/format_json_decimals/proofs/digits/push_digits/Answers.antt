@@ -5,16 +5,14 @@ use Rattle.format_json_decimals.specs.Reading.{IsReduced, IsTooLong}
 use Rattle.format_json_decimals.proofs.Going.{goes_on, no_more, stays_long}
 use Rattle.format_json_decimals.proofs.Going.{stops_reduced}
 use Rattle.format_json_decimals.proofs.digits.push_digits.Goals as goal
-use Rattle.format_json_decimals.proofs.digits.push_digits.Goals.{then-first-lt48-via-then-first-lt48}
-use Rattle.format_json_decimals.proofs.digits.push_digits.Goals.{then-first-lt48-via-else-first-lt48+then-first-gt57}
 
 pub returns-then-first-lt48-clause-reduced : goal.returns-then-first-lt48-clause-reduced
 returns-then-first-lt48-clause-reduced c = λ n total rest is goes.
     let (now, small, on) = c.digits.invariant.2 n total rest is goes in
     let first = c.in-Some.first.now in
     let no_digit : IsDigit first → ⊥ = λ digit. elim c.then-first-lt48.branch [
-      | then-first-lt48-via-then-first-lt48 w ↦ omega (arith, digit, w.if-first-lt48.true)
-      | then-first-lt48-via-else-first-lt48+then-first-gt57 w ↦
+      | goal.then-first-lt48-via-then-first-lt48 w ↦ omega (arith, digit, w.if-first-lt48.true)
+      | goal.then-first-lt48-via-else-first-lt48+then-first-gt57 w ↦
           omega (arith, digit, w.if-first-gt57.true)
     ] in
     let begins : c.digits.left.now ≡ first ∷ c.in-Some.more.now = search rules in
@@ -45,8 +43,11 @@ digits-preserved c = (
       let more = goes_on now total first c.digits.left.now c.in-Some.more.now rest on begins
       (omega (arith, c.if-first-lt48.false), omega (arith, c.if-first-gt57.false)) in
       let P : ℕ → Type 0 = λ d. IsReduced (now * 10 + d) c.in_ok-read-in-Some.read.digits
-      c.in_ok-read-in-Some.read.zeros in
-      (now * 10 + (first - 48), subst P digit (c.in_ok-read-in-Some.ensures.reduced now small), more),
+      c.in_ok-read-in-Some.read.zeros in (
+        now * 10 + (first - 48),
+        subst P digit (c.in_ok-read-in-Some.ensures.reduced now small),
+        more,
+      ),
 )
 
 pub returns-in-None-clause-reduced : goal.returns-in-None-clause-reduced
