@@ -49,6 +49,8 @@ READERS = [
         "where the bytes are a text of this value"),
     ("JSON: written", "format_json_writer", "no",
         "the text of a value, exactly where it has one, nested to a level; it reads back"),
+    ("JSON: numbers as decimals", "format_json_decimals", "no",
+        "the one sign, digits and power of ten that a number is equal to, or which does not fit"),
     ("JSON: extents", "format_json_extents", "no", "where a value ends, and whether bytes are a text"),
     ("JSON: by one entry", "format_json", "no",
         "`Ok` exactly where the text or the bytes are one of this value; else a place "

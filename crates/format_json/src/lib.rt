@@ -25,7 +25,8 @@
 //! - A text is read, and a value written, to a level, which the caller gives: no more than that
 //!   many arrays and objects stand in one another (section 9). Reading and writing call themselves
 //!   once a level; up to [`SAFE_LEVEL`] a stack of two megabytes suffices.
-//! - A number is kept as it is written, of any range and precision (section 6).
+//! - A number is kept as it is written, of any range and precision (section 6);
+//!   [`as_decimal`] tells what it is equal to, with no rounding.
 //! - An object keeps its members in order, also those that have one name (section 4);
 //!   [`get`](Value::get) answers the last.
 //! - What has half of a surrogate pair alone, as an escape, is no string (section 8.2).
@@ -34,14 +35,17 @@
 
 pub mod fault;
 mod layout;
+pub mod number;
 pub mod read;
 pub mod write;
 
 pub use fault::{Fault, Location, WriteFault};
+pub use format_json_decimals::decimal::{Decimal, DecimalFault};
 pub use format_json_pieces::expected::Expected;
 pub use format_json_pieces::value::{read_next_in_pieces, read_value_in_pieces};
 pub use format_json_texts::path::Step;
 pub use format_json_texts::value::Value;
 pub use format_json_values::value::SAFE_LEVEL;
+pub use number::as_decimal;
 pub use read::{from_bytes, from_text};
 pub use write::{to_text, to_text_pretty};

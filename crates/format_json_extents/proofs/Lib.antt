@@ -8,6 +8,7 @@ pub mod Firsts
 pub mod Items
 pub mod Leading
 pub mod Numbers
+pub mod Parts
 pub mod Runs
 pub mod Standard
 pub mod Standing

@@ -1,5 +1,7 @@
 //! Laws of the texts that are found: they are those of RFC 8259.
 
+ghost use Rattle.format_json_decimals.specs.Numbers.{IsWritten, Number};
+ghost use Rattle.format_json_extents.specs.Number.{IsNumber};
 ghost use Rattle.format_json_extents.specs.Told.{InTurn, IsTold, TellsText, Told};
 ghost use Rattle.format_json_extents.specs.Value.{IsText, IsValue};
 ghost use Rattle.format_json_texts.specs.Values.{JsonText, ValueText};
@@ -61,4 +63,16 @@ pub fn steps_in_turn_are_those_of_the_text()
     ensures { (level : ℕ) (bytes : List ℕ) → IsText level bytes
         → (told : Told) × TellsText level told bytes
         × ((found : Told) (rest : List ℕ) → InTurn bytes found rest → IsTold told found rest) }
+{}
+
+/// The numbers of this crate are the texts that numbers in their parts are written as, so those of
+/// which [`crate::decimal::as_decimal`] tells the decimal.
+///
+/// ```
+/// use format_json_extents::laws::numbers_are_written_in_parts;
+///
+/// numbers_are_written_in_parts();
+/// ```
+pub fn numbers_are_written_in_parts()
+    ensures { (text : List ℕ) → IsNumber text ↔ ((n : Number) × IsWritten text n) }
 {}

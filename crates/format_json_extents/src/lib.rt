@@ -14,6 +14,7 @@
 //! - Members of an object may have one name (section 4).
 #![tactic(auto)]
 
+pub mod decimal;
 pub mod integer;
 pub mod laws;
 pub mod number;

@@ -1,10 +1,10 @@
 -- Where a fault is, and what it tells.
-use Rattle.std.specs.Prelude.{◌≡◌, ◌-◌, ℕ, List, [], ◌++◌, Option, Some, length, take}
+use Rattle.std.specs.Prelude.{◌≡◌, ◌⊎◌, ◌-◌, ℕ, List, [], ◌++◌, Option, Some, length, take}
 use Rattle.std.specs.Prelude.{IfOk, Result, Err, Ok}
 use Rattle.std.specs.Borrow.{Bor}
 use Rattle.std.specs.Str.{IsCharBoundary, IsUtf8, chars, encode_utf8_all}
 use Rattle.std.specs.declared.vec.Vec.{Vec}
-use Rattle.std.proofs.Common.{refl, sym, ap, subst, ◌∙◌, arith, length-append}
+use Rattle.std.proofs.Common.{inl, inr, refl, sym, ap, subst, ◌∙◌, arith, length-append}
 use Rattle.std.proofs.Math.Seq.{take-append_seam}
 use Rattle.std.proofs.lemmas.Str.{IsCharBoundary-at_seam, IsUtf8-take, encodes-append}
 use Rattle.std.proofs.lemmas.Str.{encodes-chars}
@@ -94,3 +94,14 @@ module _ (A : Type 0) (level : ℕ) (text : List ℕ) where
   document_told bytes (Ok tree) utf8 e stands =
       let P : List ℕ → Type 0 = λ l. IsDocument A level l tree in (utf8, subst P e stands)
   document_told bytes (Err fault) utf8 e stands = tt
+
+  -- lines of text are told as refused alone
+  pub document_faults : (tree : Tree A) (fault : Fault) → IsUtf8 text
+      → IsDocument A level text tree → Tells A level text fault
+      → (fault ≡ faults.OutOfMemory)
+      ⊎ ((at : Location) × (why : Refusal) × (fault ≡ faults.Refused at why))
+  document_faults tree (faults.Unexpected at expected) utf8 (lines, stands, given) told =
+      absurd (told.0 lines stands)
+  document_faults tree (faults.Refused at why) utf8 is told = inr (at, why, refl)
+  document_faults tree (faults.NotUtf8 at) utf8 is told = absurd (told.0 utf8)
+  document_faults tree faults.OutOfMemory utf8 is told = inl refl

@@ -22,6 +22,7 @@
 #![tactic(auto)]
 
 pub mod fault;
+pub mod laws;
 pub mod read;
 
 pub use fault::{Fault, Location, Shown};

@@ -1,0 +1,33 @@
+//! Numbers of values as decimals: a sign, digits and a power of ten.
+ghost use Rattle.std.specs.Prelude.{string_bytes};
+ghost use Rattle.format_json_decimals.specs.Decimals.{Answers};
+ghost use Rattle.format_json_decimals.specs.Numbers.{IsWritten, Number};
+ghost use Rattle.format_json_texts.specs.Kinds.{Has};
+ghost use Rattle.format_json_texts.specs.declared.value.Value as values;
+
+use format_json_decimals::{Decimal, DecimalFault, decimal};
+use format_json_texts::value::Value;
+use std::alloc::Allocator;
+
+/// The decimal that a number is, exactly, or why it does not fit; none where the value is no
+/// number. Of a number that is made with a text that is none of JSON it is not told what is
+/// returned. No memory is asked for.
+///
+/// ```
+/// use format_json::{Decimal, as_decimal, from_text};
+///
+/// let Ok(price) = from_text(alloc, 0, "19.950") else {
+///     return;
+/// };
+/// let found = Decimal { negative: false, digits: 1995, exponent: -2 };
+/// assert!(rt; matches!(as_decimal(&price), Some(Ok(decimal)) if decimal == found));
+/// ```
+pub fn as_decimal<A: Allocator>(value: &Value<A>) -> Option<Result<Decimal, DecimalFault>>
+    ensures { Has values.Number (λ text result. (n : Number) → IsWritten (string_bytes text) n
+        → Answers n result) value.now result }
+{
+    match value {
+        Value::Number(text) => Some(decimal::as_decimal(text.as_str().as_bytes())),
+        _ => None,
+    }
+}

@@ -1,0 +1,110 @@
+//! A number as a decimal.
+
+ghost use Rattle.format_json_decimals.specs.Decimals.{Answers};
+ghost use Rattle.format_json_decimals.specs.Numbers.{IsWritten, Number};
+ghost use Rattle.std.specs.Prelude.{◌≡◌, ◌++◌};
+
+use crate::coefficient::read_coefficient;
+use crate::power::{power_of, shifted};
+
+/// An integer times a power of ten, written the one shortest way: the digits do not end in zero,
+/// and zero is digits 0, exponent 0, with no sign. So two numbers are equal exactly where their
+/// decimals are, as those of `1500`, `1.50e3` and `15E+2`.
+///
+/// ```
+/// use format_json_decimals::{Decimal, as_decimal};
+///
+/// let found = Decimal { negative: false, digits: 15, exponent: 2 };
+/// assert_eq!(rt; as_decimal(b"1500".as_slice()), Ok(found));
+/// assert_eq!(rt; as_decimal(b"1.50e3".as_slice()), Ok(found));
+/// let zero = Decimal { negative: false, digits: 0, exponent: 0 };
+/// assert_eq!(rt; as_decimal(b"-0.00e7".as_slice()), Ok(zero));
+/// ```
+#[derive(Clone, Copy, Debug, PartialEq, Eq)]
+pub struct Decimal {
+    /// Whether it is below zero; zero is not, that of `-0` neither.
+    pub negative: bool,
+    /// What is multiplied by the power of ten.
+    pub digits: u64,
+    /// The power of ten.
+    pub exponent: i32,
+}
+
+/// Why a number has no decimal that fits.
+///
+/// ```
+/// use format_json_decimals::{DecimalFault, as_decimal};
+///
+/// let long = as_decimal(b"18446744073709551617".as_slice());
+/// assert_eq!(rt; long, Err(DecimalFault::TooManyDigits));
+/// let large = as_decimal(b"1e2147483648".as_slice());
+/// assert_eq!(rt; large, Err(DecimalFault::ExponentOutOfRange));
+/// ```
+#[derive(Clone, Copy, Debug, PartialEq, Eq)]
+pub enum DecimalFault {
+    /// The digits, without zeros at their end, are 2<sup>64</sup> or more.
+    TooManyDigits,
+    /// The digits fit, and their power of ten is below -2<sup>31</sup>, or 2<sup>31</sup> or more.
+    ExponentOutOfRange,
+}
+
+/// Whether a minus stands first, and what stands behind it.
+#[inline]
+fn behind_sign<'i>(number: &'i [u8]) -> (bool, &'i [u8])
+    ensures { (n : Number) (is : IsWritten number.now n)
+        → (result.0 ≡ n.negative) × (result.1.now ≡ n.whole ++ (is.point ++ is.exponent)) }
+{
+    match number.split_first() {
+        Some((first, more)) => {
+            if *first == b'-' {
+                return (true, more);
+            }
+        }
+        None => {}
+    }
+    (false, number)
+}
+
+/// The decimal that a number of JSON is, exactly. Zeros at the end of its digits take no room, so
+/// `10e400` and a one with a thousand zeros behind it have one. What is returned of bytes that are
+/// no number of JSON is not told.
+///
+/// Refused are numbers whose digits do not fit 64 bits, [`DecimalFault::TooManyDigits`], and others
+/// whose power of ten does not fit 32 bits, [`DecimalFault::ExponentOutOfRange`]. The decimal
+/// is the only one ([`each_number_has_one_decimal`](crate::laws::each_number_has_one_decimal)), so
+/// none that fits has been missed.
+///
+/// ```
+/// use format_json_decimals::{Decimal, as_decimal};
+///
+/// let large = Decimal { negative: false, digits: 1, exponent: 401 };
+/// assert_eq!(rt; as_decimal(b"10e400".as_slice()), Ok(large));
+/// let small = Decimal { negative: true, digits: 5, exponent: -3 };
+/// assert_eq!(rt; as_decimal(b"-0.005".as_slice()), Ok(small));
+/// ```
+pub fn as_decimal(number: &[u8]) -> Result<Decimal, DecimalFault>
+    ensures { (n : Number) → IsWritten number.now n → Answers n result }
+{
+    let (negative, unsigned) = behind_sign(number);
+    let Some(read) = read_coefficient(unsigned) else {
+        return Err(DecimalFault::TooManyDigits);
+    };
+    if read.digits == 0 {
+        return Ok(Decimal {
+            negative: false,
+            digits: 0,
+            exponent: 0,
+        });
+    }
+    let Some(power) = power_of(read.exponent) else {
+        return Err(DecimalFault::ExponentOutOfRange);
+    };
+    match shifted(power, read.zeros, read.places) {
+        Some(exponent) => Ok(Decimal {
+            negative,
+            digits: read.digits,
+            exponent,
+        }),
+        None => Err(DecimalFault::ExponentOutOfRange),
+    }
+}

@@ -1,0 +1,46 @@
+//! What the words of the contracts say together.
+ghost use Rattle.format_toml_document.specs.Fault.{IsDocument, Tells};
+ghost use Rattle.format_toml_document.specs.declared.fault.Fault.{Fault};
+ghost use Rattle.format_toml_document.specs.declared.fault.Fault.TheVariants as faults;
+ghost use Rattle.format_toml_document.specs.declared.fault.Location.{Location};
+ghost use Rattle.format_toml_tree.specs.Runs.{Gives, Tree as Given, empty};
+ghost use Rattle.format_toml_tree.specs.declared.roles.Refusal.{Refusal};
+ghost use Rattle.format_toml_tree.specs.declared.tree.Tree.{Tree};
+ghost use Rattle.format_toml_tree.specs.declared.value.Item.{Item};
+ghost use Rattle.std.specs.Prelude.{◌≡◌, ◌⊎◌, [], ℕ, List, Option, Result};
+ghost use Rattle.std.specs.Str.{IsUtf8};
+
+use std::alloc::Allocator;
+
+/// Of bytes that have a tree no fault tells that they are no lines, or no UTF-8: what a fault may
+/// tell is that a line is refused, or that memory was.
+///
+/// ```
+/// use format_toml_document::laws::a_document_is_lines_of_text;
+/// use std::alloc::Allocator;
+///
+/// fn of_an_allocator<A: Allocator>() {
+///     a_document_is_lines_of_text::<A>();
+/// }
+/// ```
+pub fn a_document_is_lines_of_text<A: Allocator>()
+    ensures { (level : ℕ) (bytes : List ℕ) (tree : Tree A) (fault : Fault)
+        → IsUtf8 bytes → IsDocument A level bytes tree → Tells A level bytes fault
+        → (fault ≡ faults.OutOfMemory)
+        ⊎ ((at : Location) × (why : Refusal) × (fault ≡ faults.Refused at why)) }
+{}
+
+/// Lines give one tree, or one of them is refused first, for one reason, and not both.
+///
+/// ```
+/// use format_toml_document::laws::lines_give_one_tree_or_one_refusal;
+/// use std::alloc::Allocator;
+///
+/// fn of_an_allocator<A: Allocator>() {
+///     lines_give_one_tree_or_one_refusal::<A>();
+/// }
+/// ```
+pub fn lines_give_one_tree_or_one_refusal<A: Allocator>()
+    ensures { (lines : List (Option (Item A))) (one other : Result (Given A) (ℕ × Refusal))
+        → Gives (empty, []) 0 lines one → Gives (empty, []) 0 lines other → one ≡ other }
+{}
