@@ -1,10 +1,11 @@
 //! What is written is read back.
-ghost use Rattle.std.specs.Prelude.{◌≡◌, ◌++◌, ℕ, IfErr, IfOk, List};
+ghost use Rattle.std.specs.Prelude.{◌≡◌, ◌⊎◌, ◌<◌, ◌++◌, ℕ, IfErr, IfOk, List};
 ghost use Rattle.winnow.specs.InTurn.{First};
 ghost use Rattle.format_resp3.specs.Alike.{AreAlike};
 ghost use Rattle.format_resp3.specs.Resp3.{Replies, ReplyText};
 ghost use Rattle.format_resp3.specs.Written.{IsRefused};
-ghost use Rattle.format_resp3.specs.declared.write.WriteError.TheVariants.{OutOfMemory};
+ghost use Rattle.format_resp3.specs.declared.write.WriteError.{WriteError};
+ghost use Rattle.format_resp3.specs.declared.write.WriteError.TheVariants.{Level, OutOfMemory};
 
 use crate::read::read_reply;
 use crate::reply::Reply;
@@ -86,4 +87,21 @@ pub fn what_is_written_reads_back<A: Allocator>()
     ensures { (level : ℕ) (written read : Replies A) (text more rest : List ℕ)
         → ReplyText level written text → First (ReplyText level) (text ++ more) read rest
         → AreAlike level written read × (rest ≡ more) }
+{}
+
+/// A reply that is refused has no text: of its errors but `OutOfMemory` each says that no text of
+/// any level is one of it, and `Level` that none of this level or of a lower one is.
+///
+/// ```
+/// use format_resp3::back::what_is_refused_has_no_text;
+/// use std::alloc::Allocator;
+///
+/// fn of_an_allocator<A: Allocator>() {
+///     what_is_refused_has_no_text::<A>();
+/// }
+/// ```
+pub fn what_is_refused_has_no_text<A: Allocator>()
+    ensures { (level above : ℕ) (reply : Replies A) (error : WriteError) (text : List ℕ)
+        → IsRefused level reply error → ReplyText above reply text
+        → (error ≡ OutOfMemory) ⊎ ((error ≡ Level) × (level < above)) }
 {}
