@@ -14,9 +14,10 @@ use Rattle.format_resp.specs.Read.{integer_splits, one_line, size_splits}
 use Rattle.format_resp.specs.Resp.{Ended, IntegerText, SignedText, SizeText, line_end}
 use Rattle.format_resp3.proofs.Bodies.{reply_unique}
 use Rattle.format_resp3.proofs.FirstBytes.{mark_splits}
-use Rattle.format_resp3.proofs.Made.{array_is, attributed_is, big_number_is, boolean_is, bulk_error_is}
-use Rattle.format_resp3.proofs.Made.{bulk_is, double_is, error_is, integer_is, map_is, null_array_is}
-use Rattle.format_resp3.proofs.Made.{null_bulk_is, null_is, push_is, set_is, simple_is, verbatim_is}
+use Rattle.format_resp3.proofs.Made.{array_is, attributed_is, big_number_is, boolean_is}
+use Rattle.format_resp3.proofs.Made.{bulk_error_is, bulk_is, double_is, error_is, integer_is}
+use Rattle.format_resp3.proofs.Made.{map_is, null_array_is, null_bulk_is, null_is, push_is, set_is}
+use Rattle.format_resp3.proofs.Made.{simple_is, verbatim_is}
 use Rattle.format_resp3.proofs.Plain.{line_plain}
 use Rattle.format_resp3.specs.Alike.{AreAlike, AreAlikeAs, AreAlikeBy, Opened}
 use Rattle.format_resp3.specs.Resp3.{AggregateBehind, Body, BooleanText, DataBehind, DataSays}

@@ -10,9 +10,10 @@ use Rattle.winnow.specs.Equal.{none_is_some, same_some}
 use Rattle.winnow.specs.InTurn.{Led}
 use Rattle.winnow.specs.Texts.{EachText, Text}
 use Rattle.format_resp.specs.Resp.{Ended, InLine}
-use Rattle.format_resp3.proofs.Made.{array_is, attributed_is, big_number_is, boolean_is, bulk_error_is}
-use Rattle.format_resp3.proofs.Made.{bulk_is, double_is, error_is, integer_is, map_is, null_array_is}
-use Rattle.format_resp3.proofs.Made.{null_bulk_is, null_is, push_is, set_is, simple_is, verbatim_is}
+use Rattle.format_resp3.proofs.Made.{array_is, attributed_is, big_number_is, boolean_is}
+use Rattle.format_resp3.proofs.Made.{bulk_error_is, bulk_is, double_is, error_is, integer_is}
+use Rattle.format_resp3.proofs.Made.{map_is, null_array_is, null_bulk_is, null_is, push_is, set_is}
+use Rattle.format_resp3.proofs.Made.{simple_is, verbatim_is}
 use Rattle.format_resp3.specs.Alike.{Opened}
 use Rattle.format_resp3.specs.Numbers.{IsBigNumber, IsDouble}
 use Rattle.format_resp3.specs.Resp3.{AggregateBehind, Body, DataBehind, DataSays, Elements}
@@ -33,7 +34,9 @@ use Rattle.format_resp3.specs.declared.reply.Reply as made
 use Rattle.format_resp3.specs.declared.reply.Reply.{out-Reply}
 use Rattle.format_resp3.specs.declared.reply.Reply.TheOpen.{Reply-F}
 use Rattle.format_resp3.specs.declared.write.WriteError.{WriteError}
-use Rattle.format_resp3.specs.declared.write.WriteError.TheVariants as errors
+use Rattle.format_resp3.specs.declared.write.WriteError.TheVariants.{BigNumber, Double, Format}
+use Rattle.format_resp3.specs.declared.write.WriteError.TheVariants.{Level, LineBreak}
+use Rattle.format_resp3.specs.declared.write.WriteError.TheVariants.{OutOfMemory, Pairs}
 
 module _ {A : Type 0} where
   abbrev kind_of : Replies A → Opened A
@@ -317,17 +320,17 @@ module _ {A : Type 0} where
   -- a reply that is refused for another reason than memory has no text; or one of a higher level
   pub refused_textless : (level above : ℕ) (reply : Replies A) (e : WriteError) (tokens : List ℕ)
       → IsRefused level reply e → ReplyText above reply tokens
-      → (e ≡ errors.OutOfMemory) ⊎ ((e ≡ errors.Level) × (level < above))
-  refused_textless level above reply errors.LineBreak tokens is text =
+      → (e ≡ OutOfMemory) ⊎ ((e ≡ Level) × (level < above))
+  refused_textless level above reply LineBreak tokens is text =
       absurd (none_within IsBroken broken level above reply is (tokens, text))
-  refused_textless level above reply errors.Double tokens is text =
+  refused_textless level above reply Double tokens is text =
       absurd (none_within IsNoDouble no_double level above reply is (tokens, text))
-  refused_textless level above reply errors.BigNumber tokens is text =
+  refused_textless level above reply BigNumber tokens is text =
       absurd (none_within IsNoBigNumber no_big_number level above reply is (tokens, text))
-  refused_textless level above reply errors.Format tokens is text =
+  refused_textless level above reply Format tokens is text =
       absurd (none_within IsUnformatted unformatted level above reply is (tokens, text))
-  refused_textless level above reply errors.Pairs tokens is text =
+  refused_textless level above reply Pairs tokens is text =
       absurd (none_within IsUnpaired unpaired level above reply is (tokens, text))
-  refused_textless level above reply errors.Level tokens is text =
+  refused_textless level above reply Level tokens is text =
       inr (refl, deeper_above level above reply is (tokens, text))
-  refused_textless level above reply errors.OutOfMemory tokens is text = inl refl
+  refused_textless level above reply OutOfMemory tokens is text = inl refl

@@ -1,15 +1,16 @@
 -- What is put after bytes for replies, and why some are not written.
-use Rattle.std.specs.Prelude.{◌≡◌, ◌⊎◌, ◌+◌, ◌*◌, ◌<◌, ◌^◌, Bool, ℕ, ℤ, suc, List, [], ◌∷◌, ◌++◌}
-use Rattle.std.specs.Prelude.{length, Contains, FitsSigned}
+use Rattle.std.specs.Prelude.{◌≡◌, ◌⊎◌, ◌+◌, ◌*◌, ◌<◌, ◌^◌, Bool, ℕ, ℤ, List, [], ◌∷◌, ◌++◌}
+use Rattle.std.specs.Prelude.{zero, suc, length, Contains, FitsSigned}
 use Rattle.std.specs.Borrow.{Bor}
 use Rattle.std.specs.Fmt.{decimal, signed_decimal}
 use Rattle.std.specs.Int.{w64}
 use Rattle.std.specs.List.{AllByRecursion}
 use Rattle.std.specs.declared.vec.Vec.{Vec}
-use Rattle.std.proofs.Common.{refl, sym, ap, subst, inl, inr, ◌∙◌, arith}
+use Rattle.std.proofs.Common.{refl, sym, ap, subst, inl, inr, ◌∙◌, arith, append_assoc}
+use Rattle.std.proofs.Common.{length-append}
 use Rattle.winnow.specs.Texts.{EachText}
 use Rattle.format_resp.proofs.Writing.{adds, put_two}
-use Rattle.format_resp.specs.Resp.{InLine}
+use Rattle.format_resp.specs.Resp.{InLine, line_end}
 use Rattle.format_resp.specs.Written.{Adds, data_of, marked}
 use Rattle.format_resp3.proofs.Sayings.{shown_is}
 use Rattle.format_resp3.proofs.WrittenTexts.{written_text}
@@ -28,7 +29,9 @@ use Rattle.format_resp3.specs.declared.marks.LineMark.TheVariants.{Parenthesis, 
 use Rattle.format_resp3.specs.declared.marks.Mark.TheVariants.{Aggregate, Data, Line}
 use Rattle.format_resp3.specs.declared.reply.Reply as made
 use Rattle.format_resp3.specs.declared.write.WriteError.{WriteError}
-use Rattle.format_resp3.specs.declared.write.WriteError.TheVariants as errors
+use Rattle.format_resp3.specs.declared.write.WriteError.TheVariants.{BigNumber, Double, Format}
+use Rattle.format_resp3.specs.declared.write.WriteError.TheVariants.{Level, LineBreak}
+use Rattle.format_resp3.specs.declared.write.WriteError.TheVariants.{OutOfMemory, Pairs}
 
 -- ---- what is put
 
@@ -105,6 +108,30 @@ module _ {A : Type 0} (level : ℕ) {reply : Replies A} {before after : List ℕ
       → Adds (WrittenText level) reply before after
   null_array_put is = adds (marked 42 (45 ∷ 49 ∷ [])) (inr (inr (inr (inr (is, refl)))))
 
+-- a verbatim string, part by part
+pub formatted_put : (format text : List ℕ) {n : ℕ} {b0 b1 b2 b3 b4 b5 : List ℕ}
+    → length format ≡ 3 → n ≡ length text + 4 → b1 ≡ b0 ++ marked 61 (decimal n)
+    → b2 ≡ b1 ++ format → b3 ≡ b2 ++ 58 ∷ [] → b4 ≡ b3 ++ text → b5 ≡ b4 ++ line_end
+    → length b5 < 2 ^ 63
+    → (length (format ++ 58 ∷ text) < 2 ^ 63) × (b5 ≡ b0 ++ data_of 61 (format ++ 58 ∷ text))
+formatted_put format text {n} {b0} {b1} {b5 = b5} three is e1 e2 e3 e4 e5 small =
+    let all = format ++ 58 ∷ text in
+    let many : n ≡ length all = omega (arith, three, is, length-append format (58 ∷ text)) in
+    let colon = put_two b1 format (58 ∷ []) e2 e3 in
+    let behind = put_two b1 (format ++ 58 ∷ []) text colon e4
+    ∙ ap (λ l. b1 ++ l) (append_assoc format (58 ∷ []) text) in
+    let ended : b5 ≡ b1 ++ (all ++ line_end) = put_two b1 all line_end behind e5 in (
+      omega (
+        arith,
+        small,
+        ap (λ l. length l) ended,
+        length-append b1 (all ++ line_end),
+        length-append all line_end,
+      ),
+      put_two b0 (marked 61 (decimal (length all))) (all ++ line_end)
+          (e1 ∙ ap (λ k. b0 ++ marked 61 (decimal k)) many) ended,
+    )
+
 -- the size of an aggregate, and its elements
 pub aggregate_put : {A : Type 0} (mark : AggregateMark) (size below : ℕ) {level : ℕ}
     (list : Vec (Replies A) A) {items : List (Replies A)} {before between after : List ℕ}
@@ -149,7 +176,7 @@ module _ {A : Type 0} where
   or_itself : (such : Replies A → Type 0) (level : ℕ) (reply : Replies A) → such reply
       → IsOrHas such level reply
   unfolding IsOrHas
-  or_itself such 0 reply is = is
+  or_itself such zero reply is = is
   or_itself such (suc level) reply is = inl is
 
   or_within : (such : Replies A → Type 0) (below : ℕ) (mark : AggregateMark)
@@ -169,33 +196,33 @@ module _ {A : Type 0} where
 
   module _ (level : ℕ) {reply : Replies A} where
     pub refused_simple : (text : Bor (List ℕ)) → reply ≡ made.Simple text → (e : WriteError)
-        → IsRefusedAs errors.LineBreak (AllByRecursion InLine text.now) e
+        → IsRefusedAs LineBreak (AllByRecursion InLine text.now) e
         → IsRefused level reply e
-    refused_simple text is = as_error level reply errors.LineBreak (AllByRecursion InLine text.now)
+    refused_simple text is = as_error level reply LineBreak (AllByRecursion InLine text.now)
         (λ not. or_itself IsBroken level reply (text, inl is, not))
 
     pub refused_error : (text : Bor (List ℕ)) → reply ≡ made.Error text → (e : WriteError)
-        → IsRefusedAs errors.LineBreak (AllByRecursion InLine text.now) e
+        → IsRefusedAs LineBreak (AllByRecursion InLine text.now) e
         → IsRefused level reply e
-    refused_error text is = as_error level reply errors.LineBreak (AllByRecursion InLine text.now)
+    refused_error text is = as_error level reply LineBreak (AllByRecursion InLine text.now)
         (λ not. or_itself IsBroken level reply (text, inr is, not))
 
     pub refused_double : (text : Bor (List ℕ)) → reply ≡ made.Double text → (e : WriteError)
-        → IsRefusedAs errors.Double (IsDouble text.now) e → IsRefused level reply e
-    refused_double text is = as_error level reply errors.Double (IsDouble text.now)
+        → IsRefusedAs Double (IsDouble text.now) e → IsRefused level reply e
+    refused_double text is = as_error level reply Double (IsDouble text.now)
         (λ not. or_itself IsNoDouble level reply (text, is, not))
 
     pub refused_big_number : (text : Bor (List ℕ)) → reply ≡ made.BigNumber text
-        → (e : WriteError) → IsRefusedAs errors.BigNumber (IsBigNumber text.now) e
+        → (e : WriteError) → IsRefusedAs BigNumber (IsBigNumber text.now) e
         → IsRefused level reply e
-    refused_big_number text is = as_error level reply errors.BigNumber (IsBigNumber text.now)
+    refused_big_number text is = as_error level reply BigNumber (IsBigNumber text.now)
         (λ not. or_itself IsNoBigNumber level reply (text, is, not))
 
     pub refused_verbatim : (format text : Bor (List ℕ)) → reply ≡ made.Verbatim format text
-        → (e : WriteError) → IsRefusedAs errors.Format (length format.now ≡ 3) e
+        → (e : WriteError) → IsRefusedAs Format (length format.now ≡ 3) e
         → IsRefused level reply e
     refused_verbatim format text is =
-        as_error level reply errors.Format (length format.now ≡ 3)
+        as_error level reply Format (length format.now ≡ 3)
         (λ not. or_itself IsUnformatted level reply (format, text, is, not))
 
   -- an error of another reply, which it is
@@ -209,14 +236,14 @@ module _ {A : Type 0} where
   -- no aggregate has as many replies
   pub refused_count : (level : ℕ) (mark : AggregateMark) (list : Vec (Replies A) A) {count : ℕ}
       → count ≡ length list.items → ((size : ℕ) → count ≡ many mark size → ⊥)
-      → IsRefused level (gathered mark list) errors.Pairs
+      → IsRefused level (gathered mark list) Pairs
   refused_count level mark list many_are none =
       or_itself IsUnpaired level (gathered mark list)
       (mark, list, refl, (λ size e. none size (many_are ∙ e)))
 
   -- at level 0 each aggregate is too deep
   pub deep_aggregate : {level : ℕ} (mark : AggregateMark) (list : Vec (Replies A) A) → level ≡ 0
-      → IsRefused level (gathered mark list) errors.Level
+      → IsRefused level (gathered mark list) Level
   unfolding IsDeeper
   deep_aggregate mark list is =
       let P : ℕ → Type 0 = λ l. IsDeeper l (gathered mark list) in
@@ -228,19 +255,19 @@ module _ {A : Type 0} where
   within below mark list e (inl memory) =
       let P : WriteError → Type 0 = λ x. IsRefused (suc below) (gathered mark list) x in
       subst P (sym memory) tt
-  within below mark list errors.LineBreak (inr (reply, among, is)) =
+  within below mark list LineBreak (inr (reply, among, is)) =
       or_within IsBroken below mark list reply among is
-  within below mark list errors.Double (inr (reply, among, is)) =
+  within below mark list Double (inr (reply, among, is)) =
       or_within IsNoDouble below mark list reply among is
-  within below mark list errors.BigNumber (inr (reply, among, is)) =
+  within below mark list BigNumber (inr (reply, among, is)) =
       or_within IsNoBigNumber below mark list reply among is
-  within below mark list errors.Format (inr (reply, among, is)) =
+  within below mark list Format (inr (reply, among, is)) =
       or_within IsUnformatted below mark list reply among is
-  within below mark list errors.Pairs (inr (reply, among, is)) =
+  within below mark list Pairs (inr (reply, among, is)) =
       or_within IsUnpaired below mark list reply among is
-  within below mark list errors.Level (inr (reply, among, is)) =
+  within below mark list Level (inr (reply, among, is)) =
       (mark, list, refl, reply, among, is)
-  within below mark list errors.OutOfMemory (inr (reply, among, is)) = tt
+  within below mark list OutOfMemory (inr (reply, among, is)) = tt
 
   -- an aggregate is refused where one of its elements is
   pub refused_within : (below : ℕ) {level : ℕ} (mark : AggregateMark) (list : Vec (Replies A) A)

@@ -19,7 +19,9 @@ use Rattle.format_resp3.specs.declared.marks.LineMark.TheVariants.{Parenthesis, 
 use Rattle.format_resp3.specs.declared.marks.Mark.TheVariants.{Aggregate, Data, Line}
 use Rattle.format_resp3.specs.declared.reply.Reply as made
 use Rattle.format_resp3.specs.declared.write.WriteError.{WriteError}
-use Rattle.format_resp3.specs.declared.write.WriteError.TheVariants as errors
+use Rattle.format_resp3.specs.declared.write.WriteError.TheVariants.{BigNumber, Double, Format}
+use Rattle.format_resp3.specs.declared.write.WriteError.TheVariants.{Level, LineBreak}
+use Rattle.format_resp3.specs.declared.write.WriteError.TheVariants.{OutOfMemory, Pairs}
 
 module _ {A : Type 0} where
   -- what is written on the line of a reply that is a line: what it says, and of an integer its
@@ -111,20 +113,20 @@ module _ {A : Type 0} where
   -- why a reply is not written: what is wrong in it; more aggregates stand in one another than the
   -- level lets; or memory was refused
   abbrev pub IsRefused : ℕ → Replies A → WriteError → Type 0
-  IsRefused level reply errors.LineBreak = IsOrHas IsBroken level reply
-  IsRefused level reply errors.Double = IsOrHas IsNoDouble level reply
-  IsRefused level reply errors.BigNumber = IsOrHas IsNoBigNumber level reply
-  IsRefused level reply errors.Format = IsOrHas IsUnformatted level reply
-  IsRefused level reply errors.Pairs = IsOrHas IsUnpaired level reply
-  IsRefused level reply errors.Level = IsDeeper level reply
-  IsRefused level reply errors.OutOfMemory = ⊤
+  IsRefused level reply LineBreak = IsOrHas IsBroken level reply
+  IsRefused level reply Double = IsOrHas IsNoDouble level reply
+  IsRefused level reply BigNumber = IsOrHas IsNoBigNumber level reply
+  IsRefused level reply Format = IsOrHas IsUnformatted level reply
+  IsRefused level reply Pairs = IsOrHas IsUnpaired level reply
+  IsRefused level reply Level = IsDeeper level reply
+  IsRefused level reply OutOfMemory = ⊤
 
   -- memory was refused, or one of these replies is not written
   abbrev pub IsRefusedAmong : ℕ → List (Replies A) → WriteError → Type 0
   IsRefusedAmong level replies e =
-      (e ≡ errors.OutOfMemory)
+      (e ≡ OutOfMemory)
       ⊎ ((reply : Replies A) × Contains replies reply × IsRefused level reply e)
 
 -- memory was refused, or it is this error, and this is not so
 abbrev pub IsRefusedAs : WriteError → Type 0 → WriteError → Type 0
-IsRefusedAs error P e = (e ≡ errors.OutOfMemory) ⊎ ((e ≡ error) × (P → ⊥))
+IsRefusedAs error P e = (e ≡ OutOfMemory) ⊎ ((e ≡ error) × (P → ⊥))
