@@ -3,7 +3,7 @@ use Rattle.std.proofs.lemmas.Result.{IfErr-weaker, on_ok_weaker}
 use Rattle.format_resp.proofs.Writing.{among, if_error, keeps_trans, row_end, row_more}
 use Rattle.format_resp3.proofs.Writing.{aggregate_put, big_number_put, boolean_put, bulk_error_put}
 use Rattle.format_resp3.proofs.Writing.{bulk_put, deep_aggregate, double_put, error_put}
-use Rattle.format_resp3.proofs.Writing.{integer_put, null_array_put, null_bulk_put, null_put, put_as}
+use Rattle.format_resp3.proofs.Writing.{put_as}
 use Rattle.format_resp3.proofs.Writing.{refused_big_number, refused_count, refused_double}
 use Rattle.format_resp3.proofs.Writing.{refused_error, refused_form, refused_simple}
 use Rattle.format_resp3.proofs.Writing.{refused_verbatim, refused_within, simple_put, verbatim_put}
