@@ -6,11 +6,10 @@ use Rattle.std.specs.Fmt.{decimal, signed_decimal}
 use Rattle.std.specs.Int.{w64}
 use Rattle.std.specs.List.{AllByRecursion}
 use Rattle.std.specs.declared.vec.Vec.{Vec}
-use Rattle.std.proofs.Common.{refl, sym, ap, subst, inl, inr, ◌∙◌, arith, append_assoc}
-use Rattle.std.proofs.Common.{length-append}
+use Rattle.std.proofs.Common.{refl, sym, ap, subst, inl, inr, ◌∙◌, arith}
 use Rattle.winnow.specs.Texts.{EachText}
 use Rattle.format_resp.proofs.Writing.{adds, put_two}
-use Rattle.format_resp.specs.Resp.{InLine, line_end}
+use Rattle.format_resp.specs.Resp.{InLine}
 use Rattle.format_resp.specs.Written.{Adds, data_of, marked}
 use Rattle.format_resp3.proofs.Sayings.{shown_is}
 use Rattle.format_resp3.proofs.WrittenTexts.{written_text}
@@ -107,30 +106,6 @@ module _ {A : Type 0} (level : ℕ) {reply : Replies A} {before after : List ℕ
   pub null_array_put : reply ≡ made.NullArray → after ≡ before ++ marked 42 (45 ∷ 49 ∷ [])
       → Adds (WrittenText level) reply before after
   null_array_put is = adds (marked 42 (45 ∷ 49 ∷ [])) (inr (inr (inr (inr (is, refl)))))
-
--- a verbatim string, part by part
-pub formatted_put : (format text : List ℕ) {n : ℕ} {b0 b1 b2 b3 b4 b5 : List ℕ}
-    → length format ≡ 3 → n ≡ length text + 4 → b1 ≡ b0 ++ marked 61 (decimal n)
-    → b2 ≡ b1 ++ format → b3 ≡ b2 ++ 58 ∷ [] → b4 ≡ b3 ++ text → b5 ≡ b4 ++ line_end
-    → length b5 < 2 ^ 63
-    → (length (format ++ 58 ∷ text) < 2 ^ 63) × (b5 ≡ b0 ++ data_of 61 (format ++ 58 ∷ text))
-formatted_put format text {n} {b0} {b1} {b5 = b5} three is e1 e2 e3 e4 e5 small =
-    let all = format ++ 58 ∷ text in
-    let many : n ≡ length all = omega (arith, three, is, length-append format (58 ∷ text)) in
-    let colon = put_two b1 format (58 ∷ []) e2 e3 in
-    let behind = put_two b1 (format ++ 58 ∷ []) text colon e4
-    ∙ ap (λ l. b1 ++ l) (append_assoc format (58 ∷ []) text) in
-    let ended : b5 ≡ b1 ++ (all ++ line_end) = put_two b1 all line_end behind e5 in (
-      omega (
-        arith,
-        small,
-        ap (λ l. length l) ended,
-        length-append b1 (all ++ line_end),
-        length-append all line_end,
-      ),
-      put_two b0 (marked 61 (decimal (length all))) (all ++ line_end)
-          (e1 ∙ ap (λ k. b0 ++ marked 61 (decimal k)) many) ended,
-    )
 
 -- the size of an aggregate, and its elements
 pub aggregate_put : {A : Type 0} (mark : AggregateMark) (size below : ℕ) {level : ℕ}

@@ -1,11 +1,10 @@
-use Rattle.std.proofs.Common.{◌-◌, arith, inr}
+use Rattle.std.proofs.Common.{◌-◌, ◌∙◌, arith, inr, rules}
 use Rattle.std.proofs.lemmas.Result.{IfErr-weaker, on_ok_weaker}
 use Rattle.format_resp.proofs.Writing.{among, if_error, keeps_trans, row_end, row_more}
 use Rattle.format_resp3.proofs.Writing.{aggregate_put, big_number_put, boolean_put, bulk_error_put}
-use Rattle.format_resp3.proofs.Writing.{bulk_put, deep_aggregate, double_put, error_put}
-use Rattle.format_resp3.proofs.Writing.{put_as}
-use Rattle.format_resp3.proofs.Writing.{refused_big_number, refused_count, refused_double}
-use Rattle.format_resp3.proofs.Writing.{refused_error, refused_form, refused_simple}
+use Rattle.format_resp3.proofs.Writing.{deep_aggregate, double_put, error_put, integer_put}
+use Rattle.format_resp3.proofs.Writing.{null_put, put_as, refused_big_number, refused_count}
+use Rattle.format_resp3.proofs.Writing.{refused_double, refused_error, refused_form, refused_simple}
 use Rattle.format_resp3.proofs.Writing.{refused_verbatim, refused_within, simple_put, verbatim_put}
 use Rattle.format_resp3.proofs.write.+write.Goals as goal
 
@@ -34,6 +33,11 @@ write_elements-returns-in_err-write_nested-clause-refused g t c =
       c.in_err-write_nested.ensures.refused,
     ))
 
+pub write_elements-returns-in_err-write_nested-clause-kept :
+    goal.write_elements-returns-in_err-write_nested-clause-kept
+write_elements-returns-in_err-write_nested-clause-kept g t c =
+    keeps_trans c.loop-reply.invariant.kept c.in_err-write_nested.ensures.kept
+
 -- ---- aggregates
 
 pub write_aggregate-returns-then-level-eq0-clause-refused :
@@ -44,27 +48,28 @@ write_aggregate-returns-then-level-eq0-clause-refused g t c =
 pub write_aggregate-returns-in-None-clause-refused :
     goal.write_aggregate-returns-in-None-clause-refused
 write_aggregate-returns-in-None-clause-refused g t c =
-    refused_count c.args.level c.args.mark c.args.replies.now c.len.ensures
+    refused_count c.args.level c.args.mark c.args.replies.now
+    (c.len.ensures ∙ c.args.replies.now.ok.0)
     (c.in-None.ensures.none refl)
 
-pub write_aggregate-returns-in-Some-clause-written :
-    goal.write_aggregate-returns-in-Some-clause-written
-write_aggregate-returns-in-Some-clause-written g t c =
+pub write_aggregate-returns-in_ok-write_size-in-Some-clause-written :
+    goal.write_aggregate-returns-in_ok-write_size-in-Some-clause-written
+write_aggregate-returns-in_ok-write_size-in-Some-clause-written g t c =
     on_ok_weaker c.write_elements.result
     (aggregate_put c.args.mark c.in-Some.size (c.args.level - 1) c.args.replies.now
-    c.as_slice.ensures.value (omega arith) (omega arith) c.in_ok-write_size.ensures.written)
+    c.as_slice.ensures.value (omega arith) (omega arith) c.in_ok-write_size-in-Some.ensures.written)
     c.write_elements.ensures.written
 
-pub write_aggregate-returns-in-Some-clause-refused :
-    goal.write_aggregate-returns-in-Some-clause-refused
-write_aggregate-returns-in-Some-clause-refused g t c =
+pub write_aggregate-returns-in_ok-write_size-in-Some-clause-refused :
+    goal.write_aggregate-returns-in_ok-write_size-in-Some-clause-refused
+write_aggregate-returns-in_ok-write_size-in-Some-clause-refused g t c =
     IfErr-weaker c.write_elements.result _ _
     (λ e. refused_within (c.args.level - 1) c.args.mark c.args.replies.now e
     c.as_slice.ensures.value (omega arith)) c.write_elements.ensures.refused
 
-pub write_aggregate-returns-in-Some-clause-kept : goal.write_aggregate-returns-in-Some-clause-kept
-write_aggregate-returns-in-Some-clause-kept g t c =
-    keeps_trans c.in_ok-write_size.ensures.kept c.write_elements.ensures.kept
+pub write_aggregate-returns-in_ok-write_size-in-Some-clause-kept : goal.write_aggregate-returns-in_ok-write_size-in-Some-clause-kept
+write_aggregate-returns-in_ok-write_size-in-Some-clause-kept g t c =
+    keeps_trans c.in_ok-write_size-in-Some.ensures.kept c.write_elements.ensures.kept
 
 -- ---- replies
 
@@ -185,5 +190,29 @@ write_nested-returns-in-Attributed-clause-written g t c =
 pub write_nested-returns-in-Attributed-clause-refused :
     goal.write_nested-returns-in-Attributed-clause-refused
 write_nested-returns-in-Attributed-clause-refused g t c =
-    IfErr-weaker c.write_aggregate-in-Attributed.result _ _ (refused_form c.args.level c.in-Attributed.is)
+    IfErr-weaker c.write_aggregate-in-Attributed.result _ _
+    (refused_form c.args.level c.in-Attributed.is)
     c.write_aggregate-in-Attributed.ensures.refused
+
+pub write_nested-returns-in_ok-write_integer-in-Integer-clause-written :
+    goal.write_nested-returns-in_ok-write_integer-in-Integer-clause-written
+write_nested-returns-in_ok-write_integer-in-Integer-clause-written g t c =
+    integer_put c.args.level _ c.in-Integer.is (search rules)
+    c.in_ok-write_integer-in-Integer.ensures.written
+
+pub write_nested-returns-in_ok-write_line-in-Null-clause-written :
+    goal.write_nested-returns-in_ok-write_line-in-Null-clause-written
+write_nested-returns-in_ok-write_line-in-Null-clause-written g t c =
+    null_put c.args.level c.in-Null.is c.in_ok-write_line-in-Null.ensures.written
+
+pub write_nested-returns-in_ok-write_line-in-Boolean-clause-written :
+    goal.write_nested-returns-in_ok-write_line-in-Boolean-clause-written
+write_nested-returns-in_ok-write_line-in-Boolean-clause-written g t c =
+    boolean_put c.args.level _ _ c.in-Boolean.is c.boolean_text.ensures
+    c.in_ok-write_line-in-Boolean.ensures.written
+
+pub write_nested-returns-in_ok-write_data-in-BulkError-clause-written :
+    goal.write_nested-returns-in_ok-write_data-in-BulkError-clause-written
+write_nested-returns-in_ok-write_data-in-BulkError-clause-written g t c =
+    bulk_error_put c.args.level _ c.in-BulkError.is (search rules)
+    c.in_ok-write_data-in-BulkError.ensures.written
