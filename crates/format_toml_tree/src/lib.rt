@@ -28,6 +28,7 @@ pub mod date_times;
 mod dates;
 pub mod node;
 pub mod roles;
+pub mod slots;
 mod times;
 pub mod tree;
 pub mod value;
