@@ -15,39 +15,10 @@ fn is_read(alloc: Global, text: &str) -> Option<bool> {
     }
 }
 
-/// The valid cases with a date or a time, which are read where `format_toml` reads these.
-const DATED: &[&str] = &[
-    "example",
-    "spec-1.0.0/local-date-time-0",
-    "spec-1.0.0/offset-date-time-0",
-    "array/array",
-    "comment/everywhere",
-    "datetime/datetime",
-    "datetime/edge",
-    "datetime/leap-year",
-    "datetime/local",
-    "datetime/local-date",
-    "datetime/local-time",
-    "datetime/milliseconds",
-    "datetime/timezone",
-];
-
-/// Whether a case has a date or a time.
-fn is_dated(name: &str) -> bool {
-    for dated in DATED {
-        if *dated == name {
-            return true;
-        }
-    }
-    false
-}
-
 /// The name of the first case for which it is not so that it is read.
 fn first_other<'r>(alloc: Global, rows: &[(&'r str, &'r str)], read: bool) -> &'r str {
-    let dates = is_read(alloc, "a = 1979-05-27");
     for (name, text) in rows {
-        let wanted = if read && is_dated(name) { dates } else { Some(read) };
-        if is_read(alloc, text) != wanted {
+        if is_read(alloc, text) != Some(read) {
             return name;
         }
     }

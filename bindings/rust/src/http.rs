@@ -207,7 +207,8 @@ pub struct Chunked {
 }
 
 impl Chunked {
-    /// Nothing of a body is taken. A size line may have 4,096 bytes, and the trailer section 8,192.
+    /// Nothing of a body is taken. 4,096 bytes may stand between data, and the trailer section may
+    /// have 8,192.
     pub fn new() -> Chunked {
         Chunked::default()
     }

@@ -12,7 +12,7 @@ use Rattle.format_http_chunked.specs.declared.decoder.Fault.{Fault}
 use Rattle.format_http_chunked.specs.declared.decoder.Step.{Step}
 use Rattle.format_http_chunked.specs.declared.places.Place.{Place}
 use Rattle.format_http_chunked.specs.declared.state.ChunkedState.{ChunkedState}
-use Rattle.exported.specs.Chunked.{Call, CallsInTurn, TellsStep, Writes, zeros}
+use Rattle.exported.specs.Chunked.{Call, CallsInTurn, IsFirst, TellsStep, Writes}
 use Rattle.exported.specs.declared.http.chunked.ChunkedStep.{ChunkedStep}
 
 -- what a decoder says, of the states that are of it
@@ -109,8 +109,10 @@ turn_by_turn (call ∷ calls) state last front given fields taken content traile
     (turn_by_turn calls next last (front ++ mine) (given ++ content_of tells.said)
     (fields ++ trailers_of tells.said) more others few at again)
 
-pub calls_in_turn : (calls : List Call) (state : ChunkedState)
-    (taken content trailers : List ℕ) → CallsInTurn zeros calls state taken content trailers
+pub calls_in_turn : (first : ChunkedState) → IsFirst first → (calls : List Call)
+    (state : ChunkedState) (taken content trailers : List ℕ)
+    → CallsInTurn first calls state taken content trailers
     → IsAt (decoder_of state).place taken content trailers
-calls_in_turn calls state taken content trailers = turn_by_turn calls zeros state [] [] [] taken
-    content trailers begins
+calls_in_turn first is calls state taken content trailers =
+    turn_by_turn calls first state [] [] [] taken content trailers
+    (subst (λ at. IsAt at [] [] []) (sym is) begins)

@@ -7,6 +7,8 @@ use Rattle.format_http_chunked.specs.declared.decoder.Fault.{Fault}
 use Rattle.format_http_chunked.specs.declared.decoder.Fault.TheVariants as fault
 use Rattle.format_http_chunked.specs.declared.decoder.Step.{Step}
 use Rattle.format_http_chunked.specs.declared.decoder.Step.TheVariants as step
+use Rattle.format_http_chunked.specs.declared.places.Framing.TheVariants as framing
+use Rattle.format_http_chunked.specs.declared.places.Place.TheVariants as place
 use Rattle.format_http_chunked.specs.declared.state.ChunkedState.{ChunkedState}
 use Rattle.exported.specs.Code.{done, end, incomplete, refused}
 use Rattle.exported.specs.Span.{StandsAt, nowhere}
@@ -61,17 +63,9 @@ pub record TellsStep (old new : ChunkedState) (bytes : List ℕ) (code : ℕ) (o
 
 -- ---- calls in turn
 
--- the state of zeros
-abbrev pub zeros : ChunkedState
-zeros = record {
-  place = 0;
-  within = 0;
-  size = 0;
-  room = 0;
-  trailer_room = 0;
-  size_line = 0;
-  trailers = 0;
-}
+-- A state of which nothing was taken: that of zeros, or one with other limits, whose place is 1.
+abbrev pub IsFirst : ChunkedState → Type 0
+IsFirst state = (decoder_of state).place ≡ place.Framing framing.Start
 
 -- a call: its bytes, the code, and what is written
 abbrev pub Call : Type 0

@@ -1,4 +1,4 @@
-//! Messages of HTTP/1.1 (RFC 9112): the heads of requests, whole and in pieces, and of responses;
+//! Messages of HTTP/1.1 (RFC 9112): the heads of requests and of responses, whole and in pieces;
 //! how long the body of a message is; the size lines of chunks; and why a server must refuse a
 //! request.
 #![tactic(auto)]

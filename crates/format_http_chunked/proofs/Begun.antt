@@ -101,7 +101,7 @@ module _ (next : List ℕ → Type 0) (bytes : List ℕ) (x : next bytes) where
   )
   line_due line.Return = (10 ∷ bytes, (refl, x))
 
-fields_due : (at : InField) → (fields : List ℕ) × DueFields at fields
+pub fields_due : (at : InField) → (fields : List ℕ) × DueFields at fields
 fields_due field.Start = ([], (0, refl))
 fields_due field.Name = (58 ∷ 13 ∷ 10 ∷ [], inl (refl, inl (refl, (refl, (0, refl)))))
 fields_due field.Value = (13 ∷ 10 ∷ [], inl (refl, (refl, (0, refl))))

@@ -1,13 +1,14 @@
 -- What a decoder says, of places that are due alike and after bytes that are taken.
-use Rattle.std.specs.Prelude.{◌≡◌, ◌↔◌, ◌<◌, ℕ, List, [], ◌∷◌, length, Option, Some, None, Result}
-use Rattle.std.specs.Prelude.{Ok, Err, IfErr}
+use Rattle.std.specs.Prelude.{◌≡◌, ◌↔◌, ◌<◌, ◌++◌, ℕ, List, [], ◌∷◌, length, Option, Some, None}
+use Rattle.std.specs.Prelude.{Result, Ok, Err, IfErr}
 use Rattle.std.proofs.Common.{ap, arith, refl, subst, sym, ◌∙◌}
 use Rattle.format_http_chunked.proofs.Taking.{data_zero, taken_byte, taken_from, taken_none}
 use Rattle.format_http_chunked.proofs.Taking.{taken_then}
 use Rattle.format_http_chunked.proofs.Turns.{both_ways}
-use Rattle.format_http_chunked.specs.Dues.{IsDue, IsFramingDue}
+use Rattle.format_http_chunked.proofs.Begun.{can_go_on, fields_due}
+use Rattle.format_http_chunked.specs.Dues.{DueFields, IsDue, IsFramingDue}
 use Rattle.format_http_chunked.specs.Room.{IsSpent, PartSpends, Spends}
-use Rattle.format_http_chunked.specs.Steps.{IsFault, IsNever, IsPart, IsSaid, IsTaken}
+use Rattle.format_http_chunked.specs.Steps.{GoesOn, IsFault, IsNever, IsPart, IsSaid, IsTaken}
 use Rattle.format_http_chunked.specs.declared.decoder.Decoder.{Decoder}
 use Rattle.format_http_chunked.specs.declared.decoder.Fault.{Fault}
 use Rattle.format_http_chunked.specs.declared.decoder.Limits.{Limits}
@@ -15,6 +16,8 @@ use Rattle.format_http_chunked.specs.declared.decoder.Step.{Step}
 use Rattle.format_http_chunked.specs.declared.decoder.Step.TheVariants as step
 use Rattle.format_http_chunked.specs.declared.places.Framing.{Framing}
 use Rattle.format_http_chunked.specs.declared.places.Framing.TheVariants as framing
+use Rattle.format_http_chunked.specs.declared.places.InField.{InField}
+use Rattle.format_http_chunked.specs.declared.places.InField.TheVariants as field
 use Rattle.format_http_chunked.specs.declared.places.Place.{Place}
 use Rattle.format_http_chunked.specs.declared.places.Place.TheVariants as place
 
@@ -102,6 +105,40 @@ pub fault_from : (at : Place) (framing : Framing) (b : ℕ) (why : Fault)
     → (room left : ℕ) → IsFault at room left b why
 fault_from at framing b why e =
     let P : Place → Type 0 = λ k. (room left : ℕ) → IsFault k room left b why in subst P (sym e)
+
+-- what is due after a byte can go on
+pub goes_on : (at : Place) (framing : Framing) (next : Place) (b : ℕ)
+    → at ≡ place.Framing framing → ((content trailers bytes : List ℕ)
+    → IsFramingDue framing content trailers (b ∷ bytes) ↔ IsDue next content trailers bytes)
+    → GoesOn at b
+goes_on at framing next b e step =
+    let (content, trailers, bytes, x) = can_go_on next in
+    let P : Place → Type 0 = λ k. IsDue k content trailers (b ∷ bytes) in
+    (content, trailers, bytes, subst P (sym e) ((step content trailers bytes).1 x))
+
+-- and so can field lines after a byte of theirs
+pub fields_go_on : (at : Place) (it next : InField) (b : ℕ) → at ≡ place.Trailers it
+    → ((fields : List ℕ) → DueFields it (b ∷ fields) ↔ DueFields next fields) → GoesOn at b
+fields_go_on at it next b e step =
+    let (fields, x) = fields_due next in
+    let P : Place → Type 0 = λ k. IsDue k [] (b ∷ fields) (b ∷ fields ++ 13 ∷ 10 ∷ []) in (
+      [],
+      b ∷ fields,
+      fields ++ 13 ∷ 10 ∷ [],
+      subst P (sym e) (refl, (step fields).1 x, refl),
+    )
+
+-- the line end after the trailer section ends the body
+pub last_goes_on : (at : Place) (it : InField) (b : ℕ) → at ≡ place.Trailers it
+    → it ≡ field.Start → b ≡ 13 → GoesOn at b
+last_goes_on at it b e f g =
+    let P : Place → Type 0 = λ k. IsDue k [] [] (b ∷ 10 ∷ []) in
+    let Q : ℕ → Type 0 = λ k. IsDue (place.Trailers field.Start) [] [] (k ∷ 10 ∷ []) in (
+      [],
+      [],
+      10 ∷ [],
+      subst P (sym (e ∙ ap (λ k. place.Trailers k) f)) (subst Q (sym g) (refl, (0, refl), refl)),
+    )
 
 -- where no data is due its line end is
 pub zero_alike : (at : Place) → at ≡ place.Data 0 → (content trailers more : List ℕ)

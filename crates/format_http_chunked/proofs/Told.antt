@@ -8,7 +8,7 @@ use Rattle.format_http_chunked.proofs.Begun.{can_go_on, must_go_on}
 use Rattle.format_http_chunked.specs.Bodies.{IsBody}
 use Rattle.format_http_chunked.specs.Decoded.{IsAnswer, IsAt, IsBegun, IsNone, IsRefusal}
 use Rattle.format_http_chunked.specs.Dues.{IsDue}
-use Rattle.format_http_chunked.specs.Steps.{IsFault, IsNever, IsSaid, IsTooLarge}
+use Rattle.format_http_chunked.specs.Steps.{GoesOn, IsFault, IsNever, IsSaid, IsTooLarge}
 use Rattle.format_http_chunked.specs.declared.decoder.Decoder.{Decoder}
 use Rattle.format_http_chunked.specs.declared.decoder.Fault.{Fault}
 use Rattle.format_http_chunked.specs.declared.decoder.Fault.TheVariants as fault
@@ -76,6 +76,15 @@ module _ (front given fields : List ℕ) where
         (subst P (append_assoc front (b ∷ []) more) x) in
         never left others more y
 
+    -- some body goes on with a byte that one does here
+    some_goes_on : (b : ℕ) → GoesOn at b → IsNone (front ++ b ∷ []) → ⊥
+    some_goes_on b (content, trailers, more, x) none =
+        let P : List ℕ → Type 0 = λ l. IsBody (given ++ content) (fields ++ trailers) l in
+        none (given ++ content) (fields ++ trailers) more
+        (subst P (sym (append_assoc front (b ∷ []) more))
+        ((is (given ++ content) (fields ++ trailers) (b ∷ more)).1
+        (content, trailers, refl, refl, x)))
+
     -- a body is whole at its end
     whole : at ≡ place.Done → IsBody given fields front
     whole e =
@@ -113,14 +122,16 @@ module _ (front given fields : List ℕ) where
 
   refused : (decoder : Decoder) → IsAt decoder.place front given fields → (b : ℕ) (why : Fault)
       → IsFault decoder.place decoder.room decoder.trailer_room b why
-      → IsRefusal decoder (front ++ b ∷ []) why
-  refused decoder is b fault.Size f = none_goes_on decoder.place is b f.1
-  refused decoder is b fault.SizeLine f = none_goes_on decoder.place is b f.1
-  refused decoder is b fault.SizeTooLarge f = large decoder.place is b f.1
-  refused decoder is b fault.SizeLineTooLong f = f
-  refused decoder is b fault.DataEnd f = none_goes_on decoder.place is b f.1
-  refused decoder is b fault.Trailers f = none_goes_on decoder.place is b f.1
-  refused decoder is b fault.TrailersTooLong f = f
+      → IsRefusal decoder front b why
+  refused decoder is b fault.Size f = (f.0, none_goes_on decoder.place is b f.1)
+  refused decoder is b fault.SizeLine f = (f.0, none_goes_on decoder.place is b f.1)
+  refused decoder is b fault.SizeTooLarge f = (f.0, large decoder.place is b f.1)
+  refused decoder is b fault.SizeLineTooLong (at, on, no_room) =
+      (at, some_goes_on decoder.place is b on, no_room)
+  refused decoder is b fault.DataEnd f = (f.0, none_goes_on decoder.place is b f.1)
+  refused decoder is b fault.Trailers f = (f.0, none_goes_on decoder.place is b f.1)
+  refused decoder is b fault.TrailersTooLong (at, on, no_room) =
+      (at, some_goes_on decoder.place is b on, no_room)
 
 pub told : (old new : Decoder) (bytes rest : List ℕ) (r : Result Step Fault)
     → IsSaid old new bytes rest r → (front given fields : List ℕ)

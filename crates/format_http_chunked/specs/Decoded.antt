@@ -3,13 +3,16 @@ use Rattle.std.specs.Prelude.{◌≡◌, ◌≤◌, ◌<◌, ◌^◌, ◌↔◌,
 use Rattle.std.specs.Prelude.{Result, Ok, Err}
 use Rattle.format_http_chunked.specs.Bodies.{IsBody}
 use Rattle.format_http_chunked.specs.Dues.{IsDue}
-use Rattle.format_http_chunked.specs.Steps.{IsInTrailers}
+use Rattle.format_http_chunked.specs.Steps.{IsAtDataEnd, IsBetweenData, IsDigitAt, IsInSizeLine}
+use Rattle.format_http_chunked.specs.Steps.{IsInTrailers, IsTrailerByte}
 use Rattle.format_http_chunked.specs.declared.decoder.Decoder.{Decoder}
 use Rattle.format_http_chunked.specs.declared.decoder.Fault.{Fault}
 use Rattle.format_http_chunked.specs.declared.decoder.Fault.TheVariants as fault
 use Rattle.format_http_chunked.specs.declared.decoder.Step.{Step}
 use Rattle.format_http_chunked.specs.declared.decoder.Step.TheVariants as step
+use Rattle.format_http_chunked.specs.declared.places.Framing.TheVariants as framing
 use Rattle.format_http_chunked.specs.declared.places.Place.{Place}
+use Rattle.format_http_chunked.specs.declared.places.Place.TheVariants as place
 
 -- These bytes were taken, and this much of content and trailers given out: whatever is after them,
 -- all is a body exactly where what is due here is after them, with what is left of the two.
@@ -29,19 +32,27 @@ IsBegun front given fields =
 abbrev pub IsNone : List ℕ → Type 0
 IsNone bytes = (content trailers more : List ℕ) → IsBody content trailers (bytes ++ more) → ⊥
 
--- What a refusal says of the bytes up to the one that is refused: that no body begins with them; or
--- none that has less than 2 ^ 64 bytes of content; or that as many bytes as may be are between
--- data, or are of trailers.
-abbrev pub IsRefusal : Decoder → List ℕ → Fault → Type 0
-IsRefusal decoder bytes fault.Size = IsNone bytes
-IsRefusal decoder bytes fault.SizeLine = IsNone bytes
-IsRefusal decoder bytes fault.SizeTooLarge = (content trailers more : List ℕ)
-    → IsBody content trailers (bytes ++ more) → 2 ^ 64 ≤ length content
-IsRefusal decoder bytes fault.SizeLineTooLong = decoder.room ≡ 0
-IsRefusal decoder bytes fault.DataEnd = IsNone bytes
-IsRefusal decoder bytes fault.Trailers = IsNone bytes
-IsRefusal decoder bytes fault.TrailersTooLong =
-    IsInTrailers decoder.place × (decoder.trailer_room ≡ 0)
+-- What a refusal says of a byte that is after these: no body goes on with it, where the first digit
+-- of a size is due, or the rest of a size line, or the line end of data, or trailers; or it is a
+-- digit of a size, and no body of less than 2 ^ 64 bytes of content goes on with it; or some body
+-- does, and as many bytes as may be are between data, or are of trailers.
+abbrev pub IsRefusal : Decoder → List ℕ → ℕ → Fault → Type 0
+IsRefusal decoder front byte fault.Size =
+    (decoder.place ≡ place.Framing framing.Start) × IsNone (front ++ byte ∷ [])
+IsRefusal decoder front byte fault.SizeLine =
+    IsInSizeLine decoder.place × IsNone (front ++ byte ∷ [])
+IsRefusal decoder front byte fault.SizeTooLarge =
+    IsDigitAt decoder.place byte × ((content trailers more : List ℕ)
+    → IsBody content trailers ((front ++ byte ∷ []) ++ more) → 2 ^ 64 ≤ length content)
+IsRefusal decoder front byte fault.SizeLineTooLong =
+    IsBetweenData decoder.place byte × (IsNone (front ++ byte ∷ []) → ⊥) × (decoder.room ≡ 0)
+IsRefusal decoder front byte fault.DataEnd =
+    IsAtDataEnd decoder.place × IsNone (front ++ byte ∷ [])
+IsRefusal decoder front byte fault.Trailers =
+    IsInTrailers decoder.place × IsNone (front ++ byte ∷ [])
+IsRefusal decoder front byte fault.TrailersTooLong =
+    IsTrailerByte decoder.place byte × (IsNone (front ++ byte ∷ []) → ⊥)
+    × (decoder.trailer_room ≡ 0)
 
 -- the content and the bytes of trailers that a call gives out
 abbrev pub content_of : Result Step Fault → List ℕ
@@ -72,7 +83,7 @@ Says decoder front given fields rest (Ok step.More) =
     × ((content trailers : List ℕ) → IsBody content trailers front → ⊥)
 Says decoder front given fields rest (Err why) =
     (byte : ℕ) × (others : List ℕ) × (rest ≡ byte ∷ others)
-    × IsRefusal decoder (front ++ byte ∷ []) why × IsBegun front given fields
+    × IsRefusal decoder front byte why × IsBegun front given fields
 
 -- What a call does, where these bytes were taken and this was given out before: it takes some of
 -- the bytes that are there and leaves the rest, and gives out what is next of content and trailers.

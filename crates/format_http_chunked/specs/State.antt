@@ -1,4 +1,6 @@
--- Decoders as numbers, which callers keep where no type of this crate can be.
+-- Decoders as numbers, which callers keep where no type of this crate can be. The tables are the
+-- encoding itself: what callers rely on is that a decoder is that of its state again, and that a
+-- state whose place is 0 is of a new one.
 use Rattle.std.specs.Prelude.{ℕ, zero, suc, [], ◌∷◌, get_or}
 use Rattle.format_http_chunked.specs.declared.decoder.Decoder.{Decoder}
 use Rattle.format_http_chunked.specs.declared.places.Framing.TheVariants as framing

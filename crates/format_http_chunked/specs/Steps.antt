@@ -1,7 +1,7 @@
 -- What a byte is to a decoder, and what it says of bytes.
 use Rattle.std.specs.Prelude.{◌≡◌, ◌⊎◌, ◌≤◌, ◌<◌, ◌^◌, ◌↔◌, ◌++◌, ⊤, ℕ, List, [], ◌∷◌, length}
 use Rattle.std.specs.Prelude.{Option, Some, None, Result, Ok, Err}
-use Rattle.format_http_chunked.specs.Bodies.{Behind}
+use Rattle.format_http_chunked.specs.Bodies.{Behind, IsHexDigit}
 use Rattle.format_http_chunked.specs.Dues.{DueFields, IsDue, IsFramingDue}
 use Rattle.format_http_chunked.specs.declared.decoder.Decoder.{Decoder}
 use Rattle.format_http_chunked.specs.declared.decoder.Fault.{Fault}
@@ -13,6 +13,7 @@ use Rattle.format_http_chunked.specs.declared.lines.Turn.TheVariants.{Ends, Goes
 use Rattle.format_http_chunked.specs.declared.places.Framing.{Framing}
 use Rattle.format_http_chunked.specs.declared.places.Framing.TheVariants as framing
 use Rattle.format_http_chunked.specs.declared.places.InField.{InField}
+use Rattle.format_http_chunked.specs.declared.places.InField.TheVariants as field
 use Rattle.format_http_chunked.specs.declared.places.Place.{Place}
 use Rattle.format_http_chunked.specs.declared.places.Place.TheVariants as place
 
@@ -36,9 +37,19 @@ abbrev pub IsTooLarge : Place → ℕ → Type 0
 IsTooLarge at byte = (content trailers bytes : List ℕ)
     → IsDue at content trailers (byte ∷ bytes) → 2 ^ 64 ≤ length content
 
--- a place in a size line
+-- some body goes on with the byte at this place
+abbrev pub GoesOn : Place → ℕ → Type 0
+GoesOn at byte = (content : List ℕ) × (trailers : List ℕ) × (bytes : List ℕ)
+    × IsDue at content trailers (byte ∷ bytes)
+
+-- The byte is a digit of a size, after another.
+abbrev pub IsDigitAt : Place → ℕ → Type 0
+IsDigitAt at byte =
+    ((number : ℕ) × (at ≡ place.Framing (framing.Digits number))) × IsHexDigit byte
+
+-- a place in a size line, after its first digit
 abbrev pub IsInSizeLine : Place → Type 0
-IsInSizeLine (place.Framing framing.Start) = ⊤
+IsInSizeLine (place.Framing framing.Start) = ⊥
 IsInSizeLine (place.Framing (framing.Digits n)) = ⊤
 IsInSizeLine (place.Framing (framing.Line at n)) = ⊤
 IsInSizeLine (place.Framing framing.DataEnd) = ⊥
@@ -58,17 +69,30 @@ abbrev pub IsInTrailers : Place → Type 0
 IsInTrailers at =
     ((it : InField) × (at ≡ place.Trailers it)) ⊎ (at ≡ place.Framing framing.LastReturn)
 
+-- The byte is one of the trailer section, and not the line end after it.
+abbrev pub IsTrailerByte : Place → ℕ → Type 0
+IsTrailerByte at byte =
+    (it : InField) × (at ≡ place.Trailers it) × (it ≡ field.Start → byte ≡ 13 → ⊥)
+
+-- The byte is neither one of data nor one of the trailer section.
+abbrev pub IsBetweenData : Place → ℕ → Type 0
+IsBetweenData at byte =
+    ((it : Framing) × (at ≡ place.Framing it))
+    ⊎ ((at ≡ place.Trailers field.Start) × (byte ≡ 13))
+
 -- Why the byte is refused at this place, where that many bytes more are let between pieces of data,
--- and that many of trailers: none goes on with it; or none of less than 2 ^ 64 bytes does; or it is
--- one too many.
+-- and that many of trailers: none goes on with it; or none of less than 2 ^ 64 bytes does; or some
+-- does, and it is one too many.
 abbrev pub IsFault : Place → ℕ → ℕ → ℕ → Fault → Type 0
 IsFault at room left byte fault.Size = (at ≡ place.Framing framing.Start) × IsNever at byte
 IsFault at room left byte fault.SizeLine = IsInSizeLine at × IsNever at byte
-IsFault at room left byte fault.SizeTooLarge = IsInSizeLine at × IsTooLarge at byte
-IsFault at room left byte fault.SizeLineTooLong = room ≡ 0
+IsFault at room left byte fault.SizeTooLarge = IsDigitAt at byte × IsTooLarge at byte
+IsFault at room left byte fault.SizeLineTooLong =
+    IsBetweenData at byte × GoesOn at byte × (room ≡ 0)
 IsFault at room left byte fault.DataEnd = IsAtDataEnd at × IsNever at byte
 IsFault at room left byte fault.Trailers = IsInTrailers at × IsNever at byte
-IsFault at room left byte fault.TrailersTooLong = IsInTrailers at × (left ≡ 0)
+IsFault at room left byte fault.TrailersTooLong =
+    IsTrailerByte at byte × GoesOn at byte × (left ≡ 0)
 
 -- Bytes of field lines are taken between two places: what was due first is due exactly where these
 -- bytes are the first of the trailers, and what is due now is after them.

@@ -49,7 +49,7 @@ pub struct Limits {
     pub trailers: usize,
 }
 
-/// Limits for a server: 4,096 bytes for each size line, and 8,192 of the trailer section.
+/// Limits for a server: 4,096 bytes between data, and 8,192 of the trailer section.
 ///
 /// ```
 /// use format_http_chunked::decoder::SAFE_LIMITS;
@@ -198,8 +198,8 @@ impl Decoder {
         }
     }
 
-    /// The decoder that numbers say, which may be any: one with the limits for a server where they
-    /// are zeros.
+    /// The decoder that numbers say, which may be any: where `place` is 0 one of which nothing is
+    /// taken, with the limits for a server, whatever the others are.
     ///
     /// ```
     /// use format_http_chunked::decoder::{Decoder, SAFE_LIMITS, Step};
@@ -361,8 +361,7 @@ impl Decoder {
     /// Of all bytes that are taken, in all calls, the data are the content of the chunked body that
     /// they begin, in order, wherever they are cut; `End` comes where it is whole, and `More` where
     /// it is not, and can still be. An error is for the first byte with which none goes on. That
-    /// byte
-    /// is not taken, so it is what the input then begins with, and is refused again.
+    /// byte is not taken, so it is what the input then begins with, and is refused again.
     ///
     /// Bytes of size lines and trailers are looked at once, those of data not at all: the time is
     /// linear in the bytes, however they are cut. Extensions are passed over, and field lines are
@@ -372,9 +371,9 @@ impl Decoder {
     /// # Errors
     ///
     /// A [`Fault`] says why. [`Fault::SizeTooLarge`] is for a body of 2<sup>64</sup> bytes or more,
-    /// which the standard lets, and the two that are too long are for the limits; with any other,
-    /// no
-    /// body begins with the bytes up to that one.
+    /// which the standard lets, and the two that are too long are for the limits, where some body
+    /// goes on with the byte; with any other, no body begins with the bytes up to that one, and the
+    /// fault says what is due there.
     ///
     /// ```
     /// use format_http_chunked::decoder::{Decoder, SAFE_LIMITS, Step};

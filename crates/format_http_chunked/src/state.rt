@@ -8,9 +8,9 @@ ghost use Rattle.std.specs.Prelude.{◌≡◌, ◌<◌};
 use crate::places::{Framing, InField, InLine, Place};
 
 /// How far a chunked body was decoded, as numbers, for a caller who keeps it where no type of Rust
-/// can be. They are for the calls alone, and all zeros say that nothing of a body was taken: so it
-/// is begun for each body, with the limits for a server, 4,096 bytes for each size line and 8,192
-/// of the trailer section. For other limits `place` is 1, `room` and `size_line` are the one, and
+/// can be. They are for the calls alone, and a `place` of 0 says that nothing of a body was taken,
+/// whatever the others are: so it is begun for each body, with the limits for a server, 4,096 bytes
+/// between data and 8,192 of the trailer section. For other limits `place` is 1, `room` and `size_line` are the one, and
 /// `trailer_room` and `trailers` the other.
 ///
 /// ```
@@ -31,7 +31,7 @@ use crate::places::{Framing, InField, InLine, Place};
 #[repr(C)]
 #[derive(Clone, Copy, Debug, PartialEq, Eq)]
 pub struct ChunkedState {
-    /// Where in the body the next byte is due: 0 where nothing was taken.
+    /// Where in the body the next byte is due: 0 or 1 where nothing was taken.
     pub place: usize,
     /// Where in a size line, or in a field line.
     pub within: usize,

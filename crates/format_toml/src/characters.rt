@@ -1,4 +1,4 @@
-//! Characters of keys, strings and comments (TOML 1.0: Comment, Keys, String).
+//! Characters of keys, strings, comments, numbers and dates (TOML 1.0: Comment, Keys, String).
 ghost use Rattle.std.specs.Prelude.{◌↔◌, IsTrue};
 ghost use Rattle.format_toml.specs.Toml.{IsBare, IsOf, IsShown, IsUnquoted};
 ghost use Rattle.winnow.specs.Once.{holds_once};

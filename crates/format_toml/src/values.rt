@@ -73,7 +73,8 @@ impl<'i, A: Allocator> Rule<&'i str, (Key<A>, Value<A>)> for Entries<A> {
 ///
 /// The input is left after the value. An error backtracks where no value of the level stands first,
 /// and is out of memory where a request was refused; what of the input is left then is an end of
-/// it.
+/// it. A value with no quotes is as long as what may stand in one: of `80 12:00`, which is neither a
+/// number nor a date, no value is read, though 80 stands first.
 ///
 /// ```
 /// use format_toml::values::read_value;

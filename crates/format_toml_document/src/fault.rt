@@ -147,7 +147,8 @@ impl Error for Fault {}
 
 /// A fault beside the text that it is of.
 ///
-/// As text it is the line and the column, the line of the text, a caret under the place, and why.
+/// As text it is, of a text with a line feed, the line and the column; the line of the text, a caret
+/// under the place, and why. Of [`Fault::OutOfMemory`] it is why alone.
 #[derive(Clone, Copy, Debug, Drop)]
 pub struct Shown<'t> {
     fault: Fault,

@@ -4,8 +4,8 @@ ghost use Rattle.std.specs.Prelude.{◌≡◌, ◌+◌, ◌⊎◌, ◌++◌, Lis
 ghost use Rattle.format_http_chunked.specs.Decoded.{IsAt};
 ghost use Rattle.format_http_chunked.specs.Stands.{Stands};
 ghost use Rattle.format_http_chunked.specs.State.{decoder_of};
-ghost use Rattle.exported.specs.Chunked.{Call, CallsInTurn, TellsStep, Writes, fault_number};
-ghost use Rattle.exported.specs.Chunked.{zeros};
+ghost use Rattle.exported.specs.Chunked.{Call, CallsInTurn, IsFirst, TellsStep, Writes};
+ghost use Rattle.exported.specs.Chunked.{fault_number};
 ghost use Rattle.exported.specs.Span.{StandsAt};
 ghost use Rattle.exported.specs.Code.{done, end, incomplete, refused};
 ghost use Rattle.format_http_chunked.specs.declared.state.ChunkedState.{ChunkedState};
@@ -144,16 +144,16 @@ fn step_of(bytes: &[u8], rest: &[u8], said: Result<Step<'_>, Fault>) -> (u32, Ch
 /// pieces: data, bytes of trailers, or its end. What a call took, no other looks at again, so all
 /// calls for a body take a time that is linear in its bytes, however many there are.
 ///
-/// For the first call the numbers of `state` are zeros. Each further call for the same body has
-/// the state that the last one left, and bytes that follow those that it took.
+/// For the first call the numbers of `state` are zeros, or those of other limits. Each further call
+/// for the same body has the state that the last one left, and bytes that follow those that it took.
 ///
 /// `DONE`: what is given out and its place are written; after one another the data are the content
 /// of the body, and the bytes of trailers are its trailer section, without the line end after it.
 /// `END`: the body is whole, and what is after the bytes that were taken is after it; so it is told
-/// of the same state again. For the next body, zeros are put into the state. `INCOMPLETE`: all
-/// bytes are taken, they are no body as yet, and with more after them they can be. `REFUSED`: with
-/// the byte after those that were taken no body goes on, or one that has 2^64 bytes or more; or one
-/// byte more is taken than the limits let. With these three no kind and no place are written.
+/// of the same state again. For the next body, the first numbers are put into the state. `INCOMPLETE`:
+/// all bytes are taken, they are no body as yet, and with more after them they can be. `REFUSED`:
+/// with the byte after those that were taken no body goes on, or one that has 2^64 bytes or more; or
+/// the limits do not let it be taken. With these three no kind and no place are written.
 ///
 /// Extensions of size lines are passed over. Bytes of data are not looked at. Of a state that is
 /// changed, or with bytes that do not follow, what is told may be wrong; nothing outside of the
@@ -181,11 +181,19 @@ pub extern "C" fn exported_http_chunked(
     code
 }
 
-/// Where calls of `exported_http_chunked` follow one another, the first with a state of zeros:
-/// what they gave out is of the body that the bytes begin which they took, one after the other. So
-/// what the next call tells, it tells of all of these bytes and its own.
+/// Where calls of `exported_http_chunked` follow one another, the first with a state of which
+/// nothing was taken, such as that of zeros: what they gave out is of the body that the bytes begin
+/// which they took, one after the other. So what the next call tells, it tells of all of these
+/// bytes and its own.
 pub fn calls_in_turn_are_of_one_body()
-    ensures { (calls : List Call) (state : ChunkedState) (taken content trailers : List ℕ)
-        → CallsInTurn zeros calls state taken content trailers
+    ensures { (first : ChunkedState) → IsFirst first
+        → (calls : List Call) (state : ChunkedState) (taken content trailers : List ℕ)
+        → CallsInTurn first calls state taken content trailers
         → IsAt (decoder_of state).place taken content trailers }
+{}
+
+/// A state of zeros is one of which nothing was taken, and so is one with other limits.
+pub fn a_state_begins_at_zeros_and_at_one()
+    ensures zeros { (state : ChunkedState) → state.place ≡ 0 → IsFirst state }
+    ensures limits { (state : ChunkedState) → state.place ≡ 1 → IsFirst state }
 {}

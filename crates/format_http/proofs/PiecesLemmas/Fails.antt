@@ -8,7 +8,7 @@ use Rattle.winnow.specs.Equal.{none_is_some}
 use Rattle.winnow.specs.Form.{modal}
 use Rattle.winnow.specs.Form.Known.{ok_is_err, same_kind}
 use Rattle.winnow.specs.Input.{Input}
-use Rattle.winnow.specs.Kind.{Kind, backtrack, incomplete, memory}
+use Rattle.winnow.specs.Kind.{Kind, backtrack, cut, incomplete, memory}
 use Rattle.winnow.specs.Literal.{LiteralRuns}
 use Rattle.winnow.specs.Literal.Laws.{literal_ends}
 use Rattle.winnow.specs.OneOf.{OneOfRuns}
@@ -43,9 +43,19 @@ fails_not_memory k may (inl e) wants = never (sym e ∙ wants)
   where
     never : backtrack ≡ memory → ⊥
     never e = cc
-fails_not_memory k may (inr (need, e, cut)) wants = never (sym e ∙ wants)
+fails_not_memory k may (inr (need, e, more)) wants = never (sym e ∙ wants)
   where
     never : incomplete need ≡ memory → ⊥
+    never e = cc
+
+pub fails_not_cut : (k : Kind) (may : Bool) → FailsSo k may → k ≡ cut → ⊥
+fails_not_cut k may (inl e) is_cut = never (sym e ∙ is_cut)
+  where
+    never : backtrack ≡ cut → ⊥
+    never e = cc
+fails_not_cut k may (inr (need, e, more)) is_cut = never (sym e ∙ is_cut)
+  where
+    never : incomplete need ≡ cut → ⊥
     never e = cc
 
 -- more input is asked for where it may come
@@ -55,7 +65,7 @@ fails_cut k may need (inl e) asked = absurd (never (sym e ∙ asked))
   where
     never : backtrack ≡ incomplete need → ⊥
     never e = cc
-fails_cut k may need (inr (other, e, cut)) asked = cut
+fails_cut k may need (inr (other, e, more)) asked = more
 
 -- and so where either of two asks for it
 pub either_cut : (a b : Kind) (may : Bool)
@@ -72,8 +82,8 @@ open_fails : (P : ℕ → Type 0) (least : ℕ) (i : Input ℕ) (k : Kind) (j : 
     (Err k) j
     → FailsSo k i.status.cut
 open_fails P least i k j (inl (most, e, less, a, same)) = none_is_some e
-open_fails P least i k j (inr (inl (within, is_open, cut, e, same))) =
-    inr (_, same_kind e, cut)
+open_fails P least i k j (inr (inl (within, is_open, more, e, same))) =
+    inr (_, same_kind e, more)
 open_fails P least i k j
     (inr (inr (inl (front, rest, slice, within, longest, ended, enough, takes, e)))) =
     ok_is_err e refl
@@ -106,7 +116,7 @@ literal_so : {O : Type 0} (spelled : List ℕ → Type 0) (output : Bor (List �
     (i : Input ℕ) (k : Kind) (j : Input ℕ)
     → LiteralRuns counted_reading modal spelled output i (Err k) j → FailsSo k i.status.cut
 literal_so spelled output i k j (inl (front, slice, spells, takes, e)) = ok_is_err e refl
-literal_so spelled output i k j (inr (inl (short, cut, e, same))) = inr (None, same_kind e, cut)
+literal_so spelled output i k j (inr (inl (short, more, e, same))) = inr (None, same_kind e, more)
 literal_so spelled output i k j (inr (inr (other, whole, e, same))) = inl (same_kind e)
 
 pub slice_fails : (text : List ℕ) → Fails (SliceRuns {T = ℕ} modal) (λ s. s.now ≡ text)
@@ -128,8 +138,8 @@ member_so : (P : ℕ → Type 0) (i : Input ℕ) (k : Kind) (j : Input ℕ)
     → OneOfRuns (λ t. t) counted_reading modal (Tells P) i (Err k) j → FailsSo k i.status.cut
 member_so P i k j (inl (x, passes, told, e)) = ok_is_err e refl
 member_so P i k j (inr (inl (x, rest, splits, told, e, same))) = inl (same_kind e)
-member_so P i k j (inr (inr (l, nothing, inl (cut, short), e, same))) =
-    inr (_, same_kind e ∙ short, cut)
+member_so P i k j (inr (inr (l, nothing, inl (more, short), e, same))) =
+    inr (_, same_kind e ∙ short, more)
 member_so P i k j (inr (inr (l, nothing, inr (whole, short), e, same))) =
     inl (same_kind e ∙ short)
 

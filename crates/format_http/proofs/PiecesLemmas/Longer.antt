@@ -111,3 +111,24 @@ pub one_asks : {G : Type 0} (a b k : Kind) (need : Option ℕ) → IsOrMemory (j
     → ((n : Option ℕ) × (a ≡ incomplete n)) ⊎ ((n : Option ℕ) × (b ≡ incomplete n))
 one_asks a b k need (inl e) asked = joint_asks a b need (sym e ∙ asked)
 one_asks a b k need (inr (e, grew)) asked = absurd (never_memory need (sym e ∙ asked))
+
+memory_cut : memory ≡ cut → ⊥
+memory_cut e = cc
+
+asks_cut : (need : Option ℕ) → incomplete need ≡ cut → ⊥
+asks_cut need e = cc
+
+joint_uncut : (a b : Kind) → (a ≡ cut → ⊥) → (b ≡ cut → ⊥) → joint_kind a b ≡ cut → ⊥
+joint_uncut memory b one other e = memory_cut e
+joint_uncut backtrack b one other e = other e
+joint_uncut cut b one other e = one refl
+joint_uncut (incomplete need) memory one other e = memory_cut e
+joint_uncut (incomplete need) backtrack one other e = asks_cut need e
+joint_uncut (incomplete need) cut one other e = other refl
+joint_uncut (incomplete need) (incomplete more) one other e = asks_cut need e
+
+-- where neither is a cut, the whole is none
+pub neither_cut : {G : Type 0} (a b k : Kind) → IsOrMemory (joint_kind a b) G k
+    → (a ≡ cut → ⊥) → (b ≡ cut → ⊥) → k ≡ cut → ⊥
+neither_cut a b k (inl e) one other is_cut = joint_uncut a b one other (sym e ∙ is_cut)
+neither_cut a b k (inr (e, grew)) one other is_cut = memory_cut (sym e ∙ is_cut)

@@ -7,7 +7,7 @@ use Rattle.format_http_chunked.specs.Bodies.{SizeLine}
 use Rattle.winnow.specs.AsChar.{IsHexDigit}
 use Rattle.winnow.specs.Texts.{BothText, EachText, Itself, Text}
 
--- This number is the size, or the size is too large for it.
+-- This number is the size; of one that is told as too large it is 2 ^ 64 or more.
 abbrev pub HasNumber : Size → ℕ → Type 0
 HasNumber (Bytes size) n = size ≡ n
 HasNumber TooLarge n = 2 ^ 64 ≤ n

@@ -21,7 +21,8 @@ pub record IsCode (status hundreds tens ones : ℕ) : Type 0 where
   pub some_tens : tens < 10
   pub some_ones : ones < 10
 
--- What stands after the status code: a space and the reason, or nothing where there is none.
+-- What stands after the status code: a space and the reason, or nothing where there is none. The
+-- standard wants the space also with no reason; here it may be missing.
 abbrev pub IsBehind : List ℕ → List ℕ → Type 0
 IsBehind behind reason = (behind ≡ 32 ∷ reason) ⊎ ((behind ≡ []) × (reason ≡ []))
 

@@ -13,7 +13,8 @@ ghost use Rattle.winnow.specs.InTurn.{First};
 
 use std::alloc::Allocator;
 
-/// Where a size line stands, one of the same number stands in a chunked body (`there`). Where one
+/// Where a size line stands, one of the same number stands in a chunked body, or of one past 64 bits
+/// where the size is told as too large (`there`). Where one
 /// stands in a body, digits of its number stand there with extensions after them (`back`), and they
 /// are each size line that has this list of extensions (`made`).
 ///

@@ -4,7 +4,7 @@
 ghost use Rattle.std.specs.Prelude.{◌≡◌, IfErr, IfOk, IsOk, List, Option, ℕ, true};
 ghost use Rattle.winnow.specs.Bytes.{bytes_reading};
 ghost use Rattle.winnow.specs.Input.{IsEndOf};
-ghost use Rattle.winnow.specs.Kind.{incomplete, memory};
+ghost use Rattle.winnow.specs.Kind.{cut, incomplete, memory};
 ghost use Rattle.winnow.specs.Stable.{IsFinalKind};
 ghost use Rattle.winnow.specs.TakeWhile.{take_while_occurrences};
 ghost use Rattle.format_http.specs.Heads.Bytes.{line_end};
@@ -77,6 +77,8 @@ pub fn read_field_line_in_pieces<'i>(
         → BeginsFieldLine (⟦<Partial<&'static [u8]> as Stream>⟧.view input.old).left.tokens) }
     ensures kinds { IfErr result (λ error.
         ⟦<ErrMode<EmptyError> as HasKind>⟧.kind error ≡ memory → ⊥) }
+    ensures uncut { IfErr result (λ error.
+        ⟦<ErrMode<EmptyError> as HasKind>⟧.kind error ≡ cut → ⊥) }
     ensures whole { IfErr result (λ error. (need : Option ℕ)
         → ⟦<ErrMode<EmptyError> as HasKind>⟧.kind error ≡ incomplete need
         → (⟦<Partial<&'static [u8]> as Stream>⟧.view input.old).status.cut ≡ true) }

@@ -4,7 +4,7 @@
 ghost use Rattle.std.specs.Prelude.{◌≡◌, ◌++◌, IfErr, IfOk, IsOk, List, Option, ℕ, map, true};
 ghost use Rattle.winnow.specs.Bytes.{bytes_reading};
 ghost use Rattle.winnow.specs.Input.{IsEndOf};
-ghost use Rattle.winnow.specs.Kind.{incomplete, memory};
+ghost use Rattle.winnow.specs.Kind.{cut, incomplete, memory};
 ghost use Rattle.winnow.specs.Stable.{IsFinalKind};
 ghost use Rattle.format_http.specs.Heads.Bytes.{line_end};
 ghost use Rattle.format_http.specs.Heads.Head.{AreFields, Pair, pair};
@@ -37,6 +37,8 @@ pub fn read_line_end<'i>(input: &mut Partial<&'i [u8]>) -> Result<(), ErrMode<Em
         × ((⟦<Partial<&'static [u8]> as Stream>⟧.view input.old).left.tokens ++ more ≡ line_end)) }
     ensures kinds { IfErr result (λ error.
         ⟦<ErrMode<EmptyError> as HasKind>⟧.kind error ≡ memory → ⊥) }
+    ensures uncut { IfErr result (λ error.
+        ⟦<ErrMode<EmptyError> as HasKind>⟧.kind error ≡ cut → ⊥) }
     ensures whole { IfErr result (λ error. (need : Option ℕ)
         → ⟦<ErrMode<EmptyError> as HasKind>⟧.kind error ≡ incomplete need
         → (⟦<Partial<&'static [u8]> as Stream>⟧.view input.old).status.cut ≡ true) }
@@ -67,6 +69,8 @@ pub fn read_fields<'i, A: Allocator + Copy>(
     ensures asks { IfErr result (λ error. (need : Option ℕ)
         → ⟦<ErrMode<EmptyError> as HasKind>⟧.kind error ≡ incomplete need
         → BeginsFields (⟦<Partial<&'static [u8]> as Stream>⟧.view input.old).left.tokens) }
+    ensures uncut { IfErr result (λ error.
+        ⟦<ErrMode<EmptyError> as HasKind>⟧.kind error ≡ cut → ⊥) }
     ensures whole { IfErr result (λ error. (need : Option ℕ)
         → ⟦<ErrMode<EmptyError> as HasKind>⟧.kind error ≡ incomplete need
         → (⟦<Partial<&'static [u8]> as Stream>⟧.view input.old).status.cut ≡ true) }

@@ -5,7 +5,7 @@
 ghost use Rattle.std.specs.Prelude.{◌≡◌, IfErr, IfOk, List, Option, ℕ, map, true};
 ghost use Rattle.winnow.specs.Bytes.{bytes_reading};
 ghost use Rattle.winnow.specs.Input.{IsEndOf};
-ghost use Rattle.winnow.specs.Kind.{incomplete, memory};
+ghost use Rattle.winnow.specs.Kind.{cut, incomplete, memory};
 ghost use Rattle.winnow.specs.Stable.{IsFinalKind};
 ghost use Rattle.format_http.specs.Heads.Head.{IsHead, Pair, Request, pair, request};
 ghost use Rattle.format_http.specs.Pieces.Head.{BeginsHead, NoHead};
@@ -23,7 +23,8 @@ use winnow::stream::Partial;
 ///
 /// An error leaves the input as it was. One that is out of memory says that the list of fields
 /// could not grow, [`Incomplete`](ErrMode::Incomplete) that no head stands there and more input can
-/// make one, and each other error that no more input can.
+/// make one, and each other error backtracks: of an input to which more may come it says that no
+/// more can. How much more an `Incomplete` asks for is said by no clause.
 ///
 /// ```
 /// use format_http::pieces::head::read_head_in_pieces;
@@ -50,6 +51,8 @@ pub fn read_head_in_pieces<'i, A: Allocator + Copy>(
     ensures asks { IfErr result (λ error. (need : Option ℕ)
         → ⟦<ErrMode<EmptyError> as HasKind>⟧.kind error ≡ incomplete need
         → BeginsHead (⟦<Partial<&'static [u8]> as Stream>⟧.view input.old).left.tokens) }
+    ensures uncut { IfErr result (λ error.
+        ⟦<ErrMode<EmptyError> as HasKind>⟧.kind error ≡ cut → ⊥) }
     ensures whole { IfErr result (λ error. (need : Option ℕ)
         → ⟦<ErrMode<EmptyError> as HasKind>⟧.kind error ≡ incomplete need
         → (⟦<Partial<&'static [u8]> as Stream>⟧.view input.old).status.cut ≡ true) }

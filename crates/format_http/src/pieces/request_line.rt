@@ -4,7 +4,7 @@
 ghost use Rattle.std.specs.Prelude.{◌≡◌, IfErr, IfOk, IsOk, List, Option, ℕ, true};
 ghost use Rattle.winnow.specs.Bytes.{bytes_reading};
 ghost use Rattle.winnow.specs.Input.{IsEndOf};
-ghost use Rattle.winnow.specs.Kind.{incomplete, memory};
+ghost use Rattle.winnow.specs.Kind.{cut, incomplete, memory};
 ghost use Rattle.winnow.specs.Stable.{IsFinalKind};
 ghost use Rattle.format_http.specs.Heads.RequestLine.{IsRequestLine};
 ghost use Rattle.format_http.specs.Pieces.RequestLine.{BeginsRequestLine, NoRequestLine};
@@ -19,8 +19,9 @@ use winnow::stream::Partial;
 /// [the reader of whole bytes](crate::heads::request_line::read_request_line) reads it. It returns
 /// as soon as the line is there.
 ///
-/// [`Incomplete`](ErrMode::Incomplete) says that more input can make one, and another error that
-/// none can. After an error some bytes may have been passed: go back to a checkpoint.
+/// [`Incomplete`](ErrMode::Incomplete) says that more input can make one; how much it asks for is
+/// said by no clause. Another error backtracks: of an input to which more may come it says that no
+/// more can. After an error some bytes may have been passed: go back to a checkpoint.
 ///
 /// ```
 /// use format_http::pieces::request_line::read_request_line_in_pieces;
@@ -46,6 +47,8 @@ pub fn read_request_line_in_pieces<'i>(
         → BeginsRequestLine (⟦<Partial<&'static [u8]> as Stream>⟧.view input.old).left.tokens) }
     ensures kinds { IfErr result (λ error.
         ⟦<ErrMode<EmptyError> as HasKind>⟧.kind error ≡ memory → ⊥) }
+    ensures uncut { IfErr result (λ error.
+        ⟦<ErrMode<EmptyError> as HasKind>⟧.kind error ≡ cut → ⊥) }
     ensures whole { IfErr result (λ error. (need : Option ℕ)
         → ⟦<ErrMode<EmptyError> as HasKind>⟧.kind error ≡ incomplete need
         → (⟦<Partial<&'static [u8]> as Stream>⟧.view input.old).status.cut ≡ true) }

@@ -1,10 +1,11 @@
-//! The status line of HTTP/1.1 (RFC 9112, section 4) over bytes that come in pieces.
+//! The status line of HTTP/1.1 (RFC 9112, section 4) over bytes that come in pieces. The standard
+//! wants a space after the status code also with no reason; here it may be missing.
 #![tactic(auto)]
 
 ghost use Rattle.std.specs.Prelude.{◌≡◌, IfErr, IfOk, IsOk, List, Option, ℕ, true};
 ghost use Rattle.winnow.specs.Bytes.{bytes_reading};
 ghost use Rattle.winnow.specs.Input.{IsEndOf};
-ghost use Rattle.winnow.specs.Kind.{incomplete, memory};
+ghost use Rattle.winnow.specs.Kind.{cut, incomplete, memory};
 ghost use Rattle.winnow.specs.Stable.{IsFinalKind};
 ghost use Rattle.format_http.specs.Pieces.StatusLine.{BeginsEnding, BeginsFront, BeginsStatusLine};
 ghost use Rattle.format_http.specs.Pieces.StatusLine.{IsEnding, IsFront, NoEnding, NoFront};
@@ -34,6 +35,8 @@ fn read_front<'i>(input: &mut Partial<&'i [u8]>) -> Result<(u8, u8, u16), ErrMod
         → BeginsFront (⟦<Partial<&'static [u8]> as Stream>⟧.view input.old).left.tokens) }
     ensures kinds { IfErr result (λ error.
         ⟦<ErrMode<EmptyError> as HasKind>⟧.kind error ≡ memory → ⊥) }
+    ensures uncut { IfErr result (λ error.
+        ⟦<ErrMode<EmptyError> as HasKind>⟧.kind error ≡ cut → ⊥) }
     ensures whole { IfErr result (λ error. (need : Option ℕ)
         → ⟦<ErrMode<EmptyError> as HasKind>⟧.kind error ≡ incomplete need
         → (⟦<Partial<&'static [u8]> as Stream>⟧.view input.old).status.cut ≡ true) }
@@ -64,6 +67,8 @@ fn read_ending<'i>(input: &mut Partial<&'i [u8]>) -> Result<&'i [u8], ErrMode<Em
         → BeginsEnding (⟦<Partial<&'static [u8]> as Stream>⟧.view input.old).left.tokens) }
     ensures kinds { IfErr result (λ error.
         ⟦<ErrMode<EmptyError> as HasKind>⟧.kind error ≡ memory → ⊥) }
+    ensures uncut { IfErr result (λ error.
+        ⟦<ErrMode<EmptyError> as HasKind>⟧.kind error ≡ cut → ⊥) }
     ensures whole { IfErr result (λ error. (need : Option ℕ)
         → ⟦<ErrMode<EmptyError> as HasKind>⟧.kind error ≡ incomplete need
         → (⟦<Partial<&'static [u8]> as Stream>⟧.view input.old).status.cut ≡ true) }
@@ -90,8 +95,9 @@ fn read_ending<'i>(input: &mut Partial<&'i [u8]>) -> Result<&'i [u8], ErrMode<Em
 /// [the reader of whole bytes](crate::responses::status_line::read_status_line) reads it. It
 /// returns as soon as the line is there.
 ///
-/// [`Incomplete`](ErrMode::Incomplete) says that more input can make one, and another error that
-/// none can. After an error some bytes may have been passed: go back to a checkpoint.
+/// [`Incomplete`](ErrMode::Incomplete) says that more input can make one; how much it asks for is
+/// said by no clause. Another error backtracks: of an input to which more may come it says that no
+/// more can. After an error some bytes may have been passed: go back to a checkpoint.
 ///
 /// ```
 /// use format_http::pieces::status_line::read_status_line_in_pieces;
@@ -117,6 +123,8 @@ pub fn read_status_line_in_pieces<'i>(
         → BeginsStatusLine (⟦<Partial<&'static [u8]> as Stream>⟧.view input.old).left.tokens) }
     ensures kinds { IfErr result (λ error.
         ⟦<ErrMode<EmptyError> as HasKind>⟧.kind error ≡ memory → ⊥) }
+    ensures uncut { IfErr result (λ error.
+        ⟦<ErrMode<EmptyError> as HasKind>⟧.kind error ≡ cut → ⊥) }
     ensures whole { IfErr result (λ error. (need : Option ℕ)
         → ⟦<ErrMode<EmptyError> as HasKind>⟧.kind error ≡ incomplete need
         → (⟦<Partial<&'static [u8]> as Stream>⟧.view input.old).status.cut ≡ true) }

@@ -1,5 +1,6 @@
 //! The status line of HTTP/1.1 (RFC 9112, section 4): a version, a status code of three digits and
-//! a reason, with one space between them, and a line end (a carriage return and a line feed).
+//! a reason, with one space between them, and a line end (a carriage return and a line feed). The
+//! standard wants the space also with no reason; here it may be missing.
 //!
 //! The version is two digits; whether the client speaks it is the caller's to see. The first digit
 //! of the status code, which says its class, may be any.

@@ -24,7 +24,7 @@ returns-in-Some-number_after-clause-ok c = digit_goes c.args.number c.in-Some-nu
 
 pub returns-in-None-number_after-clause-err : goal.returns-in-None-number_after-clause-err
 returns-in-None-number_after-clause-err c room left = (
-  tt,
+  ((c.args.number, refl), c.in-Some.ensures.some.0),
   fault_large c.args.number c.in-Some.digit
       c.args.byte c.in-Some.ensures.some.1 c.in-Some.ensures.some.0
       (c.in-None-number_after.ensures.none refl),

@@ -1,5 +1,5 @@
 use Rattle.std.proofs.Common.{refl}
-use Rattle.format_http.proofs.PiecesLemmas.Fails.{fails_cut, fails_not_memory}
+use Rattle.format_http.proofs.PiecesLemmas.Fails.{fails_cut, fails_not_cut, fails_not_memory}
 use Rattle.format_http.proofs.PiecesLemmas.FieldLines.{line_fails}
 use Rattle.format_http.proofs.PiecesLemmas.FieldLines.{line_asks, line_must, line_never, line_read}
 use Rattle.format_http.proofs.PiecesLemmas.Values.{read_some, read_trimmed}
@@ -36,6 +36,12 @@ returns-in-Err-clause-kinds c wants =
     let is = c.line.ensures in
     fails_not_memory _ _ (line_fails _ _ _ _ _ (is.name, is.colon, is.white, is.value, is.end)
     c.in-Err.ensures.ran) wants
+
+pub returns-in-Err-clause-uncut : goal.returns-in-Err-clause-uncut
+returns-in-Err-clause-uncut c is_cut =
+    let is = c.line.ensures in
+    fails_not_cut _ _ (line_fails _ _ _ _ _ (is.name, is.colon, is.white, is.value, is.end)
+    c.in-Err.ensures.ran) is_cut
 
 pub returns-in-Err-clause-whole : goal.returns-in-Err-clause-whole
 returns-in-Err-clause-whole c need asked =

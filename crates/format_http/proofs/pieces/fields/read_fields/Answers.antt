@@ -5,7 +5,7 @@ use Rattle.winnow.specs.Input.{is_end_of_refl, is_end_of_trans}
 use Rattle.format_http.proofs.PiecesLemmas.Fails.{either_cut}
 use Rattle.format_http.proofs.PiecesLemmas.Heads.{begun_either, ended_behind, fields_never}
 use Rattle.format_http.proofs.PiecesLemmas.Heads.{read_more}
-use Rattle.format_http.proofs.PiecesLemmas.Longer.{both_final, one_asks}
+use Rattle.format_http.proofs.PiecesLemmas.Longer.{both_final, neither_cut, one_asks}
 use Rattle.format_http.proofs.pieces.fields.read_fields.Goals as goal
 
 pub fields-init : goal.fields-init
@@ -36,6 +36,10 @@ pub returns-in-Err-read_line_end-clause-asks : goal.returns-in-Err-read_line_end
 returns-in-Err-read_line_end-clause-asks g c need asked =
     begun_either _ _ _ _ _ (one_asks _ _ _ need c.or.ensures asked) c.fields.invariant.lines
     c.in-Err.ensures.asks c.in-Err-read_line_end.ensures.asks
+
+pub returns-in-Err-read_line_end-clause-uncut : goal.returns-in-Err-read_line_end-clause-uncut
+returns-in-Err-read_line_end-clause-uncut g c =
+    neither_cut _ _ _ c.or.ensures c.in-Err.ensures.uncut c.in-Err-read_line_end.ensures.uncut
 
 pub returns-in-Err-read_line_end-clause-whole : goal.returns-in-Err-read_line_end-clause-whole
 returns-in-Err-read_line_end-clause-whole g c need asked =

@@ -1,6 +1,6 @@
 use Rattle.std.proofs.Common.{refl, rules}
 use Rattle.format_http.specs.Heads.Bytes.{line_end}
-use Rattle.format_http.proofs.PiecesLemmas.Fails.{fails_cut, fails_not_memory}
+use Rattle.format_http.proofs.PiecesLemmas.Fails.{fails_cut, fails_not_cut, fails_not_memory}
 use Rattle.format_http.proofs.PiecesLemmas.LineEnds.{end_asks, end_fails, end_must, end_never}
 use Rattle.format_http.proofs.PiecesLemmas.LineEnds.{end_read}
 use Rattle.format_http.proofs.pieces.fields.read_line_end.Goals as goal
@@ -27,3 +27,7 @@ returns-in-Err-clause-whole c need asked =
 pub returns-in-Err-clause-kinds : goal.returns-in-Err-clause-kinds
 returns-in-Err-clause-kinds c wants = fails_not_memory _ _
     (end_fails line_end _ _ _ _ _ (search rules) c.in-Err.ensures.ran) wants
+
+pub returns-in-Err-clause-uncut : goal.returns-in-Err-clause-uncut
+returns-in-Err-clause-uncut c is_cut = fails_not_cut _ _
+    (end_fails line_end _ _ _ _ _ (search rules) c.in-Err.ensures.ran) is_cut

@@ -1,5 +1,5 @@
 use Rattle.std.proofs.Common.{refl}
-use Rattle.format_http.proofs.PiecesLemmas.Fails.{fails_cut, fails_not_memory}
+use Rattle.format_http.proofs.PiecesLemmas.Fails.{fails_cut, fails_not_cut, fails_not_memory}
 use Rattle.format_http.proofs.PiecesLemmas.RequestLines.{line_fails}
 use Rattle.format_http.proofs.PiecesLemmas.RequestLines.{digits_read, line_asks, line_must}
 use Rattle.format_http.proofs.PiecesLemmas.RequestLines.{line_never}
@@ -76,6 +76,17 @@ returns-in-Err-clause-kinds c wants =
       (is.protocol, tt, is.point, tt, is.end),
     )
     c.in-Err.ensures.ran) wants
+
+pub returns-in-Err-clause-uncut : goal.returns-in-Err-clause-uncut
+returns-in-Err-clause-uncut c is_cut =
+    let is = c.line.ensures in
+    fails_not_cut _ _ (line_fails _ _ _ _ _ (
+      is.method,
+      is.space,
+      is.target,
+      (is.protocol, tt, is.point, tt, is.end),
+    )
+    c.in-Err.ensures.ran) is_cut
 
 pub returns-in-Err-clause-whole : goal.returns-in-Err-clause-whole
 returns-in-Err-clause-whole c need asked =

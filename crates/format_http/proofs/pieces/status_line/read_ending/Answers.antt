@@ -1,7 +1,7 @@
 use Rattle.std.proofs.Common.{refl, subst, sym, ◌∙◌}
 use Rattle.std.proofs.lemmas.Bool.{true≢false}
 use Rattle.format_http.specs.Pieces.StatusLine.{IsEnding}
-use Rattle.format_http.proofs.PiecesLemmas.Fails.{fails_cut, fails_not_memory}
+use Rattle.format_http.proofs.PiecesLemmas.Fails.{fails_cut, fails_not_cut, fails_not_memory}
 use Rattle.format_http.proofs.PiecesLemmas.StatusLines.{asks_need, asks_not, bare_ending}
 use Rattle.format_http.proofs.PiecesLemmas.StatusLines.{begun_bare, begun_reason, ending_by}
 use Rattle.format_http.proofs.PiecesLemmas.StatusLines.{final_asks, no_end, reason_ending}
@@ -44,6 +44,12 @@ returns-then-is_incomplete-clause-kinds c wants =
     let is = c.reason.ensures in
     fails_not_memory _ _ (reason_fails _ _ _ _ _ (is.space, is.text, is.carriage, is.feed)
     c.in-Err.ensures.ran) wants
+
+pub returns-then-is_incomplete-clause-uncut : goal.returns-then-is_incomplete-clause-uncut
+returns-then-is_incomplete-clause-uncut c is_cut =
+    let is = c.reason.ensures in
+    fails_not_cut _ _ (reason_fails _ _ _ _ _ (is.space, is.text, is.carriage, is.feed)
+    c.in-Err.ensures.ran) is_cut
 
 pub returns-then-is_incomplete-clause-whole : goal.returns-then-is_incomplete-clause-whole
 returns-then-is_incomplete-clause-whole c need asked =

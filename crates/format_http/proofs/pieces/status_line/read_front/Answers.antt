@@ -1,5 +1,5 @@
 use Rattle.std.proofs.Common.{refl}
-use Rattle.format_http.proofs.PiecesLemmas.Fails.{fails_cut, fails_not_memory}
+use Rattle.format_http.proofs.PiecesLemmas.Fails.{fails_cut, fails_not_cut, fails_not_memory}
 use Rattle.format_http.proofs.PiecesLemmas.StatusParts.{digits_read, front_asks, front_fails}
 use Rattle.format_http.proofs.PiecesLemmas.StatusParts.{front_as, front_must, front_never}
 use Rattle.format_http.proofs.PiecesLemmas.StatusParts.{front_read}
@@ -45,6 +45,17 @@ returns-in-Err-clause-kinds c wants =
       tt,
       (is.space, tt, tt, tt),
     ) c.in-Err.ensures.ran) wants
+
+pub returns-in-Err-clause-uncut : goal.returns-in-Err-clause-uncut
+returns-in-Err-clause-uncut c is_cut =
+    let is = c.front.ensures in
+    fails_not_cut _ _ (front_fails _ _ _ _ _ (
+      is.http,
+      tt,
+      is.point,
+      tt,
+      (is.space, tt, tt, tt),
+    ) c.in-Err.ensures.ran) is_cut
 
 pub returns-in-Err-clause-whole : goal.returns-in-Err-clause-whole
 returns-in-Err-clause-whole c need asked =

@@ -1,5 +1,5 @@
-use Rattle.std.proofs.Common.{arith, inl, refl, ap, length, List, ℕ, [], ◌∷◌}
-use Rattle.format_http_chunked.proofs.Calls.{never_at}
+use Rattle.std.proofs.Common.{arith, inl, inr, refl, ap, ◌∙◌, length, List, ℕ, [], ◌∷◌}
+use Rattle.format_http_chunked.proofs.Calls.{fields_go_on, last_goes_on, never_at}
 use Rattle.format_http_chunked.proofs.Taking.{fields_never, last_taken, passed_front, taken_from}
 use Rattle.format_http_chunked.proofs.Taking.{taken_none}
 use Rattle.format_http_chunked.specs.declared.places.Framing.TheVariants as framing
@@ -58,3 +58,35 @@ returns-in-Some-checked_sub-clause-stands c =
 pub returns-in-Some-checked_sub-2-clause-stands : goal.returns-in-Some-checked_sub-2-clause-stands
 returns-in-Some-checked_sub-2-clause-stands c =
     (c.in-Some.byte.now ∷ [], c.in-Some.ensures.cases.0)
+
+pub returns-in-None-checked_sub-clause-told : goal.returns-in-None-checked_sub-clause-told
+returns-in-None-checked_sub-clause-told c = (
+  taken_none c.args.self.now.place c.args.input.now.now,
+  (
+    c.in-Some.byte.now,
+    c.in-Some.behind.now,
+    c.in-Some.ensures.cases.0,
+    (
+      (c.args.at, c.requires, c.in-Some-field_behind.ensures.begins),
+      fields_go_on c.args.self.now.place c.args.at c.in-Some-field_behind.next
+          c.in-Some.byte.now c.requires c.in-Some-field_behind.ensures.some,
+      omega (arith, c.in-None-checked_sub.ensures),
+    ),
+  ),
+)
+
+pub returns-in-None-checked_sub-2-clause-told : goal.returns-in-None-checked_sub-2-clause-told
+returns-in-None-checked_sub-2-clause-told c =
+    let (first, last) = c.if-not-ends_there.ensures in (
+      taken_none c.args.self.now.place c.args.input.now.now,
+      (
+        c.in-Some.byte.now,
+        c.in-Some.behind.now,
+        c.in-Some.ensures.cases.0,
+        (
+          inr (c.requires ∙ ap (λ it. place.Trailers it) first, last),
+          last_goes_on c.args.self.now.place c.args.at c.in-Some.byte.now c.requires first last,
+          omega (arith, c.in-None-checked_sub-2.ensures),
+        ),
+      ),
+    )
