@@ -28,6 +28,7 @@ static uint8_t *copied(const char *text, size_t length)
 }
 
 #include "json_rows.h"
+#include "toml_rows.h"
 
 static const struct {
     const char *text;
@@ -1053,6 +1054,7 @@ int main(void)
     test_replies();
     test_extents();
     test_bodies();
+    test_toml();
     test_positions();
     test_wrong_use();
     return wrong;

@@ -5,6 +5,7 @@ pub mod Extent
 pub mod Items
 pub mod JsonIntegers
 pub mod JsonTexts
+pub mod Nodes
 pub mod Pieces
 pub mod Records
 pub mod Refusals

@@ -12,3 +12,4 @@ pub mod JsonString
 pub mod Pieces
 pub mod Resp
 pub mod Span
+pub mod Toml
