@@ -51,8 +51,8 @@ def below(crate):
 
 def taken(text):
     """The structs that a module takes from a crate below `exported`, and hands on."""
-    lists = re.findall(r"^pub use \w+::\w+::\{?([\w, ]+)\}?;", text, re.MULTILINE)
-    return [name for names in lists for name in names.split(", ")]
+    lists = re.findall(r"^pub use \w+::\w+::\{?([\w,\s]+)\}?;", text, re.MULTILINE)
+    return [name for names in lists for name in re.findall(r"\w+", names)]
 
 
 def modules():
@@ -73,7 +73,7 @@ def modules():
 def nothing(name, structs, where, module):
     """A value of a type whose numbers are 0, as this module has it."""
     if name not in structs:
-        return "0"
+        return "false" if name == "bool" else "0"
     parts = [(it.name, nothing(it.parts[0], structs, where, module)) for it in structs[name].parts]
     inside = ", ".join(f"{part}: {value}" for part, value in parts)
     return f"exported::{where.get((module, name), where[name])}::{name} {{ {inside} }}"

@@ -14,7 +14,7 @@ FORMATS = {
     "json": ["format_json"],
     "json_extents": ["format_json_extents"],
     "resp": ["format_resp", "format_resp3"],
-    "toml": ["format_toml_document", "format_toml", "format_toml_tree"],
+    "toml": ["format_toml_document", "format_toml", "format_toml_tree", "format_toml_nodes"],
 }
 
 

@@ -31,13 +31,15 @@ OF_C = ("NULL", "TOO_LONG")
 COST = [
     "What a call costs in memory and stack is measured, on inputs made to cost much",
     "(`bindings/tests/cost.c`), and not proved. Memory is what is held at once, two blocks where one",
-    "grows. At 512 levels a call took up to 107 KiB of stack, and one without levels 4 KiB: what is",
-    "asked for leaves room. Where less is left, a guard page ends the program.",
+    "grows. At 512 levels a call took up to 107 KiB of stack, of TOML 508 KiB, and one without levels",
+    "5 KiB: what is asked for leaves room. Where less is left, a guard page ends the program.",
 ]
 # The constants that are the cases of an enum in C: how their names begin, its name, and its words.
 KINDS = {
     "JSON_": ("json_kind", "What a value of JSON is: what `kind` of an item of JSON is."),
     "RESP_": ("resp_kind", "What a reply of Redis is: what `kind` of a reply is."),
+    "TOML_FAULT_": ("toml_fault", "Why bytes are no document of TOML: what `fault` of a document is."),
+    "TOML_": ("toml_kind", "What a node of a document of TOML is: what `kind` of a value is."),
     "CHUNKED_FAULT_": ("chunked_fault", "Why a byte of a chunked body is refused: what `fault` of a step is."),
     "CHUNKED_": ("chunked_kind", "What is given out of a chunked body: what `kind` of a step is."),
     "INI_FAULT_": ("ini_fault", "Why a line is none of a dialect: what `fault` of an entry of INI is."),
@@ -45,11 +47,11 @@ KINDS = {
     "INI_": ("ini_kind", "What a line of INI says: what `kind` of an entry of INI is."),
 }
 # The types of single values: as Rust has them, and as C has them.
-PLAIN = {"u8": "uint8_t", "u16": "uint16_t", "u32": "uint32_t", "u64": "uint64_t", "i64": "int64_t",
-         "usize": "size_t", "bool": "bool"}
+PLAIN = {"u8": "uint8_t", "u16": "uint16_t", "u32": "uint32_t", "u64": "uint64_t", "i16": "int16_t",
+         "i64": "int64_t", "usize": "size_t", "bool": "bool"}
 EXPORT = re.compile(r'pub extern "C" fn exported_(\w+)\(\s*(.*?)\s*\)\s*->\s*u32\b', re.DOTALL)
 CONSTANT = re.compile(r"pub const (\w+): (u32|usize) = (\d+);")
-TAKEN = re.compile(r"pub use (\w+)::(\w+)::\{?([\w, ]+)\}?;")
+TAKEN = re.compile(r"pub use (\w+)::(\w+)::\{?([\w,\s]+)\}?;")
 STRUCT = re.compile(r"pub struct (\w+) \{\n(.*?)\n\}", re.DOTALL)
 
 
@@ -96,15 +98,16 @@ def documented(text):
                 if found := form.match(rest):
                     yield kind, found, words
             if found := TAKEN.match(rest):
-                yield from structs_of(*found.groups())
+                yield from taken(*found.groups())
             words = []
 
 
-def structs_of(crate, module, names):
-    """The structs of these names that a module of a crate below `exported` has."""
+def taken(crate, module, names):
+    """The structs and constants of these names that a module of a crate below `exported` has, in the
+    order of the module."""
     text = (TOP / f"crates/{crate}/src/{module}.rt").read_text(encoding="utf-8")
     for kind, found, words in documented(text):
-        if kind == "struct" and found[1] in names.split(", "):
+        if kind in ("code", "struct") and found[1] in re.findall(r"\w+", names):
             yield kind, found, words[:words.index("```") - 1] if "```" in words else words
 
 
@@ -274,7 +277,7 @@ def header(codes, constants, structs, exports):
         "",
         *COST,
     ], names)
-    text += "#ifndef PERGIDAU_H\n#define PERGIDAU_H\n\n#include <stddef.h>\n#include <stdint.h>\n\n"
+    text += "#ifndef PERGIDAU_H\n#define PERGIDAU_H\n\n#include <stdbool.h>\n#include <stddef.h>\n#include <stdint.h>\n\n"
     text += of_version()
     text += "#ifdef __cplusplus\nextern \"C\" {\n#endif\n\n"
     text += calls_of_version(linked(codes, constants, structs, exports))

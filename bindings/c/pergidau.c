@@ -137,8 +137,17 @@ uint32_t exported_text_position(
     size_t bytes_length,
     size_t offset,
     struct pergidau_position *out);
+uint32_t exported_toml_document(
+    const uint8_t *bytes,
+    size_t bytes_length,
+    size_t levels,
+    uint8_t *text,
+    size_t text_length,
+    struct pergidau_toml_node *nodes,
+    size_t nodes_length,
+    struct pergidau_toml_document *out);
 
-const char pergidau_0_0_0_declared_181de244 = 0;
+const char pergidau_0_0_0_declared_a22c8061 = 0;
 
 const char *pergidau_version(void)
 {
@@ -843,4 +852,50 @@ enum pergidau_code pergidau_text_position(
         bytes = &no_bytes;
     }
     return (enum pergidau_code)exported_text_position(bytes, bytes_length, offset, out);
+}
+
+enum pergidau_code pergidau_toml_document(
+    const uint8_t *bytes,
+    size_t bytes_length,
+    size_t levels,
+    uint8_t *text,
+    size_t text_length,
+    struct pergidau_toml_node *nodes,
+    size_t nodes_length,
+    struct pergidau_toml_document *out)
+{
+    const uint8_t no_bytes = {0};
+    uint8_t no_text = {0};
+    struct pergidau_toml_node no_nodes = {0};
+    if (bytes_length > PTRDIFF_MAX / sizeof(uint8_t)) {
+        return PERGIDAU_TOO_LONG;
+    }
+    if (bytes == NULL && bytes_length > 0) {
+        return PERGIDAU_NULL;
+    }
+    if (text_length > PTRDIFF_MAX / sizeof(uint8_t)) {
+        return PERGIDAU_TOO_LONG;
+    }
+    if (text == NULL && text_length > 0) {
+        return PERGIDAU_NULL;
+    }
+    if (nodes_length > PTRDIFF_MAX / sizeof(struct pergidau_toml_node)) {
+        return PERGIDAU_TOO_LONG;
+    }
+    if (nodes == NULL && nodes_length > 0) {
+        return PERGIDAU_NULL;
+    }
+    if (out == NULL) {
+        return PERGIDAU_NULL;
+    }
+    if (bytes == NULL) {
+        bytes = &no_bytes;
+    }
+    if (text == NULL) {
+        text = &no_text;
+    }
+    if (nodes == NULL) {
+        nodes = &no_nodes;
+    }
+    return (enum pergidau_code)exported_toml_document(bytes, bytes_length, levels, text, text_length, nodes, nodes_length, out);
 }

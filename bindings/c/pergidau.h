@@ -13,12 +13,14 @@
  *
  * What a call costs in memory and stack is measured, on inputs made to cost much
  * (bindings/tests/cost.c), and not proved. Memory is what is held at once, two blocks where
- * one grows. At 512 levels a call took up to 107 KiB of stack, and one without levels 4 KiB:
- * what is asked for leaves room. Where less is left, a guard page ends the program.
+ * one grows. At 512 levels a call took up to 107 KiB of stack, of TOML 508 KiB, and one
+ * without levels 5 KiB: what is asked for leaves room. Where less is left, a guard page ends
+ * the program.
  */
 #ifndef PERGIDAU_H
 #define PERGIDAU_H
 
+#include <stdbool.h>
 #include <stddef.h>
 #include <stdint.h>
 
@@ -37,10 +39,10 @@ extern "C" {
  * includes this header refers to it, so that it links with no other library. Define
  * PERGIDAU_NO_LINK_CHECK before the header for a file that is not linked with the library.
  */
-extern const char pergidau_0_0_0_declared_181de244;
+extern const char pergidau_0_0_0_declared_a22c8061;
 #if defined(__GNUC__) && !defined(PERGIDAU_NO_LINK_CHECK)
 __attribute__((__used__, __unused__)) static const char *const pergidau_linked =
-    &pergidau_0_0_0_declared_181de244;
+    &pergidau_0_0_0_declared_a22c8061;
 #endif
 
 /* The version of the library that is linked, as PERGIDAU_VERSION is written. */
@@ -134,6 +136,59 @@ enum pergidau_resp_kind {
     PERGIDAU_RESP_ARRAY = 5,
     /* The null array. */
     PERGIDAU_RESP_NULL_ARRAY = 6,
+};
+
+/* Why bytes are no document of TOML: what fault of a document is. */
+enum pergidau_toml_fault {
+    /* Nothing is refused. */
+    PERGIDAU_TOML_FAULT_NONE = 0,
+    /* A key or a table is expected. */
+    PERGIDAU_TOML_FAULT_KEY = 1,
+    /* The equals sign after a key is expected. */
+    PERGIDAU_TOML_FAULT_EQUALS_SIGN = 2,
+    /* A value is expected, of no more levels than are asked for. */
+    PERGIDAU_TOML_FAULT_VALUE = 3,
+    /* The name of a table is expected. */
+    PERGIDAU_TOML_FAULT_TABLE_NAME = 4,
+    /* A bracket after the name of a table is expected. */
+    PERGIDAU_TOML_FAULT_CLOSING_BRACKET = 5,
+    /* The end of the line is expected. */
+    PERGIDAU_TOML_FAULT_LINE_END = 6,
+    /* The line defines what is defined already. */
+    PERGIDAU_TOML_FAULT_DEFINED = 7,
+    /* The line takes a value for a table. */
+    PERGIDAU_TOML_FAULT_NO_TABLE = 8,
+    /*
+     * The line adds to a table that is closed: an inline table, or by dotted keys one of a
+     * header.
+     */
+    PERGIDAU_TOML_FAULT_CLOSED = 9,
+    /* The line adds a table to what is no array of tables. */
+    PERGIDAU_TOML_FAULT_NO_TABLES = 10,
+};
+
+/* What a node of a document of TOML is: what kind of a value is. */
+enum pergidau_toml_kind {
+    /* A table, of headers, of dotted keys or inline. */
+    PERGIDAU_TOML_TABLE = 0,
+    /* An array, of values or of tables. */
+    PERGIDAU_TOML_ARRAY = 1,
+    /* A string. */
+    PERGIDAU_TOML_STRING = 2,
+    /* An integer. */
+    PERGIDAU_TOML_INTEGER = 3,
+    /* A float. */
+    PERGIDAU_TOML_FLOAT = 4,
+    /* The word true or false. */
+    PERGIDAU_TOML_BOOLEAN = 5,
+    /* A date and a time at an offset from UTC. */
+    PERGIDAU_TOML_OFFSET_DATE_TIME = 6,
+    /* A date and a time with no offset. */
+    PERGIDAU_TOML_LOCAL_DATE_TIME = 7,
+    /* A date alone. */
+    PERGIDAU_TOML_LOCAL_DATE = 8,
+    /* A time alone. */
+    PERGIDAU_TOML_LOCAL_TIME = 9,
 };
 
 /* Why a byte of a chunked body is refused: what fault of a step is. */
@@ -501,6 +556,73 @@ struct pergidau_position {
     size_t line;
     /* The number of the column, from 1 on; a column is a character. */
     size_t column;
+};
+
+/* What there is at a node. What its kind has no use for is 0. */
+struct pergidau_toml_value {
+    /* What it is: one of the numbers PERGIDAU_TOML_TABLE to PERGIDAU_TOML_LOCAL_TIME. */
+    size_t kind;
+    /* The year of a date, from 0 to 9999. */
+    uint16_t year;
+    /* The month of a date, from 1 to 12. */
+    uint8_t month;
+    /* The day of a date, from 1 to the last of its month. */
+    uint8_t day;
+    /* The hour of a time, from 0 to 23. */
+    uint8_t hour;
+    /* The minute of a time, from 0 to 59. */
+    uint8_t minute;
+    /* The second of a time, from 0 to 60, which is a leap second. */
+    uint8_t second;
+    /* How many minutes a time is ahead of UTC, below zero to the west. */
+    int16_t offset;
+    /* The integer, or 1 for true and 0 for false. */
+    int64_t integer;
+    /*
+     * Where in the text its own bytes stand: those of a string, with its escapes undone; of a
+     * float, without underscores, as -1.5e+3, inf and nan; or the digits of the fraction of a
+     * second. Other values have none.
+     */
+    struct pergidau_span text;
+};
+
+/* A node: what there is at a path of a document. */
+struct pergidau_toml_node {
+    /*
+     * The number of the table or array that it is in. That of the first node, which is in
+     * none, is 0.
+     */
+    size_t parent;
+    /* The number of the first node in it, or 0 where there is none. */
+    size_t first;
+    /* The number of the next node in the same table or array, or 0 where there is none. */
+    size_t next;
+    /* How many elements stand before it in its array. In a table 0. */
+    size_t index;
+    /*
+     * Where in the text its name in its table stands, its quotes and escapes undone. In an
+     * array it has no bytes.
+     */
+    struct pergidau_span name;
+    /* What there is. */
+    struct pergidau_toml_value value;
+    /* Whether it is an element of an array. Else it is an entry of a table, or the first node. */
+    bool is_element;
+};
+
+/* What was read of a document. */
+struct pergidau_toml_document {
+    /* How many nodes there are. */
+    size_t nodes;
+    /* How many bytes their names and texts have together. */
+    size_t text;
+    /* Where the bytes are no document: how many stand before the place. Else 0. */
+    size_t place;
+    /*
+     * Why they are none: a number of those from PERGIDAU_TOML_FAULT_NONE to
+     * PERGIDAU_TOML_FAULT_NO_TABLES.
+     */
+    size_t fault;
 };
 
 /*
@@ -1090,6 +1212,40 @@ enum pergidau_code pergidau_text_position(
     size_t bytes_length,
     size_t offset,
     struct pergidau_position *out);
+
+/*
+ * The document of TOML 1.0 (toml.io/en/v1.0.0) that bytes are, in whose values no more than
+ * levels arrays and inline tables stand in one another. What the standard leaves open is as
+ * most readers have it: an integer has 64 bits, and a float is its text.
+ *
+ * PERGIDAU_DONE: the nodes of the document are written into nodes, and the bytes of their
+ * names and texts into text. A node is a table, an array or another value. The nodes stand in
+ * the order in which the document first speaks of them: the first is the table that has all
+ * others, and a table or an array stands before what is in it. Each says which node it is in,
+ * which is the first in it, and which the next beside it, so that a loop walks them.
+ * PERGIDAU_REFUSED: the bytes are no document; written is why, and where: at the first line
+ * that is none of TOML, where it goes on as none does, or at the beginning of the first line
+ * that the standard refuses for what those before it say. PERGIDAU_NO_TEXT: they are no UTF-8;
+ * written is where the longest beginning ends that is. PERGIDAU_TOO_SMALL: they are a document
+ * that wants more nodes or more bytes than the buffers have; how many of both is written.
+ * PERGIDAU_NO_MEMORY. PERGIDAU_TOO_DEEP: more than 512 levels are asked for. But for
+ * PERGIDAU_DONE the buffers are left as they were.
+ *
+ * While it runs it holds up to 600 bytes of memory for each byte of the document.
+ *
+ * The caller owes bytes_length bytes at bytes that can be read and that nothing changes while
+ * the call runs, text_length bytes at text and nodes_length entries at nodes that can be
+ * written, room for one document at out, each apart from the others, and 1 MiB of stack.
+ */
+enum pergidau_code pergidau_toml_document(
+    const uint8_t *bytes,
+    size_t bytes_length,
+    size_t levels,
+    uint8_t *text,
+    size_t text_length,
+    struct pergidau_toml_node *nodes,
+    size_t nodes_length,
+    struct pergidau_toml_document *out);
 
 #ifdef __cplusplus
 }

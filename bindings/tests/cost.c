@@ -61,13 +61,14 @@ void *__wrap_realloc(void *block, size_t size)
 
 enum call { CALC, PAIR, DOCUMENT, ENTRY, CHECK, VALUE, NEXT, STEP, STRING, INTEGER, NATURAL, HEAD,
             HEAD_IN_PIECES, HEAD_EXTENT, RESPONSE, RESPONSE_IN_PIECES, RECORD, RECORD_IN_PIECES,
-            RECORD_EXTENT, REPLY, REPLY_IN_PIECES, EXTENT, CHUNKED, POSITION };
+            RECORD_EXTENT, REPLY, REPLY_IN_PIECES, EXTENT, CHUNKED, POSITION,
+            TOML };
 static const char *const names[] = {
     "calc_value", "ini_pair", "ini_document", "ini_next", "json_check", "json_value", "json_next", "json_step",
     "json_string", "json_integer", "json_natural", "http_head", "http_head_in_pieces",
     "http_head_extent", "http_response_head", "http_response_head_in_pieces", "csv_record",
     "csv_record_in_pieces", "csv_record_extent", "resp_reply", "resp_reply_in_pieces", "resp_extent", "http_chunked",
-    "text_position",
+    "text_position", "toml_document",
 };
 
 /* Inputs: a beginning, what is repeated, and an end. The memory is that which the header says a call
@@ -147,6 +148,17 @@ static const struct {
     {CHUNKED, "0\r\na:", "b", "\r\n\r\n", LENGTH, 0, 16},
     {CHUNKED, "ffffff\r\n", "b", "", LENGTH, 0, 16},
     {POSITION, "", "\xc3\xa9\n", "", LENGTH / 3, 0, 16},
+    {TOML, "", "\n", "", POWER + 1, 600, 1024},
+    {TOML, "a=", "[", "", LENGTH, 600, 1024},
+    {TOML, "a=", "{a=", "", LENGTH / 3, 600, 1024},
+    {TOML, "a=[", "1,", "]", POWER + 1, 600, 1024},
+    {TOML, "a=[", "{},", "]", POWER + 1, 600, 1024},
+    {TOML, "a=[", "[],", "]", POWER + 1, 600, 1024},
+    {TOML, "a", ".a", "=1", POWER + 1, 600, 1024},
+    {TOML, "", "[[a]]\n", "", POWER / 4 + 1, 600, 1024},
+    {TOML, "", "[[a]]\nb=1\n", "", POWER / 4 + 1, 600, 1024},
+    {TOML, "a='", "b", "'", LENGTH, 600, 1024},
+    {TOML, "a=[", "1,", "]\na=1", POWER + 1, 600, 1024},
 };
 
 static const uint8_t *bytes;
@@ -174,6 +186,7 @@ static enum pergidau_code call(enum call which, size_t levels)
     struct pergidau_chunked_state chunked = {1, 0, 0, SIZE_MAX, SIZE_MAX, SIZE_MAX, SIZE_MAX};
     struct pergidau_chunked_step step;
     struct pergidau_position position;
+    struct pergidau_toml_document toml;
     size_t found;
     switch (which) {
     case CALC:
@@ -222,6 +235,8 @@ static enum pergidau_code call(enum call which, size_t levels)
         return pergidau_resp_extent(&state, bytes, length, &found);
     case CHUNKED:
         return pergidau_http_chunked(&chunked, bytes, length, &step);
+    case TOML:
+        return pergidau_toml_document(bytes, length, levels, NULL, 0, NULL, 0, &toml);
     default:
         return pergidau_text_position(bytes, length, length / 2, &position);
     }

@@ -374,6 +374,7 @@ static void read_chunked(const uint8_t *bytes, size_t length)
 #include "heads_fuzz.h"
 #include "ini_fuzz.h"
 #include "json_fuzz.h"
+#include "toml_fuzz.h"
 
 static void read_place(const uint8_t *bytes, size_t length)
 {
@@ -399,6 +400,7 @@ static void read_all(const uint8_t *bytes, size_t length)
     read_reply(bytes, length);
     read_extent(bytes, length);
     read_chunked(bytes, length);
+    read_toml(bytes, length);
     read_place(bytes, length);
 }
 

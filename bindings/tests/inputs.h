@@ -60,6 +60,9 @@ static const char *const seeds[] = {
     "PUT /x HTTP/1.0\r\nX: 1\r\nX:\t2 \r\nY:\r\nZ: \t \r\n\r\nbody",
     "HTTP/1.1 404 Not Found, and no other page\r\nServer: a\r\nX: \t \r\n\r\nbody",
     "HTTP/1.0 200\r\nA:b\r\n\r\n",
+    "a = 1\nb.c = [1, {d = 2.5}, [], \"x\\u00e9\"]\n",
+    "[a.b]\nc = ''\n[[d]]\ne = 1979-05-27T07:32:00.5Z\n[[d]]\nf = true # g\n",
+    "[[p]]\n[p.q]\n[[p.r]]\n\n[[p]]\nn.m = 0x1F\nn.o = 07:32:00\n",
 };
 enum { SEEDS = sizeof seeds / sizeof *seeds };
 

@@ -29,6 +29,7 @@ static uint8_t *copied(const char *text, size_t length)
 
 #include "ini_rows.h"
 #include "json_rows.h"
+#include "toml_rows.h"
 
 static const struct {
     const char *text;
@@ -1063,6 +1064,7 @@ int main(void)
     test_replies();
     test_extents();
     test_bodies();
+    test_toml();
     test_positions();
     test_wrong_use();
     return wrong;

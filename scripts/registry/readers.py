@@ -64,6 +64,8 @@ READERS = [
     ("TOML: by one entry", "format_toml_document", "no",
         "the tree of the lines that a text or bytes are; else where and what the first lacks that is "
         "none, or where the first begins that the standard refuses, and why"),
+    ("TOML: nodes", "format_toml_nodes", "no",
+        "the nodes of a tree in two buffers: each at a path of the document, and no other path"),
     ("HTTP/1.1 heads (RFC 9112)", "format_http/heads", "yes",
         "the request line, field line and head that bytes begin with"),
     ("HTTP/1.1 lengths of bodies", "format_http/bodies", "no",

@@ -194,6 +194,69 @@ pub const RESP_ARRAY: usize = 5;
 /// The null array.
 pub const RESP_NULL_ARRAY: usize = 6;
 
+/// A table, of headers, of dotted keys or inline.
+pub const TOML_TABLE: usize = 0;
+
+/// An array, of values or of tables.
+pub const TOML_ARRAY: usize = 1;
+
+/// A string.
+pub const TOML_STRING: usize = 2;
+
+/// An integer.
+pub const TOML_INTEGER: usize = 3;
+
+/// A float.
+pub const TOML_FLOAT: usize = 4;
+
+/// The word `true` or `false`.
+pub const TOML_BOOLEAN: usize = 5;
+
+/// A date and a time at an offset from UTC.
+pub const TOML_OFFSET_DATE_TIME: usize = 6;
+
+/// A date and a time with no offset.
+pub const TOML_LOCAL_DATE_TIME: usize = 7;
+
+/// A date alone.
+pub const TOML_LOCAL_DATE: usize = 8;
+
+/// A time alone.
+pub const TOML_LOCAL_TIME: usize = 9;
+
+/// Nothing is refused.
+pub const TOML_FAULT_NONE: usize = 0;
+
+/// A key or a table is expected.
+pub const TOML_FAULT_KEY: usize = 1;
+
+/// The equals sign after a key is expected.
+pub const TOML_FAULT_EQUALS_SIGN: usize = 2;
+
+/// A value is expected, of no more levels than are asked for.
+pub const TOML_FAULT_VALUE: usize = 3;
+
+/// The name of a table is expected.
+pub const TOML_FAULT_TABLE_NAME: usize = 4;
+
+/// A bracket after the name of a table is expected.
+pub const TOML_FAULT_CLOSING_BRACKET: usize = 5;
+
+/// The end of the line is expected.
+pub const TOML_FAULT_LINE_END: usize = 6;
+
+/// The line defines what is defined already.
+pub const TOML_FAULT_DEFINED: usize = 7;
+
+/// The line takes a value for a table.
+pub const TOML_FAULT_NO_TABLE: usize = 8;
+
+/// The line adds to a table that is closed: an inline table, or by dotted keys one of a header.
+pub const TOML_FAULT_CLOSED: usize = 9;
+
+/// The line adds a table to what is no array of tables.
+pub const TOML_FAULT_NO_TABLES: usize = 10;
+
 /// A place in the caller's bytes: that many of them, from one on.
 #[repr(C)]
 #[derive(Clone, Copy, Debug, Default, PartialEq, Eq)]
@@ -477,9 +540,73 @@ pub struct Position {
     pub column: usize,
 }
 
+/// What there is at a node. What its kind has no use for is 0.
+#[repr(C)]
+#[derive(Clone, Copy, Debug, Default, PartialEq, Eq)]
+pub struct TomlValue {
+    /// What it is: one of the numbers `TOML_TABLE` to `TOML_LOCAL_TIME`.
+    pub kind: usize,
+    /// The year of a date, from 0 to 9999.
+    pub year: u16,
+    /// The month of a date, from 1 to 12.
+    pub month: u8,
+    /// The day of a date, from 1 to the last of its month.
+    pub day: u8,
+    /// The hour of a time, from 0 to 23.
+    pub hour: u8,
+    /// The minute of a time, from 0 to 59.
+    pub minute: u8,
+    /// The second of a time, from 0 to 60, which is a leap second.
+    pub second: u8,
+    /// How many minutes a time is ahead of UTC, below zero to the west.
+    pub offset: i16,
+    /// The integer, or 1 for `true` and 0 for `false`.
+    pub integer: i64,
+    /// Where in the text its own bytes stand: those of a string, with its escapes undone; of a
+    /// float, without underscores, as `-1.5e+3`, `inf` and `nan`; or the digits of the fraction of
+    /// a second. Other values have none.
+    pub text: Span,
+}
+
+/// A node: what there is at a path of a document.
+#[repr(C)]
+#[derive(Clone, Copy, Debug, Default, PartialEq, Eq)]
+pub struct TomlNode {
+    /// The number of the table or array that it is in. That of the first node, which is in none,
+    /// is 0.
+    pub parent: usize,
+    /// The number of the first node in it, or 0 where there is none.
+    pub first: usize,
+    /// The number of the next node in the same table or array, or 0 where there is none.
+    pub next: usize,
+    /// How many elements stand before it in its array. In a table 0.
+    pub index: usize,
+    /// Where in the text its name in its table stands, its quotes and escapes undone. In an array
+    /// it has no bytes.
+    pub name: Span,
+    /// What there is.
+    pub value: TomlValue,
+    /// Whether it is an element of an array. Else it is an entry of a table, or the first node.
+    pub is_element: bool,
+}
+
+/// What was read of a document.
+#[repr(C)]
+#[derive(Clone, Copy, Debug, Default, PartialEq, Eq)]
+pub struct TomlDocument {
+    /// How many nodes there are.
+    pub nodes: usize,
+    /// How many bytes their names and texts have together.
+    pub text: usize,
+    /// Where the bytes are no document: how many stand before the place. Else 0.
+    pub place: usize,
+    /// Why they are none: a number of those from `TOML_FAULT_NONE` to `TOML_FAULT_NO_TABLES`.
+    pub fault: usize,
+}
+
 extern "C" {
     /// Stands in a library of this version and with these declarations alone.
-    #[link_name = "pergidau_0_0_0_declared_181de244"]
+    #[link_name = "pergidau_0_0_0_declared_a22c8061"]
     static VERSION_LINKED: c_char;
 
     /// The version of the library that is linked.
@@ -1036,6 +1163,38 @@ extern "C" {
         bytes_length: usize,
         offset: usize,
         out: *mut Position,
+    ) -> u32;
+
+    /// The document of TOML 1.0 (toml.io/en/v1.0.0) that bytes are, in whose values no more than
+    /// `levels` arrays and inline tables stand in one another. What the standard leaves open is as most
+    /// readers have it: an integer has 64 bits, and a float is its text.
+    ///
+    /// `DONE`: the nodes of the document are written into `nodes`, and the bytes of their names and
+    /// texts into `text`. A node is a table, an array or another value. The nodes stand in the order
+    /// in which the document first speaks of them: the first is the table that has all others, and a
+    /// table or an array stands before what is in it. Each says which node it is in, which is the first
+    /// in it, and which the next beside it, so that a loop walks them. `REFUSED`: the bytes are no
+    /// document; written is why, and where: at the first line that is none of TOML, where it goes on as
+    /// none does, or at the beginning of the first line that the standard refuses for what those before
+    /// it say. `NO_TEXT`: they are no UTF-8; written is where the longest beginning ends that is.
+    /// `TOO_SMALL`: they are a document that wants more nodes or more bytes than the buffers have; how
+    /// many of both is written. `NO_MEMORY`. `TOO_DEEP`: more than 512 levels are asked for. But for
+    /// `DONE` the buffers are left as they were.
+    ///
+    /// While it runs it holds up to 600 bytes of memory for each byte of the document.
+    ///
+    /// The caller owes `bytes_length` bytes at `bytes` that can be read and that nothing changes while
+    /// the call runs, `text_length` bytes at `text` and `nodes_length` entries at `nodes` that can be
+    /// written, room for one document at `out`, each apart from the others, and 1 MiB of stack.
+    pub fn exported_toml_document(
+        bytes: *const u8,
+        bytes_length: usize,
+        levels: usize,
+        text: *mut u8,
+        text_length: usize,
+        nodes: *mut TomlNode,
+        nodes_length: usize,
+        out: *mut TomlDocument,
     ) -> u32;
 }
 

@@ -14,6 +14,7 @@
 //! | [`ini`] | lines of a key and a value, documents of them, and INI files of any dialect |
 //! | [`json`] | texts of JSON, and the values in them |
 //! | [`resp`] | replies of Redis |
+//! | [`toml`] | documents of TOML |
 //!
 //! ```
 //! use pergidau::{calc, ini};
@@ -42,6 +43,7 @@ pub mod http;
 pub mod ini;
 pub mod json;
 pub mod resp;
+pub mod toml;
 
 pub use crate::error::{Error, Place, Wanted};
 pub use crate::exports::{Span, MOST_LEVELS};

@@ -8,6 +8,7 @@ pub mod HeadExtent
 pub mod Items
 pub mod JsonIntegers
 pub mod JsonTexts
+pub mod Nodes
 pub mod Pieces
 pub mod RecordExtent
 pub mod Records

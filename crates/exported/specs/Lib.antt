@@ -15,4 +15,5 @@ pub mod JsonString
 pub mod Pieces
 pub mod Resp
 pub mod Span
+pub mod Toml
 pub mod Turns

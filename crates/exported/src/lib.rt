@@ -18,3 +18,4 @@ pub mod json;
 pub mod resp;
 pub mod span;
 pub mod text;
+pub mod toml;

@@ -1,0 +1,376 @@
+//! Documents of TOML 1.0.
+//!
+//! ```
+//! use pergidau::toml::{self, Node};
+//!
+//! let text = "[server]\nhost = \"a\"\nports = [80, 443]\n";
+//! let (mut names, mut nodes) = ([0; 64], [Node::default(); 16]);
+//! let document = toml::parse(text, 8, &mut names, &mut nodes)?;
+//! let server = document.root().get("server").unwrap();
+//! assert_eq!(server.get("host").and_then(|host| host.as_str()), Some("a"));
+//! let ports: Vec<_> = server.get("ports").unwrap().elements().collect();
+//! assert_eq!(ports[1].as_i64(), Some(443));
+//! # Ok::<(), pergidau::toml::Error>(())
+//! ```
+pub use crate::exports::TomlNode as Node;
+
+use crate::{exports, Place, Span, Wanted};
+use core::{fmt, str};
+
+/// Why a text is no document, and where.
+#[derive(Clone, Copy, Debug, PartialEq, Eq)]
+#[non_exhaustive]
+pub enum Error {
+    /// A line is none of TOML: what stands at the place is not what may stand there.
+    Unexpected(Place, Expected),
+    /// The standard refuses the line that begins at the place, for what those before it say.
+    Refused(Place, Refusal),
+    /// Another reason, which is no matter of TOML.
+    Other(crate::Error),
+}
+
+/// What is expected at a place.
+#[derive(Clone, Copy, Debug, PartialEq, Eq)]
+pub enum Expected {
+    /// A key, or a table.
+    Key,
+    /// The equals sign after a key.
+    EqualsSign,
+    /// The value after an equals sign, of no more levels than are read.
+    Value,
+    /// The name of a table.
+    TableName,
+    /// A bracket after the name of a table.
+    ClosingBracket,
+    /// The end of the line.
+    LineEnd,
+}
+
+/// Why the standard refuses a line.
+#[derive(Clone, Copy, Debug, PartialEq, Eq)]
+pub enum Refusal {
+    /// What it defines is defined already.
+    Defined,
+    /// It takes a value for a table.
+    NoTable,
+    /// It adds to a table that is closed: an inline table, or by dotted keys one of a header.
+    Closed,
+    /// It adds a table to what is no array of tables.
+    NoTables,
+}
+
+impl fmt::Display for Error {
+    fn fmt(&self, f: &mut fmt::Formatter<'_>) -> fmt::Result {
+        match self {
+            Error::Unexpected(place, expected) => write!(f, "{place}: expected {expected}"),
+            Error::Refused(place, why) => write!(f, "{place}: {why}"),
+            Error::Other(error) => error.fmt(f),
+        }
+    }
+}
+
+impl fmt::Display for Expected {
+    fn fmt(&self, f: &mut fmt::Formatter<'_>) -> fmt::Result {
+        f.write_str(match self {
+            Expected::Key => "a key or a table",
+            Expected::EqualsSign => "`=`",
+            Expected::Value => "a value",
+            Expected::TableName => "the name of a table",
+            Expected::ClosingBracket => "`]`",
+            Expected::LineEnd => "the end of the line",
+        })
+    }
+}
+
+impl fmt::Display for Refusal {
+    fn fmt(&self, f: &mut fmt::Formatter<'_>) -> fmt::Result {
+        f.write_str(match self {
+            Refusal::Defined => "it is defined already",
+            Refusal::NoTable => "it takes a value for a table",
+            Refusal::Closed => "it adds to a table that is closed",
+            Refusal::NoTables => "it adds a table to what is no array of tables",
+        })
+    }
+}
+
+#[cfg(feature = "std")]
+impl std::error::Error for Error {}
+
+impl Error {
+    /// What a code other than that for done says, with what was written.
+    fn of(code: u32, text: &str, out: &exports::TomlDocument) -> Error {
+        let place = Place::of(text.as_bytes(), out.place);
+        let expected = match out.fault {
+            exports::TOML_FAULT_NONE => {
+                let wanted = Wanted { entries: out.nodes, bytes: out.text };
+                return Error::Other(crate::Error::of(code, Some(place), wanted));
+            }
+            exports::TOML_FAULT_KEY => Expected::Key,
+            exports::TOML_FAULT_EQUALS_SIGN => Expected::EqualsSign,
+            exports::TOML_FAULT_VALUE => Expected::Value,
+            exports::TOML_FAULT_TABLE_NAME => Expected::TableName,
+            exports::TOML_FAULT_CLOSING_BRACKET => Expected::ClosingBracket,
+            exports::TOML_FAULT_LINE_END => Expected::LineEnd,
+            exports::TOML_FAULT_DEFINED => return Error::Refused(place, Refusal::Defined),
+            exports::TOML_FAULT_NO_TABLE => return Error::Refused(place, Refusal::NoTable),
+            exports::TOML_FAULT_CLOSED => return Error::Refused(place, Refusal::Closed),
+            exports::TOML_FAULT_NO_TABLES => return Error::Refused(place, Refusal::NoTables),
+            _ => return Error::Other(crate::Error::Unknown(code)),
+        };
+        Error::Unexpected(place, expected)
+    }
+}
+
+/// A document, in the buffers that it was written into.
+#[derive(Clone, Copy, Debug)]
+pub struct Document<'b> {
+    text: &'b str,
+    nodes: &'b [Node],
+}
+
+impl<'b> Document<'b> {
+    /// The table that has all others.
+    pub fn root(&self) -> Item<'b> {
+        Item { text: self.text, nodes: self.nodes, number: 0 }
+    }
+
+    /// All nodes, in the order in which the document first speaks of them.
+    pub fn nodes(&self) -> &'b [Node] {
+        self.nodes
+    }
+}
+
+/// What there is at a path of a document: a table, an array or another value.
+#[derive(Clone, Copy)]
+pub struct Item<'b> {
+    text: &'b str,
+    nodes: &'b [Node],
+    number: usize,
+}
+
+impl fmt::Debug for Item<'_> {
+    fn fmt(&self, f: &mut fmt::Formatter<'_>) -> fmt::Result {
+        f.debug_struct("Item").field("name", &self.name()).field("value", &self.value()).finish()
+    }
+}
+
+/// A date.
+#[derive(Clone, Copy, Debug, PartialEq, Eq)]
+pub struct Date {
+    /// The year, from 0 to 9999.
+    pub year: u16,
+    /// The month, from 1 to 12.
+    pub month: u8,
+    /// The day of the month, from 1 on.
+    pub day: u8,
+}
+
+/// A time of day.
+#[derive(Clone, Copy, Debug, PartialEq, Eq)]
+pub struct Time<'b> {
+    /// The hour, from 0 to 23.
+    pub hour: u8,
+    /// The minute, from 0 to 59.
+    pub minute: u8,
+    /// The second, from 0 to 60, which is a leap second.
+    pub second: u8,
+    /// The digits of the fraction of the second, as written.
+    pub fraction: &'b str,
+}
+
+/// What there is.
+#[derive(Clone, Copy, Debug, PartialEq, Eq)]
+#[non_exhaustive]
+pub enum Value<'b> {
+    /// A table. Its entries are those of [`Item::entries`].
+    Table,
+    /// An array. Its elements are those of [`Item::elements`].
+    Array,
+    /// A string, its escapes undone.
+    String(&'b str),
+    /// An integer.
+    Integer(i64),
+    /// A float as its text without underscores, as `-1.5e+3`, `inf`, `nan`.
+    Float(&'b str),
+    /// The word `true` or `false`.
+    Boolean(bool),
+    /// A date and a time, so many minutes ahead of UTC.
+    OffsetDateTime(Date, Time<'b>, i16),
+    /// A date and a time with no offset.
+    LocalDateTime(Date, Time<'b>),
+    /// A date alone.
+    LocalDate(Date),
+    /// A time alone.
+    LocalTime(Time<'b>),
+}
+
+impl<'b> Item<'b> {
+    fn node(&self) -> &'b Node {
+        &self.nodes[self.number]
+    }
+
+    fn at(&self, place: Span) -> &'b str {
+        &self.text[place.offset..][..place.length]
+    }
+
+    /// The item of a node, or none for 0.
+    fn item(&self, number: usize) -> Option<Item<'b>> {
+        (number != 0).then_some(Item { number, ..*self })
+    }
+
+    fn date(&self) -> Date {
+        let it = &self.node().value;
+        Date { year: it.year, month: it.month, day: it.day }
+    }
+
+    fn time(&self) -> Time<'b> {
+        let it = &self.node().value;
+        let fraction = self.at(it.text);
+        Time { hour: it.hour, minute: it.minute, second: it.second, fraction }
+    }
+
+    /// Its name in its table. An element of an array has none, and nor has the first table.
+    pub fn name(&self) -> Option<&'b str> {
+        let node = self.node();
+        (self.number != 0 && !node.is_element).then(|| self.at(node.name))
+    }
+
+    /// What there is.
+    pub fn value(&self) -> Value<'b> {
+        let it = &self.node().value;
+        match it.kind {
+            exports::TOML_ARRAY => Value::Array,
+            exports::TOML_STRING => Value::String(self.at(it.text)),
+            exports::TOML_INTEGER => Value::Integer(it.integer),
+            exports::TOML_FLOAT => Value::Float(self.at(it.text)),
+            exports::TOML_BOOLEAN => Value::Boolean(it.integer != 0),
+            exports::TOML_OFFSET_DATE_TIME => {
+                Value::OffsetDateTime(self.date(), self.time(), it.offset)
+            }
+            exports::TOML_LOCAL_DATE_TIME => Value::LocalDateTime(self.date(), self.time()),
+            exports::TOML_LOCAL_DATE => Value::LocalDate(self.date()),
+            exports::TOML_LOCAL_TIME => Value::LocalTime(self.time()),
+            _ => Value::Table,
+        }
+    }
+
+    /// The first in it, of a table or an array.
+    fn first(&self) -> Option<Item<'b>> {
+        self.item(self.node().first)
+    }
+
+    /// What is in a table or an array, in the order in which the document first speaks of it.
+    pub fn children(&self) -> Children<'b> {
+        Children { next: self.first() }
+    }
+
+    /// The entries of a table, each with its name. What is no table has none.
+    pub fn entries(&self) -> impl Iterator<Item = (&'b str, Item<'b>)> {
+        self.children().filter_map(|it| Some((it.name()?, it)))
+    }
+
+    /// The elements of an array, in order. What is no array has none.
+    pub fn elements(&self) -> impl Iterator<Item = Item<'b>> {
+        self.children().filter(|it| it.node().is_element)
+    }
+
+    /// The entry of a table that has this name. It looks at each entry before it.
+    pub fn get(&self, name: &str) -> Option<Item<'b>> {
+        self.entries().find(|(it, _)| *it == name).map(|(_, item)| item)
+    }
+
+    /// The text, where it is a string.
+    pub fn as_str(&self) -> Option<&'b str> {
+        match self.value() {
+            Value::String(text) => Some(text),
+            _ => None,
+        }
+    }
+
+    /// The number, where it is an integer.
+    pub fn as_i64(&self) -> Option<i64> {
+        match self.value() {
+            Value::Integer(number) => Some(number),
+            _ => None,
+        }
+    }
+
+    /// The word, where it is `true` or `false`.
+    pub fn as_bool(&self) -> Option<bool> {
+        match self.value() {
+            Value::Boolean(word) => Some(word),
+            _ => None,
+        }
+    }
+
+    /// The number that Rust reads from the text of a float.
+    pub fn as_f64(&self) -> Option<f64> {
+        match self.value() {
+            Value::Float(text) => text.parse().ok(),
+            _ => None,
+        }
+    }
+
+    /// Whether it is a table.
+    pub fn is_table(&self) -> bool {
+        self.node().value.kind == exports::TOML_TABLE
+    }
+
+    /// Whether it is an array.
+    pub fn is_array(&self) -> bool {
+        self.node().value.kind == exports::TOML_ARRAY
+    }
+}
+
+/// What is in a table or an array.
+#[derive(Clone, Copy, Debug)]
+pub struct Children<'b> {
+    next: Option<Item<'b>>,
+}
+
+impl<'b> Iterator for Children<'b> {
+    type Item = Item<'b>;
+
+    fn next(&mut self) -> Option<Item<'b>> {
+        let item = self.next?;
+        self.next = item.item(item.node().next);
+        Some(item)
+    }
+}
+
+/// The document that a text is, in whose values no more than `levels` arrays and inline tables stand in
+/// one another. The nodes are written into `nodes`, and the bytes of their names and texts into `text`;
+/// where one of them is too small, the error says how much is wanted. More than
+/// [`MOST_LEVELS`](crate::MOST_LEVELS) levels are an error. While it runs it holds up to 600 bytes of
+/// memory for each byte of the document.
+///
+/// ```
+/// use pergidau::toml::{self, Node};
+///
+/// let (mut text, mut nodes) = ([0; 64], [Node::default(); 8]);
+/// let refused = toml::parse("[a]\nb 2\n", 0, &mut text, &mut nodes).unwrap_err();
+/// assert_eq!(refused.to_string(), "line 2, column 3: expected `=`");
+/// let refused = toml::parse("a = 1\na = 2\n", 0, &mut text, &mut nodes).unwrap_err();
+/// assert_eq!(refused.to_string(), "line 2, column 1: it is defined already");
+/// ```
+pub fn parse<'b>(
+    source: &str,
+    levels: usize,
+    text: &'b mut [u8],
+    nodes: &'b mut [Node],
+) -> Result<Document<'b>, Error> {
+    let mut out = exports::TomlDocument::default();
+    let (bytes, room) = (text.as_mut_ptr(), text.len());
+    let (places, count) = (nodes.as_mut_ptr(), nodes.len());
+    // SAFETY: the pointers are those of live borrows, and the text is only read. The call takes up to
+    // 510 KiB of stack (measured); where there is less, the thread's guard page ends the program.
+    let code = unsafe {
+        exports::exported_toml_document(
+            source.as_ptr(), source.len(), levels, bytes, room, places, count, &mut out,
+        )
+    };
+    match (code, str::from_utf8(&text[..out.text.min(text.len())])) {
+        (exports::DONE, Ok(text)) => Ok(Document { text, nodes: &nodes[..out.nodes] }),
+        (code, _) => Err(Error::of(code, source, &out)),
+    }
+}

@@ -1,0 +1,100 @@
+//! Rows of documents of TOML. The wanted values are those of Python's tomllib, and of the examples of
+//! the standard.
+use pergidau::toml::{self, Date, Error, Expected, Item, Node, Refusal, Time, Value};
+
+/// What a document says: tables in braces, arrays in brackets.
+fn said(item: Item<'_>) -> String {
+    let joined = |parts: Vec<String>| parts.join(" ");
+    match item.value() {
+        Value::Table => {
+            let entries = item.entries().map(|(name, it)| format!("{name}:{}", said(it)));
+            format!("{{{}}}", joined(entries.collect()))
+        }
+        Value::Array => format!("[{}]", joined(item.elements().map(said).collect())),
+        Value::String(text) => format!("{text:?}"),
+        Value::Integer(number) => number.to_string(),
+        Value::Float(text) => format!("~{text}"),
+        Value::Boolean(word) => word.to_string(),
+        other => format!("{other:?}"),
+    }
+}
+
+fn read(text: &str) -> Result<String, Error> {
+    let (mut bytes, mut nodes) = ([0; 64], [Node::default(); 32]);
+    toml::parse(text, 8, &mut bytes, &mut nodes).map(|it| said(it.root()))
+}
+
+#[test]
+fn documents_say_what_tomllib_reads() {
+    let rows = [
+        ("", "{}"),
+        ("a = 1", "{a:1}"),
+        ("\"a b\" = 'c:\\d'\r\n\"\" = \"\\u00e9\\n\"\n", "{a b:\"c:\\\\d\" :\"é\\n\"}"),
+        ("n = -9223372036854775808\nh = 0xff\nu = 1_000\n", "{n:-9223372036854775808 h:255 u:1000}"),
+        ("f = 1_0.5e+3\ni = -inf\nt = true\ng = false\n", "{f:~10.5e+3 i:~-inf t:true g:false}"),
+        ("a = [1, [2, 'x'], {b = 3, c.d = 4}, []]", "{a:[1 [2 \"x\"] {b:3 c:{d:4}} []]}"),
+        ("[a.b]\nc = 1\n[d]\n[a]\ne = 2\n", "{a:{b:{c:1} e:2} d:{}}"),
+        (
+            "[[p]]\nn = 1\n[p.q]\nx = 2\n[[p]]\nn = 3\n[[p.r]]\n[[p.r]]\n",
+            "{p:[{n:1 q:{x:2}} {n:3 r:[{} {}]}]}",
+        ),
+    ];
+    for (text, wanted) in rows {
+        assert_eq!(read(text).as_deref(), Ok(wanted), "{text}");
+    }
+}
+
+#[test]
+fn values_are_of_their_kinds() {
+    let text = "d = 1979-05-27T07:32:00.999-08:00\nl = 1979-05-27 00:32:00\nn = 1979-05-27\n\
+                t = 23:59:60.1\ns = 'x'\ni = 7\nb = true\nf = -1.5\n[k]\n";
+    let (mut bytes, mut nodes) = ([0; 64], [Node::default(); 32]);
+    let document = toml::parse(text, 0, &mut bytes, &mut nodes).unwrap();
+    let root = document.root();
+    let get = |name| root.get(name).unwrap();
+    let date = Date { year: 1979, month: 5, day: 27 };
+    let time = |hour, minute, second, fraction| Time { hour, minute, second, fraction };
+    assert_eq!(get("d").value(), Value::OffsetDateTime(date, time(7, 32, 0, "999"), -480));
+    assert_eq!(get("l").value(), Value::LocalDateTime(date, time(0, 32, 0, "")));
+    assert_eq!(get("n").value(), Value::LocalDate(date));
+    assert_eq!(get("t").value(), Value::LocalTime(time(23, 59, 60, "1")));
+    assert_eq!(get("s").as_str(), Some("x"));
+    assert_eq!(get("i").as_i64(), Some(7));
+    assert_eq!(get("b").as_bool(), Some(true));
+    assert_eq!(get("f").as_f64(), Some(-1.5));
+    assert!(get("k").is_table() && !get("k").is_array() && get("k").children().next().is_none());
+    assert!(root.name().is_none() && root.get("x").is_none() && get("s").as_i64().is_none());
+    assert_eq!(document.nodes().len(), 10);
+    assert_eq!(format!("{:?}", get("i")), "Item { name: Some(\"i\"), value: Integer(7) }");
+}
+
+#[test]
+fn errors_say_where_and_why() {
+    let rows = [
+        ("a = \"é\"\nb 2\n", "line 2, column 3: expected `=`"),
+        ("= 2", "line 1, column 1: expected a key or a table"),
+        ("a = ", "line 1, column 5: expected a value"),
+        ("[]", "line 1, column 2: expected the name of a table"),
+        ("[a", "line 1, column 3: expected `]`"),
+        ("a = 1 b = 2", "line 1, column 7: expected the end of the line"),
+        ("a = 1\na = 2\n", "line 2, column 1: it is defined already"),
+        ("a = 1\na.b = 2\n", "line 2, column 1: it takes a value for a table"),
+        ("a = {}\n[a.b]", "line 2, column 1: it adds to a table that is closed"),
+        ("[a]\n[[a]]\n", "line 2, column 1: it adds a table to what is no array of tables"),
+    ];
+    for (text, wanted) in rows {
+        assert_eq!(read(text).unwrap_err().to_string(), wanted, "{text}");
+    }
+    assert!(matches!(read("a 1"), Err(Error::Unexpected(at, Expected::EqualsSign)) if at.offset == 2));
+    assert!(matches!(read("a=1\na=1"), Err(Error::Refused(at, Refusal::Defined)) if at.offset == 4));
+}
+
+#[test]
+fn buffers_that_are_too_small_are_named() {
+    let (mut bytes, mut nodes) = ([0; 5], [Node::default(); 2]);
+    let small = toml::parse("ab = 'cde'", 0, &mut bytes, &mut nodes[..1]).unwrap_err();
+    assert_eq!(small.to_string(), "the buffer is too small: 2 entries and 5 bytes are wanted");
+    assert!(toml::parse("ab = 'cde'", 0, &mut bytes, &mut nodes).is_ok());
+    let deep = toml::parse("a = 1", pergidau::MOST_LEVELS + 1, &mut bytes, &mut nodes).unwrap_err();
+    assert_eq!(deep, Error::Other(pergidau::Error::TooDeep));
+}

@@ -1,0 +1,66 @@
+/* Random bytes for documents of TOML: the nodes are held against what a caller may rely on. `fuzz.c`
+ * includes it behind what it uses. */
+
+/* What a node says of those round it, and of its texts. */
+static void look_at_node(const uint8_t *bytes, size_t length, size_t number,
+                         const struct pergidau_toml_node *nodes, size_t count, size_t text)
+{
+    const struct pergidau_toml_node *node = &nodes[number];
+    HOLDS(node->parent < count && node->first < count && node->next < count);
+    HOLDS(within(node->name, text) && within(node->value.text, text));
+    HOLDS(node->value.kind <= PERGIDAU_TOML_LOCAL_TIME);
+    HOLDS(number == 0 ? node->parent == 0 : node->parent < number);
+    if (number == 0) {
+        HOLDS(node->value.kind == PERGIDAU_TOML_TABLE && node->next == 0);
+        return;
+    }
+    const struct pergidau_toml_node *above = &nodes[node->parent];
+    HOLDS(above->value.kind == PERGIDAU_TOML_TABLE || above->value.kind == PERGIDAU_TOML_ARRAY);
+    HOLDS(node->is_element == (above->value.kind == PERGIDAU_TOML_ARRAY));
+    if (node->next > 0) {
+        const struct pergidau_toml_node *beside = &nodes[node->next];
+        HOLDS(node->next > number && beside->parent == node->parent);
+        HOLDS(!node->is_element || beside->index == node->index + 1);
+    }
+}
+
+/* Each node but the first is the first in one or the next beside one, once. */
+static void look_at_joins(const uint8_t *bytes, size_t length,
+                          const struct pergidau_toml_node *nodes, size_t count)
+{
+    size_t joins = 0;
+    for (size_t i = 0; i < count; i++) {
+        joins += (nodes[i].first > 0) + (nodes[i].next > 0);
+        HOLDS(nodes[i].first == 0 || nodes[nodes[i].first].parent == i);
+        HOLDS(nodes[i].first == 0 || nodes[nodes[i].first].index == 0);
+    }
+    HOLDS(joins == count - 1);
+}
+
+static void read_toml(const uint8_t *bytes, size_t length)
+{
+    struct pergidau_toml_document out;
+    size_t levels = below(4);
+    enum pergidau_code code =
+        pergidau_toml_document(bytes, length, levels, NULL, 0, NULL, 0, &out);
+    if (code != PERGIDAU_TOO_SMALL) {
+        HOLDS(code == PERGIDAU_REFUSED || code == PERGIDAU_NO_TEXT);
+        HOLDS(out.place <= length && out.nodes == 0 && out.text == 0);
+        HOLDS((out.fault > 0) == (code == PERGIDAU_REFUSED));
+        return;
+    }
+    HOLDS(out.nodes > 0 && out.place == 0 && out.fault == 0);
+    size_t count = out.nodes, size = out.text;
+    uint8_t *text = buffer(size);
+    struct pergidau_toml_node *nodes = malloc(count * sizeof *nodes);
+    if (nodes == NULL) {
+        exit(2);
+    }
+    code = pergidau_toml_document(bytes, length, levels, text, size, nodes, count, &out);
+    HOLDS(code == PERGIDAU_DONE && out.nodes == count && out.text == size);
+    for (size_t i = 0; i < count; i++) {
+        look_at_node(bytes, length, i, nodes, count, size);
+    }
+    look_at_joins(bytes, length, nodes, count);
+    free(nodes);
+}

@@ -1,0 +1,206 @@
+/* Rows of documents of TOML: included by rows.c. The wanted values are those of Python's tomllib, and
+ * of the examples of the standard. */
+
+/* Documents, and what they say: tables in braces, arrays in brackets, a float behind `~`, a date and a
+ * time as numbers. */
+static const struct {
+    const char *text, *said;
+} documents_of_toml[] = {
+    {"", "{}"},
+    {"# nothing\n\n", "{}"},
+    {"a = 1", "{a:1}"},
+    {"\"a b\" = 'c:\\d'\r\n\"\" = \"\\u00e9\\n\"\n", "{a b:\"c:\\d\" :\"\xc3\xa9\n\"}"},
+    {"n = -9223372036854775808\nh = 0xff\no = 0o17\nb = 0b11\nu = 1_000\n",
+     "{n:-9223372036854775808 h:255 o:15 b:3 u:1000}"},
+    {"f = 1_0.5e+3\ni = -inf\nn = nan\n", "{f:~10.5e+3 i:~-inf n:~nan}"},
+    {"t = true\nf = false", "{t:true f:false}"},
+    {"d = 1979-05-27T07:32:00-08:00\n", "{d:1979-5-27 7:32:0. -480}"},
+    {"d = 1979-05-27 07:32:00.999Z\n", "{d:1979-5-27 7:32:0.999 0}"},
+    {"d = 1979-05-27T00:32:00.50\n", "{d:1979-5-27 0:32:0.50}"},
+    {"d = 1979-05-27\n", "{d:1979-5-27}"},
+    {"d = 23:59:60.1\n", "{d:23:59:60.1}"},
+    {"a = [1, [2, 'x'], {b = 3, c.d = 4}, []]", "{a:[1 [2 \"x\"] {b:3 c:{d:4}} []]}"},
+    {"[a.b]\nc = 1\n[d]\n[a]\ne = 2\n", "{a:{b:{c:1} e:2} d:{}}"},
+    {"[[p]]\nn = 1\n[p.q]\nx = 2\n[[p]]\nn = 3\n[[p.r]]\n[[p.r]]\n",
+     "{p:[{n:1 q:{x:2}} {n:3 r:[{} {}]}]}"},
+    {"a.b.c = 1\na.d = 2\n", "{a:{b:{c:1} d:2}}"},
+};
+
+static const struct {
+    const char *text;
+    size_t place, fault;
+} refused_of_toml[] = {
+    {"a = 1\nb 2", 8, PERGIDAU_TOML_FAULT_EQUALS_SIGN},
+    {"= 1", 0, PERGIDAU_TOML_FAULT_KEY},
+    {"a = ", 4, PERGIDAU_TOML_FAULT_VALUE},
+    {"[]", 1, PERGIDAU_TOML_FAULT_TABLE_NAME},
+    {"[a", 2, PERGIDAU_TOML_FAULT_CLOSING_BRACKET},
+    {"a = 1 b = 2", 6, PERGIDAU_TOML_FAULT_LINE_END},
+    {"a = 1\na = 2\n", 6, PERGIDAU_TOML_FAULT_DEFINED},
+    {"a = 1\na.b = 2\n", 6, PERGIDAU_TOML_FAULT_NO_TABLE},
+    {"a = {}\n[a.b]\n", 7, PERGIDAU_TOML_FAULT_CLOSED},
+    {"[a]\n[[a]]\n", 4, PERGIDAU_TOML_FAULT_NO_TABLES},
+};
+
+enum { MOST_NODES_OF_TOML = 32, MOST_TEXT_OF_TOML = 64 };
+
+struct toml {
+    struct pergidau_toml_document found;
+    uint8_t text[MOST_TEXT_OF_TOML];
+    struct pergidau_toml_node nodes[MOST_NODES_OF_TOML];
+};
+
+static char *say_text(char *into, const struct toml *it, struct pergidau_span place)
+{
+    return into + sprintf(into, "%.*s", (int)place.length, (const char *)it->text + place.offset);
+}
+
+static char *say_value(char *into, const struct toml *it, const struct pergidau_toml_value *value)
+{
+    size_t kind = value->kind;
+    bool dated = kind == PERGIDAU_TOML_OFFSET_DATE_TIME || kind == PERGIDAU_TOML_LOCAL_DATE_TIME;
+    switch (kind) {
+    case PERGIDAU_TOML_STRING:
+        *into++ = '"';
+        into = say_text(into, it, value->text);
+        *into++ = '"';
+        return into;
+    case PERGIDAU_TOML_INTEGER:
+        return into + sprintf(into, "%lld", (long long)value->integer);
+    case PERGIDAU_TOML_FLOAT:
+        *into++ = '~';
+        return say_text(into, it, value->text);
+    case PERGIDAU_TOML_BOOLEAN:
+        return into + sprintf(into, "%s", value->integer ? "true" : "false");
+    default:
+        break;
+    }
+    if (dated || kind == PERGIDAU_TOML_LOCAL_DATE) {
+        into += sprintf(into, "%d-%d-%d", value->year, value->month, value->day);
+        *into = ' ';
+        into += dated;
+    }
+    if (dated || kind == PERGIDAU_TOML_LOCAL_TIME) {
+        into += sprintf(into, "%d:%d:%d", value->hour, value->minute, value->second);
+        if (value->text.length > 0 || kind == PERGIDAU_TOML_OFFSET_DATE_TIME) {
+            *into++ = '.';
+            into = say_text(into, it, value->text);
+        }
+    }
+    return kind == PERGIDAU_TOML_OFFSET_DATE_TIME ? into + sprintf(into, " %d", value->offset) : into;
+}
+
+/* What a document says, by a walk with a loop: down to the first node in one, else to the next beside
+ * it or beside one that it is in. */
+static void say_document(char *into, const struct toml *it)
+{
+    size_t number = 0;
+    for (;;) {
+        const struct pergidau_toml_node *node = &it->nodes[number];
+        bool table = node->value.kind == PERGIDAU_TOML_TABLE;
+        bool array = node->value.kind == PERGIDAU_TOML_ARRAY;
+        if (number > 0 && !node->is_element) {
+            into = say_text(into, it, node->name);
+            *into++ = ':';
+        }
+        if (table || array) {
+            *into++ = table ? '{' : '[';
+        } else {
+            into = say_value(into, it, &node->value);
+        }
+        if (node->first > 0) {
+            number = node->first;
+            continue;
+        }
+        if (table || array) {
+            *into++ = table ? '}' : ']';
+        }
+        for (; number > 0 && it->nodes[number].next == 0;) {
+            number = it->nodes[number].parent;
+            *into++ = it->nodes[number].value.kind == PERGIDAU_TOML_TABLE ? '}' : ']';
+        }
+        if (number == 0) {
+            *into = 0;
+            return;
+        }
+        number = it->nodes[number].next;
+        *into++ = ' ';
+    }
+}
+
+static enum pergidau_code read_toml(const char *text, size_t levels, size_t room, size_t count,
+                                    struct toml *it)
+{
+    size_t length = strlen(text);
+    uint8_t *bytes = copied(text, length);
+    memset(it, 0x5a, sizeof *it);
+    enum pergidau_code code = pergidau_toml_document(bytes, length, levels, it->text, room, it->nodes,
+                                                     count, &it->found);
+    free(bytes);
+    return code;
+}
+
+static void test_toml_buffers(const char *text, const struct toml *whole)
+{
+    size_t nodes = whole->found.nodes, bytes = whole->found.text;
+    struct toml it;
+    for (int few = 0; few < 2; few++) {
+        if (few && bytes == 0) {
+            continue;
+        }
+        enum pergidau_code code =
+            read_toml(text, 8, few ? bytes - 1 : bytes, few ? nodes : nodes - 1, &it);
+        same("too small", text, code, PERGIDAU_TOO_SMALL);
+        same("nodes that are wanted", text, (long long)it.found.nodes, (long long)nodes);
+        same("bytes that are wanted", text, (long long)it.found.text, (long long)bytes);
+        same("the buffers", text, it.text[0] == 0x5a && it.nodes[0].parent == it.nodes[0].first, 1);
+    }
+    same("just enough", text, read_toml(text, 8, bytes, nodes, &it), PERGIDAU_DONE);
+    same("the byte behind", text, bytes == MOST_TEXT_OF_TOML || it.text[bytes] == 0x5a, 1);
+}
+
+static void test_toml(void)
+{
+    struct toml it;
+    for (size_t i = 0; i < sizeof documents_of_toml / sizeof *documents_of_toml; i++) {
+        const char *text = documents_of_toml[i].text;
+        char said[400] = "";
+        enum pergidau_code code = read_toml(text, 8, MOST_TEXT_OF_TOML, MOST_NODES_OF_TOML, &it);
+        same("a document", text, code, PERGIDAU_DONE);
+        if (code == PERGIDAU_DONE) {
+            say_document(said, &it);
+            if (strcmp(said, documents_of_toml[i].said) != 0) {
+                printf("%s is said as %s\n", text, said);
+                wrong = 1;
+            }
+            same("the place", text, it.found.place == 0 && it.found.fault == 0, 1);
+            test_toml_buffers(text, &it);
+        }
+    }
+    for (size_t i = 0; i < sizeof refused_of_toml / sizeof *refused_of_toml; i++) {
+        const char *text = refused_of_toml[i].text;
+        same("no document", text, read_toml(text, 8, 0, 0, &it), PERGIDAU_REFUSED);
+        same("the place", text, (long long)it.found.place, (long long)refused_of_toml[i].place);
+        same("the fault", text, (long long)it.found.fault, (long long)refused_of_toml[i].fault);
+        same("the nodes", text, it.found.nodes == 0 && it.found.text == 0, 1);
+    }
+    same("no text", "a = '\\xe9'", read_toml("a = '\xe9'", 8, 0, 0, &it), PERGIDAU_NO_TEXT);
+    same("the place", "a = '\\xe9'", (long long)it.found.place, 5);
+    same("levels", "[[]]", read_toml("a = [[]]", 1, 64, 8, &it), PERGIDAU_REFUSED);
+    same("levels", "[[]]", read_toml("a = [[]]", 2, 64, 8, &it), PERGIDAU_DONE);
+    same("levels", "512", read_toml("a = 1", 512, 64, 8, &it), PERGIDAU_DONE);
+    same("levels", "513", read_toml("a = 1", 513, 64, 8, &it), PERGIDAU_TOO_DEEP);
+    const uint8_t *a = (const uint8_t *)"a=1";
+    same("null", "bytes", pergidau_toml_document(NULL, 3, 1, NULL, 0, NULL, 0, &it.found),
+         PERGIDAU_NULL);
+    same("null", "text", pergidau_toml_document(a, 3, 1, NULL, 1, NULL, 0, &it.found), PERGIDAU_NULL);
+    same("null", "nodes", pergidau_toml_document(a, 3, 1, NULL, 0, NULL, 1, &it.found), PERGIDAU_NULL);
+    same("null", "out", pergidau_toml_document(a, 3, 1, NULL, 0, NULL, 0, NULL), PERGIDAU_NULL);
+    same("too long", "nodes",
+         pergidau_toml_document(a, 3, 1, it.text, 1, it.nodes, PTRDIFF_MAX / sizeof *it.nodes + 1,
+                                &it.found),
+         PERGIDAU_TOO_LONG);
+    same("nothing", "toml", pergidau_toml_document(NULL, 0, 1, NULL, 0, it.nodes, 1, &it.found),
+         PERGIDAU_DONE);
+    same("one node", "toml", it.found.nodes == 1 && it.nodes[0].value.kind == PERGIDAU_TOML_TABLE, 1);
+}

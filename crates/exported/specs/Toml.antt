@@ -1,0 +1,100 @@
+-- Documents of TOML, and where their nodes are written.
+use Rattle.std.specs.Prelude.{◌≡◌, ℕ, List, [], Option, Ok}
+use Rattle.std.specs.Str.{IsUtf8, chars}
+use Rattle.std.specs.declared.alloc.Global.{Global}
+use Rattle.std.specs.declared.vec.Vec.{Vec}
+use Rattle.exported.specs.Code.{no_memory, no_text, refused}
+use Rattle.exported.specs.declared.toml.TomlDocument.{TomlDocument}
+use Rattle.format_toml.specs.Toml.{DocumentText}
+use Rattle.format_toml.specs.declared.expected.Expected.{Expected}
+use Rattle.format_toml.specs.declared.expected.Expected.TheVariants as lacks
+use Rattle.format_toml_document.specs.Fault.{IsDocument, Tells}
+use Rattle.format_toml_document.specs.declared.fault.Fault.{Fault}
+use Rattle.format_toml_document.specs.declared.fault.Fault.TheVariants as faults
+use Rattle.format_toml_nodes.specs.Laying.{IsSizeOf}
+use Rattle.format_toml_nodes.specs.Nodes.{AreNodesOf}
+use Rattle.format_toml_nodes.specs.declared.node.TomlNode.{TomlNode}
+use Rattle.format_toml_tree.specs.Holds.{HoldsTree}
+use Rattle.format_toml_tree.specs.Runs.{Gives, Tree as Given, empty}
+use Rattle.format_toml_tree.specs.declared.roles.Refusal.{Refusal}
+use Rattle.format_toml_tree.specs.declared.roles.Refusal.TheVariants as refusals
+use Rattle.format_toml_tree.specs.declared.tree.Tree.{Tree}
+use Rattle.format_toml_tree.specs.declared.value.Item.{Item}
+
+-- ---- faults
+
+-- the number of what is expected
+abbrev pub lack_of : Expected → ℕ
+lack_of lacks.Key = 1
+lack_of lacks.EqualsSign = 2
+lack_of lacks.Value = 3
+lack_of lacks.TableName = 4
+lack_of lacks.ClosingBracket = 5
+lack_of lacks.LineEnd = 6
+
+-- the number of why a line is refused
+abbrev pub refusal_of : Refusal → ℕ
+refusal_of refusals.Defined = 7
+refusal_of refusals.NoTable = 8
+refusal_of refusals.Closed = 9
+refusal_of refusals.NoTables = 10
+
+abbrev pub fault_of : Fault → ℕ
+fault_of (faults.Unexpected at expected) = lack_of expected
+fault_of (faults.Refused at why) = refusal_of why
+fault_of (faults.NotUtf8 at) = 0
+fault_of faults.OutOfMemory = 0
+
+abbrev pub place_of : Fault → ℕ
+place_of (faults.Unexpected at expected) = at.offset
+place_of (faults.Refused at why) = at.offset
+place_of (faults.NotUtf8 at) = at.offset
+place_of faults.OutOfMemory = 0
+
+-- the code that a fault is answered by
+abbrev pub code_of : Fault → ℕ
+code_of (faults.Unexpected at expected) = refused
+code_of (faults.Refused at why) = refused
+code_of (faults.NotUtf8 at) = no_text
+code_of faults.OutOfMemory = no_memory
+
+-- What is told of bytes is a fault of them, which is answered by this code, with its place and its
+-- number.
+pub record IsFaultOf (code level : ℕ) (bytes : List ℕ) (out : TomlDocument) : Type 0 where
+  pub fault : Fault
+  pub is_code : code_of fault ≡ code
+  pub tells : Tells Global level bytes fault
+  pub place : out.place ≡ place_of fault
+  pub number : out.fault ≡ fault_of fault
+
+abbrev pub IsRefusedDocument : ℕ → List ℕ → TomlDocument → Type 0
+IsRefusedDocument level bytes out = IsFaultOf refused level bytes out
+
+abbrev pub IsNoText : ℕ → List ℕ → TomlDocument → Type 0
+IsNoText level bytes out = IsFaultOf no_text level bytes out
+
+-- ---- documents
+
+-- The nodes are those of what places hold.
+abbrev pub ShowsTree : Tree Global → List ℕ → List TomlNode → Type 0
+ShowsTree tree text nodes = (given : Given Global) → HoldsTree tree.slots.items given
+    → AreNodesOf given text nodes
+
+-- So many nodes and bytes are wanted.
+abbrev pub WantsTree : Tree Global → TomlDocument → Type 0
+WantsTree tree found = IsSizeOf tree (record { nodes = found.nodes; text = found.text })
+
+-- The bytes are UTF-8 and lines of TOML, of which the standard refuses none, and the nodes are
+-- those of the tree that they give.
+pub record ShowsDocument (level : ℕ) (bytes text : List ℕ) (nodes : List TomlNode) : Type 0 where
+  pub is_text : IsUtf8 bytes
+  pub lines : Vec (Option (Item Global)) Global
+  pub are_lines : DocumentText level lines (chars bytes)
+  pub given : Given Global
+  pub gives : Gives (empty, []) 0 lines.items (Ok given)
+  pub nodes_are : AreNodesOf given text nodes
+
+-- The bytes are UTF-8 and a document, for which so much room is wanted.
+abbrev pub WantsDocument : ℕ → List ℕ → TomlDocument → Type 0
+WantsDocument level bytes found = IsUtf8 bytes
+    × ((tree : Tree Global) × IsDocument Global level bytes tree × WantsTree tree found)

@@ -1,0 +1,201 @@
+//! Documents of TOML.
+
+ghost use Rattle.std.specs.Prelude.{◌≡◌, ◌<◌, ◌⊎◌, ◌↔◌, length, take};
+ghost use Rattle.exported.specs.Code.{done, most_levels, no_memory, no_text, refused, too_deep};
+ghost use Rattle.exported.specs.Code.{too_small};
+ghost use Rattle.exported.specs.Toml.{IsNoText, IsRefusedDocument, ShowsDocument, ShowsTree};
+ghost use Rattle.exported.specs.Toml.{WantsDocument, WantsTree, code_of, fault_of, lack_of};
+ghost use Rattle.exported.specs.Toml.{place_of, refusal_of};
+
+use crate::code::{DONE, NO_MEMORY, NO_TEXT, REFUSED, TOO_DEEP, TOO_SMALL};
+use crate::json::MOST_LEVELS;
+use format_toml_document::{Document, Expected, Fault, Refusal, Tree, from_bytes};
+pub use format_toml_nodes::node::{
+    Span, TOML_ARRAY, TOML_BOOLEAN, TOML_FLOAT, TOML_INTEGER, TOML_LOCAL_DATE,
+    TOML_LOCAL_DATE_TIME, TOML_LOCAL_TIME, TOML_OFFSET_DATE_TIME, TOML_STRING, TOML_TABLE,
+    TomlNode, TomlValue,
+};
+use format_toml_nodes::nodes::{size_of, write_nodes};
+use std::alloc::Global;
+
+/// Nothing is refused.
+pub const TOML_FAULT_NONE: usize = 0;
+
+/// A key or a table is expected.
+pub const TOML_FAULT_KEY: usize = 1;
+
+/// The equals sign after a key is expected.
+pub const TOML_FAULT_EQUALS_SIGN: usize = 2;
+
+/// A value is expected, of no more levels than are asked for.
+pub const TOML_FAULT_VALUE: usize = 3;
+
+/// The name of a table is expected.
+pub const TOML_FAULT_TABLE_NAME: usize = 4;
+
+/// A bracket after the name of a table is expected.
+pub const TOML_FAULT_CLOSING_BRACKET: usize = 5;
+
+/// The end of the line is expected.
+pub const TOML_FAULT_LINE_END: usize = 6;
+
+/// The line defines what is defined already.
+pub const TOML_FAULT_DEFINED: usize = 7;
+
+/// The line takes a value for a table.
+pub const TOML_FAULT_NO_TABLE: usize = 8;
+
+/// The line adds to a table that is closed: an inline table, or by dotted keys one of a header.
+pub const TOML_FAULT_CLOSED: usize = 9;
+
+/// The line adds a table to what is no array of tables.
+pub const TOML_FAULT_NO_TABLES: usize = 10;
+
+/// What was read of a document.
+#[repr(C)]
+#[derive(Clone, Copy, Drop)]
+pub struct TomlDocument {
+    /// How many nodes there are.
+    pub nodes: usize,
+    /// How many bytes their names and texts have together.
+    pub text: usize,
+    /// Where the bytes are no document: how many stand before the place. Else 0.
+    pub place: usize,
+    /// Why they are none: a number of those from `TOML_FAULT_NONE` to `TOML_FAULT_NO_TABLES`.
+    pub fault: usize,
+}
+
+/// The document of nothing.
+const NONE: TomlDocument = TomlDocument {
+    nodes: 0,
+    text: 0,
+    place: 0,
+    fault: TOML_FAULT_NONE,
+};
+
+/// The number of what is expected.
+fn number_of_lack(expected: Expected) -> usize
+    ensures { result ≡ lack_of expected }
+{
+    match expected {
+        Expected::Key => TOML_FAULT_KEY,
+        Expected::EqualsSign => TOML_FAULT_EQUALS_SIGN,
+        Expected::Value => TOML_FAULT_VALUE,
+        Expected::TableName => TOML_FAULT_TABLE_NAME,
+        Expected::ClosingBracket => TOML_FAULT_CLOSING_BRACKET,
+        Expected::LineEnd => TOML_FAULT_LINE_END,
+    }
+}
+
+/// The number of why a line is refused.
+fn number_of_refusal(why: Refusal) -> usize
+    ensures { result ≡ refusal_of why }
+{
+    match why {
+        Refusal::Defined => TOML_FAULT_DEFINED,
+        Refusal::NoTable => TOML_FAULT_NO_TABLE,
+        Refusal::Closed => TOML_FAULT_CLOSED,
+        Refusal::NoTables => TOML_FAULT_NO_TABLES,
+    }
+}
+
+/// Writes why bytes are no document, and where.
+fn write_fault(fault: Fault, out: &mut TomlDocument) -> u32
+    ensures code { result ≡ code_of fault }
+    ensures place { out.new.place ≡ place_of fault }
+    ensures fault { out.new.fault ≡ fault_of fault }
+{
+    let (place, number, code) = match fault {
+        Fault::Unexpected { at, expected } => (at.offset, number_of_lack(expected), REFUSED),
+        Fault::Refused { at, why } => (at.offset, number_of_refusal(why), REFUSED),
+        Fault::NotUtf8 { at } => (at.offset, TOML_FAULT_NONE, NO_TEXT),
+        Fault::OutOfMemory => (0, TOML_FAULT_NONE, NO_MEMORY),
+    };
+    *out = TomlDocument {
+        place,
+        fault: number,
+        ..NONE
+    };
+    code
+}
+
+/// Writes the nodes of a tree, where there is room.
+fn write_tree<'t>(
+    tree: &Tree<'t, Global>,
+    text: &mut [u8],
+    nodes: &mut [TomlNode],
+    out: &mut TomlDocument,
+) -> u32
+    ensures nowhere { (out.new.place ≡ 0) × (out.new.fault ≡ 0) }
+    ensures sized { WantsTree tree.now out.new }
+    ensures tree { result ≡ done → ShowsTree tree.now (take out.new.text text.new)
+        (take out.new.nodes nodes.new) }
+    ensures small { result ≡ too_small
+        → (length nodes.old < out.new.nodes) ⊎ (length text.old < out.new.text) }
+    ensures kept { result ≡ too_small → (nodes.new ≡ nodes.old) × (text.new ≡ text.old) }
+    ensures codes { (result ≡ done) ⊎ (result ≡ too_small) }
+{
+    let size = size_of(tree);
+    *out = TomlDocument {
+        nodes: size.nodes,
+        text: size.text,
+        ..NONE
+    };
+    if write_nodes(tree, size, text, nodes) {
+        DONE
+    } else {
+        TOO_SMALL
+    }
+}
+
+/// The document of TOML 1.0 (toml.io/en/v1.0.0) that bytes are, in whose values no more than
+/// `levels` arrays and inline tables stand in one another. What the standard leaves open is as most
+/// readers have it: an integer has 64 bits, and a float is its text.
+///
+/// `DONE`: the nodes of the document are written into `nodes`, and the bytes of their names and
+/// texts into `text`. A node is a table, an array or another value. The nodes stand in the order
+/// in which the document first speaks of them: the first is the table that has all others, and a
+/// table or an array stands before what is in it. Each says which node it is in, which is the first
+/// in it, and which the next beside it, so that a loop walks them. `REFUSED`: the bytes are no
+/// document; written is why, and where: at the first line that is none of TOML, where it goes on as
+/// none does, or at the beginning of the first line that the standard refuses for what those before
+/// it say. `NO_TEXT`: they are no UTF-8; written is where the longest beginning ends that is.
+/// `TOO_SMALL`: they are a document that wants more nodes or more bytes than the buffers have; how
+/// many of both is written. `NO_MEMORY`. `TOO_DEEP`: more than 512 levels are asked for. But for
+/// `DONE` the buffers are left as they were.
+///
+/// While it runs it holds up to 600 bytes of memory for each byte of the document.
+///
+/// The caller owes `bytes_length` bytes at `bytes` that can be read and that nothing changes while
+/// the call runs, `text_length` bytes at `text` and `nodes_length` entries at `nodes` that can be
+/// written, room for one document at `out`, each apart from the others, and 1 MiB of stack.
+#[unsafe(no_mangle)]
+pub extern "C" fn exported_toml_document(
+    alloc: Global,
+    bytes: &[u8],
+    levels: usize,
+    text: &mut [u8],
+    nodes: &mut [TomlNode],
+    out: &mut TomlDocument,
+) -> u32
+    ensures document { result ≡ done → ShowsDocument levels bytes.now
+        (take out.new.text text.new) (take out.new.nodes nodes.new) }
+    ensures small { result ≡ too_small → WantsDocument levels bytes.now out.new
+        × ((length nodes.old < out.new.nodes) ⊎ (length text.old < out.new.text)) }
+    ensures kept { (result ≡ done → ⊥) → (nodes.new ≡ nodes.old) × (text.new ≡ text.old) }
+    ensures refused { result ≡ refused → IsRefusedDocument levels bytes.now out.new }
+    ensures text { result ≡ no_text → IsNoText levels bytes.now out.new }
+    ensures deep { (result ≡ too_deep) ↔ (most_levels < levels) }
+    ensures codes { (result ≡ done) ⊎ ((result ≡ too_small) ⊎ ((result ≡ refused)
+        ⊎ ((result ≡ no_text) ⊎ ((result ≡ no_memory) ⊎ (result ≡ too_deep))))) }
+{
+    *out = NONE;
+    if levels > MOST_LEVELS {
+        return TOO_DEEP;
+    }
+    let mut document = Document::new(alloc);
+    match from_bytes(alloc, levels, bytes, &mut document) {
+        Ok(tree) => write_tree(&tree, text, nodes, out),
+        Err(fault) => write_fault(fault, out),
+    }
+}

@@ -1,0 +1,92 @@
+-- The elements of a place, one after the other, and all that is below places.
+use Rattle.std.specs.Prelude.{◌≡◌, ◌⊎◌, ℕ, zero, suc, ◌+◌, ◌<◌, ◌≤◌}
+use Rattle.std.specs.Prelude.{List, length, slice_get, Some, take}
+use Rattle.std.proofs.Common.{refl, sym, ap, subst, inl, inr, ◌∙◌, arith}
+use Rattle.format_toml_nodes.specs.Laying.{Below, ChangesAt, IsNumbered, Leads}
+use Rattle.format_toml_nodes.specs.Laying.{PutsElements, PutsEntries}
+use Rattle.format_toml_nodes.specs.declared.node.TomlNode.{TomlNode}
+use Rattle.format_toml_nodes.proofs.Changes.{numbered_here, numbered_others}
+use Rattle.format_toml_tree.specs.Added.{some_there}
+use Rattle.format_toml_tree.specs.Holds.{Holds}
+use Rattle.format_toml_tree.specs.Paths.{Path}
+use Rattle.format_toml_tree.specs.Runs.{Tree}
+use Rattle.format_toml_tree.specs.declared.tree.Slot.{Slot}
+
+some_same : {X : Type 0} {x y : X} → Some x ≡ Some y → x ≡ y
+some_same e = cc
+
+-- the number is this one, or below it
+pub last : (k n : ℕ) → k < n + 1 → (k ≡ n) ⊎ (k < n)
+last zero zero w = inl refl
+last zero (suc n) w = inr (omega arith)
+last (suc k) zero w = absurd (omega (arith, w))
+last (suc k) (suc n) w = elim (last k n (omega (arith, w))) [
+  | inl e ↦ inl (ap (λ i. suc i) e)
+  | inr l ↦ inr (omega (arith, l))
+]
+
+module _ {A : Type 0} (slots : List (Slot A)) (parent : ℕ) (before : List TomlNode) where
+  -- the elements before this one say where they stand
+  abbrev pub NumbersSo : ℕ → List TomlNode → Type 0
+  NumbersSo index nodes = (tree : Tree A) (path : ℕ → Path) → Holds slots tree path
+      → (text : List ℕ) → (s : Slot A) → slice_get slots parent ≡ Some s
+      → ((j : ℕ) → Leads text path (length slots) before j
+      → Leads text path (length slots) nodes j)
+      × ((k j : ℕ) → k < index → slice_get s.elements.items k ≡ Some j
+      → Leads text path (length slots) nodes j)
+
+  pub number_more : (within : parent < length slots) (s : Slot A)
+      → slice_get slots parent ≡ Some s → (index j : ℕ)
+      → slice_get s.elements.items index ≡ Some j → (nodes after : List TomlNode)
+      → ChangesAt (IsNumbered parent index) j nodes after → NumbersSo index nodes
+      → NumbersSo (index + 1) after
+  number_more within s at index j e nodes after changes so tree path holds text t g =
+      let (stay, numbers) = so tree path holds text t g in
+      let count = length slots in
+      let here = (holds.elements parent s at index j e).1 in
+      let others : (i : ℕ) → Leads text path count nodes i → Leads text path count after i =
+      λ i leads. numbered_others text path count parent within index j nodes after changes here
+      i leads in
+      let same : s ≡ t = some_same (sym at ∙ g) in (
+        λ i leads. others i (stay i leads),
+        λ k i w f. elim (last k index w) [
+          | inl is ↦
+              let is_j : j ≡ i = some_same (sym e ∙ ap (λ u. slice_get u.elements.items index) same
+              ∙ ap (λ n. slice_get t.elements.items n) (sym is) ∙ f) in
+              subst (λ n. Leads text path count after n) is_j
+              (numbered_here text path count parent within index j nodes after changes here)
+          | inr less ↦ others i (numbers k i less f)
+        ],
+      )
+
+module _ {A : Type 0} (slots : List (Slot A)) where
+  -- what is below the places before this one says where it stands
+  abbrev pub LeadsSo : ℕ → ℕ → List ℕ → List TomlNode → Type 0
+  LeadsSo place end buffer nodes = (tree : Tree A) (path : ℕ → Path) → Holds slots tree path
+      → end ≤ length buffer → (i : ℕ) (s : Slot A) → i < place → slice_get slots i ≡ Some s
+      → Below s (Leads (take end buffer) path (length slots) nodes)
+
+  pub leads_more : (parent end : ℕ) (buffer : List ℕ) (nodes : List TomlNode) (next : ℕ)
+      (new : List ℕ) (mid after : List TomlNode) → parent < length slots
+      → PutsEntries slots parent end buffer nodes next new mid
+      → PutsElements slots parent mid after → LeadsSo parent end buffer nodes
+      → LeadsSo (parent + 1) next new after
+  leads_more parent end buffer nodes next new mid after within entries elements so tree path holds
+      fits i s w g =
+      let room : next ≤ length buffer = omega (arith, entries.grows.same, fits) in
+      let (t, at) = some_there slots parent within in
+      let (stay, names) = entries.names tree path holds room t at in
+      let (keep, numbers) = elements.numbers tree path holds (take next new) t at in
+      let count = length slots in
+      let kept : (j : ℕ) → Leads (take end buffer) path count nodes j
+      → Leads (take next new) path count after j = λ j leads. keep j (stay j leads) in
+      elim (last i parent w) [
+        | inl is ↦
+            let same : t ≡ s = some_same (sym at ∙ ap (λ n. slice_get slots n) (sym is) ∙ g) in
+            subst (λ u. Below u (Leads (take next new) path count after)) same
+            ((λ name j f. keep j (names name j f)), numbers)
+        | inr less ↦
+            let (a, b) = so tree path holds (omega (arith, entries.grows.up, room)) i s less g
+            in
+            ((λ name j f. kept j (a name j f)), (λ k j f. kept j (b k j f)))
+      ]

@@ -1,0 +1,151 @@
+-- The entries of a place, one after the other.
+use Rattle.std.specs.Prelude.{◌≡◌, ◌⊎◌, ℕ, suc, Bool, true, false, cond, ◌<◌, ◌≤◌}
+use Rattle.std.specs.Prelude.{List, [], ◌∷◌, length, slice_get, Some, None, take, Option}
+use Rattle.std.specs.Borrow.{Bor}
+use Rattle.std.specs.BTreeMap.{BTreeMap, is_at}
+use Rattle.std.specs.List.{All}
+use Rattle.std.specs.Cmp.Lexicographic.{slice_cmp}
+use Rattle.std.specs.Map.{lookup}
+use Rattle.std.specs.Ordering.{nat_cmp}
+use Rattle.std.proofs.Common.{refl, sym, ap, subst, inl, inr, ◌∙◌, arith}
+use Rattle.std.proofs.lemmas.Option.{get_or_from_slice_get, slice_get_within}
+use Rattle.format_toml_nodes.specs.Laying.{ChangesAt, IsNamedAs, Leads, Puts, name_len}
+use Rattle.format_toml_nodes.specs.Laying.{names_len, total}
+use Rattle.format_toml_nodes.specs.Nodes.{StandsAt}
+use Rattle.format_toml_nodes.specs.declared.node.Span.{Span}
+use Rattle.format_toml_nodes.specs.declared.node.TomlNode.{TomlNode}
+use Rattle.format_toml_nodes.proofs.Changes.{named_here, named_others}
+use Rattle.format_toml_nodes.proofs.Texts.{stands_put}
+use Rattle.format_toml_tree.specs.Holds.{Holds, find}
+use Rattle.format_toml_tree.specs.Paths.{Path, named}
+use Rattle.format_toml_tree.specs.Runs.{Tree}
+use Rattle.format_toml_tree.specs.declared.tree.Slot.{Slot}
+
+-- what entries have at a name
+abbrev pub find_in : List (Bor (List ℕ) × ℕ) → List ℕ → Option ℕ
+find_in entries name = lookup (is_at (λ (k : Bor (List ℕ)). slice_cmp nat_cmp name k.now)) entries
+
+some_same : {x y : ℕ} → Some x ≡ Some y → x ≡ y
+some_same e = cc
+
+find_more : (name : List ℕ) (e : Bor (List ℕ) × ℕ) (others : List (Bor (List ℕ) × ℕ)) (j : ℕ)
+    → find_in (e ∷ others) name ≡ Some j → (e.1 ≡ j) ⊎ (find_in others name ≡ Some j)
+find_more name e others j f =
+    by (is_at (λ (k : Bor (List ℕ)). slice_cmp nat_cmp name k.now) e.0) refl
+  where
+    by : (b : Bool) → is_at (λ (k : Bor (List ℕ)). slice_cmp nat_cmp name k.now) e.0 ≡ b
+        → (e.1 ≡ j) ⊎ (find_in others name ≡ Some j)
+    by true t = inl (some_same (sym (ap (λ b. cond b (Some e.1) (find_in others name)) t) ∙ f))
+    by false t = inr (sym (ap (λ b. cond b (Some e.1) (find_in others name)) t) ∙ f)
+
+module _ {A : Type 0} (slots : List (Slot A)) (parent at : ℕ) (old : List ℕ)
+    (before : List TomlNode) where
+  -- The entries that are left are still to name, and those before them are.
+  abbrev pub NamesSo : List (Bor (List ℕ) × ℕ) → ℕ → List ℕ → List TomlNode → Type 0
+  NamesSo left end buffer nodes = (tree : Tree A) (path : ℕ → Path) → Holds slots tree path
+      → end ≤ length buffer → (s : Slot A) → slice_get slots parent ≡ Some s
+      → ((j : ℕ) → Leads (take at old) path (length slots) before j
+      → Leads (take end buffer) path (length slots) nodes j)
+      × ((name : List ℕ) (j : ℕ) → find s.places name ≡ Some j
+      → (find_in left name ≡ Some j) ⊎ Leads (take end buffer) path (length slots) nodes j)
+
+  -- Each that is left is what the place has at its name.
+  abbrev pub FoundSo : List (Bor (List ℕ) × ℕ) → Type 0
+  FoundSo left = (s : Slot A) → slice_get slots parent ≡ Some s
+      → (k : ℕ) (e : Bor (List ℕ) × ℕ) → slice_get left k ≡ Some e
+      → find s.places e.0.now ≡ Some e.1
+
+  pub found_more : (e : Bor (List ℕ) × ℕ) (others left : List (Bor (List ℕ) × ℕ))
+      → left ≡ e ∷ others → FoundSo left → FoundSo others
+  found_more e others left is so s g k x h =
+      so s g (suc k) x (ap (λ l. slice_get l (suc k)) is ∙ h)
+
+  module _ (within : parent < length slots) (e : Bor (List ℕ) × ℕ)
+      (others left : List (Bor (List ℕ) × ℕ)) (is : left ≡ e ∷ others) (found : FoundSo left)
+      (place : Span) (nodes after : List TomlNode) (buffer : List ℕ) (end next : ℕ)
+      (new : List ℕ) (begins : place.offset ≡ end) (ends : place.length ≡ length e.0.now)
+      (changes : ChangesAt (IsNamedAs parent place) e.1 nodes after)
+      (puts : Puts e.0.now end buffer next new) where
+    pub name_more : NamesSo left end buffer nodes → NamesSo others next new after
+    name_more so tree path holds fits s g =
+        let room : next ≤ length buffer = omega (arith, puts.same, fits) in
+        let (stay, names) = so tree path holds (omega (arith, puts.up, room)) s g in
+        let here : path e.1 ≡ named e.0.now ∷ path parent =
+        (holds.found parent s g e.0.now e.1 (found s g 0 e (ap (λ l. slice_get l 0) is))).1 in
+        let stands = stands_put e.0.now end buffer next new place puts room begins ends in
+        let text = sym (puts.there room) in
+        let T : List ℕ → ℕ → Type 0 = λ l j. Leads l path (length slots) after j in
+        let others_so : (j : ℕ) → Leads (take end buffer) path (length slots) nodes j
+        → Leads (take next new) path (length slots) after j = λ j leads.
+        subst (λ l. T l j) text (named_others (take end buffer) path (length slots)
+        parent within place e.1 nodes after e.0.now
+        e.0.now changes (subst (λ l. StandsAt l place e.0.now) (sym text) stands) here j leads)
+        in (
+          λ j leads. others_so j (stay j leads),
+          λ name j f. elim (names name j f) [
+            | inl h ↦ elim (find_more name e others j (ap (λ l. find_in l name) (sym is) ∙ h)) [
+              | inl same ↦ inr (subst (λ i. Leads (take next new) path (length slots) after i) same
+                  (subst (λ l. T l e.1) text (named_here (take end buffer) path (length slots)
+                  parent within place e.1 nodes after
+                  e.0.now e.0.now changes
+                  (subst (λ l. StandsAt l place e.0.now) (sym text) stands) here)))
+              | inr more ↦ inl more
+            ]
+            | inr leads ↦ inr (others_so j leads)
+          ],
+        )
+
+none_left : (left : List (Bor (List ℕ) × ℕ)) (name : List ℕ) (j : ℕ) → left ≡ []
+    → find_in left name ≡ Some j → ⊥
+none_left left name j is f = never (sym (ap (λ l. find_in l name) is) ∙ f)
+  where
+    never : None ≡ Some j → ⊥
+    never e = cc
+
+module _ {A : Type 0} (slots : List (Slot A)) (parent at : ℕ) (old : List ℕ)
+    (before : List TomlNode) where
+  module _ (m : BTreeMap (Bor (List ℕ)) ℕ) (left : List (Bor (List ℕ) × ℕ))
+      (is : left ≡ m.entries) (s : Slot A) (there : slice_get slots parent ≡ Some s)
+      (places : m ≡ s.places) where
+    same_slot : (t : Slot A) → slice_get slots parent ≡ Some t → m ≡ t.places
+    same_slot t g = places ∙ ap (λ u. u.places) (slot_same (sym there ∙ g))
+      where
+        slot_same : {x y : Slot A} → Some x ≡ Some y → x ≡ y
+        slot_same e = cc
+
+    pub found_first : All (λ e. find m e.0.now ≡ Some e.1) m.entries
+        → FoundSo slots parent at old before left
+    found_first all t g k e h =
+        let there_k : slice_get m.entries k ≡ Some e = ap (λ l. slice_get l k) (sym is) ∙ h in
+        let P : Bor (List ℕ) × ℕ → Type 0 = λ x. find m x.0.now ≡ Some x.1 in
+        ap (λ n. find n e.0.now) (sym (same_slot t g))
+        ∙ subst P (get_or_from_slice_get m.entries k e e there_k)
+        (all k e (slice_get_within m.entries k e there_k))
+
+    pub names_first : NamesSo slots parent at old before left at old before
+    names_first tree path holds fits t g = (
+      λ j leads. leads,
+      λ name j f. inl (ap (λ l. find_in l name) is ∙ ap (λ n. find n name) (same_slot t g) ∙ f),
+    )
+
+    pub count_first : (t : Slot A) → slice_get slots parent ≡ Some t
+        → total name_len left ≡ names_len t
+    count_first t g =
+        ap (λ l. total name_len l) is ∙ ap (λ n. total name_len n.entries) (same_slot t g)
+
+  pub names_end : (left : List (Bor (List ℕ) × ℕ)) → left ≡ [] → (end : ℕ) (buffer : List ℕ)
+      (nodes : List TomlNode) → NamesSo slots parent at old before left end buffer nodes
+      → (tree : Tree A) (path : ℕ → Path) → Holds slots tree path → end ≤ length buffer
+      → (s : Slot A) → slice_get slots parent ≡ Some s
+      → ((j : ℕ) → Leads (take at old) path (length slots) before j
+      → Leads (take end buffer) path (length slots) nodes j)
+      × ((name : List ℕ) (j : ℕ) → find s.places name ≡ Some j
+      → Leads (take end buffer) path (length slots) nodes j)
+  names_end left is end buffer nodes so tree path holds fits s g =
+      let (stay, names) = so tree path holds fits s g in (
+        stay,
+        λ name j f. elim (names name j f) [
+          | inl h ↦ absurd (none_left left name j is h)
+          | inr leads ↦ leads
+        ],
+      )

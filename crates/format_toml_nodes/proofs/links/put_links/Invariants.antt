@@ -1,0 +1,15 @@
+use Rattle.std.proofs.Common.{◌≡◌, ◌+◌, ◌≤◌, drop, min}
+use Rattle.format_toml_nodes.specs.Laying.{Each, Grows, Keeps, most, names_len, total}
+use Rattle.format_toml_nodes.proofs.Elements.{LeadsSo}
+use Rattle.format_toml_nodes.proofs.links.put_links.Given as goal
+
+-- what is below the places before this one says where it stands
+abbrev pub invariant-loop-parent : goal.invariant-loop-parent
+invariant-loop-parent g l = record {
+  small : l.end ≤ most;
+  count : min (l.end + total names_len (drop l.parent l.slots)) most
+      ≡ min (l.at + total names_len l.slots) most;
+  grows : Grows l.at l.initial.buffer l.end l.buffer;
+  keeps : Each Keeps l.initial.nodes l.nodes;
+  leads : LeadsSo l.slots l.parent l.end l.buffer l.nodes;
+}

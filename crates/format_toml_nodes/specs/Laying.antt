@@ -1,0 +1,188 @@
+-- What the parts do that lay a tree.
+use Rattle.std.specs.Prelude.{◌≡◌, ◌⊎◌, ℕ, ◌+◌, ◌-◌, ◌<◌, ◌≤◌, ◌^◌, min, true, false}
+use Rattle.std.specs.Prelude.{List, [], ◌∷◌, ◌++◌, length, take, slice_get, Some}
+use Rattle.std.specs.Borrow.{Bor}
+use Rattle.format_toml_nodes.specs.Nodes.{HasParent, IsFirstIn, IsIn, Shows, text_of}
+use Rattle.format_toml_nodes.specs.declared.node.Span.{Span}
+use Rattle.format_toml_nodes.specs.declared.node.TomlNode.{TomlNode}
+use Rattle.format_toml_nodes.specs.declared.nodes.Size.{Size}
+use Rattle.format_toml_tree.specs.Holds.{Holds, find, node_at}
+use Rattle.format_toml_tree.specs.Paths.{Path}
+use Rattle.format_toml_tree.specs.Runs.{Tree}
+use Rattle.format_toml_tree.specs.declared.tree.Slot.{Slot}
+use Rattle.format_toml_tree.specs.declared.tree.Tree.{Tree as TreeOf}
+
+-- the most that is counted to
+abbrev pub most : ℕ
+most = 2 ^ 64 - 1
+
+-- a sum
+abbrev pub total : {X : Type 0} → (X → ℕ) → List X → ℕ
+total f [] = 0
+total f (x ∷ xs) = f x + total f xs
+
+-- ---- texts
+
+-- More stands in a text up to this place, and before it what stood there.
+pub record Grows (at : ℕ) (old : List ℕ) (end : ℕ) (new : List ℕ) : Type 0 where
+  pub up : at ≤ end
+  pub same : length new ≡ length old
+  pub there : end ≤ length old → (more : List ℕ) × (take end new ≡ take at old ++ more)
+
+-- Bytes are put at a place of a text, if there is room for them, and this is the place after.
+pub record Puts (bytes : List ℕ) (at : ℕ) (old : List ℕ) (end : ℕ) (new : List ℕ) : Type 0 where
+  pub is_end : end ≡ min (at + length bytes) most
+  pub up : at ≤ end
+  pub same : length new ≡ length old
+  pub there : end ≤ length old → take end new ≡ take at old ++ bytes
+
+-- ---- nodes
+
+-- what a node tells stays, and what is in it
+abbrev pub Keeps : TomlNode → TomlNode → Type 0
+Keeps was it = (it.value ≡ was.value) × (it.first ≡ was.first)
+
+abbrev pub IsNamedAs : ℕ → Span → TomlNode → TomlNode → Type 0
+IsNamedAs parent name was it =
+    Keeps was it × (it.parent ≡ parent) × (it.name ≡ name) × (it.is_element ≡ false)
+
+abbrev pub IsNumbered : ℕ → ℕ → TomlNode → TomlNode → Type 0
+IsNumbered parent index was it =
+    Keeps was it × (it.parent ≡ parent) × (it.index ≡ index) × (it.is_element ≡ true)
+
+-- A node changes so, if it is there, and the others stay.
+pub record ChangesAt (so : TomlNode → TomlNode → Type 0) (j : ℕ) (old new : List TomlNode) : Type 0
+  where
+    pub same : length new ≡ length old
+    pub each : (k : ℕ) (it : TomlNode) → slice_get new k ≡ Some it
+        → ((k ≡ j) × ((was : TomlNode) × (slice_get old k ≡ Some was) × so was it))
+        ⊎ ((k ≡ j → ⊥) × (slice_get old k ≡ Some it))
+
+-- Each node is so beside what it was.
+pub record Each (so : TomlNode → TomlNode → Type 0) (old new : List TomlNode) : Type 0 where
+  pub same : length new ≡ length old
+  pub each : (k : ℕ) (it : TomlNode) → slice_get new k ≡ Some it
+      → (was : TomlNode) × (slice_get old k ≡ Some was) × so was it
+
+-- If there is a node of this number, it stands in another, where its path says.
+abbrev pub Leads : List ℕ → (ℕ → Path) → ℕ → List TomlNode → ℕ → Type 0
+Leads text path count nodes j = (it : TomlNode) → slice_get nodes j ≡ Some it
+    → IsIn text path count j it
+
+abbrev pub name_len : Bor (List ℕ) × ℕ → ℕ
+name_len e = length e.0.now
+
+module _ {A : Type 0} where
+  -- how many bytes what there is at a place has
+  abbrev pub text_len : Slot A → ℕ
+  text_len s = length (text_of (node_at s))
+
+  -- how many bytes the names of its entries have
+  abbrev pub names_len : Slot A → ℕ
+  names_len s = total name_len s.places.entries
+
+  -- So it is of each place that is an entry of this one, or an element.
+  abbrev pub Below : Slot A → (ℕ → Type 0) → Type 0
+  Below s so = ((name : List ℕ) (j : ℕ) → find s.places name ≡ Some j → so j)
+      × ((k j : ℕ) → slice_get s.elements.items k ≡ Some j → so j)
+
+  -- Values are put, each for a place.
+  pub record PutsValues (slots : List (Slot A)) (old : List ℕ) (before : List TomlNode) (end : ℕ)
+      (new : List ℕ) (after : List TomlNode) : Type 0 where
+    pub count : end ≡ min (total text_len slots) most
+    pub same : (length new ≡ length old) × (length after ≡ length before)
+    pub shows : end ≤ length old → (k : ℕ) (s : Slot A) (it : TomlNode)
+        → slice_get slots k ≡ Some s → slice_get after k ≡ Some it
+        → Shows (take end new) it.value (node_at s)
+    pub apart : (k : ℕ) (it : TomlNode) → k < length slots → slice_get after k ≡ Some it
+        → it.first ≡ 0
+
+  -- The entries of a place are named.
+  pub record PutsEntries (slots : List (Slot A)) (parent at : ℕ) (old : List ℕ)
+      (before : List TomlNode) (end : ℕ) (new : List ℕ) (after : List TomlNode) : Type 0 where
+    pub count : (s : Slot A) → slice_get slots parent ≡ Some s → end ≡ min (at + names_len s) most
+    pub grows : Grows at old end new
+    pub keeps : Each Keeps before after
+    pub names : (tree : Tree A) (path : ℕ → Path) → Holds slots tree path → end ≤ length old
+        → (s : Slot A) → slice_get slots parent ≡ Some s
+        → ((j : ℕ) → Leads (take at old) path (length slots) before j
+        → Leads (take end new) path (length slots) after j)
+        × ((name : List ℕ) (j : ℕ) → find s.places name ≡ Some j
+        → Leads (take end new) path (length slots) after j)
+
+  -- The elements of a place are numbered.
+  pub record PutsElements (slots : List (Slot A)) (parent : ℕ) (before after : List TomlNode)
+      : Type 0 where
+    pub keeps : Each Keeps before after
+    pub numbers : (tree : Tree A) (path : ℕ → Path) → Holds slots tree path → (text : List ℕ)
+        → (s : Slot A) → slice_get slots parent ≡ Some s
+        → ((j : ℕ) → Leads text path (length slots) before j
+        → Leads text path (length slots) after j)
+        × ((k j : ℕ) → slice_get s.elements.items k ≡ Some j
+        → Leads text path (length slots) after j)
+
+  -- What is below each place says so.
+  pub record PutsLinks (slots : List (Slot A)) (at : ℕ) (old : List ℕ) (before : List TomlNode)
+      (end : ℕ) (new : List ℕ) (after : List TomlNode) : Type 0 where
+    pub count : end ≡ min (at + total names_len slots) most
+    pub grows : Grows at old end new
+    pub keeps : Each Keeps before after
+    pub leads : (tree : Tree A) (path : ℕ → Path) → Holds slots tree path → end ≤ length old
+        → (i : ℕ) (s : Slot A) → slice_get slots i ≡ Some s
+        → Below s (Leads (take end new) path (length slots) after)
+
+  -- All is put, but the first and the next of each.
+  pub record PutsAll (slots : List (Slot A)) (old : List ℕ) (before : List TomlNode) (end : ℕ)
+      (new : List ℕ) (after : List TomlNode) : Type 0 where
+    pub count : end ≡ min (total text_len slots + total names_len slots) most
+    pub same : (length new ≡ length old) × (length after ≡ length before)
+    pub shows : end ≤ length old → (k : ℕ) (s : Slot A) (it : TomlNode)
+        → slice_get slots k ≡ Some s → slice_get after k ≡ Some it
+        → Shows (take end new) it.value (node_at s)
+    pub apart : (k : ℕ) (it : TomlNode) → k < length slots → slice_get after k ≡ Some it
+        → it.first ≡ 0
+    pub leads : (tree : Tree A) (path : ℕ → Path) → Holds slots tree path → end ≤ length old
+        → (i : ℕ) (s : Slot A) → slice_get slots i ≡ Some s
+        → Below s (Leads (take end new) path (length slots) after)
+
+  -- It is the size of a tree: as many nodes as places, and the bytes of all.
+  abbrev pub IsSizeOf : TreeOf A → Size → Type 0
+  IsSizeOf tree size = (size.nodes ≡ length tree.slots.items)
+      × (size.text ≡ min (total text_len tree.slots.items + total names_len tree.slots.items) most)
+
+-- ---- joins
+
+-- what a node tells stays, and where it stands
+abbrev pub Stays : TomlNode → TomlNode → Type 0
+Stays was it = (it.value ≡ was.value) × (it.parent ≡ was.parent) × (it.name ≡ was.name)
+    × (it.index ≡ was.index) × (it.is_element ≡ was.is_element)
+
+abbrev pub IsBefore : ℕ → TomlNode → TomlNode → Type 0
+IsBefore next was it = Stays was it × (it.first ≡ was.first) × (it.next ≡ next)
+
+abbrev pub IsAbove : ℕ → TomlNode → TomlNode → Type 0
+IsAbove first was it = Stays was it × (it.first ≡ first) × (it.next ≡ was.next)
+
+-- Nodes are joined from this number on.
+pub record JoinsFrom (from : ℕ) (old new : List TomlNode) : Type 0 where
+  pub stays : Each Stays old new
+  pub firsts : (j : ℕ) (it : TomlNode) → slice_get new j ≡ Some it → IsFirstIn old j from it.first
+  pub nexts : (j : ℕ) (it : TomlNode) → from ≤ j → slice_get new j ≡ Some it
+      → it.parent < length old → IsFirstIn old it.parent (j + 1) it.next
+
+-- One is put first in the one that it is in.
+pub record JoinsOne (number : ℕ) (old new : List TomlNode) : Type 0 where
+  pub same : length new ≡ length old
+  pub stays : Each Stays old new
+  pub first : (j : ℕ) (it : TomlNode) → slice_get new j ≡ Some it
+      → (HasParent old number j × (it.first ≡ number))
+      ⊎ ((HasParent old number j → ⊥)
+      × ((was : TomlNode) × (slice_get old j ≡ Some was) × (it.first ≡ was.first)))
+  pub next : (it : TomlNode) → slice_get new number ≡ Some it → it.parent < length old
+      → (above : TomlNode) × (slice_get old it.parent ≡ Some above) × (it.next ≡ above.first)
+  pub others : (j : ℕ) (it : TomlNode) → (j ≡ number → ⊥) → slice_get new j ≡ Some it
+      → (was : TomlNode) × (slice_get old j ≡ Some was) × (it.next ≡ was.next)
+
+-- no node says that there is one in it
+abbrev pub AreApart : List TomlNode → Type 0
+AreApart nodes = (j : ℕ) (it : TomlNode) → slice_get nodes j ≡ Some it → it.first ≡ 0

@@ -1,0 +1,3 @@
+-- Written by scripts/registries.py: do not edit.
+pub mod Laying
+pub mod Nodes

@@ -1,0 +1,97 @@
+//! Nodes of the places of a tree, and where each stands.
+ghost use Rattle.std.specs.Prelude.{◌≡◌, ◌<◌, length};
+ghost use Rattle.format_toml_nodes.specs.Laying.{PutsElements, PutsEntries, PutsLinks};
+ghost use Rattle.format_toml_nodes.specs.Laying.{PutsValues};
+
+use crate::node::{NO_NODE, Span, TomlNode, TomlValue};
+use crate::put::{put_bytes, put_index, put_name, put_node};
+use crate::values::{text, value_of};
+use format_toml_tree::tree::Slot;
+use std::alloc::Allocator;
+
+/// A node that stands in none.
+fn alone(value: TomlValue) -> TomlNode
+    ensures value { result.value ≡ value }
+    ensures first { result.first ≡ 0 }
+{
+    TomlNode { value, ..NO_NODE }
+}
+
+/// Puts what there is at each place, with its bytes, and answers the place after these.
+pub(crate) fn put_values<'t, A: Allocator + Copy>(
+    slots: &[Slot<'t, A>],
+    buffer: &mut [u8],
+    nodes: &mut [TomlNode],
+) -> usize
+    ensures { PutsValues slots.now buffer.old nodes.old result buffer.new nodes.new }
+{
+    let mut end = 0;
+    for place in 0..slots.len() {
+        let kind = slots[place].kind();
+        let bytes = text(kind).as_bytes();
+        let span = Span {
+            offset: end,
+            length: bytes.len(),
+        };
+        put_node(alone(value_of(kind, span)), place, nodes);
+        end = put_bytes(bytes, end, buffer);
+    }
+    end
+}
+
+/// Says of the entries of a place where they stand, with their names, and answers the place after
+/// these.
+fn put_entries<'t, A: Allocator + Copy>(
+    slots: &[Slot<'t, A>],
+    parent: usize,
+    at: usize,
+    buffer: &mut [u8],
+    nodes: &mut [TomlNode],
+) -> usize
+    requires { parent < length slots.now }
+    ensures { PutsEntries slots.now parent at buffer.old nodes.old result buffer.new nodes.new }
+{
+    let mut end = at;
+    for (name, place) in slots[parent].places() {
+        let bytes = name.as_bytes();
+        let span = Span {
+            offset: end,
+            length: bytes.len(),
+        };
+        put_name(*place, parent, span, nodes);
+        end = put_bytes(bytes, end, buffer);
+    }
+    end
+}
+
+/// Says of the elements of a place where they stand.
+fn put_elements<'t, A: Allocator + Copy>(
+    slots: &[Slot<'t, A>],
+    parent: usize,
+    nodes: &mut [TomlNode],
+)
+    requires { parent < length slots.now }
+    ensures { PutsElements slots.now parent nodes.old nodes.new }
+{
+    let elements = slots[parent].elements();
+    for index in 0..elements.len() {
+        put_index(elements[index], parent, index, nodes);
+    }
+}
+
+/// Says of what is below each place where it stands, and answers the place after the names.
+pub(crate) fn put_links<'t, A: Allocator + Copy>(
+    slots: &[Slot<'t, A>],
+    at: usize,
+    buffer: &mut [u8],
+    nodes: &mut [TomlNode],
+) -> usize
+    ensures { PutsLinks slots.now at buffer.old nodes.old result buffer.new nodes.new }
+{
+    let mut end = at;
+    for parent in 0..slots.len() {
+        end = put_entries(slots, parent, end, buffer, nodes);
+        put_elements(slots, parent, nodes);
+    }
+    end
+}

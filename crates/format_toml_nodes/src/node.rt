@@ -1,0 +1,138 @@
+//! Nodes, and what they tell.
+
+/// A place in the text: that many bytes, from one on.
+///
+/// ```
+/// use format_toml_nodes::node::Span;
+///
+/// let span = Span { offset: 4, length: 1 };
+/// assert_eq!(rt; span.offset + span.length, 5);
+/// ```
+#[repr(C)]
+#[derive(Clone, Copy, Debug, PartialEq, Eq, Drop)]
+pub struct Span {
+    /// How many bytes stand before it.
+    pub offset: usize,
+    /// How many bytes it has.
+    pub length: usize,
+}
+
+/// A table, of headers, of dotted keys or inline.
+pub const TOML_TABLE: usize = 0;
+
+/// An array, of values or of tables.
+pub const TOML_ARRAY: usize = 1;
+
+/// A string.
+pub const TOML_STRING: usize = 2;
+
+/// An integer.
+pub const TOML_INTEGER: usize = 3;
+
+/// A float.
+pub const TOML_FLOAT: usize = 4;
+
+/// The word `true` or `false`.
+pub const TOML_BOOLEAN: usize = 5;
+
+/// A date and a time at an offset from UTC.
+pub const TOML_OFFSET_DATE_TIME: usize = 6;
+
+/// A date and a time with no offset.
+pub const TOML_LOCAL_DATE_TIME: usize = 7;
+
+/// A date alone.
+pub const TOML_LOCAL_DATE: usize = 8;
+
+/// A time alone.
+pub const TOML_LOCAL_TIME: usize = 9;
+
+/// What there is at a node. What its kind has no use for is 0.
+///
+/// ```
+/// use format_toml_nodes::node::{NO_NODE, TOML_TABLE};
+///
+/// assert_eq!(rt; NO_NODE.value.kind, TOML_TABLE);
+/// ```
+#[repr(C)]
+#[derive(Clone, Copy, Debug, PartialEq, Eq, Drop)]
+pub struct TomlValue {
+    /// What it is: one of the numbers `TOML_TABLE` to `TOML_LOCAL_TIME`.
+    pub kind: usize,
+    /// The year of a date, from 0 to 9999.
+    pub year: u16,
+    /// The month of a date, from 1 to 12.
+    pub month: u8,
+    /// The day of a date, from 1 to the last of its month.
+    pub day: u8,
+    /// The hour of a time, from 0 to 23.
+    pub hour: u8,
+    /// The minute of a time, from 0 to 59.
+    pub minute: u8,
+    /// The second of a time, from 0 to 60, which is a leap second.
+    pub second: u8,
+    /// How many minutes a time is ahead of UTC, below zero to the west.
+    pub offset: i16,
+    /// The integer, or 1 for `true` and 0 for `false`.
+    pub integer: i64,
+    /// Where in the text its own bytes stand: those of a string, with its escapes undone; of a
+    /// float, without underscores, as `-1.5e+3`, `inf` and `nan`; or the digits of the fraction of
+    /// a second. Other values have none.
+    pub text: Span,
+}
+
+/// A node: what there is at a path of a document.
+///
+/// ```
+/// use format_toml_nodes::node::NO_NODE;
+///
+/// assert_eq!(rt; NO_NODE.next, 0);
+/// ```
+#[repr(C)]
+#[derive(Clone, Copy, Debug, PartialEq, Eq, Drop)]
+pub struct TomlNode {
+    /// The number of the table or array that it is in. That of the first node, which is in none,
+    /// is 0.
+    pub parent: usize,
+    /// The number of the first node in it, or 0 where there is none.
+    pub first: usize,
+    /// The number of the next node in the same table or array, or 0 where there is none.
+    pub next: usize,
+    /// How many elements stand before it in its array. In a table 0.
+    pub index: usize,
+    /// Where in the text its name in its table stands, its quotes and escapes undone. In an array
+    /// it has no bytes.
+    pub name: Span,
+    /// What there is.
+    pub value: TomlValue,
+    /// Whether it is an element of an array. Else it is an entry of a table, or the first node.
+    pub is_element: bool,
+}
+
+/// The place of no bytes.
+pub(crate) const NOWHERE: Span = Span {
+    offset: 0,
+    length: 0,
+};
+
+/// A node of nothing, which callers have room with.
+pub const NO_NODE: TomlNode = TomlNode {
+    parent: 0,
+    first: 0,
+    next: 0,
+    index: 0,
+    name: NOWHERE,
+    value: TomlValue {
+        kind: TOML_TABLE,
+        year: 0,
+        month: 0,
+        day: 0,
+        hour: 0,
+        minute: 0,
+        second: 0,
+        offset: 0,
+        integer: 0,
+        text: NOWHERE,
+    },
+    is_element: false,
+};

@@ -1,0 +1,85 @@
+//! What is put into a buffer, as far as there is room.
+ghost use Rattle.std.specs.Prelude.{◌≡◌, set};
+ghost use Rattle.format_toml_nodes.specs.Laying.{ChangesAt, IsAbove, IsBefore, IsNamedAs};
+ghost use Rattle.format_toml_nodes.specs.Laying.{IsNumbered, Puts};
+
+use crate::node::{Span, TomlNode};
+
+/// Puts bytes at a place of the text, if there is room for them, and answers the place after.
+#[inline]
+pub(crate) fn put_bytes(bytes: &[u8], at: usize, text: &mut [u8]) -> usize
+    ensures { Puts bytes.now at text.old result text.new }
+{
+    let end = at.saturating_add(bytes.len());
+    if end <= text.len() {
+        text[at..end].copy_from_slice(bytes);
+    }
+    end
+}
+
+/// Puts a node at its number, if there is room for it.
+#[inline]
+pub(crate) fn put_node(node: TomlNode, number: usize, nodes: &mut [TomlNode])
+    ensures { nodes.new ≡ set nodes.old number node }
+{
+    if number < nodes.len() {
+        nodes[number] = node;
+    }
+}
+
+/// Says of a node, if it is there, that it has this name in the table of that number.
+#[inline]
+pub(crate) fn put_name(number: usize, parent: usize, name: Span, nodes: &mut [TomlNode])
+    ensures { ChangesAt (IsNamedAs parent name) number nodes.old nodes.new }
+{
+    if number < nodes.len() {
+        nodes[number] = TomlNode {
+            parent,
+            name,
+            index: 0,
+            is_element: false,
+            ..nodes[number]
+        };
+    }
+}
+
+/// Says of a node, if it is there, that it stands after so many in the array of that number.
+#[inline]
+pub(crate) fn put_index(number: usize, parent: usize, index: usize, nodes: &mut [TomlNode])
+    ensures { ChangesAt (IsNumbered parent index) number nodes.old nodes.new }
+{
+    if number < nodes.len() {
+        nodes[number] = TomlNode {
+            parent,
+            index,
+            is_element: true,
+            ..nodes[number]
+        };
+    }
+}
+
+/// Says of a node, if it is there, which is next beside it.
+#[inline]
+pub(crate) fn put_next(number: usize, next: usize, nodes: &mut [TomlNode])
+    ensures { ChangesAt (IsBefore next) number nodes.old nodes.new }
+{
+    if number < nodes.len() {
+        nodes[number] = TomlNode {
+            next,
+            ..nodes[number]
+        };
+    }
+}
+
+/// Says of a node, if it is there, which is first in it.
+#[inline]
+pub(crate) fn put_first(number: usize, first: usize, nodes: &mut [TomlNode])
+    ensures { ChangesAt (IsAbove first) number nodes.old nodes.new }
+{
+    if number < nodes.len() {
+        nodes[number] = TomlNode {
+            first,
+            ..nodes[number]
+        };
+    }
+}

@@ -1,0 +1,5 @@
+//! The tests of nodes of documents of TOML (`format_toml_nodes`).
+#![tactic(auto)]
+
+#[cfg(test)]
+mod nodes;
