@@ -69,6 +69,16 @@ fn values_are_of_their_kinds() {
 }
 
 #[test]
+fn elements_have_no_names() {
+    let (mut bytes, mut nodes) = ([0; 8], [Node::default(); 8]);
+    let document = toml::parse("a = [1, [2], {b = 3}]", 2, &mut bytes, &mut nodes).unwrap();
+    let array = document.root().get("a").unwrap();
+    assert_eq!(array.name(), Some("a"));
+    assert!(array.elements().all(|it| it.name().is_none()));
+    assert_eq!((array.elements().count(), array.entries().count()), (3, 0));
+}
+
+#[test]
 fn errors_say_where_and_why() {
     let rows = [
         ("a = \"é\"\nb 2\n", "line 2, column 3: expected `=`"),
