@@ -11,5 +11,3 @@ mod pieces;
 mod replies;
 #[cfg(test)]
 mod shown;
-#[cfg(test)]
-mod written;
