@@ -39,7 +39,8 @@ READERS = [
         "the reply that bytes begin with, nested to a level, whole and in pieces; where it ends, "
         "by one pass over pieces; the text of a reply or a command, which reads back"),
     ("RESP3", "format_resp3", "yes",
-        "the reply that bytes begin with, of each type and nested to a level, whole and in pieces"),
+        "the reply that bytes begin with, of each type and nested to a level, whole and in pieces; "
+        "the text of a reply, which reads back"),
     ("JSON (RFC 8259): numbers, strings, words", "format_json_scalars", "yes",
         "the number, string or word that a text begins with, its escapes undone"),
     ("JSON: values", "format_json_values", "yes",

@@ -11,3 +11,5 @@ mod pieces;
 mod replies;
 #[cfg(test)]
 mod shown;
+#[cfg(test)]
+mod written;

@@ -99,14 +99,13 @@ module _ {A : Type 0} (alike : Replies A → Replies A → Type 0) where
       (same_bytes n x y tokens rest other (front, a, d) (back, b, h))
 
 -- Lists of which texts stand first in the same tokens are pairwise alike, if they are as long.
-abbrev Pairs : {A : Type 0} → (Replies A → Replies A → Type 0)
-    → (List (Replies A) → List ℕ → Type 0) → Type 0
-Pairs {A} alike elements =
-    (os ps : List (Replies A)) (xs ys rest other : List ℕ) → elements os xs → elements ps ys
+abbrev pub Pairs : {O : Type 0} → (O → O → Type 0) → Text ℕ (List O) → Type 0
+Pairs {O} alike elements =
+    (os ps : List O) (xs ys rest other : List ℕ) → elements os xs → elements ps ys
     → xs ++ rest ≡ ys ++ other → length os ≡ length ps → ArePairwise alike os ps
 
-rows_alike : {A : Type 0} (text : Text ℕ (Replies A)) (alike : Replies A → Replies A → Type 0)
-    → IsUnique (First text) → ((v w : Replies A) (tokens rest other : List ℕ)
+pub rows_alike : {O : Type 0} (text : Text ℕ O) (alike : O → O → Type 0)
+    → IsUnique (First text) → ((v w : O) (tokens rest other : List ℕ)
     → First text tokens v rest → First text tokens w other
     → alike v w) → Pairs alike (EachText text)
 unfolding First EachText

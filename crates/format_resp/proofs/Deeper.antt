@@ -10,15 +10,15 @@ use Rattle.format_resp.specs.Resp.{ArrayBehind, Body, Elements, MarkText, Replie
 use Rattle.format_resp.specs.declared.leaves.Mark.{Mark}
 use Rattle.format_resp.specs.declared.leaves.Mark.TheVariants.{Colon, Dollar, Minus, Plus, Star}
 
-module _ {A : Type 0} where
-  pub row_as : (these those : Text ℕ (Replies A))
-      → ((o : Replies A) (xs : List ℕ) → these o xs → those o xs) → (os : List (Replies A))
-      (xs : List ℕ) → EachText these os xs → EachText those os xs
-  unfolding EachText
-  row_as these those leads [] xs e = e
-  row_as these those leads (o ∷ os) xs (ys, zs, a, row, e) =
-      (ys, zs, leads o ys a, row_as these those leads os zs row, e)
+pub row_as : {O : Type 0} (these those : Text ℕ O)
+    → ((o : O) (xs : List ℕ) → these o xs → those o xs) → (os : List O) (xs : List ℕ)
+    → EachText these os xs → EachText those os xs
+unfolding EachText
+row_as these those leads [] xs e = e
+row_as these those leads (o ∷ os) xs (ys, zs, a, row, e) =
+    (ys, zs, leads o ys a, row_as these those leads os zs row, e)
 
+module _ {A : Type 0} where
   module _ (these those : Text ℕ (List (Replies A)))
       (leads : (os : List (Replies A)) (xs : List ℕ) → these os xs → those os xs) where
     behind_as : (size : Option ℕ) (reply : Replies A) (xs : List ℕ)

@@ -11,7 +11,7 @@ use Rattle.winnow.specs.InTurn.{First}
 use Rattle.winnow.specs.Input.{Input}
 use Rattle.winnow.specs.Kind.{Kind, memory}
 use Rattle.winnow.specs.Partial.{with_flag}
-use Rattle.winnow.specs.Texts.{EachText}
+use Rattle.winnow.specs.Texts.{EachText, Text}
 use Rattle.format_resp.proofs.AlikeReplies.{replies_alike}
 use Rattle.format_resp.proofs.Deeper.{list_for}
 use Rattle.format_resp.proofs.WrittenTexts.{written_text}
@@ -43,40 +43,39 @@ module _ {A : Type 0} (level : ℕ) where
   written_back written read text more rest a b =
       one_reply written read (text ++ more) more rest (text, a, refl) b
 
-  -- what is put after nothing, with more after it
-  pub put_first : {reply : Replies A} {before between after bytes : List ℕ} (more : List ℕ)
-      → before ≡ [] → Adds (ReplyText level) reply before between → after ≡ between ++ more
-      → bytes ≡ after → First (ReplyText level) bytes reply more
-  unfolding First
-  put_first more none added e same = (
-    added.tokens,
-    added.is,
-    same ∙ e
-        ∙ ap (λ l. l ++ more) (added.behind ∙ ap (λ l. l ++ added.tokens) none),
-  )
+-- what is put after nothing, with more after it
+pub put_first : {O : Type 0} (text : Text ℕ O) {o : O} {before between after bytes : List ℕ}
+    (more : List ℕ) → before ≡ [] → Adds text o before between → after ≡ between ++ more
+    → bytes ≡ after → First text bytes o more
+unfolding First
+put_first text more none added e same = (
+  added.tokens,
+  added.is,
+  same ∙ e
+      ∙ ap (λ l. l ++ more) (added.behind ∙ ap (λ l. l ++ added.tokens) none),
+)
 
 -- what is read of a whole input
-module _ {A E : Type 0} (level : ℕ) (bytes : List ℕ) {i j : Input ℕ} {kind : E → Kind}
+module _ {O E : Type 0} (text : Text ℕ O) (bytes : List ℕ) {i j : Input ℕ} {kind : E → Kind}
     (is : i ≡ with_flag (bytes_input bytes) false) where
-  pub whole_stands : (reply : Replies A)
-      → ReadsOrAsks bytes_reading bytes_follow kind (First (ReplyText level)) i (Ok reply) j
-      → First (ReplyText level) bytes reply j.left.tokens
-  whole_stands reply r =
+  pub whole_stands : (o : O)
+      → ReadsOrAsks bytes_reading bytes_follow kind (First text) i (Ok o) j
+      → First text bytes o j.left.tokens
+  whole_stands o r =
       let P : Input ℕ → Type 0 = λ x. ReadsOrAsks bytes_reading bytes_follow kind
-      (First (ReplyText level)) x (Ok reply) j in
+      (First text) x (Ok o) j in
       (subst P is r).whole.stands refl
 
-  -- where a reply stands it fails only if memory is refused
+  -- where it stands it fails only if memory is refused
   pub whole_wants : (e : E) → (kind e ≡ memory → ⊥)
-      → (reply : Replies A) × (rest : List ℕ) × First (ReplyText level) bytes reply rest
-      → ReadsOrAsks {O = Replies A} bytes_reading bytes_follow kind (First (ReplyText level)) i
-      (Err e) j → ⊥
-  whole_wants e not_memory (reply, rest, a) r =
-      let P : Input ℕ → Type 0 = λ x. ReadsOrAsks {O = Replies A} bytes_reading bytes_follow
-      kind (First (ReplyText level)) x (Err e) j in
+      → (o : O) × (rest : List ℕ) × First text bytes o rest
+      → ReadsOrAsks {O = O} bytes_reading bytes_follow kind (First text) i (Err e) j → ⊥
+  whole_wants e not_memory (o, rest, a) r =
+      let P : Input ℕ → Type 0 = λ x. ReadsOrAsks {O = O} bytes_reading bytes_follow
+      kind (First text) x (Err e) j in
       elim ((subst P is r).whole.none refl) [
         | inl m ↦ not_memory m
-        | inr (_, none) ↦ none reply rest a
+        | inr (_, none) ↦ none o rest a
       ]
 
 -- ---- commands

@@ -43,7 +43,7 @@ if_error {T} {E} P result e is p =
 -- ---- replies
 
 -- what was put is all that is there after
-adds : {O : Type 0} {text : Text ℕ O} {o : O} {before after : List ℕ} (tokens : List ℕ)
+pub adds : {O : Type 0} {text : Text ℕ O} {o : O} {before after : List ℕ} (tokens : List ℕ)
     → text o tokens → after ≡ before ++ tokens → Adds text o before after
 adds tokens is e = record { tokens = tokens; is = is; behind = e }
 

@@ -28,7 +28,7 @@ use Rattle.format_resp.specs.declared.reply.Reply as made
 no_digit : NoDigitFirst []
 no_digit d more e is = cc
 
-signed_text : (n : ℤ) → FitsSigned w64 n → SignedText n (signed_decimal n)
+pub signed_text : (n : ℤ) → FitsSigned w64 n → SignedText n (signed_decimal n)
 unfolding SignedWritten
 signed_text n fits =
     all_signed n (signed_decimal n)
@@ -47,7 +47,7 @@ unfolding SizeText
 size_text n small =
     (pos n, integer_text (pos n) (fits_size n small), (omega (arith, small), refl))
 
-null_text : SizeText None (45 ∷ 49 ∷ line_end)
+pub null_text : SizeText None (45 ∷ 49 ∷ line_end)
 unfolding SizeText
 null_text =
     let P : List ℕ → Type 0 = λ l. IntegerText (neg_ℤ (pos 1)) (45 ∷ (l ++ line_end)) in (

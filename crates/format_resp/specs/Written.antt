@@ -29,9 +29,13 @@ pub record Adds {O : Type 0} (text : Text ℕ O) (o : O) (before after : List �
 abbrev pub marked : ℕ → List ℕ → List ℕ
 marked mark text = mark ∷ (text ++ line_end)
 
--- a bulk string: its size, its bytes, and a line end
+-- a first byte, how many bytes there are, the bytes, and a line end
+abbrev pub data_of : ℕ → List ℕ → List ℕ
+data_of mark bytes = marked mark (decimal (length bytes)) ++ (bytes ++ line_end)
+
+-- a bulk string
 abbrev pub bulk_of : List ℕ → List ℕ
-bulk_of bytes = marked 36 (decimal (length bytes)) ++ (bytes ++ line_end)
+bulk_of bytes = data_of 36 bytes
 
 -- bulk strings, one after the other
 abbrev pub bulks_of : List (Bor (List ℕ)) → List ℕ

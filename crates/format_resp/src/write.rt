@@ -1,7 +1,7 @@
 //! Replies and commands as bytes.
 ghost use Rattle.format_resp.specs.Resp.{InLine, ReplyText};
 ghost use Rattle.format_resp.specs.Written.{Adds, IsNoLine, IsRefused, IsRefusedAmong, Keeps};
-ghost use Rattle.format_resp.specs.Written.{WrittenText, bulk_of, bulks_of, command_of, marked};
+ghost use Rattle.format_resp.specs.Written.{WrittenText, bulks_of, command_of, data_of, marked};
 ghost use Rattle.format_resp.specs.declared.reply.Reply as reply;
 ghost use Rattle.format_resp.specs.declared.write.WriteError.TheVariants.{NoParts, OutOfMemory};
 ghost use Rattle.std.specs.Fmt.{decimal, signed_decimal};
@@ -55,8 +55,24 @@ fn put<B: Allocator>(byte: u8, into: &mut Vec<u8, B>) -> Result<(), AllocError>
     }
 }
 
-/// Puts a byte, what stands after it on its line, and the line end after what is there.
-fn write_line<B: Allocator>(mark: u8, line: &[u8], into: &mut Vec<u8, B>) -> Result<(), AllocError>
+/// Puts the first byte of a reply, what stands after it on its line, and the line end after what is
+/// there. That it is a line is not looked at: [`is_line`] says so.
+///
+/// With an error, which says that a request for memory was refused, some of it may stand there. So
+/// it is of each function here that is not [`write_reply`] or [`write_command`].
+///
+/// ```
+/// use format_resp::write::write_line;
+///
+/// let mut bytes = Vec::new(alloc);
+/// assert!(rt; write_line(b'+', b"OK", &mut bytes).is_ok());
+/// assert_eq!(rt; bytes.as_slice(), b"+OK\r\n".as_slice());
+/// ```
+pub fn write_line<B: Allocator>(
+    mark: u8,
+    line: &[u8],
+    into: &mut Vec<u8, B>,
+) -> Result<(), AllocError>
     ensures written { OnOk result (into.new.items ≡ into.old.items ++ marked mark line.now) }
     ensures kept { Keeps into.old.items into.new.items }
 {
@@ -92,8 +108,20 @@ fn write_signed<B: Allocator>(number: i64, into: &mut Vec<u8, B>) -> Result<(), 
     write_digits(number.unsigned_abs(), into)
 }
 
-/// Puts a size after a first byte on a line of its own.
-fn write_size<B: Allocator>(mark: u8, size: usize, into: &mut Vec<u8, B>) -> Result<(), AllocError>
+/// Puts the first byte of a reply and a size, on a line of their own, after what is there.
+///
+/// ```
+/// use format_resp::write::write_size;
+///
+/// let mut bytes = Vec::new(alloc);
+/// assert!(rt; write_size(b'*', 12, &mut bytes).is_ok());
+/// assert_eq!(rt; bytes.as_slice(), b"*12\r\n".as_slice());
+/// ```
+pub fn write_size<B: Allocator>(
+    mark: u8,
+    size: usize,
+    into: &mut Vec<u8, B>,
+) -> Result<(), AllocError>
     ensures written { OnOk result (into.new.items ≡ into.old.items ++ marked mark (decimal size)) }
     ensures kept { Keeps into.old.items into.new.items }
 {
@@ -104,7 +132,15 @@ fn write_size<B: Allocator>(mark: u8, size: usize, into: &mut Vec<u8, B>) -> Res
 }
 
 /// Puts an integer after what is there.
-fn write_integer<B: Allocator>(number: i64, into: &mut Vec<u8, B>) -> Result<(), AllocError>
+///
+/// ```
+/// use format_resp::write::write_integer;
+///
+/// let mut bytes = Vec::new(alloc);
+/// assert!(rt; write_integer(-7, &mut bytes).is_ok());
+/// assert_eq!(rt; bytes.as_slice(), b":-7\r\n".as_slice());
+/// ```
+pub fn write_integer<B: Allocator>(number: i64, into: &mut Vec<u8, B>) -> Result<(), AllocError>
     ensures written { OnOk result
         (into.new.items ≡ into.old.items ++ marked 58 (signed_decimal number)) }
     ensures kept { Keeps into.old.items into.new.items }
@@ -115,19 +151,38 @@ fn write_integer<B: Allocator>(number: i64, into: &mut Vec<u8, B>) -> Result<(),
     Ok(())
 }
 
-/// Puts a bulk string after what is there.
-fn write_bulk<B: Allocator>(bytes: &[u8], into: &mut Vec<u8, B>) -> Result<(), AllocError>
-    ensures written { OnOk result (into.new.items ≡ into.old.items ++ bulk_of bytes.now) }
+/// Puts the first byte of a reply, how many bytes there are, and the bytes, each on a line of their
+/// own, after what is there.
+///
+/// ```
+/// use format_resp::write::write_data;
+///
+/// let mut bytes = Vec::new(alloc);
+/// assert!(rt; write_data(b'$', b"a\r\nb", &mut bytes).is_ok());
+/// assert_eq!(rt; bytes.as_slice(), b"$4\r\na\r\nb\r\n".as_slice());
+/// ```
+pub fn write_data<B: Allocator>(
+    mark: u8,
+    bytes: &[u8],
+    into: &mut Vec<u8, B>,
+) -> Result<(), AllocError>
+    ensures written { OnOk result (into.new.items ≡ into.old.items ++ data_of mark bytes.now) }
     ensures kept { Keeps into.old.items into.new.items }
 {
-    write_size(b'$', bytes.len(), into)?;
+    write_size(mark, bytes.len(), into)?;
     into.extend_from_slice(bytes)?;
     into.extend_from_slice(b"\r\n")?;
     Ok(())
 }
 
-/// Whether no byte is of a line end.
-fn is_line(bytes: &[u8]) -> bool
+/// Whether no byte is of a line end: a carriage return or a line feed.
+///
+/// ```
+/// use format_resp::write::is_line;
+///
+/// assert!(rt; is_line(b"ERR unknown command") && !is_line(b"ERR\nno"));
+/// ```
+pub fn is_line(bytes: &[u8]) -> bool
     ensures { MatchBool result (AllByRecursion InLine bytes.now)
         (AllByRecursion InLine bytes.now → ⊥) }
 {
@@ -205,7 +260,7 @@ fn write_nested<A: Allocator, B: Allocator>(
             Ok(())
         }
         Reply::Bulk(bytes) => {
-            write_bulk(bytes, into)?;
+            write_data(b'$', bytes, into)?;
             Ok(())
         }
         Reply::NullBulk => {
@@ -273,7 +328,7 @@ fn write_bulks<B: Allocator>(parts: &[&[u8]], into: &mut Vec<u8, B>) -> Result<(
     ensures kept { Keeps into.old.items into.new.items }
 {
     for part in parts {
-        write_bulk(part, into)?;
+        write_data(b'$', part, into)?;
     }
     Ok(())
 }

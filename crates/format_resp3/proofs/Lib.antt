@@ -1,7 +1,13 @@
+pub mod AlikeReplies
 pub mod Bodies
 pub mod FirstBytes
 pub mod Lines
+pub mod Made
 pub mod NumberTexts
 pub mod Plain
+pub mod ReadBack
+pub mod Refusals
 pub mod Sayings
 pub mod Told
+pub mod Writing
+pub mod WrittenTexts

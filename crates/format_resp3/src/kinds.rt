@@ -1,7 +1,7 @@
 //! What lines, bytes and lists are, after the first bytes of replies.
 
 ghost use Rattle.std.specs.List.{AllByRecursion};
-ghost use Rattle.std.specs.Prelude.{◌≡◌, ◌≤◌, ◌^◌, Bool, IfSome, None};
+ghost use Rattle.std.specs.Prelude.{◌≡◌, ◌≤◌, ◌+◌, ◌*◌, ◌^◌, ℕ, Bool, IfSome, None};
 ghost use Rattle.format_resp.specs.Resp.{InLine};
 ghost use Rattle.format_resp3.specs.Resp3.{BooleanText, DataSays, LineSays, Replies};
 ghost use Rattle.format_resp3.specs.Resp3.{gathered, many};
@@ -112,6 +112,44 @@ pub(crate) fn count_of(mark: AggregateMark, size: usize) -> Option<usize>
         AggregateMark::Tilde => Some(size),
         AggregateMark::Greater => Some(size),
         AggregateMark::Bar => size.checked_mul(2)?.checked_add(1),
+    }
+}
+
+/// Half of it, where it is even.
+fn half_of(count: usize) -> Option<usize>
+    ensures some { IfSome result (λ half. count ≡ half * 2) }
+    ensures none { result ≡ None → (half : ℕ) → count ≡ half * 2 → ⊥ }
+{
+    if count % 2 == 0 {
+        Some(count / 2)
+    } else {
+        None
+    }
+}
+
+/// Half of what is left of it without one, where it is odd.
+fn half_without_one(count: usize) -> Option<usize>
+    ensures some { IfSome result (λ half. count ≡ half * 2 + 1) }
+    ensures none { result ≡ None → (half : ℕ) → count ≡ half * 2 + 1 → ⊥ }
+{
+    if count % 2 == 1 {
+        Some(count / 2)
+    } else {
+        None
+    }
+}
+
+/// The size of an aggregate of so many replies, where one is of as many.
+pub(crate) fn size_of(mark: AggregateMark, count: usize) -> Option<usize>
+    ensures some { IfSome result (λ size. count ≡ many mark size) }
+    ensures none { result ≡ None → (size : ℕ) → count ≡ many mark size → ⊥ }
+{
+    match mark {
+        AggregateMark::Star => Some(count),
+        AggregateMark::Percent => half_of(count),
+        AggregateMark::Tilde => Some(count),
+        AggregateMark::Greater => Some(count),
+        AggregateMark::Bar => half_without_one(count),
     }
 }
 

@@ -1,5 +1,5 @@
 //! Replies of Redis in RESP3, the third version of its protocol, by what is written for them, over
-//! bytes that may come in pieces.
+//! bytes that may come in pieces, and replies written.
 //!
 //! Each type of RESP3 is read, and the nulls of RESP2. Of attributes the reply that they are of
 //! stands last among them. Where this differs from the protocol: streamed strings and aggregates
@@ -12,8 +12,10 @@
 //! than so many stand in one another, as the caller says.
 #![tactic(auto)]
 
+pub mod back;
 mod kinds;
 mod marks;
 pub mod numbers;
 pub mod read;
 pub mod reply;
+pub mod write;

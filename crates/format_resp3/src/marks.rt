@@ -8,6 +8,7 @@ ghost use Rattle.winnow.specs.Grammar.{Token};
 ghost use Rattle.winnow.specs.InTurn.{First};
 ghost use Rattle.format_resp3.specs.Resp3.{MarkText, byte_of};
 ghost use Rattle.format_resp3.specs.declared.marks.Mark.{Mark};
+ghost use Rattle.format_resp3.specs.declared.marks.Mark.TheVariants.{Aggregate};
 
 use winnow::error::{EmptyError, ErrMode, HasKind, ParserError};
 use winnow::exact::ReadsPieces;
@@ -61,6 +62,21 @@ pub(crate) enum AggregateMark {
     Greater,
     /// `|`, of attributes and the reply that they are of.
     Bar,
+}
+
+impl AggregateMark {
+    /// The byte.
+    pub(crate) fn byte(self) -> u8
+        ensures { result ≡ byte_of (Aggregate self) }
+    {
+        match self {
+            AggregateMark::Star => b'*',
+            AggregateMark::Percent => b'%',
+            AggregateMark::Tilde => b'~',
+            AggregateMark::Greater => b'>',
+            AggregateMark::Bar => b'|',
+        }
+    }
 }
 
 /// The first byte of a reply, which says what it is.

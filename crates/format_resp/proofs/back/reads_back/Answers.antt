@@ -1,6 +1,7 @@
 use Rattle.std.proofs.lemmas.Result.{IfOk-weaker}
 use Rattle.format_resp.proofs.ReadBack.{one_reply, put_first}
 use Rattle.format_resp.proofs.Writing.{if_error}
+use Rattle.format_resp.specs.Resp.{ReplyText}
 use Rattle.format_resp.proofs.back.reads_back.Goals as goal
 
 pub read_whole-requires : goal.read_whole-requires
@@ -8,7 +9,7 @@ read_whole-requires g c = record {
   stands = (
     c.args.reply.now,
     c.args.more.now,
-    put_first c.args.level c.args.more.now c.clear.ensures.items
+    put_first (ReplyText c.args.level) c.args.more.now c.clear.ensures.items
         c.in_ok-write_reply.ensures.text c.in_ok-extend_from_slice.ensures.items
         c.as_slice.ensures.value,
   );
@@ -21,7 +22,7 @@ returns-in_err-write_reply-clause-refused g c =
 
 pub returns-clause-alike : goal.returns-clause-alike
 returns-clause-alike g c =
-    let here = put_first c.args.level c.args.more.now c.clear.ensures.items
+    let here = put_first (ReplyText c.args.level) c.args.more.now c.clear.ensures.items
     c.in_ok-write_reply.ensures.text c.in_ok-extend_from_slice.ensures.items
     c.as_slice.ensures.value in
     IfOk-weaker c.read_whole.result _ _ (λ both a.

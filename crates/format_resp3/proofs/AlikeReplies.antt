@@ -1,0 +1,207 @@
+-- Replies of which texts stand first in the same tokens are alike.
+use Rattle.std.specs.Prelude.{◌≡◌, Bool, true, false, ℕ, ℤ, zero, suc, List, [], ◌∷◌, ◌++◌, length}
+use Rattle.std.specs.Prelude.{Option, Some, None}
+use Rattle.std.specs.Borrow.{Bor}
+use Rattle.std.specs.declared.vec.Vec.{Vec}
+use Rattle.std.proofs.Common.{refl, sym, ap, subst, ◌∙◌, arith}
+use Rattle.winnow.specs.Equal.{same_first, same_others}
+use Rattle.winnow.specs.Grammar.Lengths.{same_beginnings}
+use Rattle.winnow.specs.InTurn.{First, Led}
+use Rattle.winnow.specs.Texts.{Text}
+use Rattle.format_resp.proofs.AlikeReplies.{Pairs, led_parts, rows_alike, same_bytes}
+use Rattle.format_resp.specs.Alike.{ArePairwise}
+use Rattle.format_resp.specs.Read.{integer_splits, one_line, size_splits}
+use Rattle.format_resp.specs.Resp.{Ended, IntegerText, SignedText, SizeText, line_end}
+use Rattle.format_resp3.proofs.Bodies.{reply_unique}
+use Rattle.format_resp3.proofs.FirstBytes.{mark_splits}
+use Rattle.format_resp3.proofs.Made.{array_is, attributed_is, big_number_is, boolean_is}
+use Rattle.format_resp3.proofs.Made.{bulk_error_is, bulk_is, double_is, error_is, integer_is}
+use Rattle.format_resp3.proofs.Made.{map_is, null_array_is, null_bulk_is, null_is, push_is, set_is}
+use Rattle.format_resp3.proofs.Made.{simple_is, verbatim_is}
+use Rattle.format_resp3.proofs.Plain.{line_plain}
+use Rattle.format_resp3.specs.Alike.{AreAlike, AreAlikeAs, AreAlikeBy, Opened}
+use Rattle.format_resp3.specs.Resp3.{AggregateBehind, Body, BooleanText, DataBehind, DataSays}
+use Rattle.format_resp3.specs.Resp3.{Elements, LineSays, MarkText, Replies, ReplyText, Shown}
+use Rattle.format_resp3.specs.Resp3.{gathered}
+use Rattle.format_resp3.specs.declared.marks.AggregateMark.{AggregateMark}
+use Rattle.format_resp3.specs.declared.marks.AggregateMark.TheVariants.{Bar, Greater, Percent, Star}
+use Rattle.format_resp3.specs.declared.marks.AggregateMark.TheVariants.{Tilde}
+use Rattle.format_resp3.specs.declared.marks.DataMark.{DataMark}
+use Rattle.format_resp3.specs.declared.marks.DataMark.TheVariants.{Dollar, Equals, Exclamation}
+use Rattle.format_resp3.specs.declared.marks.LineMark.{LineMark}
+use Rattle.format_resp3.specs.declared.marks.LineMark.TheVariants.{Colon, Comma, Hash, Minus}
+use Rattle.format_resp3.specs.declared.marks.LineMark.TheVariants.{Parenthesis, Plus, Underscore}
+use Rattle.format_resp3.specs.declared.marks.Mark.{Mark}
+use Rattle.format_resp3.specs.declared.marks.Mark.TheVariants.{Aggregate, Data, Line}
+use Rattle.format_resp3.specs.declared.reply.Reply as made
+use Rattle.format_resp3.specs.declared.reply.Reply.{out-Reply}
+use Rattle.format_resp3.specs.declared.reply.Reply.TheOpen.{Reply-F}
+
+-- ---- numbers and booleans
+
+-- a line is one number
+one_number : (m n : ℤ) (line : List ℕ) → SignedText m line → SignedText n line → m ≡ n
+unfolding First IntegerText Ended
+one_number m n line a b =
+    let tokens = line ++ line_end in
+    (integer_splits.one m n (tokens ++ []) [] [] (tokens, (line, a, refl), refl)
+    (tokens, (line, b, refl), refl)).0
+
+t_is_no_f : {P : Type 0} {line : List ℕ} → line ≡ 116 ∷ [] → line ≡ 102 ∷ [] → P
+t_is_no_f e f = let d = same_first (sym e ∙ f) in absurd (omega (arith, d))
+
+one_boolean : (m n : Bool) (line : List ℕ) → BooleanText m line → BooleanText n line → m ≡ n
+one_boolean true true line a b = refl
+one_boolean true false line a b = t_is_no_f a b
+one_boolean false true line a b = t_is_no_f b a
+one_boolean false false line a b = refl
+
+-- ---- by what the replies are
+
+module _ {A : Type 0} (alike : Replies A → Replies A → Type 0) where
+  alike_as : (k l : Opened A) {v w form other : Replies A} → v ≡ form
+      → out-Reply (Bor (List ℕ)) A form ≡ k → w ≡ other → out-Reply (Bor (List ℕ)) A other ≡ l
+      → AreAlikeAs alike k l → AreAlikeBy alike v w
+  alike_as k l {v} {w} e is f are a =
+      let P : Opened A → Type 0 = λ z. AreAlikeAs alike z l in
+      let Q : Opened A → Type 0 = λ z. AreAlikeAs alike (out-Reply (Bor (List ℕ)) A v) z in
+      subst Q (sym (ap (out-Reply (Bor (List ℕ)) A) f ∙ are))
+      (subst P (sym (ap (out-Reply (Bor (List ℕ)) A) e ∙ is)) a)
+
+  -- of lines that say the same
+  line_alike : (mark : LineMark) (v w : Replies A) (line : List ℕ) → LineSays mark v line
+      → LineSays mark w line → AreAlikeBy alike v w
+  unfolding Shown
+  line_alike Plus v w line (x, e, (a, s)) (y, f, (b, t)) =
+      alike_as (Reply-F.Simple x) (Reply-F.Simple y) e (simple_is x) f (simple_is y) (s ∙ sym t)
+  line_alike Minus v w line (x, e, (a, s)) (y, f, (b, t)) =
+      alike_as (Reply-F.Error x) (Reply-F.Error y) e (error_is x) f (error_is y) (s ∙ sym t)
+  line_alike Colon v w line (m, e, a) (n, f, b) =
+      alike_as (Reply-F.Integer m) (Reply-F.Integer n) e (integer_is m) f (integer_is n)
+      (one_number m n line a b)
+  line_alike Underscore v w line (e, a) (f, b) =
+      alike_as Reply-F.Null Reply-F.Null e null_is f null_is tt
+  line_alike Hash v w line (m, e, a) (n, f, b) =
+      alike_as (Reply-F.Boolean m) (Reply-F.Boolean n) e (boolean_is m) f (boolean_is n)
+      (one_boolean m n line a b)
+  line_alike Comma v w line (x, e, (a, s)) (y, f, (b, t)) =
+      alike_as (Reply-F.Double x) (Reply-F.Double y) e (double_is x) f (double_is y) (s ∙ sym t)
+  line_alike Parenthesis v w line (x, e, (a, s)) (y, f, (b, t)) =
+      alike_as (Reply-F.BigNumber x) (Reply-F.BigNumber y) e (big_number_is x) f
+      (big_number_is y) (s ∙ sym t)
+
+  -- of the same bytes
+  data_alike : (mark : DataMark) (v w : Replies A) (bytes : List ℕ) → DataSays mark v bytes
+      → DataSays mark w bytes → AreAlikeBy alike v w
+  data_alike Dollar v w bytes (x, e, s) (y, f, t) =
+      alike_as (Reply-F.Bulk x) (Reply-F.Bulk y) e (bulk_is x) f (bulk_is y) (s ∙ sym t)
+  data_alike Exclamation v w bytes (x, e, s) (y, f, t) =
+      alike_as (Reply-F.BulkError x) (Reply-F.BulkError y) e (bulk_error_is x) f
+      (bulk_error_is y) (s ∙ sym t)
+  data_alike Equals v w bytes (p, x, e, three, s) (q, y, f, also, t) =
+      let (formats, behind) = same_beginnings p.now q.now (58 ∷ x.now) (58 ∷ y.now)
+      (three ∙ sym also) (sym s ∙ t) in
+      alike_as (Reply-F.Verbatim p x) (Reply-F.Verbatim q y) e (verbatim_is p x) f
+      (verbatim_is q y) (formats, same_others behind)
+
+  -- of replies that are alike in their places
+  gathered_alike : (mark : AggregateMark) (v w : Replies A) (l m : Vec (Replies A) A)
+      → v ≡ gathered mark l → w ≡ gathered mark m → ArePairwise alike l.items m.items
+      → AreAlikeBy alike v w
+  gathered_alike Star v w l m e f =
+      alike_as (Reply-F.Array l) (Reply-F.Array m) e (array_is l) f (array_is m)
+  gathered_alike Percent v w l m e f =
+      alike_as (Reply-F.Map l) (Reply-F.Map m) e (map_is l) f (map_is m)
+  gathered_alike Tilde v w l m e f =
+      alike_as (Reply-F.Set l) (Reply-F.Set m) e (set_is l) f (set_is m)
+  gathered_alike Greater v w l m e f =
+      alike_as (Reply-F.Push l) (Reply-F.Push m) e (push_is l) f (push_is m)
+  gathered_alike Bar v w l m e f =
+      alike_as (Reply-F.Attributed l) (Reply-F.Attributed m) e (attributed_is l) f
+      (attributed_is m)
+
+  -- ---- by what stands first
+
+  ended_alike : (mark : LineMark) (v w : Replies A) (tokens rest other : List ℕ)
+      → First (Ended (LineSays mark)) tokens v rest
+      → First (Ended (LineSays mark)) tokens w other → AreAlikeBy alike v w
+  unfolding First Ended
+  ended_alike mark v w tokens rest other (front, (xs, a, e), d) (back, (ys, b, f), h) =
+      let plain = line_plain {A = A} mark in
+      let same = (one_line tokens front back xs ys rest other (plain.plain v xs a)
+      (plain.plain w ys b) e d f h).0 in
+      let P : List ℕ → Type 0 = λ l. LineSays mark w l in
+      line_alike mark v w xs a (subst P (sym same) b)
+
+  bytes_alike : (mark : DataMark) (size : Option ℕ) (v w : Replies A)
+      (tokens rest other : List ℕ)
+      → First (DataBehind mark size) tokens v rest → First (DataBehind mark size) tokens w other
+      → AreAlikeBy alike v w
+  unfolding First
+  bytes_alike mark (Some n) v w tokens rest other (front, (x, says, a), d)
+      (back, (y, also, b), h) =
+      let same = same_bytes n x y tokens rest other (front, a, d) (back, b, h) in
+      let P : List ℕ → Type 0 = λ l. DataSays mark w l in
+      data_alike mark v w x.now says (subst P (sym same) also)
+  bytes_alike Dollar None v w tokens rest other (front, (e, a), d) (back, (f, b), h) =
+      alike_as Reply-F.NullBulk Reply-F.NullBulk e null_bulk_is f null_bulk_is tt
+  bytes_alike Exclamation None v w tokens rest other (front, never, d) b = absurd never
+  bytes_alike Equals None v w tokens rest other (front, never, d) b = absurd never
+
+module _ {A : Type 0} (alike : Replies A → Replies A → Type 0)
+    (elements : Text ℕ (List (Replies A))) (pairs : Pairs alike elements) where
+  aggregate_alike : (mark : AggregateMark) (size : Option ℕ) (v w : Replies A)
+      (tokens rest other : List ℕ)
+      → First (AggregateBehind elements mark size) tokens v rest
+      → First (AggregateBehind elements mark size) tokens w other → AreAlikeBy alike v w
+  unfolding First
+  aggregate_alike mark (Some n) v w tokens rest other (front, (l, e, (many, a)), d)
+      (back, (m, f, (also, b)), h) =
+      gathered_alike alike mark v w l m e f
+      (pairs l.items m.items front back rest other a b (sym d ∙ h) (many ∙ sym also))
+  aggregate_alike Star None v w tokens rest other (front, (e, a), d) (back, (f, b), h) =
+      alike_as alike Reply-F.NullArray Reply-F.NullArray e null_array_is f null_array_is tt
+  aggregate_alike Percent None v w tokens rest other (front, never, d) b = absurd never
+  aggregate_alike Tilde None v w tokens rest other (front, never, d) b = absurd never
+  aggregate_alike Greater None v w tokens rest other (front, never, d) b = absurd never
+  aggregate_alike Bar None v w tokens rest other (front, never, d) b = absurd never
+
+  body_alike : (mark : Mark) (v w : Replies A) (tokens rest other : List ℕ)
+      → First (Body elements mark) tokens v rest → First (Body elements mark) tokens w other
+      → AreAlikeBy alike v w
+  body_alike (Line mark) = ended_alike alike mark
+  body_alike (Data mark) = λ v w tokens rest other a b.
+      let (m, mid, t, s) = led_parts SizeText (DataBehind mark) tokens v rest a in
+      let (n, end, u, r) = led_parts SizeText (DataBehind mark) tokens w other b in
+      let (same, left) = size_splits.one m n tokens mid end t u in
+      let P : Option ℕ → Type 0 = λ z. First (DataBehind mark z) end w other in
+      let Q : List ℕ → Type 0 = λ z. First (DataBehind mark m) z w other in
+      bytes_alike alike mark m v w mid rest other s (subst Q (sym left) (subst P (sym same) r))
+  body_alike (Aggregate mark) = λ v w tokens rest other a b.
+      let (m, mid, t, s) = led_parts SizeText (AggregateBehind elements mark) tokens v rest a in
+      let (n, end, u, r) = led_parts SizeText (AggregateBehind elements mark) tokens w other b in
+      let (same, left) = size_splits.one m n tokens mid end t u in
+      let P : Option ℕ → Type 0 = λ z. First (AggregateBehind elements mark z) end w other in
+      let Q : List ℕ → Type 0 = λ z. First (AggregateBehind elements mark m) z w other in
+      aggregate_alike mark m v w mid rest other s (subst Q (sym left) (subst P (sym same) r))
+
+  marked_alike : (v w : Replies A) (tokens rest other : List ℕ)
+      → First (Led MarkText (Body elements)) tokens v rest
+      → First (Led MarkText (Body elements)) tokens w other → AreAlikeBy alike v w
+  marked_alike v w tokens rest other a b =
+      let (m, mid, t, s) = led_parts MarkText (Body elements) tokens v rest a in
+      let (n, end, u, r) = led_parts MarkText (Body elements) tokens w other b in
+      let (same, left) = mark_splits.one m n tokens mid end t u in
+      let P : Mark → Type 0 = λ z. First (Body elements z) end w other in
+      let Q : List ℕ → Type 0 = λ z. First (Body elements m) z w other in
+      body_alike m v w mid rest other s (subst Q (sym left) (subst P (sym same) r))
+
+-- replies
+pub replies_alike : {A : Type 0} (level : ℕ) (v w : Replies A) (tokens rest other : List ℕ)
+    → First (ReplyText level) tokens v rest → First (ReplyText level) tokens w other
+    → AreAlike level v w
+unfolding AreAlike Elements
+replies_alike {A} zero = marked_alike (λ v w. ⊥) (Elements zero)
+    (λ os ps xs ys rest other never. absurd never)
+replies_alike {A} (suc level) = marked_alike (AreAlike level) (Elements (suc level))
+    (rows_alike (ReplyText level) (AreAlike level) (reply_unique level) (replies_alike level))

@@ -1,0 +1,255 @@
+-- What is put after bytes for replies, and why some are not written.
+use Rattle.std.specs.Prelude.{◌≡◌, ◌⊎◌, ◌+◌, ◌*◌, ◌<◌, ◌^◌, Bool, ℕ, ℤ, List, [], ◌∷◌, ◌++◌}
+use Rattle.std.specs.Prelude.{zero, suc, length, Contains, FitsSigned}
+use Rattle.std.specs.Borrow.{Bor}
+use Rattle.std.specs.Fmt.{decimal, signed_decimal}
+use Rattle.std.specs.Int.{w64}
+use Rattle.std.specs.List.{AllByRecursion}
+use Rattle.std.specs.declared.vec.Vec.{Vec}
+use Rattle.std.proofs.Common.{refl, sym, ap, subst, inl, inr, ◌∙◌, arith}
+use Rattle.winnow.specs.Texts.{EachText}
+use Rattle.format_resp.proofs.Writing.{adds, put_two}
+use Rattle.format_resp.specs.Resp.{InLine}
+use Rattle.format_resp.specs.Written.{Adds, data_of, marked}
+use Rattle.format_resp3.proofs.Sayings.{shown_is}
+use Rattle.format_resp3.proofs.WrittenTexts.{written_text}
+use Rattle.format_resp3.specs.Numbers.{IsBigNumber, IsDouble}
+use Rattle.format_resp3.specs.Resp3.{BooleanText, DataSays, Replies, ReplyText, byte_of, gathered}
+use Rattle.format_resp3.specs.Resp3.{many}
+use Rattle.format_resp3.specs.Written.{IsBroken, IsDeeper, IsNoBigNumber, IsNoDouble, IsOrHas}
+use Rattle.format_resp3.specs.Written.{IsRefused, IsRefusedAmong, IsRefusedAs, IsUnformatted}
+use Rattle.format_resp3.specs.Written.{IsUnpaired, LineWritten, WrittenElements, WrittenText}
+use Rattle.format_resp3.specs.declared.marks.AggregateMark.{AggregateMark}
+use Rattle.format_resp3.specs.declared.marks.DataMark.{DataMark}
+use Rattle.format_resp3.specs.declared.marks.DataMark.TheVariants.{Dollar, Equals, Exclamation}
+use Rattle.format_resp3.specs.declared.marks.LineMark.{LineMark}
+use Rattle.format_resp3.specs.declared.marks.LineMark.TheVariants.{Colon, Comma, Hash, Minus}
+use Rattle.format_resp3.specs.declared.marks.LineMark.TheVariants.{Parenthesis, Plus, Underscore}
+use Rattle.format_resp3.specs.declared.marks.Mark.TheVariants.{Aggregate, Data, Line}
+use Rattle.format_resp3.specs.declared.reply.Reply as made
+use Rattle.format_resp3.specs.declared.write.WriteError.{WriteError}
+use Rattle.format_resp3.specs.declared.write.WriteError.TheVariants.{BigNumber, Double, Format}
+use Rattle.format_resp3.specs.declared.write.WriteError.TheVariants.{Level, LineBreak}
+use Rattle.format_resp3.specs.declared.write.WriteError.TheVariants.{OutOfMemory, Pairs}
+
+-- ---- what is put
+
+module _ {A : Type 0} (level : ℕ) {reply : Replies A} {before after : List ℕ} where
+  line_put : (mark : LineMark) (line : List ℕ) → LineWritten mark reply line
+      → after ≡ before ++ marked (byte_of (Line mark)) line
+      → Adds (WrittenText level) reply before after
+  line_put mark line is = adds (marked (byte_of (Line mark)) line) (inl (mark, line, is, refl))
+
+  pub simple_put : (text : Bor (List ℕ)) → reply ≡ made.Simple text
+      → AllByRecursion InLine text.now × (after ≡ before ++ marked 43 text.now)
+      → Adds (WrittenText level) reply before after
+  simple_put text is (all, e) = line_put Plus text.now
+      (text, is, shown_is (AllByRecursion InLine) text all) e
+
+  pub error_put : (text : Bor (List ℕ)) → reply ≡ made.Error text
+      → AllByRecursion InLine text.now × (after ≡ before ++ marked 45 text.now)
+      → Adds (WrittenText level) reply before after
+  error_put text is (all, e) = line_put Minus text.now
+      (text, is, shown_is (AllByRecursion InLine) text all) e
+
+  pub integer_put : (n : ℤ) → reply ≡ made.Integer n → FitsSigned w64 n
+      → after ≡ before ++ marked 58 (signed_decimal n)
+      → Adds (WrittenText level) reply before after
+  integer_put n is fits = line_put Colon (signed_decimal n) (n, is, fits, refl)
+
+  pub null_put : reply ≡ made.Null → after ≡ before ++ marked 95 []
+      → Adds (WrittenText level) reply before after
+  null_put is = line_put Underscore [] (is, refl)
+
+  pub boolean_put : (boolean : Bool) (line : List ℕ) → reply ≡ made.Boolean boolean
+      → BooleanText boolean line → after ≡ before ++ marked 35 line
+      → Adds (WrittenText level) reply before after
+  boolean_put boolean line is says = line_put Hash line (boolean, is, says)
+
+  pub double_put : (text : Bor (List ℕ)) → reply ≡ made.Double text
+      → IsDouble text.now × (after ≡ before ++ marked 44 text.now)
+      → Adds (WrittenText level) reply before after
+  double_put text is (it, e) = line_put Comma text.now (text, is, shown_is IsDouble text it) e
+
+  pub big_number_put : (text : Bor (List ℕ)) → reply ≡ made.BigNumber text
+      → IsBigNumber text.now × (after ≡ before ++ marked 40 text.now)
+      → Adds (WrittenText level) reply before after
+  big_number_put text is (it, e) =
+      line_put Parenthesis text.now (text, is, shown_is IsBigNumber text it) e
+
+  data_put : (mark : DataMark) (bytes : List ℕ) → DataSays mark reply bytes
+      → length bytes < 2 ^ 63 → after ≡ before ++ data_of (byte_of (Data mark)) bytes
+      → Adds (WrittenText level) reply before after
+  data_put mark bytes says small =
+      adds (data_of (byte_of (Data mark)) bytes) (inr (inl (mark, bytes, says, small, refl)))
+
+  pub bulk_put : (bytes : Bor (List ℕ)) → reply ≡ made.Bulk bytes → length bytes.now < 2 ^ 63
+      → after ≡ before ++ data_of 36 bytes.now → Adds (WrittenText level) reply before after
+  bulk_put bytes is small = data_put Dollar bytes.now (bytes, is, refl) small
+
+  pub bulk_error_put : (bytes : Bor (List ℕ)) → reply ≡ made.BulkError bytes
+      → length bytes.now < 2 ^ 63 → after ≡ before ++ data_of 33 bytes.now
+      → Adds (WrittenText level) reply before after
+  bulk_error_put bytes is small = data_put Exclamation bytes.now (bytes, is, refl) small
+
+  pub verbatim_put : (format text : Bor (List ℕ)) → reply ≡ made.Verbatim format text
+      → (length format.now ≡ 3) × (length (format.now ++ 58 ∷ text.now) < 2 ^ 63)
+      × (after ≡ before ++ data_of 61 (format.now ++ 58 ∷ text.now))
+      → Adds (WrittenText level) reply before after
+  verbatim_put format text is (three, small, e) =
+      data_put Equals (format.now ++ 58 ∷ text.now) (format, text, is, three, refl) small e
+
+  pub null_bulk_put : reply ≡ made.NullBulk → after ≡ before ++ marked 36 (45 ∷ 49 ∷ [])
+      → Adds (WrittenText level) reply before after
+  null_bulk_put is = adds (marked 36 (45 ∷ 49 ∷ [])) (inr (inr (inr (inl (is, refl)))))
+
+  pub null_array_put : reply ≡ made.NullArray → after ≡ before ++ marked 42 (45 ∷ 49 ∷ [])
+      → Adds (WrittenText level) reply before after
+  null_array_put is = adds (marked 42 (45 ∷ 49 ∷ [])) (inr (inr (inr (inr (is, refl)))))
+
+-- the size of an aggregate, and its elements
+pub aggregate_put : {A : Type 0} (mark : AggregateMark) (size below : ℕ) {level : ℕ}
+    (list : Vec (Replies A) A) {items : List (Replies A)} {before between after : List ℕ}
+    → items ≡ list.items → length list.items ≡ many mark size → level ≡ below + 1
+    → between ≡ before ++ marked (byte_of (Aggregate mark)) (decimal size)
+    → Adds (EachText (WrittenText below)) items between after
+    → Adds (WrittenText level) (gathered mark list) before after
+unfolding WrittenElements
+aggregate_put {A} mark size below {level} list {items} {before} {between} {after} same count is e
+    added =
+    let P : ℕ → Type 0 = λ l. Adds (WrittenText l) (gathered mark list) before after in
+    let Q : List (Replies A) → Type 0 = λ l. EachText (WrittenText below) l added.tokens in
+    let f : level ≡ suc below = omega (arith, is) in
+    let head = marked (byte_of (Aggregate mark)) (decimal size) in
+    subst P (sym f) (record {
+      tokens = head ++ added.tokens;
+      is = inr (inr (inl
+          (mark, size, list, added.tokens, refl, count, subst Q same added.is, refl)));
+      behind = put_two before head added.tokens e added.behind;
+    })
+
+-- what was put as another reply, which it is
+pub put_as : {A : Type 0} (level : ℕ) {reply form : Replies A} {before after : List ℕ}
+    → reply ≡ form → Adds (WrittenText level) form before after
+    → Adds (WrittenText level) reply before after
+put_as {A} level {before = before} {after = after} is added =
+    let P : Replies A → Type 0 = λ r. Adds (WrittenText level) r before after in
+    subst P (sym is) added
+
+-- what is written for a reply is a text of it
+pub adds_text : {A : Type 0} (level : ℕ) {reply : Replies A} {before after : List ℕ}
+    → Adds (WrittenText level) reply before after → Adds (ReplyText level) reply before after
+adds_text level {reply} added = record {
+  tokens = added.tokens;
+  is = written_text level reply added.tokens added.is;
+  behind = added.behind;
+}
+
+-- ---- what is not written
+
+module _ {A : Type 0} where
+  or_itself : (such : Replies A → Type 0) (level : ℕ) (reply : Replies A) → such reply
+      → IsOrHas such level reply
+  unfolding IsOrHas
+  or_itself such zero reply is = is
+  or_itself such (suc level) reply is = inl is
+
+  or_within : (such : Replies A → Type 0) (below : ℕ) (mark : AggregateMark)
+      (list : Vec (Replies A) A) (element : Replies A) → Contains list.items element
+      → IsOrHas such below element → IsOrHas such (suc below) (gathered mark list)
+  unfolding IsOrHas
+  or_within such below mark list element among is = inr (mark, list, refl, element, among, is)
+
+  -- an error that says so
+  as_error : (level : ℕ) (reply : Replies A) (error : WriteError) (P : Type 0)
+      → ((P → ⊥) → IsRefused level reply error) → (e : WriteError) → IsRefusedAs error P e
+      → IsRefused level reply e
+  as_error level reply error P why e (inl memory) =
+      let R : WriteError → Type 0 = λ x. IsRefused level reply x in subst R (sym memory) tt
+  as_error level reply error P why e (inr (is, not)) =
+      let R : WriteError → Type 0 = λ x. IsRefused level reply x in subst R (sym is) (why not)
+
+  module _ (level : ℕ) {reply : Replies A} where
+    pub refused_simple : (text : Bor (List ℕ)) → reply ≡ made.Simple text → (e : WriteError)
+        → IsRefusedAs LineBreak (AllByRecursion InLine text.now) e
+        → IsRefused level reply e
+    refused_simple text is = as_error level reply LineBreak (AllByRecursion InLine text.now)
+        (λ not. or_itself IsBroken level reply (text, inl is, not))
+
+    pub refused_error : (text : Bor (List ℕ)) → reply ≡ made.Error text → (e : WriteError)
+        → IsRefusedAs LineBreak (AllByRecursion InLine text.now) e
+        → IsRefused level reply e
+    refused_error text is = as_error level reply LineBreak (AllByRecursion InLine text.now)
+        (λ not. or_itself IsBroken level reply (text, inr is, not))
+
+    pub refused_double : (text : Bor (List ℕ)) → reply ≡ made.Double text → (e : WriteError)
+        → IsRefusedAs Double (IsDouble text.now) e → IsRefused level reply e
+    refused_double text is = as_error level reply Double (IsDouble text.now)
+        (λ not. or_itself IsNoDouble level reply (text, is, not))
+
+    pub refused_big_number : (text : Bor (List ℕ)) → reply ≡ made.BigNumber text
+        → (e : WriteError) → IsRefusedAs BigNumber (IsBigNumber text.now) e
+        → IsRefused level reply e
+    refused_big_number text is = as_error level reply BigNumber (IsBigNumber text.now)
+        (λ not. or_itself IsNoBigNumber level reply (text, is, not))
+
+    pub refused_verbatim : (format text : Bor (List ℕ)) → reply ≡ made.Verbatim format text
+        → (e : WriteError) → IsRefusedAs Format (length format.now ≡ 3) e
+        → IsRefused level reply e
+    refused_verbatim format text is =
+        as_error level reply Format (length format.now ≡ 3)
+        (λ not. or_itself IsUnformatted level reply (format, text, is, not))
+
+  -- an error of another reply, which it is
+  pub refused_form : (level : ℕ) {reply form : Replies A} → reply ≡ form → (e : WriteError)
+      → IsRefused level form e → IsRefused level reply e
+  refused_form level is e =
+      let P : Replies A → Type 0 = λ r. IsRefused level r e in subst P (sym is)
+
+  -- ---- aggregates
+
+  -- no aggregate has as many replies
+  pub refused_count : (level : ℕ) (mark : AggregateMark) (list : Vec (Replies A) A) {count : ℕ}
+      → count ≡ length list.items → ((size : ℕ) → count ≡ many mark size → ⊥)
+      → IsRefused level (gathered mark list) Pairs
+  refused_count level mark list many_are none =
+      or_itself IsUnpaired level (gathered mark list)
+      (mark, list, refl, (λ size e. none size (many_are ∙ e)))
+
+  -- at level 0 each aggregate is too deep
+  pub deep_aggregate : {level : ℕ} (mark : AggregateMark) (list : Vec (Replies A) A) → level ≡ 0
+      → IsRefused level (gathered mark list) Level
+  unfolding IsDeeper
+  deep_aggregate mark list is =
+      let P : ℕ → Type 0 = λ l. IsDeeper l (gathered mark list) in
+      subst P (sym is) (mark, list, refl)
+
+  within : (below : ℕ) (mark : AggregateMark) (list : Vec (Replies A) A) (e : WriteError)
+      → IsRefusedAmong below list.items e → IsRefused (suc below) (gathered mark list) e
+  unfolding IsDeeper
+  within below mark list e (inl memory) =
+      let P : WriteError → Type 0 = λ x. IsRefused (suc below) (gathered mark list) x in
+      subst P (sym memory) tt
+  within below mark list LineBreak (inr (reply, among, is)) =
+      or_within IsBroken below mark list reply among is
+  within below mark list Double (inr (reply, among, is)) =
+      or_within IsNoDouble below mark list reply among is
+  within below mark list BigNumber (inr (reply, among, is)) =
+      or_within IsNoBigNumber below mark list reply among is
+  within below mark list Format (inr (reply, among, is)) =
+      or_within IsUnformatted below mark list reply among is
+  within below mark list Pairs (inr (reply, among, is)) =
+      or_within IsUnpaired below mark list reply among is
+  within below mark list Level (inr (reply, among, is)) =
+      (mark, list, refl, reply, among, is)
+  within below mark list OutOfMemory (inr (reply, among, is)) = tt
+
+  -- an aggregate is refused where one of its elements is
+  pub refused_within : (below : ℕ) {level : ℕ} (mark : AggregateMark) (list : Vec (Replies A) A)
+      {items : List (Replies A)} (e : WriteError) → items ≡ list.items → level ≡ below + 1
+      → IsRefusedAmong below items e → IsRefused level (gathered mark list) e
+  refused_within below {level} mark list e same is among =
+      let P : ℕ → Type 0 = λ l. IsRefused l (gathered mark list) e in
+      let Q : List (Replies A) → Type 0 = λ l. IsRefusedAmong below l e in
+      let f : level ≡ suc below = omega (arith, is) in
+      subst P (sym f) (within below mark list e (subst Q same among))

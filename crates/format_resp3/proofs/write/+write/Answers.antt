@@ -1,0 +1,218 @@
+use Rattle.std.proofs.Common.{◌-◌, ◌∙◌, arith, inr, rules}
+use Rattle.std.proofs.lemmas.Result.{IfErr-weaker, on_ok_weaker}
+use Rattle.format_resp.proofs.Writing.{among, if_error, keeps_trans, row_end, row_more}
+use Rattle.format_resp3.proofs.Writing.{aggregate_put, big_number_put, boolean_put, bulk_error_put}
+use Rattle.format_resp3.proofs.Writing.{deep_aggregate, double_put, error_put, integer_put}
+use Rattle.format_resp3.proofs.Writing.{null_put, put_as, refused_big_number, refused_count}
+use Rattle.format_resp3.proofs.Writing.{refused_double, refused_error, refused_form, refused_simple}
+use Rattle.format_resp3.proofs.Writing.{refused_verbatim, refused_within, simple_put, verbatim_put}
+use Rattle.format_resp3.proofs.write.+write.Goals as goal
+
+-- ---- elements
+
+pub write_elements-loop-reply-preserved : goal.write_elements-loop-reply-preserved
+write_elements-loop-reply-preserved g t c =
+    let held = c.loop-reply.invariant in
+    let written = c.in_ok-write_nested.ensures in record {
+      ends = λ after more. held.ends after (row_more _ c.loop-reply.reply-index
+          c.reply-item.result (omega arith) c.reply-item.is written.written more);
+      kept = keeps_trans held.kept written.kept;
+    }
+
+pub write_elements-returns-clause-written : goal.write_elements-returns-clause-written
+write_elements-returns-clause-written g t c =
+    c.loop-reply.invariant.ends _ (row_end _ _ c.loop-reply.reply-index _ (omega arith))
+
+pub write_elements-returns-in_err-write_nested-clause-refused :
+    goal.write_elements-returns-in_err-write_nested-clause-refused
+write_elements-returns-in_err-write_nested-clause-refused g t c =
+    if_error _ c.from_residual.result _ c.from_residual.ensures.1
+    (inr (
+      c.reply-item.result,
+      among _ c.loop-reply.reply-index c.reply-item.result (omega arith) c.reply-item.is,
+      c.in_err-write_nested.ensures.refused,
+    ))
+
+pub write_elements-returns-in_err-write_nested-clause-kept :
+    goal.write_elements-returns-in_err-write_nested-clause-kept
+write_elements-returns-in_err-write_nested-clause-kept g t c =
+    keeps_trans c.loop-reply.invariant.kept c.in_err-write_nested.ensures.kept
+
+-- ---- aggregates
+
+pub write_aggregate-returns-then-level-eq0-clause-refused :
+    goal.write_aggregate-returns-then-level-eq0-clause-refused
+write_aggregate-returns-then-level-eq0-clause-refused g t c =
+    deep_aggregate c.args.mark c.args.replies.now (omega arith)
+
+pub write_aggregate-returns-in-None-clause-refused :
+    goal.write_aggregate-returns-in-None-clause-refused
+write_aggregate-returns-in-None-clause-refused g t c =
+    refused_count c.args.level c.args.mark c.args.replies.now
+    (c.len.ensures ∙ c.args.replies.now.ok.0)
+    (c.in-None.ensures.none refl)
+
+pub write_aggregate-returns-in_ok-write_size-in-Some-clause-written :
+    goal.write_aggregate-returns-in_ok-write_size-in-Some-clause-written
+write_aggregate-returns-in_ok-write_size-in-Some-clause-written g t c =
+    on_ok_weaker c.write_elements.result
+    (aggregate_put c.args.mark c.in-Some.size (c.args.level - 1) c.args.replies.now
+    c.as_slice.ensures.value (omega arith) (omega arith) c.in_ok-write_size-in-Some.ensures.written)
+    c.write_elements.ensures.written
+
+pub write_aggregate-returns-in_ok-write_size-in-Some-clause-refused :
+    goal.write_aggregate-returns-in_ok-write_size-in-Some-clause-refused
+write_aggregate-returns-in_ok-write_size-in-Some-clause-refused g t c =
+    IfErr-weaker c.write_elements.result _ _
+    (λ e. refused_within (c.args.level - 1) c.args.mark c.args.replies.now e
+    c.as_slice.ensures.value (omega arith)) c.write_elements.ensures.refused
+
+pub write_aggregate-returns-in_ok-write_size-in-Some-clause-kept : goal.write_aggregate-returns-in_ok-write_size-in-Some-clause-kept
+write_aggregate-returns-in_ok-write_size-in-Some-clause-kept g t c =
+    keeps_trans c.in_ok-write_size-in-Some.ensures.kept c.write_elements.ensures.kept
+
+-- ---- replies
+
+pub write_nested-returns-in-Simple-clause-written :
+    goal.write_nested-returns-in-Simple-clause-written
+write_nested-returns-in-Simple-clause-written g t c =
+    on_ok_weaker c.write_text.result (simple_put c.args.level _ c.in-Simple.is)
+    c.write_text.ensures.written
+
+pub write_nested-returns-in-Simple-clause-refused :
+    goal.write_nested-returns-in-Simple-clause-refused
+write_nested-returns-in-Simple-clause-refused g t c =
+    IfErr-weaker c.write_text.result _ _ (refused_simple c.args.level _ c.in-Simple.is)
+    c.write_text.ensures.refused
+
+pub write_nested-returns-in-Error-clause-written :
+    goal.write_nested-returns-in-Error-clause-written
+write_nested-returns-in-Error-clause-written g t c =
+    on_ok_weaker c.write_text-in-Error.result (error_put c.args.level _ c.in-Error.is)
+    c.write_text-in-Error.ensures.written
+
+pub write_nested-returns-in-Error-clause-refused :
+    goal.write_nested-returns-in-Error-clause-refused
+write_nested-returns-in-Error-clause-refused g t c =
+    IfErr-weaker c.write_text-in-Error.result _ _ (refused_error c.args.level _ c.in-Error.is)
+    c.write_text-in-Error.ensures.refused
+
+pub write_nested-returns-in-Double-clause-written :
+    goal.write_nested-returns-in-Double-clause-written
+write_nested-returns-in-Double-clause-written g t c =
+    on_ok_weaker c.write_double.result (double_put c.args.level _ c.in-Double.is)
+    c.write_double.ensures.written
+
+pub write_nested-returns-in-Double-clause-refused :
+    goal.write_nested-returns-in-Double-clause-refused
+write_nested-returns-in-Double-clause-refused g t c =
+    IfErr-weaker c.write_double.result _ _ (refused_double c.args.level _ c.in-Double.is)
+    c.write_double.ensures.refused
+
+pub write_nested-returns-in-BigNumber-clause-written :
+    goal.write_nested-returns-in-BigNumber-clause-written
+write_nested-returns-in-BigNumber-clause-written g t c =
+    on_ok_weaker c.write_big_number.result (big_number_put c.args.level _ c.in-BigNumber.is)
+    c.write_big_number.ensures.written
+
+pub write_nested-returns-in-BigNumber-clause-refused :
+    goal.write_nested-returns-in-BigNumber-clause-refused
+write_nested-returns-in-BigNumber-clause-refused g t c =
+    IfErr-weaker c.write_big_number.result _ _ (refused_big_number c.args.level _ c.in-BigNumber.is)
+    c.write_big_number.ensures.refused
+
+pub write_nested-returns-in-Verbatim-clause-written :
+    goal.write_nested-returns-in-Verbatim-clause-written
+write_nested-returns-in-Verbatim-clause-written g t c =
+    on_ok_weaker c.write_verbatim.result (verbatim_put c.args.level _ _ c.in-Verbatim.is)
+    c.write_verbatim.ensures.written
+
+pub write_nested-returns-in-Verbatim-clause-refused :
+    goal.write_nested-returns-in-Verbatim-clause-refused
+write_nested-returns-in-Verbatim-clause-refused g t c =
+    IfErr-weaker c.write_verbatim.result _ _ (refused_verbatim c.args.level _ _ c.in-Verbatim.is)
+    c.write_verbatim.ensures.refused
+
+pub write_nested-returns-in-Array-clause-written :
+    goal.write_nested-returns-in-Array-clause-written
+write_nested-returns-in-Array-clause-written g t c =
+    on_ok_weaker c.write_aggregate.result (put_as c.args.level c.in-Array.is)
+    c.write_aggregate.ensures.written
+
+pub write_nested-returns-in-Array-clause-refused :
+    goal.write_nested-returns-in-Array-clause-refused
+write_nested-returns-in-Array-clause-refused g t c =
+    IfErr-weaker c.write_aggregate.result _ _ (refused_form c.args.level c.in-Array.is)
+    c.write_aggregate.ensures.refused
+
+pub write_nested-returns-in-Map-clause-written :
+    goal.write_nested-returns-in-Map-clause-written
+write_nested-returns-in-Map-clause-written g t c =
+    on_ok_weaker c.write_aggregate-in-Map.result (put_as c.args.level c.in-Map.is)
+    c.write_aggregate-in-Map.ensures.written
+
+pub write_nested-returns-in-Map-clause-refused :
+    goal.write_nested-returns-in-Map-clause-refused
+write_nested-returns-in-Map-clause-refused g t c =
+    IfErr-weaker c.write_aggregate-in-Map.result _ _ (refused_form c.args.level c.in-Map.is)
+    c.write_aggregate-in-Map.ensures.refused
+
+pub write_nested-returns-in-Set-clause-written :
+    goal.write_nested-returns-in-Set-clause-written
+write_nested-returns-in-Set-clause-written g t c =
+    on_ok_weaker c.write_aggregate-in-Set.result (put_as c.args.level c.in-Set.is)
+    c.write_aggregate-in-Set.ensures.written
+
+pub write_nested-returns-in-Set-clause-refused :
+    goal.write_nested-returns-in-Set-clause-refused
+write_nested-returns-in-Set-clause-refused g t c =
+    IfErr-weaker c.write_aggregate-in-Set.result _ _ (refused_form c.args.level c.in-Set.is)
+    c.write_aggregate-in-Set.ensures.refused
+
+pub write_nested-returns-in-Push-clause-written :
+    goal.write_nested-returns-in-Push-clause-written
+write_nested-returns-in-Push-clause-written g t c =
+    on_ok_weaker c.write_aggregate-in-Push.result (put_as c.args.level c.in-Push.is)
+    c.write_aggregate-in-Push.ensures.written
+
+pub write_nested-returns-in-Push-clause-refused :
+    goal.write_nested-returns-in-Push-clause-refused
+write_nested-returns-in-Push-clause-refused g t c =
+    IfErr-weaker c.write_aggregate-in-Push.result _ _ (refused_form c.args.level c.in-Push.is)
+    c.write_aggregate-in-Push.ensures.refused
+
+pub write_nested-returns-in-Attributed-clause-written :
+    goal.write_nested-returns-in-Attributed-clause-written
+write_nested-returns-in-Attributed-clause-written g t c =
+    on_ok_weaker c.write_aggregate-in-Attributed.result (put_as c.args.level c.in-Attributed.is)
+    c.write_aggregate-in-Attributed.ensures.written
+
+pub write_nested-returns-in-Attributed-clause-refused :
+    goal.write_nested-returns-in-Attributed-clause-refused
+write_nested-returns-in-Attributed-clause-refused g t c =
+    IfErr-weaker c.write_aggregate-in-Attributed.result _ _
+    (refused_form c.args.level c.in-Attributed.is)
+    c.write_aggregate-in-Attributed.ensures.refused
+
+pub write_nested-returns-in_ok-write_integer-in-Integer-clause-written :
+    goal.write_nested-returns-in_ok-write_integer-in-Integer-clause-written
+write_nested-returns-in_ok-write_integer-in-Integer-clause-written g t c =
+    integer_put c.args.level _ c.in-Integer.is (search rules)
+    c.in_ok-write_integer-in-Integer.ensures.written
+
+pub write_nested-returns-in_ok-write_line-in-Null-clause-written :
+    goal.write_nested-returns-in_ok-write_line-in-Null-clause-written
+write_nested-returns-in_ok-write_line-in-Null-clause-written g t c =
+    null_put c.args.level c.in-Null.is c.in_ok-write_line-in-Null.ensures.written
+
+pub write_nested-returns-in_ok-write_line-in-Boolean-clause-written :
+    goal.write_nested-returns-in_ok-write_line-in-Boolean-clause-written
+write_nested-returns-in_ok-write_line-in-Boolean-clause-written g t c =
+    boolean_put c.args.level _ _ c.in-Boolean.is c.boolean_text.ensures
+    c.in_ok-write_line-in-Boolean.ensures.written
+
+pub write_nested-returns-in_ok-write_data-in-BulkError-clause-written :
+    goal.write_nested-returns-in_ok-write_data-in-BulkError-clause-written
+write_nested-returns-in_ok-write_data-in-BulkError-clause-written g t c =
+    bulk_error_put c.args.level _ c.in-BulkError.is (search rules)
+    c.in_ok-write_data-in-BulkError.ensures.written

@@ -1,0 +1,107 @@
+//! What is written is read back.
+ghost use Rattle.std.specs.Prelude.{◌≡◌, ◌⊎◌, ◌<◌, ◌++◌, ℕ, IfErr, IfOk, List};
+ghost use Rattle.winnow.specs.InTurn.{First};
+ghost use Rattle.format_resp3.specs.Alike.{AreAlike};
+ghost use Rattle.format_resp3.specs.Resp3.{Replies, ReplyText};
+ghost use Rattle.format_resp3.specs.Written.{IsRefused};
+ghost use Rattle.format_resp3.specs.declared.write.WriteError.{WriteError};
+ghost use Rattle.format_resp3.specs.declared.write.WriteError.TheVariants.{Level, OutOfMemory};
+
+use crate::read::read_reply;
+use crate::reply::Reply;
+use crate::write::{WriteError, write_reply};
+use std::alloc::Allocator;
+use winnow::error::ParserError;
+use winnow::stream::{Partial, StreamIsPartial};
+
+/// Reads a reply that is known to stand first in the bytes, and what is after it.
+fn read_whole<'i, A: Allocator + Copy>(
+    alloc: A,
+    level: usize,
+    bytes: &'i [u8],
+) -> Result<(Reply<&'i [u8], A>, &'i [u8]), WriteError>
+    requires stands { (reply : Replies A) × (rest : List ℕ)
+        × First (ReplyText level) bytes.now reply rest }
+    ensures reads { IfOk result (λ both. First (ReplyText level) bytes.now both.0 both.1.now) }
+    ensures memory { IfErr result (λ e. e ≡ OutOfMemory) }
+{
+    let mut whole = Partial::new(bytes);
+    whole.complete();
+    match read_reply(alloc, level, &mut whole) {
+        Ok(reply) => Ok((reply, whole.into_inner())),
+        Err(error) => {
+            if ParserError::<Partial<&[u8]>>::is_memory(&error) {
+                return Err(WriteError::OutOfMemory);
+            }
+            unreachable!()
+        }
+    }
+}
+
+/// What is read of the text that is written for a reply, with more after it, and what is left: a
+/// reply that is alike, of the same kinds, bytes, numbers and elements, and what was put after it.
+/// What was in the buffer goes. An error says why the reply is not written, or that a request for
+/// memory was refused; there is no other.
+///
+/// ```
+/// use format_resp3::back::reads_back;
+/// use format_resp3::reply::Reply;
+///
+/// let reply = Reply::Verbatim(b"txt".as_slice(), b"foo".as_slice());
+/// let mut bytes = Vec::new(alloc);
+/// let both = reads_back(alloc, 0, &reply, b"_\r\n".as_slice(), &mut bytes);
+/// assert!(rt; matches!(both, Ok((Reply::Verbatim(_, text), rest))
+///     if text == b"foo".as_slice() && rest == b"_\r\n".as_slice()));
+/// ```
+pub fn reads_back<'i, A: Allocator + Copy, B: Allocator>(
+    alloc: A,
+    level: usize,
+    reply: &Reply<&[u8], A>,
+    more: &[u8],
+    into: &'i mut Vec<u8, B>,
+) -> Result<(Reply<&'i [u8], A>, &'i [u8]), WriteError>
+    ensures alike { IfOk result (λ both. AreAlike level reply.now both.0
+        × (both.1.now ≡ more.now)) }
+    ensures refused { IfErr result (IsRefused level reply.now) }
+{
+    into.clear();
+    write_reply(level, reply, into)?;
+    into.extend_from_slice(more)?;
+    read_whole(alloc, level, into.as_slice())
+}
+
+/// Whatever is read of the text of a reply, with anything after it, is alike, and leaves what is
+/// after it: so no bytes are texts of two replies. That such a text is written says the clause
+/// `text` of [`write_reply`](crate::write::write_reply), and that what is read stands first that of
+/// [`read_reply`](crate::read::read_reply); [`reads_back`] calls both.
+///
+/// ```
+/// use format_resp3::back::what_is_written_reads_back;
+/// use std::alloc::Allocator;
+///
+/// fn of_an_allocator<A: Allocator>() {
+///     what_is_written_reads_back::<A>();
+/// }
+/// ```
+pub fn what_is_written_reads_back<A: Allocator>()
+    ensures { (level : ℕ) (written read : Replies A) (text more rest : List ℕ)
+        → ReplyText level written text → First (ReplyText level) (text ++ more) read rest
+        → AreAlike level written read × (rest ≡ more) }
+{}
+
+/// A reply that is refused has no text: of its errors but `OutOfMemory` each says that no text of
+/// any level is one of it, and `Level` that none of this level or of a lower one is.
+///
+/// ```
+/// use format_resp3::back::what_is_refused_has_no_text;
+/// use std::alloc::Allocator;
+///
+/// fn of_an_allocator<A: Allocator>() {
+///     what_is_refused_has_no_text::<A>();
+/// }
+/// ```
+pub fn what_is_refused_has_no_text<A: Allocator>()
+    ensures { (level above : ℕ) (reply : Replies A) (error : WriteError) (text : List ℕ)
+        → IsRefused level reply error → ReplyText above reply text
+        → (error ≡ OutOfMemory) ⊎ ((error ≡ Level) × (level < above)) }
+{}
