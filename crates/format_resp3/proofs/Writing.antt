@@ -52,10 +52,9 @@ module _ {A : Type 0} (level : ℕ) {reply : Replies A} {before after : List ℕ
   error_put text is (all, e) = line_put Minus text.now
       (text, is, shown_is (AllByRecursion InLine) text all) e
 
-  pub integer_put : (n : ℤ) → reply ≡ made.Integer n → FitsSigned w64 n
-      → after ≡ before ++ marked 58 (signed_decimal n)
-      → Adds (WrittenText level) reply before after
-  integer_put n is fits = line_put Colon (signed_decimal n) (n, is, fits, refl)
+  pub integer_put : {n : ℤ} → after ≡ before ++ marked 58 (signed_decimal n)
+      → reply ≡ made.Integer n → FitsSigned w64 n → Adds (WrittenText level) reply before after
+  integer_put {n} e is fits = line_put Colon (signed_decimal n) (n, is, fits, refl) e
 
   pub null_put : reply ≡ made.Null → after ≡ before ++ marked 95 []
       → Adds (WrittenText level) reply before after
