@@ -108,14 +108,15 @@ module _ {A : Type 0} (level : ℕ) {reply : Replies A} {before after : List ℕ
 
 -- the size of an aggregate, and its elements
 pub aggregate_put : {A : Type 0} (mark : AggregateMark) (size below : ℕ) {level : ℕ}
-    (list : Vec (Replies A) A) {items : List (Replies A)} {before between after : List ℕ}
-    → items ≡ list.items → length list.items ≡ many mark size → level ≡ below + 1
-    → between ≡ before ++ marked (byte_of (Aggregate mark)) (decimal size)
+    (list : Vec (Replies A) A) {items : List (Replies A)} {byte : ℕ}
+    {before between after : List ℕ} → items ≡ list.items
+    → length list.items ≡ many mark size → level ≡ below + 1 → byte ≡ byte_of (Aggregate mark)
+    → between ≡ before ++ marked byte (decimal size)
     → Adds (EachText (WrittenText below)) items between after
     → Adds (WrittenText level) (gathered mark list) before after
 unfolding WrittenElements
-aggregate_put {A} mark size below {level} list {items} {before} {between} {after} same count is e
-    added =
+aggregate_put {A} mark size below {level} list {items} {byte} {before} {between} {after} same
+    count is first e added =
     let P : ℕ → Type 0 = λ l. Adds (WrittenText l) (gathered mark list) before after in
     let Q : List (Replies A) → Type 0 = λ l. EachText (WrittenText below) l added.tokens in
     let f : level ≡ suc below = omega (arith, is) in
@@ -124,7 +125,8 @@ aggregate_put {A} mark size below {level} list {items} {before} {between} {after
       tokens = head ++ added.tokens;
       is = inr (inr (inl
           (mark, size, list, added.tokens, refl, count, subst Q same added.is, refl)));
-      behind = put_two before head added.tokens e added.behind;
+      behind = put_two before head added.tokens
+          (e ∙ ap (λ b. before ++ marked b (decimal size)) first) added.behind;
     })
 
 -- what was put as another reply, which it is

@@ -59,7 +59,7 @@ write_aggregate-returns-in_ok-write_size-in-Some-clause-written g t c =
     (aggregate_put c.args.mark c.in-Some.size (c.args.level - 1) c.args.replies.now
     c.as_slice.ensures.value
     (sym (c.len.ensures ∙ c.args.replies.now.ok.0) ∙ c.in-Some.ensures.some) (omega arith)
-    c.in_ok-write_size-in-Some.ensures.written)
+    c.byte.ensures c.in_ok-write_size-in-Some.ensures.written)
     c.write_elements.ensures.written
 
 pub write_aggregate-returns-in_ok-write_size-in-Some-clause-refused :
