@@ -21,7 +21,7 @@ use Rattle.format_resp3.specs.Written.{IsRefused, IsRefusedAmong, IsRefusedAs, I
 use Rattle.format_resp3.specs.Written.{IsUnpaired, LineWritten, WrittenElements, WrittenText}
 use Rattle.format_resp3.specs.declared.marks.AggregateMark.{AggregateMark}
 use Rattle.format_resp3.specs.declared.marks.DataMark.{DataMark}
-use Rattle.format_resp3.specs.declared.marks.DataMark.TheVariants.{Dollar, Equals, Exclamation}
+use Rattle.format_resp3.specs.declared.marks.DataMark.TheVariants.{Equals, Exclamation}
 use Rattle.format_resp3.specs.declared.marks.LineMark.{LineMark}
 use Rattle.format_resp3.specs.declared.marks.LineMark.TheVariants.{Colon, Comma, Hash, Minus}
 use Rattle.format_resp3.specs.declared.marks.LineMark.TheVariants.{Parenthesis, Plus, Underscore}
@@ -82,10 +82,6 @@ module _ {A : Type 0} (level : ℕ) {reply : Replies A} {before after : List ℕ
   data_put mark bytes says small =
       adds (data_of (byte_of (Data mark)) bytes) (inr (inl (mark, bytes, says, small, refl)))
 
-  pub bulk_put : (bytes : Bor (List ℕ)) → reply ≡ made.Bulk bytes → length bytes.now < 2 ^ 63
-      → after ≡ before ++ data_of 36 bytes.now → Adds (WrittenText level) reply before after
-  bulk_put bytes is small = data_put Dollar bytes.now (bytes, is, refl) small
-
   pub bulk_error_put : (bytes : Bor (List ℕ)) → reply ≡ made.BulkError bytes
       → length bytes.now < 2 ^ 63 → after ≡ before ++ data_of 33 bytes.now
       → Adds (WrittenText level) reply before after
@@ -97,14 +93,6 @@ module _ {A : Type 0} (level : ℕ) {reply : Replies A} {before after : List ℕ
       → Adds (WrittenText level) reply before after
   verbatim_put format text is (three, small, e) =
       data_put Equals (format.now ++ 58 ∷ text.now) (format, text, is, three, refl) small e
-
-  pub null_bulk_put : reply ≡ made.NullBulk → after ≡ before ++ marked 36 (45 ∷ 49 ∷ [])
-      → Adds (WrittenText level) reply before after
-  null_bulk_put is = adds (marked 36 (45 ∷ 49 ∷ [])) (inr (inr (inr (inl (is, refl)))))
-
-  pub null_array_put : reply ≡ made.NullArray → after ≡ before ++ marked 42 (45 ∷ 49 ∷ [])
-      → Adds (WrittenText level) reply before after
-  null_array_put is = adds (marked 42 (45 ∷ 49 ∷ [])) (inr (inr (inr (inr (is, refl)))))
 
 -- the size of an aggregate, and its elements
 pub aggregate_put : {A : Type 0} (mark : AggregateMark) (size below : ℕ) {level : ℕ}
