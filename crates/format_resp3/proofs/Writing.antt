@@ -21,7 +21,7 @@ use Rattle.format_resp3.specs.Written.{IsRefused, IsRefusedAmong, IsRefusedAs, I
 use Rattle.format_resp3.specs.Written.{IsUnpaired, LineWritten, WrittenElements, WrittenText}
 use Rattle.format_resp3.specs.declared.marks.AggregateMark.{AggregateMark}
 use Rattle.format_resp3.specs.declared.marks.DataMark.{DataMark}
-use Rattle.format_resp3.specs.declared.marks.DataMark.TheVariants.{Dollar, Equals, Exclamation}
+use Rattle.format_resp3.specs.declared.marks.DataMark.TheVariants.{Equals, Exclamation}
 use Rattle.format_resp3.specs.declared.marks.LineMark.{LineMark}
 use Rattle.format_resp3.specs.declared.marks.LineMark.TheVariants.{Colon, Comma, Hash, Minus}
 use Rattle.format_resp3.specs.declared.marks.LineMark.TheVariants.{Parenthesis, Plus, Underscore}
@@ -52,10 +52,9 @@ module _ {A : Type 0} (level : ℕ) {reply : Replies A} {before after : List ℕ
   error_put text is (all, e) = line_put Minus text.now
       (text, is, shown_is (AllByRecursion InLine) text all) e
 
-  pub integer_put : (n : ℤ) → reply ≡ made.Integer n → FitsSigned w64 n
-      → after ≡ before ++ marked 58 (signed_decimal n)
-      → Adds (WrittenText level) reply before after
-  integer_put n is fits = line_put Colon (signed_decimal n) (n, is, fits, refl)
+  pub integer_put : {n : ℤ} → after ≡ before ++ marked 58 (signed_decimal n)
+      → reply ≡ made.Integer n → FitsSigned w64 n → Adds (WrittenText level) reply before after
+  integer_put {n} e is fits = line_put Colon (signed_decimal n) (n, is, fits, refl) e
 
   pub null_put : reply ≡ made.Null → after ≡ before ++ marked 95 []
       → Adds (WrittenText level) reply before after
@@ -83,10 +82,6 @@ module _ {A : Type 0} (level : ℕ) {reply : Replies A} {before after : List ℕ
   data_put mark bytes says small =
       adds (data_of (byte_of (Data mark)) bytes) (inr (inl (mark, bytes, says, small, refl)))
 
-  pub bulk_put : (bytes : Bor (List ℕ)) → reply ≡ made.Bulk bytes → length bytes.now < 2 ^ 63
-      → after ≡ before ++ data_of 36 bytes.now → Adds (WrittenText level) reply before after
-  bulk_put bytes is small = data_put Dollar bytes.now (bytes, is, refl) small
-
   pub bulk_error_put : (bytes : Bor (List ℕ)) → reply ≡ made.BulkError bytes
       → length bytes.now < 2 ^ 63 → after ≡ before ++ data_of 33 bytes.now
       → Adds (WrittenText level) reply before after
@@ -99,24 +94,17 @@ module _ {A : Type 0} (level : ℕ) {reply : Replies A} {before after : List ℕ
   verbatim_put format text is (three, small, e) =
       data_put Equals (format.now ++ 58 ∷ text.now) (format, text, is, three, refl) small e
 
-  pub null_bulk_put : reply ≡ made.NullBulk → after ≡ before ++ marked 36 (45 ∷ 49 ∷ [])
-      → Adds (WrittenText level) reply before after
-  null_bulk_put is = adds (marked 36 (45 ∷ 49 ∷ [])) (inr (inr (inr (inl (is, refl)))))
-
-  pub null_array_put : reply ≡ made.NullArray → after ≡ before ++ marked 42 (45 ∷ 49 ∷ [])
-      → Adds (WrittenText level) reply before after
-  null_array_put is = adds (marked 42 (45 ∷ 49 ∷ [])) (inr (inr (inr (inr (is, refl)))))
-
 -- the size of an aggregate, and its elements
 pub aggregate_put : {A : Type 0} (mark : AggregateMark) (size below : ℕ) {level : ℕ}
-    (list : Vec (Replies A) A) {items : List (Replies A)} {before between after : List ℕ}
-    → items ≡ list.items → length list.items ≡ many mark size → level ≡ below + 1
-    → between ≡ before ++ marked (byte_of (Aggregate mark)) (decimal size)
+    (list : Vec (Replies A) A) {items : List (Replies A)} {byte : ℕ}
+    {before between after : List ℕ} → items ≡ list.items
+    → length list.items ≡ many mark size → level ≡ below + 1 → byte ≡ byte_of (Aggregate mark)
+    → between ≡ before ++ marked byte (decimal size)
     → Adds (EachText (WrittenText below)) items between after
     → Adds (WrittenText level) (gathered mark list) before after
 unfolding WrittenElements
-aggregate_put {A} mark size below {level} list {items} {before} {between} {after} same count is e
-    added =
+aggregate_put {A} mark size below {level} list {items} {byte} {before} {between} {after} same
+    count is first e added =
     let P : ℕ → Type 0 = λ l. Adds (WrittenText l) (gathered mark list) before after in
     let Q : List (Replies A) → Type 0 = λ l. EachText (WrittenText below) l added.tokens in
     let f : level ≡ suc below = omega (arith, is) in
@@ -125,7 +113,8 @@ aggregate_put {A} mark size below {level} list {items} {before} {between} {after
       tokens = head ++ added.tokens;
       is = inr (inr (inl
           (mark, size, list, added.tokens, refl, count, subst Q same added.is, refl)));
-      behind = put_two before head added.tokens e added.behind;
+      behind = put_two before head added.tokens
+          (e ∙ ap (λ b. before ++ marked b (decimal size)) first) added.behind;
     })
 
 -- what was put as another reply, which it is

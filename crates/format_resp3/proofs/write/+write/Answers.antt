@@ -1,4 +1,4 @@
-use Rattle.std.proofs.Common.{◌-◌, ◌∙◌, arith, inr, rules}
+use Rattle.std.proofs.Common.{◌-◌, ◌∙◌, arith, inr, refl, rules, sym}
 use Rattle.std.proofs.lemmas.Result.{IfErr-weaker, on_ok_weaker}
 use Rattle.format_resp.proofs.Writing.{among, if_error, keeps_trans, row_end, row_more}
 use Rattle.format_resp3.proofs.Writing.{aggregate_put, big_number_put, boolean_put, bulk_error_put}
@@ -57,7 +57,9 @@ pub write_aggregate-returns-in_ok-write_size-in-Some-clause-written :
 write_aggregate-returns-in_ok-write_size-in-Some-clause-written g t c =
     on_ok_weaker c.write_elements.result
     (aggregate_put c.args.mark c.in-Some.size (c.args.level - 1) c.args.replies.now
-    c.as_slice.ensures.value (omega arith) (omega arith) c.in_ok-write_size-in-Some.ensures.written)
+    c.as_slice.ensures.value
+    (sym (c.len.ensures ∙ c.args.replies.now.ok.0) ∙ c.in-Some.ensures.some) (omega arith)
+    c.byte.ensures c.in_ok-write_size-in-Some.ensures.written)
     c.write_elements.ensures.written
 
 pub write_aggregate-returns-in_ok-write_size-in-Some-clause-refused :
@@ -67,7 +69,8 @@ write_aggregate-returns-in_ok-write_size-in-Some-clause-refused g t c =
     (λ e. refused_within (c.args.level - 1) c.args.mark c.args.replies.now e
     c.as_slice.ensures.value (omega arith)) c.write_elements.ensures.refused
 
-pub write_aggregate-returns-in_ok-write_size-in-Some-clause-kept : goal.write_aggregate-returns-in_ok-write_size-in-Some-clause-kept
+pub write_aggregate-returns-in_ok-write_size-in-Some-clause-kept :
+    goal.write_aggregate-returns-in_ok-write_size-in-Some-clause-kept
 write_aggregate-returns-in_ok-write_size-in-Some-clause-kept g t c =
     keeps_trans c.in_ok-write_size-in-Some.ensures.kept c.write_elements.ensures.kept
 
@@ -197,8 +200,8 @@ write_nested-returns-in-Attributed-clause-refused g t c =
 pub write_nested-returns-in_ok-write_integer-in-Integer-clause-written :
     goal.write_nested-returns-in_ok-write_integer-in-Integer-clause-written
 write_nested-returns-in_ok-write_integer-in-Integer-clause-written g t c =
-    integer_put c.args.level _ c.in-Integer.is (search rules)
-    c.in_ok-write_integer-in-Integer.ensures.written
+    integer_put c.args.level c.in_ok-write_integer-in-Integer.ensures.written
+    (search (rules, c.in-Integer.is)) (search rules)
 
 pub write_nested-returns-in_ok-write_line-in-Null-clause-written :
     goal.write_nested-returns-in_ok-write_line-in-Null-clause-written
