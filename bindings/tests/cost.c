@@ -64,11 +64,11 @@ enum call { CALC, PAIR, DOCUMENT, ENTRY, CHECK, VALUE, NEXT, STEP, STRING, INTEG
             RECORD_EXTENT, REPLY, REPLY_IN_PIECES, EXTENT, CHUNKED, POSITION,
             TOML };
 static const char *const names[] = {
-    "calc_value", "ini_pair", "ini_document", "ini_next", "json_check", "json_value", "json_next", "json_step",
-    "json_string", "json_integer", "json_natural", "http_head", "http_head_in_pieces",
+    "calc_value", "ini_pair", "ini_document", "ini_next", "json_check", "json_value", "json_next",
+    "json_step", "json_string", "json_integer", "json_natural", "http_head", "http_head_in_pieces",
     "http_head_extent", "http_response_head", "http_response_head_in_pieces", "csv_record",
-    "csv_record_in_pieces", "csv_record_extent", "resp_reply", "resp_reply_in_pieces", "resp_extent", "http_chunked",
-    "text_position", "toml_document",
+    "csv_record_in_pieces", "csv_record_extent", "resp_reply", "resp_reply_in_pieces",
+    "resp_extent", "http_chunked", "text_position", "toml_document",
 };
 
 /* Inputs: a beginning, what is repeated, and an end. The memory is that which the header says a call
