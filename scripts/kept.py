@@ -8,6 +8,7 @@ the same: code, specs, proofs, handles, and the libraries below.
 """
 import functools
 import pathlib
+import shutil
 import sys
 
 sys.dont_write_bytecode = True
@@ -24,9 +25,13 @@ def give(rt, crates):
     for it in sorted(crates, key=lambda it: len(it.below())):
         if not {dep.name for dep in it.below()} <= given:
             continue
-        if it.is_built() or store.give(it, False, store.key(it)):
-            store.is_built(it)
-            given.add(it.name)
+        if not it.is_built():
+            # The kit drops what it kept of a crate where files of another build stand beside it.
+            shutil.rmtree(pathlib.Path(it.folder) / "out/rlib", ignore_errors=True)
+            if not store.give(it, False, store.key(it)):
+                continue
+        store.is_built(it)
+        given.add(it.name)
     return given
 
 
