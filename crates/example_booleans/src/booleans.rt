@@ -14,6 +14,7 @@ ghost use Rattle.winnow_expression_trees.specs.Items.Premises.{gives_ends};
 ghost use Rattle.example_booleans.specs.Booleans.{ByteItem, LacksOperand, infix_at, logic_value};
 ghost use Rattle.example_booleans.specs.Booleans.{not_value, operand_at, postfix_at, prefix_at};
 ghost use Rattle.example_booleans.specs.Booleans.Laws.{byte_ends};
+ghost use Rattle.winnow_core.specs.Says.{nothing_done, nothing_said};
 
 use std::alloc::Allocator;
 use stream_errors::empty::EmptyError;
@@ -127,9 +128,13 @@ impl<'i> Parser<&'i [u8], bool, EmptyError> for Part {
 
     ghost meaning = { λ _. Keeps (λ _. ItemRuns (ByteItem operand_at)) };
 
+    ghost says = { λ _. nothing_said };
+
     ghost claim = { λ _. no_claim };
 
     ghost leaves_ends = { λ form s i a t j r. byte_ends operand_at i j a r.0 };
+
+    ghost said = { λ _. nothing_done };
 
     ghost claimed = { λ _. nothing_claimed };
 
@@ -155,9 +160,13 @@ impl<'i> Parser<&'i [u8], Prefix<Not>, EmptyError> for Part {
 
     ghost meaning = { λ _. Keeps (λ _. ItemRuns (ByteItem prefix_at)) };
 
+    ghost says = { λ _. nothing_said };
+
     ghost claim = { λ _. no_claim };
 
     ghost leaves_ends = { λ form s i a t j r. byte_ends prefix_at i j a r.0 };
+
+    ghost said = { λ _. nothing_done };
 
     ghost claimed = { λ _. nothing_claimed };
 
@@ -183,9 +192,13 @@ impl<'i> Parser<&'i [u8], Postfix<Not>, EmptyError> for Part {
 
     ghost meaning = { λ _. Keeps (λ _. ItemRuns (ByteItem postfix_at)) };
 
+    ghost says = { λ _. nothing_said };
+
     ghost claim = { λ _. no_claim };
 
     ghost leaves_ends = { λ form s i a t j r. byte_ends postfix_at i j a r.0 };
+
+    ghost said = { λ _. nothing_done };
 
     ghost claimed = { λ _. nothing_claimed };
 
@@ -211,9 +224,13 @@ impl<'i> Parser<&'i [u8], Infix<Logic>, EmptyError> for Part {
 
     ghost meaning = { λ _. Keeps (λ _. ItemRuns (ByteItem infix_at)) };
 
+    ghost says = { λ _. nothing_said };
+
     ghost claim = { λ _. no_claim };
 
     ghost leaves_ends = { λ form s i a t j r. byte_ends infix_at i j a r.0 };
+
+    ghost said = { λ _. nothing_done };
 
     ghost claimed = { λ _. nothing_claimed };
 

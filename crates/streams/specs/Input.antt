@@ -160,7 +160,7 @@ remains_of_start {b = b} e p = let P : Remaining _
     → Type 0 = λ y. Remains b.left y in subst P (sym e) (ends_remain p.ends)
 
 -- inputs that are the same in each part are the same
-same_parts : {T : Type 0} (a b : Input T) → a.left.tokens ≡ b.left.tokens
+pub same_parts : {T : Type 0} (a b : Input T) → a.left.tokens ≡ b.left.tokens
     → a.left.place ≡ b.left.place → a.left.possible ≡ b.left.possible → a.status ≡ b.status
     → a ≡ b
 same_parts {T} a b tokens place possible status =

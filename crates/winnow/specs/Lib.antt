@@ -132,6 +132,7 @@ pub use Rattle.winnow_core.specs.MakesOutput
 pub use Rattle.winnow_core.specs.Map
 pub use Rattle.winnow_core.specs.MapErr
 pub use Rattle.winnow_core.specs.MapErrKept
+pub use Rattle.winnow_core.specs.Outcome
 pub use Rattle.winnow_core.specs.OutputInto
 pub use Rattle.winnow_core.specs.Parse
 pub use Rattle.winnow_core.specs.ParseIter
@@ -140,12 +141,14 @@ pub use Rattle.winnow_core.specs.ParseTo
 pub use Rattle.winnow_core.specs.Reads
 pub use Rattle.winnow_core.specs.Runs
 pub use Rattle.winnow_core.specs.SameMeaning
+pub use Rattle.winnow_core.specs.Says
 pub use Rattle.winnow_core.specs.Sequence
 pub use Rattle.winnow_core.specs.Settles
 pub use Rattle.winnow_core.specs.Short
 pub use Rattle.winnow_core.specs.Span
 pub use Rattle.winnow_core.specs.Stable
 pub use Rattle.winnow_core.specs.States
+pub use Rattle.winnow_core.specs.Then
 pub use Rattle.winnow_core.specs.TryMap
 pub use Rattle.winnow_core.specs.Value
 pub use Rattle.winnow_core.specs.Verify

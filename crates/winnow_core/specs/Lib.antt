@@ -26,6 +26,7 @@ pub mod MakesOutput
 pub mod Map
 pub mod MapErr
 pub mod MapErrKept
+pub mod Outcome
 pub mod OutputInto
 pub mod Parse
 pub mod ParseIter
@@ -34,6 +35,7 @@ pub mod ParseTo
 pub mod Reads
 pub mod Runs
 pub mod SameMeaning
+pub mod Says
 pub mod Sequence
 pub mod Settles
 pub mod Short
@@ -41,6 +43,7 @@ pub mod Span
 pub mod Stable
 pub mod States
 pub mod Take
+pub mod Then
 pub mod TryMap
 pub mod Value
 pub mod Verify

@@ -17,6 +17,7 @@ ghost use Rattle.winnow_core.specs.Exact.Whole.{IsWant, ReadsAll};
 ghost use Rattle.winnow_core.specs.FlatMap.{flat_map_closure, flat_map_parser};
 ghost use Rattle.winnow_core.specs.Map.{map_closure, map_parser};
 ghost use Rattle.winnow_core.specs.MapErr.{map_err_closure, map_err_parser};
+ghost use Rattle.winnow_core.specs.Outcome.{outcome_of};
 ghost use Rattle.winnow_core.specs.OutputInto.{output_into_parser};
 ghost use Rattle.winnow_core.specs.Parse.{ParsesWhole};
 ghost use Rattle.winnow_core.specs.ParseIter.{IsReached, parse_iter_name, parse_iter_parser};
@@ -24,6 +25,7 @@ ghost use Rattle.winnow_core.specs.ParseIter.{parse_iter_standing, reads};
 ghost use Rattle.winnow_core.specs.ParsePeek.{PeekAnswers};
 ghost use Rattle.winnow_core.specs.ParseTo.{parse_to_parser};
 ghost use Rattle.winnow_core.specs.Runs.{LeaveEnds, Meaning};
+ghost use Rattle.winnow_core.specs.Says.{Said, Says, Tells};
 ghost use Rattle.winnow_core.specs.Span.{span_parser};
 ghost use Rattle.winnow_core.specs.Take.{take_parser};
 ghost use Rattle.winnow_core.specs.TryMap.{try_map_closure, try_map_parser};
@@ -80,6 +82,10 @@ pub trait Parser<I: Stream, O, E: ParserError<I>>: Sized {
     // answer, a new state and a new input.
     ghost meaning: { Meaning State I.Seen O };
 
+    // What it says that it does with tokens, from a state. A parser that says nothing has
+    // `nothing_said`.
+    ghost says: { State → Says I.Seen O };
+
     // What it claims of its runs from a state: what they read by a grammar, and what one input
     // decides of them. A parser that claims nothing says `no_claim`.
     ghost claim: { State → Claim I.Seen O };
@@ -126,6 +132,26 @@ pub trait Parser<I: Stream, O, E: ParserError<I>>: Sized {
             }
             Err(error) => Err(fault_at(input, start, error)),
         }
+    }
+
+    /// As [`parse_next`](Parser::parse_next), and the parser's outcome is told: what it takes and
+    /// leaves, with which kind of error it fails and where, or how much more it asks for. It is
+    /// the outcome that the parser says of these tokens, and no other is; on a cut input every
+    /// longer one gets it too, if the parser is stable. The caller owes what the parser asks for
+    /// (`premise`).
+    #[inline(always)]
+    final fn read_outcome(&mut self, input: &mut I) -> Result<O, E>
+        requires callable { can_parse self.old }
+        requires premise { (says (state self.old)).premise }
+        ensures again { can_parse self.new }
+        ensures ran { meaning E.form (state self.old) (I.view input.old)
+            (answer_by E.kind result) (state self.new) (I.view input.new) }
+        ensures ends { IsEndOf I.reading (I.view input.new) (I.view input.old) }
+        ensures kept { state self.new ≡ state self.old }
+        ensures tells { Tells (says (state self.old)) E.form (I.view input.old)
+            (outcome_of (answer_by E.kind result) (I.view input.new).left.tokens) }
+    {
+        self.parse_next(input)
     }
 
     /// As [`parse_next`](Parser::parse_next), and the parser's grammar says what it answers: on a
@@ -450,6 +476,9 @@ pub trait Parser<I: Stream, O, E: ParserError<I>>: Sized {
 
     // Each run leaves an end of its input.
     ghost leaves_ends: { (form : ErrorForm) → LeaveEnds I.reading (meaning form) };
+
+    // Its runs do what is said.
+    ghost said: { (s : State) → Said (says s) s meaning };
 
     // Its runs keep what is claimed.
     ghost claimed: { (s : State) → Claimed (claim s) s meaning };

@@ -3,6 +3,7 @@ ghost use Rattle.std.specs.Fn.{CalledAtMut};
 ghost use Rattle.std.specs.Prelude.{◌≡◌, ⊤};
 ghost use Rattle.winnow_exact.specs.RulePieces.{CallsReadOrAsk, Joins, PiecesRuns};
 ghost use Rattle.winnow_exact.specs.RulePieces.{pieces_exact, pieces_fail, pieces_stay};
+ghost use Rattle.winnow_core.specs.Says.{nothing_done, nothing_said};
 
 use crate::rule::Rule;
 use stream_errors::parser_error::ParserError;
@@ -43,6 +44,8 @@ impl<N: Rule<I, O>, F: FnMut(&mut I) -> Result<O, E>, I: Stream, O, E: ParserErr
 
     ghost meaning = { λ _. PiecesRuns I.reading I.following N.grammar };
 
+    ghost says = { λ _. nothing_said };
+
     ghost claim = { λ s. record {
       premise = ⊤;
       backtracks = ⊤;
@@ -54,6 +57,8 @@ impl<N: Rule<I, O>, F: FnMut(&mut I) -> Result<O, E>, I: Stream, O, E: ParserErr
     } };
 
     ghost leaves_ends = { λ form s i answer t j r. r.0.ends };
+
+    ghost said = { λ _. nothing_done };
 
     ghost claimed = { λ s. record {
       exact = λ form is. pieces_exact I.reading I.following N.grammar s (N.unique s);

@@ -5,6 +5,7 @@ ghost use Rattle.grammars.specs.Grammar.{Grammar, IsUnique, TakesTokens};
 ghost use Rattle.winnow_exact.specs.Rule.{by_rule, by_run};
 ghost use Rattle.winnow_exact.specs.Rule.{ByRuns, CallsRead, CallsSpared, by_exact, by_fails};
 ghost use Rattle.winnow_exact.specs.RulePieces.{pieces_rule, pieces_run};
+ghost use Rattle.winnow_core.specs.Says.{nothing_done, nothing_said};
 
 use crate::by_pieces::ByPieces;
 use stream_errors::parser_error::ParserError;
@@ -72,6 +73,8 @@ impl<N: Rule<I, O>, F: FnMut(&mut I) -> Result<O, E>, I: Stream, O, E: ParserErr
 
     ghost meaning = { λ _. ByRuns I.reading I.view E.kind (CalledAtMut F.FnMut) };
 
+    ghost says = { λ _. nothing_said };
+
     ghost claim = { λ s. record {
       premise = CallsRead I.reading I.view E.kind (CalledAtMut F.FnMut) (N.grammar s.0) s.1;
       backtracks = ⊤;
@@ -83,6 +86,8 @@ impl<N: Rule<I, O>, F: FnMut(&mut I) -> Result<O, E>, I: Stream, O, E: ParserErr
     } };
 
     ghost leaves_ends = { λ form s i answer t j r. r.0.1 };
+
+    ghost said = { λ _. nothing_done };
 
     ghost claimed = { λ s. record {
       exact = λ form is. by_exact s is (N.unique s.0);

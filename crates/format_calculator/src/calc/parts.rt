@@ -6,6 +6,7 @@ ghost use Rattle.winnow.specs.Items.{ItemRuns};
 ghost use Rattle.format_calculator.specs.Calculator.{CharItem, NumberItem, mark_at, pair_at};
 ghost use Rattle.format_calculator.specs.Calculator.{sign_at};
 ghost use Rattle.format_calculator.specs.Calculator.Laws.{char_ends, number_ends};
+ghost use Rattle.winnow.specs.Says.{nothing_done, nothing_said};
 
 use crate::calc::items::{read_mark, read_number, read_pair, read_sign};
 use crate::calc::operators::{Mark, Pair, Sign};
@@ -24,9 +25,13 @@ impl<'i> Parser<&'i str, i64, EmptyError> for Number {
 
     ghost meaning = { λ _. Keeps (λ _. ItemRuns NumberItem) };
 
+    ghost says = { λ _. nothing_said };
+
     ghost claim = { λ _. no_claim };
 
     ghost leaves_ends = { λ form s i a t j r. number_ends i j a r.0 };
+
+    ghost said = { λ _. nothing_done };
 
     ghost claimed = { λ _. nothing_claimed };
 
@@ -49,9 +54,13 @@ impl<'i> Parser<&'i str, Prefix<Sign>, EmptyError> for BeforeIt {
 
     ghost meaning = { λ _. Keeps (λ _. ItemRuns (CharItem sign_at)) };
 
+    ghost says = { λ _. nothing_said };
+
     ghost claim = { λ _. no_claim };
 
     ghost leaves_ends = { λ form s i a t j r. char_ends sign_at i j a r.0 };
+
+    ghost said = { λ _. nothing_done };
 
     ghost claimed = { λ _. nothing_claimed };
 
@@ -74,9 +83,13 @@ impl<'i> Parser<&'i str, Postfix<Mark>, EmptyError> for BehindIt {
 
     ghost meaning = { λ _. Keeps (λ _. ItemRuns (CharItem mark_at)) };
 
+    ghost says = { λ _. nothing_said };
+
     ghost claim = { λ _. no_claim };
 
     ghost leaves_ends = { λ form s i a t j r. char_ends mark_at i j a r.0 };
+
+    ghost said = { λ _. nothing_done };
 
     ghost claimed = { λ _. nothing_claimed };
 
@@ -99,9 +112,13 @@ impl<'i> Parser<&'i str, Infix<Pair>, EmptyError> for BetweenThem {
 
     ghost meaning = { λ _. Keeps (λ _. ItemRuns (CharItem pair_at)) };
 
+    ghost says = { λ _. nothing_said };
+
     ghost claim = { λ _. no_claim };
 
     ghost leaves_ends = { λ form s i a t j r. char_ends pair_at i j a r.0 };
+
+    ghost said = { λ _. nothing_done };
 
     ghost claimed = { λ _. nothing_claimed };
 

@@ -3,6 +3,7 @@ ghost use Rattle.winnow.specs.Claim.{no_claim, nothing_claimed};
 ghost use Rattle.std.specs.Prelude.{⊤, ◌≡◌};
 ghost use Rattle.readers.specs.DocumentRuns.{BracketsRuns, CategoryRuns, CommentRuns, GapRuns};
 ghost use Rattle.readers.specs.DocumentRuns.{KeyRuns, KeyValueRuns, MarkRuns, ValueRuns};
+ghost use Rattle.winnow.specs.Says.{nothing_done, nothing_said};
 
 use crate::ini::parts::{
     brackets, category, comment, gap, key, key_value, mark, section_name, value,
@@ -29,9 +30,13 @@ impl<'i> Parser<&'i [u8], &'i str, ErrMode<InputError<&'i [u8]>>> for Category {
 
     ghost meaning = { λ _ _ i answer _ j. CategoryRuns i answer j };
 
+    ghost says = { λ _. nothing_said };
+
     ghost claim = { λ _. no_claim };
 
     ghost leaves_ends = { λ form s i answer t j r. r.0 };
+
+    ghost said = { λ _. nothing_done };
 
     ghost claimed = { λ _. nothing_claimed };
 
@@ -60,9 +65,13 @@ impl<'i> Parser<&'i [u8], (&'i str, &'i str), ErrMode<InputError<&'i [u8]>>> for
 
     ghost meaning = { λ _ _ i answer _ j. KeyValueRuns i answer j };
 
+    ghost says = { λ _. nothing_said };
+
     ghost claim = { λ _. no_claim };
 
     ghost leaves_ends = { λ form s i answer t j r. r.0 };
+
+    ghost said = { λ _. nothing_done };
 
     ghost claimed = { λ _. nothing_claimed };
 
@@ -87,9 +96,13 @@ impl<'i> Parser<&'i [u8], &'i str, ErrMode<InputError<&'i [u8]>>> for SectionNam
 
     ghost meaning = { λ _ _ i answer _ j. CategoryRuns i answer j };
 
+    ghost says = { λ _. nothing_said };
+
     ghost claim = { λ _. no_claim };
 
     ghost leaves_ends = { λ form s i answer t j r. r.0 };
+
+    ghost said = { λ _. nothing_done };
 
     ghost claimed = { λ _. nothing_claimed };
 
@@ -114,9 +127,13 @@ impl<'i> Parser<&'i [u8], &'i [u8], ErrMode<InputError<&'i [u8]>>> for Brackets 
 
     ghost meaning = { λ _ _ i answer _ j. BracketsRuns i answer j };
 
+    ghost says = { λ _. nothing_said };
+
     ghost claim = { λ _. no_claim };
 
     ghost leaves_ends = { λ form s i answer t j r. r.0 };
+
+    ghost said = { λ _. nothing_done };
 
     ghost claimed = { λ _. nothing_claimed };
 
@@ -142,9 +159,13 @@ impl<'i, A: Allocator + Copy> Parser<&'i [u8], (), ErrMode<InputError<&'i [u8]>>
 
     ghost meaning = { λ _ _ i answer _ j. GapRuns i answer j };
 
+    ghost says = { λ _. nothing_said };
+
     ghost claim = { λ _. no_claim };
 
     ghost leaves_ends = { λ form s i answer t j r. r.0 };
+
+    ghost said = { λ _. nothing_done };
 
     ghost claimed = { λ _. nothing_claimed };
 
@@ -164,9 +185,13 @@ impl<'i> Parser<&'i [u8], (), ErrMode<InputError<&'i [u8]>>> for Comment {
 
     ghost meaning = { λ _ _ i answer _ j. CommentRuns i answer j };
 
+    ghost says = { λ _. nothing_said };
+
     ghost claim = { λ _. no_claim };
 
     ghost leaves_ends = { λ form s i answer t j r. r.0 };
+
+    ghost said = { λ _. nothing_done };
 
     ghost claimed = { λ _. nothing_claimed };
 
@@ -186,9 +211,13 @@ impl<'i> Parser<&'i [u8], &'i str, ErrMode<InputError<&'i [u8]>>> for Key {
 
     ghost meaning = { λ _ _ i answer _ j. KeyRuns i answer j };
 
+    ghost says = { λ _. nothing_said };
+
     ghost claim = { λ _. no_claim };
 
     ghost leaves_ends = { λ form s i answer t j r. r.0 };
+
+    ghost said = { λ _. nothing_done };
 
     ghost claimed = { λ _. nothing_claimed };
 
@@ -211,9 +240,13 @@ impl<'i> Parser<&'i [u8], (), ErrMode<InputError<&'i [u8]>>> for Mark {
 
     ghost meaning = { λ _ _ i answer _ j. MarkRuns i answer j };
 
+    ghost says = { λ _. nothing_said };
+
     ghost claim = { λ _. no_claim };
 
     ghost leaves_ends = { λ form s i answer t j r. r.0 };
+
+    ghost said = { λ _. nothing_done };
 
     ghost claimed = { λ _. nothing_claimed };
 
@@ -233,9 +266,13 @@ impl<'i> Parser<&'i [u8], &'i str, ErrMode<InputError<&'i [u8]>>> for Value {
 
     ghost meaning = { λ _ _ i answer _ j. ValueRuns i answer j };
 
+    ghost says = { λ _. nothing_said };
+
     ghost claim = { λ _. no_claim };
 
     ghost leaves_ends = { λ form s i answer t j r. r.0 };
+
+    ghost said = { λ _. nothing_done };
 
     ghost claimed = { λ _. nothing_claimed };
 

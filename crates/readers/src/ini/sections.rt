@@ -4,6 +4,7 @@ ghost use Rattle.std.specs.Prelude.{⊤, ◌≡◌, map, MatchResult};
 ghost use Rattle.readers.specs.Document.{HasSections, IsDocumentFault};
 ghost use Rattle.readers.specs.DocumentRuns.{DocumentRuns, PairsRuns, SectionRuns, SectionsRuns};
 ghost use Rattle.readers.specs.Sections.{pair_text, section_text};
+ghost use Rattle.winnow.specs.Says.{nothing_done, nothing_said};
 
 use crate::fault::Fault;
 use crate::ini::impls::{Gap, KeyValue, SectionName};
@@ -51,9 +52,13 @@ impl<'i, A: Allocator + Copy> Parser<
 
     ghost meaning = { λ _ _ i answer _ j. PairsRuns (λ all. map pair_text all.items) i answer j };
 
+    ghost says = { λ _. nothing_said };
+
     ghost claim = { λ _. no_claim };
 
     ghost leaves_ends = { λ form s i answer t j r. r.0 };
+
+    ghost said = { λ _. nothing_done };
 
     ghost claimed = { λ _. nothing_claimed };
 
@@ -81,9 +86,13 @@ impl<'i, A: Allocator + Copy> Parser<&'i [u8], Section<'i, A>, ErrMode<InputErro
 
     ghost meaning = { λ _ _ i answer _ j. SectionRuns section_text i answer j };
 
+    ghost says = { λ _. nothing_said };
+
     ghost claim = { λ _. no_claim };
 
     ghost leaves_ends = { λ form s i answer t j r. r.0 };
+
+    ghost said = { λ _. nothing_done };
 
     ghost claimed = { λ _. nothing_claimed };
 
@@ -118,9 +127,13 @@ impl<'i, A: Allocator + Copy> Parser<
     ghost meaning = { λ _ _ i answer _ j. SectionsRuns (λ all. map section_text all.items) i
         answer j };
 
+    ghost says = { λ _. nothing_said };
+
     ghost claim = { λ _. no_claim };
 
     ghost leaves_ends = { λ form s i answer t j r. r.0 };
+
+    ghost said = { λ _. nothing_done };
 
     ghost claimed = { λ _. nothing_claimed };
 
@@ -153,9 +166,13 @@ impl<'i, A: Allocator + Copy> Parser<
     ghost meaning = { λ _ _ i answer _ j. DocumentRuns (λ all. map section_text all.items) i
         answer j };
 
+    ghost says = { λ _. nothing_said };
+
     ghost claim = { λ _. no_claim };
 
     ghost leaves_ends = { λ form s i answer t j r. r.0 };
+
+    ghost said = { λ _. nothing_done };
 
     ghost claimed = { λ _. nothing_claimed };
 

@@ -2,6 +2,7 @@
 ghost use Rattle.std.specs.Fn.{CalledAtMut};
 ghost use Rattle.winnow_core.specs.Func.{FuncRuns, LeavesEndsFrom};
 ghost use Rattle.winnow_core.specs.Claim.{no_claim, nothing_claimed};
+ghost use Rattle.winnow_core.specs.Says.{nothing_done, nothing_said};
 
 use crate::parser::Parser;
 use stream_errors::parser_error::ParserError;
@@ -51,9 +52,13 @@ impl<F: FnMut(&mut I) -> Result<O, E>, I: Stream, O, E: ParserError<I>> Parser<I
 
     ghost meaning = { λ _. FuncRuns I.reading I.view E.kind (CalledAtMut F.FnMut) };
 
+    ghost says = { λ _. nothing_said };
+
     ghost claim = { λ _. no_claim };
 
     ghost leaves_ends = { λ form s i answer t j r. r.1 };
+
+    ghost said = { λ _. nothing_done };
 
     ghost claimed = { λ _. nothing_claimed };
 

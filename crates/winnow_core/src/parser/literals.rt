@@ -8,6 +8,7 @@ ghost use Rattle.winnow_core.specs.Literal.Laws.{ShowSame, literal_alike, litera
 ghost use Rattle.winnow_core.specs.Literal.Laws.{literal_stays};
 ghost use Rattle.winnow_core.specs.Runs.{Keeps};
 ghost use Rattle.winnow_core.specs.Stable.Grows.{leaf_stays};
+ghost use Rattle.winnow_core.specs.Says.{nothing_done, nothing_said};
 
 use crate::agrees_with::AgreesWith;
 use crate::literal::take_literal;
@@ -30,10 +31,14 @@ impl<I: StreamIsPartial + Compare<u8>, E: ParserError<I>> Parser<I, u8, E> for u
 
     ghost meaning = { λ form. Keeps (λ s. LiteralRuns I.reading form (I.spells s) (λ _. s)) };
 
+    ghost says = { λ _. nothing_said };
+
     ghost claim = { literal_claim I.reading I.spells (λ s _. s) (λ o q. o ≡ q) };
 
     ghost leaves_ends = { λ form s i answer t j r. literal_ends I.reading form (I.spells s)
         (λ _. s) i answer j r.0 };
+
+    ghost said = { λ _. nothing_done };
 
     ghost claimed = { λ s. literal_claimed I.reading I.spells (λ s _. s) (λ o q. o ≡ q) s
         (I.same_units s) (λ slice other shown. refl) };
@@ -76,10 +81,14 @@ impl<'t, I: StreamIsPartial + Compare<&'t [u8]>, E: ParserError<I>> Parser<I, I:
     ghost meaning = { λ form. Keeps
         (λ s. LiteralRuns I.reading form (I.spells s) (λ slice. slice)) };
 
+    ghost says = { λ _. nothing_said };
+
     ghost claim = { literal_claim I.reading I.spells (λ _ slice. slice) (ShowSame I.reading) };
 
     ghost leaves_ends = { λ form s i answer t j r. literal_ends I.reading form (I.spells s)
         (λ slice. slice) i answer j r.0 };
+
+    ghost said = { λ _. nothing_done };
 
     ghost claimed = { λ s. literal_claimed I.reading I.spells (λ _ slice. slice)
         (ShowSame I.reading) s (I.same_units s) (λ slice other shown. shown) };
@@ -128,10 +137,14 @@ impl<'t, const N: usize, I: StreamIsPartial + Compare<&'t [u8; N]>, E: ParserErr
     ghost meaning = { λ form. Keeps
         (λ s. LiteralRuns I.reading form (I.spells s) (λ slice. slice)) };
 
+    ghost says = { λ _. nothing_said };
+
     ghost claim = { literal_claim I.reading I.spells (λ _ slice. slice) (ShowSame I.reading) };
 
     ghost leaves_ends = { λ form s i answer t j r. literal_ends I.reading form (I.spells s)
         (λ slice. slice) i answer j r.0 };
+
+    ghost said = { λ _. nothing_done };
 
     ghost claimed = { λ s. literal_claimed I.reading I.spells (λ _ slice. slice)
         (ShowSame I.reading) s (I.same_units s) (λ slice other shown. shown) };
@@ -182,10 +195,14 @@ impl<I: StreamIsPartial + Compare<char>, E: ParserError<I>> Parser<I, char, E> f
 
     ghost meaning = { λ form. Keeps (λ s. LiteralRuns I.reading form (I.spells s) (λ _. s)) };
 
+    ghost says = { λ _. nothing_said };
+
     ghost claim = { literal_claim I.reading I.spells (λ s _. s) (λ o q. o ≡ q) };
 
     ghost leaves_ends = { λ form s i answer t j r. literal_ends I.reading form (I.spells s)
         (λ _. s) i answer j r.0 };
+
+    ghost said = { λ _. nothing_done };
 
     ghost claimed = { λ s. literal_claimed I.reading I.spells (λ s _. s) (λ o q. o ≡ q) s
         (I.same_units s) (λ slice other shown. refl) };
@@ -228,10 +245,14 @@ impl<'t, I: StreamIsPartial + Compare<&'t str>, E: ParserError<I>> Parser<I, I::
     ghost meaning = { λ form. Keeps
         (λ s. LiteralRuns I.reading form (I.spells s) (λ slice. slice)) };
 
+    ghost says = { λ _. nothing_said };
+
     ghost claim = { literal_claim I.reading I.spells (λ _ slice. slice) (ShowSame I.reading) };
 
     ghost leaves_ends = { λ form s i answer t j r. literal_ends I.reading form (I.spells s)
         (λ slice. slice) i answer j r.0 };
+
+    ghost said = { λ _. nothing_done };
 
     ghost claimed = { λ s. literal_claimed I.reading I.spells (λ _ slice. slice)
         (ShowSame I.reading) s (I.same_units s) (λ slice other shown. shown) };
@@ -277,10 +298,14 @@ impl<'t, I: StreamIsPartial + Compare<Caseless<&'t [u8]>>, E: ParserError<I>> Pa
     ghost meaning = { λ form. Keeps
         (λ s. LiteralRuns I.reading form (I.spells s) (λ slice. slice)) };
 
+    ghost says = { λ _. nothing_said };
+
     ghost claim = { literal_claim I.reading I.spells (λ _ slice. slice) (ShowSame I.reading) };
 
     ghost leaves_ends = { λ form s i answer t j r. literal_ends I.reading form (I.spells s)
         (λ slice. slice) i answer j r.0 };
+
+    ghost said = { λ _. nothing_done };
 
     ghost claimed = { λ s. literal_claimed I.reading I.spells (λ _ slice. slice)
         (ShowSame I.reading) s (I.same_units s) (λ slice other shown. shown) };
@@ -330,10 +355,14 @@ impl<
     ghost meaning = { λ form. Keeps
         (λ s. LiteralRuns I.reading form (I.spells s) (λ slice. slice)) };
 
+    ghost says = { λ _. nothing_said };
+
     ghost claim = { literal_claim I.reading I.spells (λ _ slice. slice) (ShowSame I.reading) };
 
     ghost leaves_ends = { λ form s i answer t j r. literal_ends I.reading form (I.spells s)
         (λ slice. slice) i answer j r.0 };
+
+    ghost said = { λ _. nothing_done };
 
     ghost claimed = { λ s. literal_claimed I.reading I.spells (λ _ slice. slice)
         (ShowSame I.reading) s (I.same_units s) (λ slice other shown. shown) };
@@ -384,10 +413,14 @@ impl<'t, I: StreamIsPartial + Compare<Caseless<&'t str>>, E: ParserError<I>> Par
     ghost meaning = { λ form. Keeps
         (λ s. LiteralRuns I.reading form (I.spells s) (λ slice. slice)) };
 
+    ghost says = { λ _. nothing_said };
+
     ghost claim = { literal_claim I.reading I.spells (λ _ slice. slice) (ShowSame I.reading) };
 
     ghost leaves_ends = { λ form s i answer t j r. literal_ends I.reading form (I.spells s)
         (λ slice. slice) i answer j r.0 };
+
+    ghost said = { λ _. nothing_done };
 
     ghost claimed = { λ s. literal_claimed I.reading I.spells (λ _ slice. slice)
         (ShowSame I.reading) s (I.same_units s) (λ slice other shown. shown) };

@@ -23,6 +23,7 @@ ghost use Rattle.winnow_core.specs.Sequence.Claim.{sequence5_claim, sequence5_cl
 ghost use Rattle.winnow_core.specs.Sequence.Claim.{sequence6_claim, sequence6_claimed};
 ghost use Rattle.winnow_core.specs.Sequence.Laws.{sequence1_ends, sequence2_ends, sequence3_ends};
 ghost use Rattle.winnow_core.specs.Sequence.Laws.{sequence4_ends, sequence5_ends, sequence6_ends};
+ghost use Rattle.winnow_core.specs.Says.{nothing_done, nothing_said};
 
 mod stable;
 
@@ -39,6 +40,8 @@ impl<I: Stream, E: ParserError<I>> Parser<I, (), E> for () {
 
     ghost meaning = { λ _. SequenceRuns0 };
 
+    ghost says = { λ _. nothing_said };
+
     ghost claim = { λ s. record {
       premise = ⊤;
       backtracks = ⊤;
@@ -50,6 +53,8 @@ impl<I: Stream, E: ParserError<I>> Parser<I, (), E> for () {
     } };
 
     ghost leaves_ends = { λ form s i answer t j r. same_ends I.reading i j r.1 };
+
+    ghost said = { λ _. nothing_done };
 
     ghost claimed = { λ s. record {
       exact = λ form is. unit_exact;
@@ -86,6 +91,8 @@ impl<I: Stream, O1, E: ParserError<I>, P1: Parser<I, O1, E>> Parser<I, (O1,), E>
 
     ghost meaning = { λ form. SequenceRuns1 (P1.meaning form) };
 
+    ghost says = { λ _. nothing_said };
+
     ghost claim = { λ s. record {
       premise = (P1.claim s.0).premise;
       backtracks = (P1.claim s.0).backtracks;
@@ -98,6 +105,8 @@ impl<I: Stream, O1, E: ParserError<I>, P1: Parser<I, O1, E>> Parser<I, (O1,), E>
 
     ghost leaves_ends = { λ form. sequence1_ends I.reading (P1.meaning form)
         (P1.leaves_ends form) };
+
+    ghost said = { λ _. nothing_done };
 
     ghost claimed = { λ s. record {
       exact = λ form is. tuple1_exact (P1.meaning form) (record { 0 = s.0 })
@@ -146,10 +155,14 @@ impl<I: Stream, O1: Drop, O2, E: ParserError<I>, P1: Parser<I, O1, E>, P2: Parse
 
     ghost meaning = { λ form. SequenceRuns2 (P1.meaning form) (P2.meaning form) };
 
+    ghost says = { λ _. nothing_said };
+
     ghost claim = { λ s. sequence2_claim (P1.claim s.0) (P2.claim s.1) };
 
     ghost leaves_ends = { λ form. sequence2_ends I.reading (P1.meaning form) (P2.meaning form)
         (P1.leaves_ends form) (P2.leaves_ends form) };
+
+    ghost said = { λ _. nothing_done };
 
     ghost claimed = { λ s. sequence2_claimed (P1.claimed s.0) (P2.claimed s.1) };
 
@@ -199,10 +212,14 @@ impl<
 
     ghost meaning = { λ form. SequenceRuns3 (P1.meaning form) (P2.meaning form) (P3.meaning form) };
 
+    ghost says = { λ _. nothing_said };
+
     ghost claim = { λ s. sequence3_claim (P1.claim s.0) (P2.claim s.1) (P3.claim s.2) };
 
     ghost leaves_ends = { λ form. sequence3_ends I.reading (P1.meaning form) (P2.meaning form)
         (P3.meaning form) (P1.leaves_ends form) (P2.leaves_ends form) (P3.leaves_ends form) };
+
+    ghost said = { λ _. nothing_done };
 
     ghost claimed = { λ s. sequence3_claimed (P1.claimed s.0) (P2.claimed s.1) (P3.claimed s.2) };
 
@@ -261,12 +278,16 @@ impl<
     ghost meaning = { λ form. SequenceRuns4 (P1.meaning form) (P2.meaning form)
         (P3.meaning form) (P4.meaning form) };
 
+    ghost says = { λ _. nothing_said };
+
     ghost claim = { λ s. sequence4_claim (P1.claim s.0) (P2.claim s.1) (P3.claim s.2)
         (P4.claim s.3) };
 
     ghost leaves_ends = { λ form. sequence4_ends I.reading (P1.meaning form) (P2.meaning form)
         (P3.meaning form) (P4.meaning form) (P1.leaves_ends form) (P2.leaves_ends form)
         (P3.leaves_ends form) (P4.leaves_ends form) };
+
+    ghost said = { λ _. nothing_done };
 
     ghost claimed = { λ s. sequence4_claimed (P1.claimed s.0) (P2.claimed s.1) (P3.claimed s.2)
         (P4.claimed s.3) };
@@ -333,6 +354,8 @@ impl<
     ghost meaning = { λ form. SequenceRuns5 (P1.meaning form) (P2.meaning form)
         (P3.meaning form) (P4.meaning form) (P5.meaning form) };
 
+    ghost says = { λ _. nothing_said };
+
     ghost claim = { λ s. sequence5_claim (P1.claim s.0) (P2.claim s.1) (P3.claim s.2)
         (P4.claim s.3) (P5.claim s.4) };
 
@@ -340,6 +363,8 @@ impl<
         (P3.meaning form) (P4.meaning form) (P5.meaning form) (P1.leaves_ends form)
         (P2.leaves_ends form) (P3.leaves_ends form) (P4.leaves_ends form)
         (P5.leaves_ends form) };
+
+    ghost said = { λ _. nothing_done };
 
     ghost claimed = { λ s. sequence5_claimed (P1.claimed s.0) (P2.claimed s.1) (P3.claimed s.2)
         (P4.claimed s.3) (P5.claimed s.4) };
@@ -420,6 +445,8 @@ impl<
     ghost meaning = { λ form. SequenceRuns6 (P1.meaning form) (P2.meaning form)
         (P3.meaning form) (P4.meaning form) (P5.meaning form) (P6.meaning form) };
 
+    ghost says = { λ _. nothing_said };
+
     ghost claim = { λ s. sequence6_claim (P1.claim s.0) (P2.claim s.1) (P3.claim s.2)
         (P4.claim s.3) (P5.claim s.4) (P6.claim s.5) };
 
@@ -427,6 +454,8 @@ impl<
         (P3.meaning form) (P4.meaning form) (P5.meaning form) (P6.meaning form)
         (P1.leaves_ends form) (P2.leaves_ends form) (P3.leaves_ends form)
         (P4.leaves_ends form) (P5.leaves_ends form) (P6.leaves_ends form) };
+
+    ghost said = { λ _. nothing_done };
 
     ghost claimed = { λ s. sequence6_claimed (P1.claimed s.0) (P2.claimed s.1) (P3.claimed s.2)
         (P4.claimed s.3) (P5.claimed s.4) (P6.claimed s.5) };

@@ -10,6 +10,7 @@ ghost use Rattle.winnow_expression.specs.Operators.{OperatorRuns, fold_of, left_
 ghost use Rattle.winnow_expression.specs.Operators.{neither_power, right_power};
 ghost use Rattle.winnow_expression.specs.Operators.Laws.{operator_ends, operator_stays};
 ghost use Rattle.winnow_core.specs.Claim.{no_claim, nothing_claimed};
+ghost use Rattle.winnow_core.specs.Says.{nothing_done, nothing_said};
 
 use stream_errors::parser_error::ParserError;
 use streams::stream::Stream;
@@ -128,11 +129,15 @@ impl<I: Stream, F: Clone, E: ParserError<I>> Parser<I, Prefix<F>, E> for Prefix<
     ghost meaning = { λ _. Keeps
         (OperatorRuns (IsPrefixClone F.is_clone) (λ s. F.is_infallible s.1)) };
 
+    ghost says = { λ _. nothing_said };
+
     ghost claim = { λ _. no_claim };
 
     ghost leaves_ends = { λ form s i answer t j r. operator_ends I.reading
         (IsPrefixClone F.is_clone)
         (λ s. F.is_infallible s.1) s i answer j r.0 };
+
+    ghost said = { λ _. nothing_done };
 
     ghost claimed = { λ _. nothing_claimed };
 
@@ -153,11 +158,15 @@ impl<I: Stream, F: Clone, E: ParserError<I>> Parser<I, Postfix<F>, E> for Postfi
     ghost meaning = { λ _. Keeps
         (OperatorRuns (IsPostfixClone F.is_clone) (λ s. F.is_infallible s.1)) };
 
+    ghost says = { λ _. nothing_said };
+
     ghost claim = { λ _. no_claim };
 
     ghost leaves_ends = { λ form s i answer t j r. operator_ends I.reading
         (IsPostfixClone F.is_clone)
         (λ s. F.is_infallible s.1) s i answer j r.0 };
+
+    ghost said = { λ _. nothing_done };
 
     ghost claimed = { λ _. nothing_claimed };
 
@@ -178,10 +187,14 @@ impl<I: Stream, F: Clone, E: ParserError<I>> Parser<I, Infix<F>, E> for Infix<F>
     ghost meaning = { λ _. Keeps
         (OperatorRuns (IsInfixClone F.is_clone) (λ s. F.is_infallible (fold_of s))) };
 
+    ghost says = { λ _. nothing_said };
+
     ghost claim = { λ _. no_claim };
 
     ghost leaves_ends = { λ form s i answer t j r. operator_ends I.reading (IsInfixClone F.is_clone)
         (λ s. F.is_infallible (fold_of s)) s i answer j r.0 };
+
+    ghost said = { λ _. nothing_done };
 
     ghost claimed = { λ _. nothing_claimed };
 

@@ -15,6 +15,7 @@ ghost use Rattle.winnow_core.specs.Literal.Laws.{ShowSame};
 ghost use Rattle.winnow_core.specs.Runs.{Keeps};
 ghost use Rattle.winnow_core.specs.Stable.Grows.{leaf_stays};
 ghost use Rattle.winnow_token.specs.TakeWhile.Laws.{take_while_stays};
+ghost use Rattle.winnow_core.specs.Says.{nothing_done, nothing_said};
 
 use crate::ascii::hex_digit0;
 use stream_errors::parser_error::ParserError;
@@ -44,6 +45,8 @@ where
     ghost meaning = { λ form. Keeps
         (λ _. ClassRuns IsHexDigit 0 I.Token.code I.seen_as I.reading form) };
 
+    ghost says = { λ _. nothing_said };
+
     ghost claim = { λ s. record {
       premise = SeesApart I.seen_as;
       backtracks = ⊤;
@@ -56,6 +59,8 @@ where
 
     ghost leaves_ends = { λ form x i answer y j r. class_ends IsHexDigit 0 I.Token.code
         I.seen_as I.reading form i answer j r.0 };
+
+    ghost said = { λ _. nothing_done };
 
     ghost claimed = { λ s. record {
       exact = λ form is. class_exact IsHexDigit 0 I.Token.code I.seen_as I.reading form is;

@@ -14,6 +14,7 @@ ghost use Rattle.winnow_ascii.specs.LineEnding.{LineEndingRuns};
 ghost use Rattle.winnow_ascii.specs.LineEnding.Laws.{line_ending_exact, line_ending_fails};
 ghost use Rattle.winnow_ascii.specs.LineEnding.Laws.{line_ending_alike, line_ending_ends};
 ghost use Rattle.winnow_ascii.specs.LineEnding.Laws.{line_ending_stays};
+ghost use Rattle.winnow_core.specs.Says.{nothing_done, nothing_said};
 
 use crate::ascii::line_ending;
 use stream_errors::parser_error::ParserError;
@@ -40,6 +41,8 @@ impl<I: StreamIsPartial + Compare<&'static str>, E: ParserError<I>> Parser<I, I:
 
     ghost meaning = { λ form. Keeps (λ _. LineEndingRuns I.spells I.reading form) };
 
+    ghost says = { λ _. nothing_said };
+
     ghost claim = { λ s. record {
       premise = SpellsByText I.spells;
       backtracks = ⊤;
@@ -53,6 +56,8 @@ impl<I: StreamIsPartial + Compare<&'static str>, E: ParserError<I>> Parser<I, I:
 
     ghost leaves_ends = { λ form x i answer y j r. line_ending_ends I.spells I.reading form i
         answer j r.0 };
+
+    ghost said = { λ _. nothing_done };
 
     ghost claimed = { λ s. record {
       exact = λ form is. line_ending_exact I.reading form I.spells is I.same_units;

@@ -11,6 +11,7 @@ ghost use Rattle.winnow_core.specs.Runs.{Keeps};
 ghost use Rattle.winnow_core.specs.Stable.Grows.{leaf_stays};
 ghost use Rattle.winnow_ascii.specs.Newline.{NewlineRuns};
 ghost use Rattle.winnow_ascii.specs.Newline.Laws.{newline_alike, newline_ends};
+ghost use Rattle.winnow_core.specs.Says.{nothing_done, nothing_said};
 
 use crate::ascii::newline;
 use stream_errors::parser_error::ParserError;
@@ -36,6 +37,8 @@ impl<I: StreamIsPartial + Compare<char>, E: ParserError<I>> Parser<I, char, E> f
 
     ghost meaning = { λ form. Keeps (λ _. NewlineRuns I.spells I.reading form) };
 
+    ghost says = { λ _. nothing_said };
+
     ghost claim = { λ s. record {
       premise = ⊤;
       backtracks = ⊤;
@@ -48,6 +51,8 @@ impl<I: StreamIsPartial + Compare<char>, E: ParserError<I>> Parser<I, char, E> f
 
     ghost leaves_ends = { λ form x i answer y j r. newline_ends I.spells I.reading form i answer
         j r.0 };
+
+    ghost said = { λ _. nothing_done };
 
     ghost claimed = { λ s. record {
       exact = λ form is. literal_exact I.reading form I.spells (λ s _. s) (λ _. 10) tt

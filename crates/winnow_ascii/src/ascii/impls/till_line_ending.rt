@@ -13,6 +13,7 @@ ghost use Rattle.winnow_ascii.specs.TillLineEnding.Exact.{till_line_ending_fails
 ghost use Rattle.winnow_ascii.specs.TillLineEnding.Laws.{till_line_ending_alike};
 ghost use Rattle.winnow_ascii.specs.TillLineEnding.Laws.{till_line_ending_ends};
 ghost use Rattle.winnow_ascii.specs.TillLineEnding.Laws.{till_line_ending_stays};
+ghost use Rattle.winnow_core.specs.Says.{nothing_done, nothing_said};
 
 use crate::ascii::till_line_ending;
 use crate::stable::LineEnds;
@@ -44,6 +45,8 @@ impl<
 
     ghost meaning = { λ form. Keeps (λ _. TillLineEndingRuns I.spells I.sought I.reading form) };
 
+    ghost says = { λ _. nothing_said };
+
     ghost claim = { λ s. record {
       premise = SpellsByText I.spells;
       backtracks = ⊤;
@@ -56,6 +59,8 @@ impl<
 
     ghost leaves_ends = { λ form x i answer y j r. till_line_ending_ends I.spells I.sought
         I.reading form i answer j r.0 };
+
+    ghost said = { λ _. nothing_done };
 
     ghost claimed = { λ s. record {
       exact = λ form is. till_line_ending_exact I.reading form I.spells is I.sought;

@@ -14,6 +14,7 @@ ghost use Rattle.winnow_binary.specs.LengthAndThen.Laws.{length_and_then_agrees}
 ghost use Rattle.winnow_binary.specs.LengthAndThen.Laws.{length_and_then_ends};
 ghost use Rattle.winnow_binary.specs.LengthAndThen.Laws.{length_and_then_grows};
 ghost use Rattle.std.specs.Prelude.{◌≡◌};
+ghost use Rattle.winnow_core.specs.Says.{nothing_done, nothing_said};
 
 use std::marker::PhantomData;
 use stream_errors::parser_error::ParserError;
@@ -56,6 +57,8 @@ impl<
     ghost meaning = { λ form. LengthAndThenRuns N.number I.reading form I.counts_missing
         (P.meaning form) (G.meaning form) };
 
+    ghost says = { λ _. nothing_said };
+
     ghost claim = { λ s. record {
       premise = (P.claim s.0).premise × SaysOne N.number (P.claim s.0).grammar
           × (G.claim s.1).premise;
@@ -70,6 +73,8 @@ impl<
 
     ghost leaves_ends = { λ form. length_and_then_ends N.number I.reading form I.counts_missing
         (P.meaning form) (G.meaning form) (P.leaves_ends form) };
+
+    ghost said = { λ _. nothing_done };
 
     ghost claimed = { λ s. record {
       exact = λ form is. length_and_then_exact N.number I.reading form I.counts_missing is.1

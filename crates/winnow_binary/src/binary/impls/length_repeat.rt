@@ -11,6 +11,7 @@ ghost use Rattle.winnow_binary.specs.LengthRepeat.Laws.{length_repeat_exact, len
 ghost use Rattle.winnow_binary.specs.LengthRepeat.Laws.{length_repeat_ends, length_repeat_grows};
 ghost use Rattle.winnow_repeat.specs.Repeat.Decided.{HeldAlike};
 ghost use Rattle.std.specs.Prelude.{◌≡◌};
+ghost use Rattle.winnow_core.specs.Says.{nothing_done, nothing_said};
 
 use std::alloc::Allocator;
 use std::marker::PhantomData;
@@ -57,6 +58,8 @@ impl<
     ghost meaning = { λ form. LengthRepeatRuns N.number C.accumulator (assert_kind form)
         (P.meaning form) (G.meaning form) };
 
+    ghost says = { λ _. nothing_said };
+
     ghost claim = { λ s. record {
       premise = (P.claim s.0).premise × SaysOne N.number (P.claim s.0).grammar
           × (G.claim s.1).premise × (G.claim s.1).backtracks × (G.claim s.1).consumes;
@@ -73,6 +76,8 @@ impl<
     ghost leaves_ends = { λ form. length_repeat_ends I.reading N.number C.accumulator
         (assert_kind form) (P.meaning form) (G.meaning form) (P.leaves_ends form)
         (G.leaves_ends form) };
+
+    ghost said = { λ _. nothing_done };
 
     ghost claimed = { λ s. record {
       exact = λ form is. length_repeat_exact N.number C.accumulator (assert_kind form) s

@@ -11,6 +11,7 @@ ghost use Rattle.winnow_binary.specs.LengthTake.Laws.{length_take_exact, length_
 ghost use Rattle.winnow_binary.specs.LengthTake.Laws.{length_take_takes, length_take_agrees};
 ghost use Rattle.winnow_binary.specs.LengthTake.Laws.{length_take_ends, length_take_stays};
 ghost use Rattle.std.specs.Prelude.{◌≡◌};
+ghost use Rattle.winnow_core.specs.Says.{nothing_done, nothing_said};
 
 use std::marker::PhantomData;
 use stream_errors::parser_error::ParserError;
@@ -49,6 +50,8 @@ impl<P: Parser<I, N, E>, I: StreamIsPartial, N: ToUsize + Drop, E: ParserError<I
     ghost meaning = { λ form. LengthTakeRuns N.number I.reading form I.counts_missing
         (P.meaning form) };
 
+    ghost says = { λ _. nothing_said };
+
     ghost claim = { λ s. record {
       premise = (P.claim s).premise × SaysOne N.number (P.claim s).grammar;
       backtracks = (P.claim s).backtracks;
@@ -61,6 +64,8 @@ impl<P: Parser<I, N, E>, I: StreamIsPartial, N: ToUsize + Drop, E: ParserError<I
 
     ghost leaves_ends = { λ form. length_take_ends N.number I.reading form I.counts_missing
         (P.meaning form) (P.leaves_ends form) };
+
+    ghost said = { λ _. nothing_done };
 
     ghost claimed = { λ s. record {
       exact = λ form is. length_take_exact N.number I.reading form I.counts_missing is.1

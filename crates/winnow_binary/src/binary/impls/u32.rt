@@ -12,6 +12,7 @@ ghost use Rattle.winnow_integers.specs.declared.binary.endianness.Endianness.{En
 ghost use Rattle.winnow_core.specs.Agrees.{agrees_by};
 ghost use Rattle.winnow_core.specs.Exact.Allowed.{backs};
 ghost use Rattle.winnow_core.specs.Stable.Grows.{leaf_stays};
+ghost use Rattle.winnow_core.specs.Says.{nothing_done, nothing_said};
 
 use std::marker::PhantomData;
 use stream_errors::parser_error::ParserError;
@@ -44,6 +45,8 @@ impl<I: StreamIsPartial + ByteStream, E: ParserError<I>> Parser<I, u32, E> for U
 
     ghost meaning = { λ form. ChosenRuns 4 unsigned_value I.reading form };
 
+    ghost says = { λ _. nothing_said };
+
     ghost claim = { λ s. record {
       premise = ⊤;
       backtracks = ⊤;
@@ -56,6 +59,8 @@ impl<I: StreamIsPartial + ByteStream, E: ParserError<I>> Parser<I, u32, E> for U
 
     ghost leaves_ends = { λ form x i answer y j r. integer_ends 4 (unsigned_value x) I.reading
         form i answer j r.0 };
+
+    ghost said = { λ _. nothing_done };
 
     ghost claimed = { λ s. record {
       exact = λ form is. integer_exact 4 unsigned_value I.reading form s;

@@ -4,6 +4,7 @@ ghost use Rattle.winnow_bits.specs.BitAgree.{bits_agree};
 ghost use Rattle.winnow_bits.specs.BitsOfBytes.{BitsOfBytesRuns};
 ghost use Rattle.winnow_bits.specs.BitsOfBytes.Laws.{bits_of_bytes_ends, bits_of_bytes_stays};
 ghost use Rattle.winnow_core.specs.Claim.{no_claim, nothing_claimed};
+ghost use Rattle.winnow_core.specs.Says.{nothing_done, nothing_said};
 
 use crate::bits::whole::{in_bytes, whole_bytes};
 use std::marker::PhantomData;
@@ -49,10 +50,14 @@ impl<
 
     ghost meaning = { λ form. BitsOfBytesRuns I.reading form (P.meaning form) };
 
+    ghost says = { λ _. nothing_said };
+
     ghost claim = { λ _. no_claim };
 
     ghost leaves_ends = { λ form. bits_of_bytes_ends I.reading form (P.meaning form)
         (P.leaves_ends form) };
+
+    ghost said = { λ _. nothing_done };
 
     ghost claimed = { λ _. nothing_claimed };
 

@@ -8,6 +8,7 @@ ghost use Rattle.winnow_core.specs.Agrees.{agrees_plain};
 ghost use Rattle.winnow_core.specs.Runs.{Keeps};
 ghost use Rattle.winnow_core.specs.Stable.Grows.{leaf_stays};
 ghost use Rattle.winnow_core.specs.Claim.{no_claim, nothing_claimed};
+ghost use Rattle.winnow_core.specs.Says.{nothing_done, nothing_said};
 
 use crate::bits;
 use stream_bits::bits::Bits;
@@ -37,10 +38,14 @@ impl<I: ByteStream + StreamIsPartial, E: ParserError<Bits<I>>> Parser<Bits<I>, b
 
     ghost meaning = { λ form. Keeps (λ _. BitBoolRuns (bits_reading I.reading) form) };
 
+    ghost says = { λ _. nothing_said };
+
     ghost claim = { λ _. no_claim };
 
     ghost leaves_ends = { λ form x i answer y j r.
         bit_bool_ends (bits_reading I.reading) form i answer j r.0 };
+
+    ghost said = { λ _. nothing_done };
 
     ghost claimed = { λ _. nothing_claimed };
 

@@ -8,6 +8,7 @@ ghost use Rattle.winnow_core.specs.Agrees.{agrees_by};
 ghost use Rattle.winnow_core.specs.Runs.{Keeps};
 ghost use Rattle.winnow_core.specs.Stable.Grows.{leaf_stays};
 ghost use Rattle.winnow_core.specs.Claim.{no_claim, nothing_claimed};
+ghost use Rattle.winnow_core.specs.Says.{nothing_done, nothing_said};
 
 use crate::bits::fields::take_counted;
 use crate::bits::output::BitOutput;
@@ -48,10 +49,14 @@ impl<I: ByteStream + StreamIsPartial, O: BitOutput, E: ParserError<Bits<I>>> Par
     ghost meaning = { λ form. Keeps
         (λ n. BitTakeRuns O.number O.WIDTH (bits_reading I.reading) form n) };
 
+    ghost says = { λ _. nothing_said };
+
     ghost claim = { λ _. no_claim };
 
     ghost leaves_ends = { λ form n i answer m j r.
         bit_take_ends O.number O.WIDTH (bits_reading I.reading) form n i answer j r.0 };
+
+    ghost said = { λ _. nothing_done };
 
     ghost claimed = { λ _. nothing_claimed };
 

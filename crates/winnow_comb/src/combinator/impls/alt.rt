@@ -5,6 +5,7 @@ ghost use Rattle.streams.specs.Input.{IsEndOf};
 ghost use Rattle.winnow_comb.specs.Attempt.{AttemptRuns};
 ghost use Rattle.winnow_core.specs.Claim.{Claim, Claimed};
 ghost use Rattle.winnow_core.specs.Runs.{LeaveEnds, Meaning};
+ghost use Rattle.winnow_core.specs.Says.{nothing_done, nothing_said};
 
 mod agreeing;
 mod slices;
@@ -78,9 +79,13 @@ impl<A: Alt<I, O, E>, I: Stream, O, E: ParserError<I>> Parser<I, O, E> for AltPa
 
     ghost meaning = { A.meaning };
 
+    ghost says = { λ _. nothing_said };
+
     ghost claim = { A.claim };
 
     ghost leaves_ends = { A.leaves_ends };
+
+    ghost said = { λ _. nothing_done };
 
     ghost claimed = { A.claimed };
 

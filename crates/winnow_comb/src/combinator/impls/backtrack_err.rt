@@ -5,6 +5,7 @@ ghost use Rattle.winnow_comb.specs.BacktrackErr.Laws.{backtrack_err_ends, backtr
 ghost use Rattle.winnow_core.specs.Agrees.{agrees1};
 ghost use Rattle.winnow_core.specs.Stable.Grows.{grows, stays};
 ghost use Rattle.winnow_core.specs.Claim.{no_claim, nothing_claimed};
+ghost use Rattle.winnow_core.specs.Says.{nothing_done, nothing_said};
 
 use std::marker::PhantomData;
 use stream_errors::modal::ModalError;
@@ -38,10 +39,14 @@ impl<P: Parser<I, O, E>, I: Stream, O, E: ParserError<I> + ModalError> Parser<I,
 
     ghost meaning = { λ form. BacktrackErrRuns (P.meaning form) };
 
+    ghost says = { λ _. nothing_said };
+
     ghost claim = { λ _. no_claim };
 
     ghost leaves_ends = { λ form. backtrack_err_ends I.reading (P.meaning form)
         (P.leaves_ends form) };
+
+    ghost said = { λ _. nothing_done };
 
     ghost claimed = { λ _. nothing_claimed };
 

@@ -6,6 +6,7 @@ ghost use Rattle.winnow_comb.specs.CutErr.{CutErrRuns};
 ghost use Rattle.winnow_comb.specs.CutErr.Laws.{cut_err_decided, cut_err_exact, cut_err_fails};
 ghost use Rattle.winnow_comb.specs.CutErr.Laws.{cut_err_ends};
 ghost use Rattle.winnow_comb.specs.CutErr.Laws.{cut_err_grows};
+ghost use Rattle.winnow_core.specs.Says.{nothing_done, nothing_said};
 
 use std::marker::PhantomData;
 use stream_errors::modal::ModalError;
@@ -39,6 +40,8 @@ impl<P: Parser<I, O, E>, I: Stream, O, E: ParserError<I> + ModalError> Parser<I,
 
     ghost meaning = { λ form. CutErrRuns (P.meaning form) };
 
+    ghost says = { λ _. nothing_said };
+
     ghost claim = { λ s. record {
       premise = (P.claim s).premise;
       backtracks = ⊥;
@@ -50,6 +53,8 @@ impl<P: Parser<I, O, E>, I: Stream, O, E: ParserError<I> + ModalError> Parser<I,
     } };
 
     ghost leaves_ends = { λ form. cut_err_ends I.reading (P.meaning form) (P.leaves_ends form) };
+
+    ghost said = { λ _. nothing_done };
 
     ghost claimed = { λ s. record {
       exact = λ form is. cut_err_exact ((P.claimed s).exact form is);

@@ -10,6 +10,7 @@ ghost use Rattle.winnow_core.specs.InOrder.Laws.{three_ends, three_grow};
 ghost use Rattle.winnow_core.specs.InOrder.Three.{three_exact, three_fails, three_takes};
 ghost use Rattle.winnow_core.specs.Stable.Grows.{grows, stays};
 ghost use Rattle.winnow_comb.specs.Delimited.{DelimitedRuns};
+ghost use Rattle.winnow_core.specs.Says.{nothing_done, nothing_said};
 
 use std::marker::PhantomData;
 use stream_errors::parser_error::ParserError;
@@ -55,6 +56,8 @@ impl<
 
     ghost meaning = { λ form. DelimitedRuns (P1.meaning form) (P2.meaning form) (P3.meaning form) };
 
+    ghost says = { λ _. nothing_said };
+
     ghost claim = { λ s. record {
       premise = (P1.claim s.0).premise × (P2.claim s.1).premise × (P3.claim s.2).premise;
       backtracks =
@@ -72,6 +75,8 @@ impl<
     ghost leaves_ends = { λ form. three_ends I.reading (λ o1 o2 o3. o2) (P1.meaning form)
         (P2.meaning form) (P3.meaning form) (P1.leaves_ends form) (P2.leaves_ends form)
         (P3.leaves_ends form) };
+
+    ghost said = { λ _. nothing_done };
 
     ghost claimed = { λ s. record {
       exact = λ form is. three_exact ((P1.claimed s.0).exact form is.0)

@@ -10,6 +10,7 @@ ghost use Rattle.winnow_core.specs.SameMeaning.{same_refl};
 ghost use Rattle.winnow_core.specs.Stable.Grows.{leaf_stays};
 ghost use Rattle.winnow_comb.specs.Fail.{FailRuns};
 ghost use Rattle.winnow_comb.specs.Fail.Laws.{fail_exact, fail_backs, never_takes, fail_stays};
+ghost use Rattle.winnow_core.specs.Says.{nothing_done, nothing_said};
 
 use crate::combinator::basic::fail;
 use stream_errors::parser_error::ParserError;
@@ -34,6 +35,8 @@ impl<I: Stream, O, E: ParserError<I>> Parser<I, O, E> for Fail {
 
     ghost meaning = { λ _. Keeps (λ _. FailRuns) };
 
+    ghost says = { λ _. nothing_said };
+
     ghost claim = { λ s. record {
       premise = ⊤;
       backtracks = ⊤;
@@ -45,6 +48,8 @@ impl<I: Stream, O, E: ParserError<I>> Parser<I, O, E> for Fail {
     } };
 
     ghost leaves_ends = { λ form x i answer y j r. same_ends I.reading i j r.0.1 };
+
+    ghost said = { λ _. nothing_done };
 
     ghost claimed = { λ s. record {
       exact = λ form is. fail_exact;

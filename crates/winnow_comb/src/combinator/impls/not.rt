@@ -8,6 +8,7 @@ ghost use Rattle.winnow_core.specs.Stable.Grows.{grows, stays};
 ghost use Rattle.winnow_comb.specs.Not.{NotRuns};
 ghost use Rattle.winnow_comb.specs.Not.Laws.{not_decided, not_exact, not_fails, not_ends};
 ghost use Rattle.winnow_comb.specs.Not.Laws.{not_grows};
+ghost use Rattle.winnow_core.specs.Says.{nothing_done, nothing_said};
 
 use std::marker::PhantomData;
 use stream_errors::parser_error::ParserError;
@@ -40,6 +41,8 @@ impl<P: Parser<I, O, E>, I: Stream, O: Drop, E: ParserError<I>> Parser<I, (), E>
 
     ghost meaning = { λ form. NotRuns (P.meaning form) };
 
+    ghost says = { λ _. nothing_said };
+
     ghost claim = { λ s. record {
       premise = (P.claim s).premise × (P.claim s).backtracks;
       backtracks = ⊤;
@@ -51,6 +54,8 @@ impl<P: Parser<I, O, E>, I: Stream, O: Drop, E: ParserError<I>> Parser<I, (), E>
     } };
 
     ghost leaves_ends = { λ form. not_ends I.reading (P.meaning form) (P.leaves_ends form) };
+
+    ghost said = { λ _. nothing_done };
 
     ghost claimed = { λ s. record {
       exact = λ form is. not_exact ((P.claimed s).exact form is.0)

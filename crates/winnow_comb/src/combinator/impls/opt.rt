@@ -8,6 +8,7 @@ ghost use Rattle.winnow_comb.specs.Opt.{OptRuns};
 ghost use Rattle.winnow_comb.specs.Opt.Laws.{AlikeOptions, opt_decided, opt_exact, opt_fails};
 ghost use Rattle.winnow_comb.specs.Opt.Laws.{opt_ends, opt_grows};
 ghost use Rattle.std.specs.Prelude.{⊤};
+ghost use Rattle.winnow_core.specs.Says.{nothing_done, nothing_said};
 
 use std::marker::PhantomData;
 use stream_errors::parser_error::ParserError;
@@ -40,6 +41,8 @@ impl<P: Parser<I, O, E>, I: Stream, O, E: ParserError<I>> Parser<I, Option<O>, E
 
     ghost meaning = { λ form. OptRuns (P.meaning form) };
 
+    ghost says = { λ _. nothing_said };
+
     ghost claim = { λ s. record {
       premise = (P.claim s).premise × (P.claim s).backtracks;
       backtracks = ⊤;
@@ -51,6 +54,8 @@ impl<P: Parser<I, O, E>, I: Stream, O, E: ParserError<I>> Parser<I, Option<O>, E
     } };
 
     ghost leaves_ends = { λ form. opt_ends I.reading (P.meaning form) (P.leaves_ends form) };
+
+    ghost said = { λ _. nothing_done };
 
     ghost claimed = { λ s. record {
       exact = λ form is. opt_exact ((P.claimed s).exact form is.0)

@@ -6,6 +6,7 @@ ghost use Rattle.winnow_core.specs.Stable.Grows.{grows, stays};
 ghost use Rattle.winnow_comb.specs.Peek.{PeekRuns};
 ghost use Rattle.winnow_comb.specs.Peek.Laws.{peek_decided, peek_exact, peek_fails, peek_ends};
 ghost use Rattle.winnow_comb.specs.Peek.Laws.{peek_grows};
+ghost use Rattle.winnow_core.specs.Says.{nothing_done, nothing_said};
 
 use std::marker::PhantomData;
 use stream_errors::parser_error::ParserError;
@@ -37,6 +38,8 @@ impl<P: Parser<I, O, E>, I: Stream, O, E: ParserError<I>> Parser<I, O, E> for Pe
 
     ghost meaning = { λ form. PeekRuns (P.meaning form) };
 
+    ghost says = { λ _. nothing_said };
+
     ghost claim = { λ s. record {
       premise = (P.claim s).premise;
       backtracks = (P.claim s).backtracks;
@@ -48,6 +51,8 @@ impl<P: Parser<I, O, E>, I: Stream, O, E: ParserError<I>> Parser<I, O, E> for Pe
     } };
 
     ghost leaves_ends = { λ form. peek_ends I.reading (P.meaning form) (P.leaves_ends form) };
+
+    ghost said = { λ _. nothing_done };
 
     ghost claimed = { λ s. record {
       exact = λ form is. peek_exact ((P.claimed s).exact form is);

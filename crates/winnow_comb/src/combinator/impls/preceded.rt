@@ -10,6 +10,7 @@ ghost use Rattle.winnow_core.specs.InOrder.Exact.{both_exact, both_fails, both_t
 ghost use Rattle.winnow_core.specs.InOrder.Laws.{both_ends, both_grows};
 ghost use Rattle.winnow_core.specs.Stable.Grows.{grows, stays};
 ghost use Rattle.winnow_comb.specs.Preceded.{PrecededRuns};
+ghost use Rattle.winnow_core.specs.Says.{nothing_done, nothing_said};
 
 use std::marker::PhantomData;
 use stream_errors::parser_error::ParserError;
@@ -47,6 +48,8 @@ impl<P1: Parser<I, O1, E>, P2: Parser<I, O2, E>, I: Stream, O1: Drop, O2, E: Par
 
     ghost meaning = { λ form. PrecededRuns (P1.meaning form) (P2.meaning form) };
 
+    ghost says = { λ _. nothing_said };
+
     ghost claim = { λ s. record {
       premise = (P1.claim s.0).premise × (P2.claim s.1).premise;
       backtracks = (P1.claim s.0).backtracks × (P2.claim s.1).backtracks;
@@ -59,6 +62,8 @@ impl<P1: Parser<I, O1, E>, P2: Parser<I, O2, E>, I: Stream, O1: Drop, O2, E: Par
 
     ghost leaves_ends = { λ form. both_ends I.reading (λ o1 o2. o2) (P1.meaning form)
         (P2.meaning form) (P1.leaves_ends form) (P2.leaves_ends form) };
+
+    ghost said = { λ _. nothing_done };
 
     ghost claimed = { λ s. record {
       exact = λ form is. both_exact ((P1.claimed s.0).exact form is.0)

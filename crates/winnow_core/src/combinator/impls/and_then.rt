@@ -13,6 +13,7 @@ ghost use Rattle.winnow_core.specs.Exact.Settled.{NoneWithin, ReadsWithin, and_t
 ghost use Rattle.winnow_core.specs.Exact.Settled.{and_then_fails};
 ghost use Rattle.winnow_core.specs.Settles.Laws.{settles_ends, settles_grows};
 ghost use Rattle.winnow_core.specs.Stable.Grows.{grows, stays};
+ghost use Rattle.winnow_core.specs.Says.{nothing_done, nothing_said};
 
 use crate::agrees_with::AgreesWith;
 use crate::parser::Parser;
@@ -64,6 +65,8 @@ impl<
 
     ghost meaning = { λ form. AndThenRuns O.view (F.meaning form) (G.meaning form) };
 
+    ghost says = { λ _. nothing_said };
+
     ghost claim = { λ s. record {
       premise = (F.claim s.0).premise × (G.claim s.1).premise × (G.claim s.1).backtracks
           × RejectsAll (ReadsWithin O.view (G.claim s.1).grammar)
@@ -80,6 +83,8 @@ impl<
     ghost leaves_ends = { λ form. settles_ends I.reading
         (AndThenSettles O.view (G.meaning form)) (F.meaning form)
         (F.leaves_ends form) };
+
+    ghost said = { λ _. nothing_done };
 
     ghost claimed = { λ s. record {
       exact = λ form is. and_then_exact O.view is.3 ((F.claimed s.0).exact form is.0)

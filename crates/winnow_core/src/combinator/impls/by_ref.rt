@@ -6,6 +6,7 @@ ghost use Rattle.winnow_core.specs.ByRef.{ByRefRuns};
 ghost use Rattle.winnow_core.specs.ByRef.Laws.{by_ref_exact, by_ref_fails, by_ref_grows};
 ghost use Rattle.winnow_core.specs.Decided.Adapters.{by_ref_decided};
 ghost use Rattle.winnow_core.specs.Stable.Grows.{grows, stays};
+ghost use Rattle.winnow_core.specs.Says.{nothing_done, nothing_said};
 
 use crate::agrees_with::AgreesWith;
 use crate::parser::Parser;
@@ -37,6 +38,8 @@ impl<'p, P: Parser<I, O, E>, I: Stream, O, E: ParserError<I>> Parser<I, O, E>
 
     ghost meaning = { λ form. ByRefRuns (P.meaning form) };
 
+    ghost says = { λ _. nothing_said };
+
     ghost claim = { λ s. record {
       premise = (P.claim s.0).premise;
       backtracks = (P.claim s.0).backtracks;
@@ -48,6 +51,8 @@ impl<'p, P: Parser<I, O, E>, I: Stream, O, E: ParserError<I>> Parser<I, O, E>
     } };
 
     ghost leaves_ends = { λ form s i answer t j r. P.leaves_ends form s.0 i answer t.0 j r.0 };
+
+    ghost said = { λ _. nothing_done };
 
     ghost claimed = { λ s. record {
       exact = λ form is. by_ref_exact ((P.claimed s.0).exact form is);

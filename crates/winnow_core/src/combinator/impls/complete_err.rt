@@ -6,6 +6,7 @@ ghost use Rattle.winnow_core.specs.CompleteErr.{complete_err_parser};
 ghost use Rattle.winnow_core.specs.Decided.Errors.{complete_err_decided};
 ghost use Rattle.winnow_core.specs.Exact.Errors.{complete_err_exact, complete_err_fails};
 ghost use Rattle.winnow_core.specs.MakesError.Laws.{makes_error_ends};
+ghost use Rattle.winnow_core.specs.Says.{nothing_done, nothing_said};
 
 use crate::agrees_with::AgreesWith;
 use crate::parser::Parser;
@@ -48,6 +49,8 @@ impl<F: Parser<I, O, E>, I: Stream, O, E: ParserError<I>> Parser<I, O, E>
 
     ghost meaning = { λ form. CompleteErrRuns (F.meaning form) };
 
+    ghost says = { λ _. nothing_said };
+
     ghost claim = { λ s. record {
       premise = (F.claim s).premise;
       backtracks = (F.claim s).backtracks;
@@ -61,6 +64,8 @@ impl<F: Parser<I, O, E>, I: Stream, O, E: ParserError<I>> Parser<I, O, E>
     ghost leaves_ends = { λ form s i answer t j ran. makes_error_ends I.reading
         CompleteErrBecomes (F.meaning form)
         (F.leaves_ends form) _ i answer _ j ran };
+
+    ghost said = { λ _. nothing_done };
 
     ghost claimed = { λ s. record {
       exact = λ form is. complete_err_exact ((F.claimed s).exact form is);

@@ -12,6 +12,7 @@ ghost use Rattle.winnow_core.specs.Exact.Errors.{NeverRefused, context_fails};
 ghost use Rattle.winnow_core.specs.Exact.Errors.{context_keeps_kinds, errors_exact};
 ghost use Rattle.winnow_core.specs.MakesError.Laws.{makes_error_ends, makes_error_grows};
 ghost use Rattle.winnow_core.specs.Stable.Grows.{grows, stays};
+ghost use Rattle.winnow_core.specs.Says.{nothing_done, nothing_said};
 
 use crate::agrees_with::AgreesWith;
 use crate::parser::Parser;
@@ -71,6 +72,8 @@ impl<
 
     ghost meaning = { λ form. ContextRuns C.is_clone C.is_infallible (F.meaning form) };
 
+    ghost says = { λ _. nothing_said };
+
     ghost claim = { λ s. record {
       premise = (F.claim s.0).premise;
       backtracks = (F.claim s.0).backtracks;
@@ -85,6 +88,8 @@ impl<
     ghost leaves_ends = { λ form. makes_error_ends I.reading
         (ContextBecomes C.is_clone C.is_infallible) (F.meaning form)
         (F.leaves_ends form) };
+
+    ghost said = { λ _. nothing_done };
 
     ghost claimed = { λ s. record {
       exact = λ form is. errors_exact (context_keeps_kinds C.is_clone C.is_infallible)

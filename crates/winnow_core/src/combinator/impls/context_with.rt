@@ -10,6 +10,7 @@ ghost use Rattle.winnow_core.specs.ContextWith.Laws.{context_with_keeps};
 ghost use Rattle.winnow_core.specs.MakesError.Laws.{makes_error_ends, makes_error_grows};
 ghost use Rattle.winnow_core.specs.Stable.Grows.{grows, stays};
 ghost use Rattle.winnow_core.specs.Claim.{no_claim, nothing_claimed};
+ghost use Rattle.winnow_core.specs.Says.{nothing_done, nothing_said};
 
 use crate::agrees_with::AgreesWith;
 use crate::parser::Parser;
@@ -73,11 +74,15 @@ impl<
 
     ghost meaning = { λ form. ContextWithRuns F.post FI.next_gives (P.meaning form) };
 
+    ghost says = { λ _. nothing_said };
+
     ghost claim = { λ _. no_claim };
 
     ghost leaves_ends = { λ form. makes_error_ends I.reading
         (ContextWithBecomes F.post FI.next_gives) (P.meaning form)
         (P.leaves_ends form) };
+
+    ghost said = { λ _. nothing_done };
 
     ghost claimed = { λ _. nothing_claimed };
 

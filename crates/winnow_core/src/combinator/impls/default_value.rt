@@ -10,6 +10,7 @@ ghost use Rattle.winnow_core.specs.Exact.Adapters.{output_exact, output_fails};
 ghost use Rattle.winnow_core.specs.MakesOutput.Laws.{makes_output_ends, made_of_output};
 ghost use Rattle.winnow_core.specs.MakesOutput.Laws.{makes_output_grows};
 ghost use Rattle.winnow_core.specs.Stable.Grows.{grows, stays};
+ghost use Rattle.winnow_core.specs.Says.{nothing_done, nothing_said};
 
 use crate::agrees_with::AgreesWith;
 use crate::parser::Parser;
@@ -52,6 +53,8 @@ impl<F: Parser<I, O, E>, I: Stream, O: Drop, O2: Default, E: ParserError<I>> Par
 
     ghost meaning = { λ form. DefaultValueRuns O2.is_default (F.meaning form) };
 
+    ghost says = { λ _. nothing_said };
+
     ghost claim = { λ s. record {
       premise = (F.claim s).premise;
       backtracks = (F.claim s).backtracks;
@@ -64,6 +67,8 @@ impl<F: Parser<I, O, E>, I: Stream, O: Drop, O2: Default, E: ParserError<I>> Par
 
     ghost leaves_ends = { λ form. makes_output_ends I.reading _ (F.meaning form)
         (F.leaves_ends form) };
+
+    ghost said = { λ _. nothing_done };
 
     ghost claimed = { λ s. record {
       exact = λ form is. output_exact (λ (_ : Unit {0}) o u. O2.is_default u) tt

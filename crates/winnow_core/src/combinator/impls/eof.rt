@@ -8,6 +8,7 @@ ghost use Rattle.winnow_core.specs.Eof.Laws.{eof_fails};
 ghost use Rattle.winnow_core.specs.Exact.Allowed.{backs};
 ghost use Rattle.winnow_core.specs.Literal.Laws.{ShowSame};
 ghost use Rattle.winnow_core.specs.Runs.{Keeps};
+ghost use Rattle.winnow_core.specs.Says.{nothing_done, nothing_said};
 
 use crate::agrees_with::AgreesWith;
 use crate::combinator::eof;
@@ -32,6 +33,8 @@ impl<I: Stream, E: ParserError<I>> Parser<I, I::Slice, E> for Eof {
 
     ghost meaning = { λ _. Keeps (λ _. EofRuns I.reading) };
 
+    ghost says = { λ _. nothing_said };
+
     ghost claim = { λ s. record {
       premise = ⊤;
       backtracks = ⊤;
@@ -43,6 +46,8 @@ impl<I: Stream, E: ParserError<I>> Parser<I, I::Slice, E> for Eof {
     } };
 
     ghost leaves_ends = { λ form x i answer y j r. eof_ends I.reading i answer j r.0 };
+
+    ghost said = { λ _. nothing_done };
 
     ghost claimed = { λ s. record {
       exact = λ form is. eof_exact I.reading;

@@ -8,6 +8,7 @@ ghost use Rattle.winnow_core.specs.Exact.Errors.{ConvertsSparing, SameKinds, err
 ghost use Rattle.winnow_core.specs.Exact.Errors.{err_into_fails};
 ghost use Rattle.winnow_core.specs.MakesError.Laws.{makes_error_ends, makes_error_grows};
 ghost use Rattle.winnow_core.specs.Stable.Grows.{grows_at, stays_beside};
+ghost use Rattle.winnow_core.specs.Says.{nothing_done, nothing_said};
 
 use crate::agrees_with::AgreesWith;
 use crate::parser::Parser;
@@ -53,6 +54,8 @@ impl<F: Parser<I, O, E>, I: Stream, O, E: ParserError<I>, E2: ParserError<I> + F
 
     ghost meaning = { λ _. ErrIntoRuns E.kind E2.kind E2.from_gives (F.meaning E.form) };
 
+    ghost says = { λ _. nothing_said };
+
     ghost claim = { λ s. record {
       premise = (F.claim s).premise × SameKinds E.kind E2.kind E2.from_gives;
       backtracks = (F.claim s).backtracks;
@@ -67,6 +70,8 @@ impl<F: Parser<I, O, E>, I: Stream, O, E: ParserError<I>, E2: ParserError<I> + F
     ghost leaves_ends = { λ _ s i answer t j ran. makes_error_ends I.reading
         (ErrIntoBecomes E.kind E2.kind E2.from_gives) (F.meaning E.form)
         (F.leaves_ends E.form) _ i answer _ j ran };
+
+    ghost said = { λ _. nothing_done };
 
     ghost claimed = { λ s. record {
       exact = λ form is. err_into_exact E.kind E2.kind E2.from_gives is.1

@@ -12,6 +12,7 @@ ghost use Rattle.winnow_core.specs.FlatMap.Decided.{AlikeByMade, MakesOne, flat_
 ghost use Rattle.winnow_core.specs.FlatMap.Laws.{flat_map_exact, flat_map_fails, flat_map_ends};
 ghost use Rattle.winnow_core.specs.FlatMap.Laws.{flat_map_grows};
 ghost use Rattle.winnow_core.specs.Stable.Grows.{grows, stays};
+ghost use Rattle.winnow_core.specs.Says.{nothing_done, nothing_said};
 
 use crate::parser::Parser;
 use crate::stable::Stable;
@@ -65,6 +66,8 @@ impl<
 
     ghost meaning = { λ form. FlatMapRuns G.step H.state (F.meaning form) (H.meaning form) };
 
+    ghost says = { λ _. nothing_said };
+
     ghost claim = { λ s. record {
       premise = (F.claim s.0).premise × Stays G.step s.1
           × EachMade (Gives G.step) s.1 (λ m. (H.claim (H.state m)).premise)
@@ -88,6 +91,8 @@ impl<
 
     ghost leaves_ends = { λ form. flat_map_ends I.reading G.step H.state (F.meaning form)
         (H.meaning form) (F.leaves_ends form) (H.leaves_ends form) };
+
+    ghost said = { λ _. nothing_done };
 
     ghost claimed = { λ s. record {
       exact = λ form is. flat_map_exact G.step H.state (λ m. (H.claim (H.state m)).grammar)

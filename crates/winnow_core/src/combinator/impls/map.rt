@@ -11,6 +11,7 @@ ghost use Rattle.winnow_core.specs.Exact.Adapters.{map_exact, map_fails};
 ghost use Rattle.winnow_core.specs.Map.{MapRuns, map_parser, map_closure};
 ghost use Rattle.winnow_core.specs.Map.Laws.{map_ends, map_grows};
 ghost use Rattle.winnow_core.specs.Stable.Grows.{grows, stays};
+ghost use Rattle.winnow_core.specs.Says.{nothing_done, nothing_said};
 
 use crate::agrees_with::AgreesWith;
 use crate::parser::Parser;
@@ -56,6 +57,8 @@ impl<F: Parser<I, O, E>, G: FnMut(O) -> O2, I: Stream, O, O2, E: ParserError<I>>
 
     ghost meaning = { λ form. MapRuns (F.meaning form) G.step };
 
+    ghost says = { λ _. nothing_said };
+
     ghost claim = { λ s. record {
       premise = (F.claim s.0).premise × Stays G.step s.1;
       backtracks = (F.claim s.0).backtracks;
@@ -67,6 +70,8 @@ impl<F: Parser<I, O, E>, G: FnMut(O) -> O2, I: Stream, O, O2, E: ParserError<I>>
     } };
 
     ghost leaves_ends = { λ form. map_ends I.reading (F.meaning form) G.step (F.leaves_ends form) };
+
+    ghost said = { λ _. nothing_done };
 
     ghost claimed = { λ s. record {
       exact = λ form is. map_exact G.step is.1 ((F.claimed s.0).exact form is.0);

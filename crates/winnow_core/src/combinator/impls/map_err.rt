@@ -8,6 +8,7 @@ ghost use Rattle.winnow_core.specs.MakesError.Laws.{makes_error_ends};
 ghost use Rattle.winnow_core.specs.MapErr.{MapErrBecomes, MapErrRuns, map_err_closure};
 ghost use Rattle.winnow_core.specs.MapErr.{map_err_parser};
 ghost use Rattle.winnow_core.specs.MapErrKept.{KeepsEachKind};
+ghost use Rattle.winnow_core.specs.Says.{nothing_done, nothing_said};
 
 use crate::agrees_with::AgreesWith;
 use crate::parser::Parser;
@@ -59,6 +60,8 @@ impl<
 
     ghost meaning = { λ _. MapErrRuns E.kind E2.kind G.step (F.meaning E.form) };
 
+    ghost says = { λ _. nothing_said };
+
     ghost claim = { λ s. record {
       premise = (F.claim s.0).premise × Stays G.step s.1 × KeepsEachKind E.kind E2.kind G.step;
       backtracks = (F.claim s.0).backtracks;
@@ -72,6 +75,8 @@ impl<
     ghost leaves_ends = { λ _. makes_error_ends I.reading (MapErrBecomes E.kind E2.kind G.step)
         (F.meaning E.form)
         (F.leaves_ends E.form) };
+
+    ghost said = { λ _. nothing_done };
 
     ghost claimed = { λ s. record {
       exact = λ form is. map_err_exact E.kind E2.kind G.step is.2 is.1

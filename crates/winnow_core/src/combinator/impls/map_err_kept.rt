@@ -10,6 +10,7 @@ ghost use Rattle.winnow_core.specs.MapErrKept.{KeepsEachKind, MapErrKeptBecomes,
 ghost use Rattle.winnow_core.specs.MapErrKept.{map_err_kept_closure, map_err_kept_keeps};
 ghost use Rattle.winnow_core.specs.MapErrKept.{map_err_kept_parser};
 ghost use Rattle.winnow_core.specs.Stable.Grows.{grows, stays};
+ghost use Rattle.winnow_core.specs.Says.{nothing_done, nothing_said};
 
 use crate::agrees_with::AgreesWith;
 use crate::parser::Parser;
@@ -66,6 +67,8 @@ impl<
 
     ghost meaning = { λ form. MapErrKeptRuns E.kind E2.kind G.step (F.meaning form) };
 
+    ghost says = { λ _. nothing_said };
+
     ghost claim = { λ s. record {
       premise = (F.claim s.0).premise × Stays G.step s.1;
       backtracks = (F.claim s.0).backtracks;
@@ -78,6 +81,8 @@ impl<
 
     ghost leaves_ends = { λ form. makes_error_ends I.reading
         (MapErrKeptBecomes E.kind E2.kind G.step) (F.meaning form) (F.leaves_ends form) };
+
+    ghost said = { λ _. nothing_done };
 
     ghost claimed = { λ s. record {
       exact = λ form is. map_err_kept_exact E.kind E2.kind G.step is.1

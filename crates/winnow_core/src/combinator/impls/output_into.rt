@@ -11,6 +11,7 @@ ghost use Rattle.winnow_core.specs.MakesOutput.Laws.{makes_output_ends, made_of_
 ghost use Rattle.winnow_core.specs.MakesOutput.Laws.{makes_output_grows};
 ghost use Rattle.winnow_core.specs.OutputInto.{OutputIntoRuns, output_into_parser};
 ghost use Rattle.winnow_core.specs.Stable.Grows.{grows, stays};
+ghost use Rattle.winnow_core.specs.Says.{nothing_done, nothing_said};
 
 use crate::agrees_with::AgreesWith;
 use crate::parser::Parser;
@@ -53,6 +54,8 @@ impl<F: Parser<I, O, E>, I: Stream, O, O2: From<O>, E: ParserError<I>> Parser<I,
 
     ghost meaning = { λ form. OutputIntoRuns O2.from_gives (F.meaning form) };
 
+    ghost says = { λ _. nothing_said };
+
     ghost claim = { λ s. record {
       premise = (F.claim s).premise;
       backtracks = (F.claim s).backtracks;
@@ -65,6 +68,8 @@ impl<F: Parser<I, O, E>, I: Stream, O, O2: From<O>, E: ParserError<I>> Parser<I,
 
     ghost leaves_ends = { λ form. makes_output_ends I.reading _ (F.meaning form)
         (F.leaves_ends form) };
+
+    ghost said = { λ _. nothing_done };
 
     ghost claimed = { λ s. record {
       exact = λ form is. output_exact (λ (_ : Unit {0}) o u. O2.from_gives o u) tt

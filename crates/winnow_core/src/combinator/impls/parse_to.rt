@@ -12,6 +12,7 @@ ghost use Rattle.winnow_core.specs.Exact.Settled.{parse_to_fails};
 ghost use Rattle.winnow_core.specs.ParseTo.{ParseToSettles, ParseToRuns, parse_to_parser};
 ghost use Rattle.winnow_core.specs.Settles.Laws.{settles_ends, settles_grows};
 ghost use Rattle.winnow_core.specs.Stable.Grows.{grows, stays_beside};
+ghost use Rattle.winnow_core.specs.Says.{nothing_done, nothing_said};
 
 use crate::agrees_with::AgreesWith;
 use crate::parser::Parser;
@@ -58,6 +59,8 @@ impl<F: Parser<I, O, E>, I: Stream, O: ParseSlice<O2> + Drop, O2, E: ParserError
 
     ghost meaning = { λ form. ParseToRuns O.reads (F.meaning form) };
 
+    ghost says = { λ _. nothing_said };
+
     ghost claim = { λ s. record {
       premise = (F.claim s).premise
           × RejectsAll (ReadsSome O.reads) (ReadsNone O.reads) tt (F.claim s).grammar;
@@ -72,6 +75,8 @@ impl<F: Parser<I, O, E>, I: Stream, O: ParseSlice<O2> + Drop, O2, E: ParserError
     ghost leaves_ends = { λ form s i answer t j ran. settles_ends I.reading
         (ParseToSettles O.reads) (F.meaning form)
         (F.leaves_ends form) _ i answer _ j ran };
+
+    ghost said = { λ _. nothing_done };
 
     ghost claimed = { λ s. record {
       exact = λ form is. parse_to_exact O.reads is.1 ((F.claimed s).exact form is.0);

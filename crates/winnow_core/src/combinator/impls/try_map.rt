@@ -16,6 +16,7 @@ ghost use Rattle.winnow_core.specs.Stable.Grows.{grows, stays};
 ghost use Rattle.winnow_core.specs.TryMap.{TryMapSettles, TryMapRuns, try_map_closure};
 ghost use Rattle.winnow_core.specs.TryMap.{try_map_parser};
 ghost use Rattle.winnow_core.specs.TryMap.Decided.{TriesSame, try_map_decided};
+ghost use Rattle.winnow_core.specs.Says.{nothing_done, nothing_said};
 
 use crate::agrees_with::AgreesWith;
 use crate::parser::Parser;
@@ -69,6 +70,8 @@ impl<
 
     ghost meaning = { λ form. TryMapRuns G.step (F.meaning form) };
 
+    ghost says = { λ _. nothing_said };
+
     ghost claim = { λ s. record {
       premise = (F.claim s.0).premise × Stays G.step s.1.0
           × RejectsAll (GivesOk G.step) (GivesErr G.step) s.1.0 (F.claim s.0).grammar;
@@ -84,6 +87,8 @@ impl<
     ghost leaves_ends = { λ form. settles_ends I.reading
         (TryMapSettles G.step) (F.meaning form)
         (F.leaves_ends form) };
+
+    ghost said = { λ _. nothing_done };
 
     ghost claimed = { λ s. record {
       exact = λ form is. try_map_exact G.step is.1 is.2 ((F.claimed s.0).exact form is.0);

@@ -10,6 +10,7 @@ ghost use Rattle.winnow_core.specs.Exact.Allowed.{fails_as, wanted};
 ghost use Rattle.winnow_core.specs.Stable.Grows.{grows, stays};
 ghost use Rattle.winnow_core.specs.Value.{ValueRuns, value_kept, value_parser};
 ghost use Rattle.winnow_core.specs.Value.Laws.{value_ends, value_grows};
+ghost use Rattle.winnow_core.specs.Says.{nothing_done, nothing_said};
 
 use crate::agrees_with::AgreesWith;
 use crate::parser::Parser;
@@ -54,6 +55,8 @@ impl<F: Parser<I, O, E>, I: Stream, O: Drop, O2: Clone, E: ParserError<I>> Parse
 
     ghost meaning = { λ form. ValueRuns O2.is_clone O2.is_infallible (F.meaning form) };
 
+    ghost says = { λ _. nothing_said };
+
     ghost claim = { λ s. record {
       premise = (F.claim s.0).premise;
       backtracks = (F.claim s.0).backtracks;
@@ -66,6 +69,8 @@ impl<F: Parser<I, O, E>, I: Stream, O: Drop, O2: Clone, E: ParserError<I>> Parse
 
     ghost leaves_ends = { λ form. value_ends I.reading O2.is_clone O2.is_infallible
         (F.meaning form) (F.leaves_ends form) };
+
+    ghost said = { λ _. nothing_done };
 
     ghost claimed = { λ s. record {
       exact = λ form is. value_exact O2.is_clone O2.is_infallible ((F.claimed s.0).exact form is);

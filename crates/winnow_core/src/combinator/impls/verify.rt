@@ -14,6 +14,7 @@ ghost use Rattle.winnow_core.specs.Settles.Laws.{settles_ends, settles_grows};
 ghost use Rattle.winnow_core.specs.Stable.Grows.{grows, stays};
 ghost use Rattle.winnow_core.specs.Verify.{VerifySettles, VerifyRuns, verify_closure};
 ghost use Rattle.winnow_core.specs.Verify.{verify_parser};
+ghost use Rattle.winnow_core.specs.Says.{nothing_done, nothing_said};
 
 use crate::agrees_with::AgreesWith;
 use crate::parser::Parser;
@@ -62,6 +63,8 @@ impl<F: Parser<I, O, E>, G: FnMut(&O) -> bool, I: Stream, O: Drop, E: ParserErro
 
     ghost meaning = { λ form. VerifyRuns (CalledAt G.FnMut) (F.meaning form) };
 
+    ghost says = { λ _. nothing_said };
+
     ghost claim = { λ s. record {
       premise = (F.claim s.0).premise × Stays (CalledAt G.FnMut) s.1
           × RejectsAll (Finds (CalledAt G.FnMut)) (Misses (CalledAt G.FnMut)) s.1
@@ -78,6 +81,8 @@ impl<F: Parser<I, O, E>, G: FnMut(&O) -> bool, I: Stream, O: Drop, E: ParserErro
     ghost leaves_ends = { λ form. settles_ends I.reading (VerifySettles (CalledAt G.FnMut))
         (F.meaning form)
         (F.leaves_ends form) };
+
+    ghost said = { λ _. nothing_done };
 
     ghost claimed = { λ s. record {
       exact = λ form is. settled_exact (verify_settler (CalledAt G.FnMut) is.1) is.2

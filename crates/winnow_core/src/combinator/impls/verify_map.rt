@@ -12,6 +12,7 @@ ghost use Rattle.winnow_core.specs.Exact.Settled.{GivesNone, verify_map_exact, v
 ghost use Rattle.winnow_core.specs.Stable.Grows.{grows, stays};
 ghost use Rattle.winnow_core.specs.VerifyMap.{VerifyMapRuns, verify_map_parser, verify_map_closure};
 ghost use Rattle.winnow_core.specs.VerifyMap.Laws.{verify_map_ends, verify_map_grows};
+ghost use Rattle.winnow_core.specs.Says.{nothing_done, nothing_said};
 
 use crate::agrees_with::AgreesWith;
 use crate::parser::Parser;
@@ -60,6 +61,8 @@ impl<F: Parser<I, O, E>, G: FnMut(O) -> Option<O2>, I: Stream, O, O2, E: ParserE
 
     ghost meaning = { λ form. VerifyMapRuns (F.meaning form) G.step };
 
+    ghost says = { λ _. nothing_said };
+
     ghost claim = { λ s. record {
       premise = (F.claim s.0).premise × Stays G.step s.1
           × RejectsAll (GivesSome G.step) (GivesNone G.step) s.1 (F.claim s.0).grammar;
@@ -74,6 +77,8 @@ impl<F: Parser<I, O, E>, G: FnMut(O) -> Option<O2>, I: Stream, O, O2, E: ParserE
 
     ghost leaves_ends = { λ form. verify_map_ends I.reading (F.meaning form) G.step
         (F.leaves_ends form) };
+
+    ghost said = { λ _. nothing_done };
 
     ghost claimed = { λ s. record {
       exact = λ form is. verify_map_exact G.step is.1 is.2 ((F.claimed s.0).exact form is.0);

@@ -11,6 +11,7 @@ ghost use Rattle.winnow_core.specs.MakesOutput.Laws.{makes_output_ends, makes_ou
 ghost use Rattle.winnow_core.specs.Stable.Grows.{grows, stays};
 ghost use Rattle.winnow_core.specs.WithTaken.{WithTakenRuns, with_taken_parser};
 ghost use Rattle.winnow_core.specs.WithTaken.Laws.{with_taken_agrees, made_with_taken};
+ghost use Rattle.winnow_core.specs.Says.{nothing_done, nothing_said};
 
 use crate::agrees_with::AgreesWith;
 use crate::combinator::impls::take::slice_from;
@@ -55,6 +56,8 @@ impl<F: Parser<I, O, E>, I: Stream, O, E: ParserError<I>> Parser<I, (O, I::Slice
 
     ghost meaning = { λ form. WithTakenRuns I.reading (F.meaning form) };
 
+    ghost says = { λ _. nothing_said };
+
     ghost claim = { λ s. record {
       premise = (F.claim s).premise;
       backtracks = (F.claim s).backtracks;
@@ -67,6 +70,8 @@ impl<F: Parser<I, O, E>, I: Stream, O, E: ParserError<I>> Parser<I, (O, I::Slice
 
     ghost leaves_ends = { λ form. makes_output_ends I.reading _ (F.meaning form)
         (F.leaves_ends form) };
+
+    ghost said = { λ _. nothing_done };
 
     ghost claimed = { λ s. record {
       exact = λ form is. with_taken_exact I.reading ((F.claimed s).exact form is);

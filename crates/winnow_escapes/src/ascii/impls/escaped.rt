@@ -8,6 +8,7 @@ ghost use Rattle.winnow_escapes.specs.Escaped.{EscapedRuns, escaped_control, esc
 ghost use Rattle.winnow_escapes.specs.Escaped.{escaped_normal, turns_kept};
 ghost use Rattle.winnow_escapes.specs.Escaped.Laws.{escaped_ends, escaped_grows};
 ghost use Rattle.winnow_core.specs.Claim.{no_claim, nothing_claimed};
+ghost use Rattle.winnow_core.specs.Says.{nothing_done, nothing_said};
 
 use crate::ascii::turns::read_turns;
 use crate::stable::SettledControl;
@@ -80,6 +81,8 @@ impl<
         (turns_kept ⟦<C as Accumulate<O, A>>⟧.accumulator ⟦<C as Accumulate<P, A>>⟧.accumulator)
         (assert_kind form) (incomplete_kind form None) };
 
+    ghost says = { λ _. nothing_said };
+
     ghost claim = { λ _. no_claim };
 
     ghost leaves_ends = { λ form. escaped_ends I.reading (N.meaning form) (K.meaning plain)
@@ -87,6 +90,8 @@ impl<
         (turns_kept ⟦<C as Accumulate<O, A>>⟧.accumulator ⟦<C as Accumulate<P, A>>⟧.accumulator)
         (assert_kind form) (incomplete_kind form None) (N.leaves_ends form)
         (K.leaves_ends plain) (X.leaves_ends form) };
+
+    ghost said = { λ _. nothing_done };
 
     ghost claimed = { λ _. nothing_claimed };
 

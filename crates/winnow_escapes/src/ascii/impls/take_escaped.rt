@@ -12,6 +12,7 @@ ghost use Rattle.winnow_escapes.specs.TakeEscaped.{take_escaped_control, take_es
 ghost use Rattle.winnow_escapes.specs.TakeEscaped.{take_escaped_normal};
 ghost use Rattle.winnow_escapes.specs.TakeEscaped.Laws.{take_escaped_ends};
 ghost use Rattle.winnow_core.specs.Claim.{no_claim, nothing_claimed};
+ghost use Rattle.winnow_core.specs.Says.{nothing_done, nothing_said};
 
 use crate::ascii::impls::Escaped;
 use crate::stable::SettledControl;
@@ -88,11 +89,15 @@ impl<
     ghost meaning = { λ form. TakeEscapedRuns I.reading (N.meaning form) (K.meaning plain)
         (X.meaning form) (assert_kind form) (incomplete_kind form None) };
 
+    ghost says = { λ _. nothing_said };
+
     ghost claim = { λ _. no_claim };
 
     ghost leaves_ends = { λ form. take_escaped_ends I.reading (N.meaning form) (K.meaning plain)
         (X.meaning form) (assert_kind form) (incomplete_kind form None) (N.leaves_ends form)
         (K.leaves_ends plain) (X.leaves_ends form) };
+
+    ghost said = { λ _. nothing_done };
 
     ghost claimed = { λ _. nothing_claimed };
 

@@ -8,6 +8,7 @@ ghost use Rattle.winnow_expression.specs.Expression.Laws.{leveled_leaves};
 ghost use Rattle.winnow_expression.specs.Parts.{parts_grammar};
 ghost use Rattle.winnow_expression.specs.Places.Laws.{first_ends, next_ends};
 ghost use Rattle.winnow_core.specs.Claim.{no_claim, nothing_claimed};
+ghost use Rattle.winnow_core.specs.Says.{nothing_done, nothing_said};
 
 use crate::combinator::folds::{FoldBinary, FoldUnary, FoldsBinaryLike, FoldsUnaryLike};
 use crate::combinator::machine::expression_from;
@@ -217,6 +218,8 @@ impl<
         (P.meaning form) (Pre.meaning form) (Post.meaning form) (Pix.meaning form) (F.folds form)
         (G.folds form) (H.folds form)) };
 
+    ghost says = { λ _. nothing_said };
+
     ghost claim = { λ _. no_claim };
 
     ghost leaves_ends = { λ form. leveled_leaves I.reading (parts_grammar I.reading.units
@@ -230,6 +233,8 @@ impl<
           before = F.leaves_ends form;
           between = H.leaves_ends form;
         }) };
+
+    ghost said = { λ _. nothing_done };
 
     ghost claimed = { λ _. nothing_claimed };
 

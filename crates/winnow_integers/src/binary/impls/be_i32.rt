@@ -12,6 +12,7 @@ ghost use Rattle.winnow_core.specs.Agrees.{agrees_plain};
 ghost use Rattle.winnow_core.specs.Exact.Allowed.{backs};
 ghost use Rattle.winnow_core.specs.Runs.{Keeps};
 ghost use Rattle.winnow_core.specs.Stable.Grows.{leaf_stays};
+ghost use Rattle.winnow_core.specs.Says.{nothing_done, nothing_said};
 
 use crate::binary::be_i32;
 use stream_errors::parser_error::ParserError;
@@ -38,6 +39,8 @@ impl<I: StreamIsPartial + ByteStream, E: ParserError<I>> Parser<I, i32, E> for B
 
     ghost meaning = { λ form. Keeps (λ _. IntegerRuns 4 (signed_value Big) I.reading form) };
 
+    ghost says = { λ _. nothing_said };
+
     ghost claim = { λ s. record {
       premise = ⊤;
       backtracks = ⊤;
@@ -50,6 +53,8 @@ impl<I: StreamIsPartial + ByteStream, E: ParserError<I>> Parser<I, i32, E> for B
 
     ghost leaves_ends = { λ form x i answer y j r. integer_ends 4 (signed_value Big) I.reading
         form i answer j r.0 };
+
+    ghost said = { λ _. nothing_done };
 
     ghost claimed = { λ s. record {
       exact = λ form is. integer_exact 4 (λ (_ : ⊤). signed_value Big) I.reading form tt;

@@ -11,6 +11,7 @@ ghost use Rattle.winnow_numbers.specs.DecInt.Laws.{dec_int_ends, dec_int_stays};
 ghost use Rattle.winnow_numbers.specs.DecUint.Laws.{OneNumber};
 ghost use Rattle.winnow_numbers.specs.Numeral.Exact.{dec_int_exact, dec_int_fails, signed_takes};
 ghost use Rattle.winnow_numbers.specs.Numeral.Grammar.{SignedDecimal};
+ghost use Rattle.winnow_core.specs.Says.{nothing_done, nothing_said};
 
 use crate::ascii::{Int, dec_int};
 use stream_errors::parser_error::ParserError;
@@ -42,6 +43,8 @@ where
     ghost meaning = { λ form. Keeps
         (λ _. DecIntRuns O.number O.fits I.seen_as I.Token.code I.reading form) };
 
+    ghost says = { λ _. nothing_said };
+
     ghost claim = { λ s. record {
       premise = SeesApart I.seen_as;
       backtracks = ⊤;
@@ -54,6 +57,8 @@ where
 
     ghost leaves_ends = { λ form x i answer y j r. dec_int_ends O.number O.fits I.seen_as
         I.Token.code I.reading form i answer j r.0 };
+
+    ghost said = { λ _. nothing_done };
 
     ghost claimed = { λ s. record {
       exact = λ form is. dec_int_exact I.seen_as I.Token.code I.reading O.number O.fits form is;

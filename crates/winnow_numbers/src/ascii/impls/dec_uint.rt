@@ -10,6 +10,7 @@ ghost use Rattle.winnow_numbers.specs.DecUint.Laws.{OneNumber, dec_uint_decided,
 ghost use Rattle.winnow_numbers.specs.DecUint.Laws.{dec_uint_ends, dec_uint_stays};
 ghost use Rattle.winnow_numbers.specs.Numeral.Exact.{dec_uint_exact, dec_uint_fails, decimal_takes};
 ghost use Rattle.winnow_numbers.specs.Numeral.Grammar.{Decimal};
+ghost use Rattle.winnow_core.specs.Says.{nothing_done, nothing_said};
 
 use crate::ascii::{Uint, dec_uint};
 use stream_errors::parser_error::ParserError;
@@ -41,6 +42,8 @@ where
     ghost meaning = { λ form. Keeps
         (λ _. DecUintRuns O.number O.bound I.seen_as I.Token.code I.reading form) };
 
+    ghost says = { λ _. nothing_said };
+
     ghost claim = { λ s. record {
       premise = SeesApart I.seen_as;
       backtracks = ⊤;
@@ -53,6 +56,8 @@ where
 
     ghost leaves_ends = { λ form x i answer y j r. dec_uint_ends O.number O.bound I.seen_as
         I.Token.code I.reading form i answer j r.0 };
+
+    ghost said = { λ _. nothing_done };
 
     ghost claimed = { λ s. record {
       exact = λ form is. dec_uint_exact I.seen_as I.Token.code I.reading O.number O.bound form is;

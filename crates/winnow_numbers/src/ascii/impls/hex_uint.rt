@@ -13,6 +13,7 @@ ghost use Rattle.winnow_numbers.specs.HexUint.Laws.{hexadecimal_takes, hex_uint_
 ghost use Rattle.winnow_numbers.specs.HexUint.Laws.{hex_uint_decided};
 ghost use Rattle.winnow_numbers.specs.HexUint.Laws.{hex_uint_ends, hex_uint_stays};
 ghost use Rattle.winnow_numbers.specs.Numeral.Grammar.{Hexadecimal};
+ghost use Rattle.winnow_core.specs.Says.{nothing_done, nothing_said};
 
 use crate::ascii::hex_uint;
 use crate::ascii::impls::hex_uint::sealed::SealedMarker;
@@ -202,6 +203,8 @@ where
     ghost meaning = { λ form. Keeps
         (λ _. HexUintRuns O.number O.nibbles I.seen_as I.Token.code I.reading form) };
 
+    ghost says = { λ _. nothing_said };
+
     ghost claim = { λ s. record {
       premise = SeesApart I.seen_as;
       backtracks = ⊤;
@@ -214,6 +217,8 @@ where
 
     ghost leaves_ends = { λ form x i answer y j r. hex_uint_ends O.number O.nibbles I.seen_as
         I.Token.code I.reading form i answer j r.0 };
+
+    ghost said = { λ _. nothing_done };
 
     ghost claimed = { λ s. record {
       exact = λ form is. hex_uint_exact I.seen_as I.Token.code I.reading O.number O.nibbles

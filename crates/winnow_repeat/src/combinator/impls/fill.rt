@@ -7,6 +7,7 @@ ghost use Rattle.winnow_repeat.specs.Fill.{Buffer, FillRuns, FillsElements, fill
 ghost use Rattle.winnow_repeat.specs.Fill.Laws.{fill_ends, fill_grows};
 ghost use Rattle.winnow_core.specs.Agrees.{agrees_with};
 ghost use Rattle.winnow_core.specs.Claim.{no_claim, nothing_claimed};
+ghost use Rattle.winnow_core.specs.Says.{nothing_done, nothing_said};
 
 use std::marker::PhantomData;
 use stream_errors::parser_error::ParserError;
@@ -39,9 +40,13 @@ impl<'b, P: Parser<I, O, E>, I: Stream, O: Drop, E: ParserError<I>> Parser<I, ()
 
     ghost meaning = { λ form. FillRuns (P.meaning form) };
 
+    ghost says = { λ _. nothing_said };
+
     ghost claim = { λ _. no_claim };
 
     ghost leaves_ends = { λ form. fill_ends I.reading (P.meaning form) (P.leaves_ends form) };
+
+    ghost said = { λ _. nothing_done };
 
     ghost claimed = { λ _. nothing_claimed };
 

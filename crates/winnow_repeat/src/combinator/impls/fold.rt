@@ -16,6 +16,7 @@ ghost use Rattle.winnow_repeat.specs.Fold.Decided.{fold_decided};
 ghost use Rattle.winnow_repeat.specs.Fold.Exact.{fold_exact, fold_fails};
 ghost use Rattle.winnow_repeat.specs.Fold.Laws.{ranged_folds_end, fold_grows};
 ghost use Rattle.winnow_repeat.specs.Repeat.Decided.{HeldAlike};
+ghost use Rattle.winnow_core.specs.Says.{nothing_done, nothing_said};
 
 use crate::combinator::folding::{Folding, fold_items, fold_range};
 use std::marker::PhantomData;
@@ -113,6 +114,8 @@ impl<
 
     ghost meaning = { λ form. RangedFolds G.step H.step (P.meaning form) (assert_kind form) };
 
+    ghost says = { λ _. nothing_said };
+
     ghost claim = { λ s. record {
       premise = (P.claim s.0).premise × (P.claim s.0).backtracks × (P.claim s.0).consumes
           × IsWithin (bounds_of s.1.0).greatest (bounds_of s.1.0).least
@@ -127,6 +130,8 @@ impl<
 
     ghost leaves_ends = { λ form. ranged_folds_end I.reading G.step H.step (P.meaning form)
         (assert_kind form) (P.leaves_ends form) };
+
+    ghost said = { λ _. nothing_done };
 
     ghost claimed = { λ s. record {
       exact = λ form is. fold_exact (P.meaning form) G.step s.1.1.0 is.4 H.step s.1.1.1 is.5

@@ -18,6 +18,7 @@ ghost use Rattle.winnow_repeat.specs.TryFold.{try_fold_closure, try_fold_init};
 ghost use Rattle.winnow_repeat.specs.TryFold.{try_fold_occurrences, try_fold_parser};
 ghost use Rattle.winnow_repeat.specs.VerifyFold.{verify_fold_closure, verify_fold_init};
 ghost use Rattle.winnow_repeat.specs.VerifyFold.{verify_fold_occurrences, verify_fold_parser};
+ghost use Rattle.winnow_core.specs.Says.{nothing_done, nothing_said};
 
 use crate::combinator::impls::{RepeatFold, RepeatTryFold, RepeatVerifyFold};
 use crate::combinator::items::{repeat_items, repeat_many};
@@ -144,6 +145,8 @@ impl<
 
     ghost meaning = { λ form. RangedRuns (P.meaning form) C.accumulator (assert_kind form) };
 
+    ghost says = { λ _. nothing_said };
+
     ghost claim = { λ s. record {
       premise = (P.claim s.0).premise × (P.claim s.0).backtracks × (P.claim s.0).consumes
           × IsWithin (bounds_of s.1).greatest (bounds_of s.1).least;
@@ -157,6 +160,8 @@ impl<
 
     ghost leaves_ends = { λ form. ranged_ends I.reading (P.meaning form) C.accumulator
         (assert_kind form) (P.leaves_ends form) };
+
+    ghost said = { λ _. nothing_done };
 
     ghost claimed = { λ s. record {
       exact = λ form is. repeat_exact C.accumulator (assert_kind form) s C.holds C.gathers

@@ -14,6 +14,7 @@ ghost use Rattle.winnow_repeat.specs.RepeatTill.{LeastItemsRun, RangedTillRuns, 
 ghost use Rattle.winnow_repeat.specs.RepeatTill.Decided.{repeat_till_decided};
 ghost use Rattle.winnow_repeat.specs.RepeatTill.Exact.{repeat_till_exact, repeat_till_fails};
 ghost use Rattle.winnow_repeat.specs.RepeatTill.Laws.{repeat_till_ends, repeat_till_grows};
+ghost use Rattle.winnow_core.specs.Says.{nothing_done, nothing_said};
 
 use crate::combinator::items::is_descending;
 use std::alloc::Allocator;
@@ -60,6 +61,8 @@ impl<
     ghost meaning = { λ form. RangedTillRuns (P.meaning form) (G.meaning form) C.accumulator
         (assert_kind form) };
 
+    ghost says = { λ _. nothing_said };
+
     ghost claim = { λ s. record {
       premise = (P.claim s.0).premise × (P.claim s.0).backtracks × (P.claim s.0).consumes
           × (G.claim s.1).premise × (G.claim s.1).backtracks
@@ -75,6 +78,8 @@ impl<
 
     ghost leaves_ends = { λ form. repeat_till_ends I.reading (P.meaning form) (G.meaning form)
         C.accumulator (assert_kind form) (P.leaves_ends form) (G.leaves_ends form) };
+
+    ghost said = { λ _. nothing_done };
 
     ghost claimed = { λ s. record {
       exact = λ form is. repeat_till_exact C.accumulator (assert_kind form) s C.holds

@@ -10,6 +10,7 @@ ghost use Rattle.winnow_repeat.specs.TryFold.{TryFoldRuns, TryFoldTakes, try_fol
 ghost use Rattle.winnow_repeat.specs.TryFold.{try_fold_init, try_fold_occurrences, try_fold_parser};
 ghost use Rattle.winnow_core.specs.Agrees.{agrees_with};
 ghost use Rattle.winnow_core.specs.Claim.{no_claim, nothing_claimed};
+ghost use Rattle.winnow_core.specs.Says.{nothing_done, nothing_said};
 
 use crate::combinator::folding::{Folding, fold_range};
 use std::marker::PhantomData;
@@ -124,10 +125,14 @@ impl<
 
     ghost meaning = { λ form. TryFoldRuns G.step H.step (P.meaning form) (assert_kind form) };
 
+    ghost says = { λ _. nothing_said };
+
     ghost claim = { λ _. no_claim };
 
     ghost leaves_ends = { λ form. ranged_fold_many_ends I.reading G.step
         (TryFoldTakes H.step) (P.meaning form) (assert_kind form) (P.leaves_ends form) };
+
+    ghost said = { λ _. nothing_done };
 
     ghost claimed = { λ _. nothing_claimed };
 

@@ -10,6 +10,7 @@ ghost use Rattle.winnow_repeat.specs.VerifyFold.{verify_fold_closure, verify_fol
 ghost use Rattle.winnow_repeat.specs.VerifyFold.{verify_fold_occurrences, verify_fold_parser};
 ghost use Rattle.winnow_core.specs.Agrees.{agrees_with};
 ghost use Rattle.winnow_core.specs.Claim.{no_claim, nothing_claimed};
+ghost use Rattle.winnow_core.specs.Says.{nothing_done, nothing_said};
 
 use crate::combinator::folding::{Folding, fold_range};
 use std::marker::PhantomData;
@@ -111,10 +112,14 @@ impl<
 
     ghost meaning = { λ form. VerifyFoldRuns G.step H.step (P.meaning form) (assert_kind form) };
 
+    ghost says = { λ _. nothing_said };
+
     ghost claim = { λ _. no_claim };
 
     ghost leaves_ends = { λ form. ranged_fold_many_ends I.reading G.step
         (VerifyFoldTakes H.step) (P.meaning form) (assert_kind form) (P.leaves_ends form) };
+
+    ghost said = { λ _. nothing_done };
 
     ghost claimed = { λ _. nothing_claimed };
 

@@ -15,6 +15,7 @@ ghost use Rattle.winnow_separated.specs.Separated.Decided.{separated_decided};
 ghost use Rattle.winnow_separated.specs.Separated.Exact.{separated_exact, separated_fails};
 ghost use Rattle.winnow_separated.specs.Separated.Exact.{separated_takes};
 ghost use Rattle.winnow_separated.specs.Separated.Laws.{separated_ends, separated_grows};
+ghost use Rattle.winnow_core.specs.Says.{nothing_done, nothing_said};
 
 use crate::combinator::impls::link::Link;
 use std::alloc::Allocator;
@@ -61,6 +62,8 @@ impl<
     ghost meaning = { λ form. RangedElements (P.meaning form) (S.meaning form) C.accumulator
         (assert_kind form) };
 
+    ghost says = { λ _. nothing_said };
+
     ghost claim = { λ s. record {
       premise = (P.claim s.0).premise × (P.claim s.0).backtracks × (S.claim s.1).premise
           × (S.claim s.1).backtracks × (S.claim s.1).consumes
@@ -76,6 +79,8 @@ impl<
 
     ghost leaves_ends = { λ form. separated_ends I.reading (P.meaning form) (S.meaning form)
         C.accumulator (assert_kind form) (P.leaves_ends form) (S.leaves_ends form) };
+
+    ghost said = { λ _. nothing_done };
 
     ghost claimed = { λ s. record {
       exact = λ form is. separated_exact C.accumulator (assert_kind form) s

@@ -8,6 +8,7 @@ ghost use Rattle.winnow_separated.specs.SeparatedFoldr1.{foldr1_separator};
 ghost use Rattle.winnow_separated.specs.SeparatedFoldr1.Laws.{foldr1_ends, foldr1_grows};
 ghost use Rattle.winnow_core.specs.Agrees.Beside.{agrees2_with};
 ghost use Rattle.winnow_core.specs.Claim.{no_claim, nothing_claimed};
+ghost use Rattle.winnow_core.specs.Says.{nothing_done, nothing_said};
 
 use std::alloc::Allocator;
 use std::marker::PhantomData;
@@ -75,10 +76,14 @@ impl<
     ghost meaning = { λ form. SeparatedFoldr1Runs A H.step (P.meaning form)
         (S.meaning form) (assert_kind form) };
 
+    ghost says = { λ _. nothing_said };
+
     ghost claim = { λ _. no_claim };
 
     ghost leaves_ends = { λ form. foldr1_ends A I.reading H.step (P.meaning form) (S.meaning form)
         (assert_kind form) (P.leaves_ends form) (S.leaves_ends form) };
+
+    ghost said = { λ _. nothing_done };
 
     ghost claimed = { λ _. nothing_claimed };
 

@@ -10,6 +10,7 @@ ghost use Rattle.winnow_core.specs.Literal.Laws.{literal_fails, literal_alike, l
 ghost use Rattle.winnow_core.specs.Literal.Laws.{literal_stays};
 ghost use Rattle.winnow_core.specs.Runs.{Keeps};
 ghost use Rattle.winnow_core.specs.Stable.Grows.{leaf_stays};
+ghost use Rattle.winnow_core.specs.Says.{nothing_done, nothing_said};
 
 use std::marker::PhantomData;
 use stream_errors::parser_error::ParserError;
@@ -43,6 +44,8 @@ impl<T: Copy, I: StreamIsPartial + Compare<T>, E: ParserError<I>> Parser<I, I::S
     ghost meaning = { λ form. Keeps
         (λ x. LiteralRuns I.reading form (I.spells x) (λ slice. slice)) };
 
+    ghost says = { λ _. nothing_said };
+
     ghost claim = { λ s. record {
       premise = ⊤;
       backtracks = ⊤;
@@ -55,6 +58,8 @@ impl<T: Copy, I: StreamIsPartial + Compare<T>, E: ParserError<I>> Parser<I, I::S
 
     ghost leaves_ends = { λ form x i answer y j r. literal_ends I.reading form (I.spells x)
         (λ slice. slice) i answer j r.0 };
+
+    ghost said = { λ _. nothing_done };
 
     ghost claimed = { λ s. record {
       exact = λ form is. literal_exact I.reading form I.spells (λ _ slice. slice) (λ s. s) s

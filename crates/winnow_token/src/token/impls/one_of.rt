@@ -12,6 +12,7 @@ ghost use Rattle.winnow_token.specs.Any.Laws.{SeenSame};
 ghost use Rattle.winnow_token.specs.OneOf.Laws.{one_of_decided, one_of_exact, one_of_fails};
 ghost use Rattle.winnow_token.specs.OneOf.Laws.{token_of_takes, one_of_alike, one_of_ends};
 ghost use Rattle.winnow_token.specs.OneOf.Laws.{one_of_stays};
+ghost use Rattle.winnow_core.specs.Says.{nothing_done, nothing_said};
 
 use crate::token::one::take_member;
 use std::marker::PhantomData;
@@ -49,6 +50,8 @@ where
 
     ghost meaning = { λ form. Keeps (λ x. OneOfRuns I.seen_as I.reading form (S.tells x)) };
 
+    ghost says = { λ _. nothing_said };
+
     ghost claim = { λ s. record {
       premise = S.decides s × SeesApart I.seen_as;
       backtracks = ⊤;
@@ -61,6 +64,8 @@ where
 
     ghost leaves_ends = { λ form x i answer y j r. one_of_ends I.seen_as I.reading form
         (S.tells x) i answer j r.0 };
+
+    ghost said = { λ _. nothing_done };
 
     ghost claimed = { λ s. record {
       exact = λ form is. one_of_exact I.seen_as I.reading form S.tells s

@@ -8,6 +8,7 @@ ghost use Rattle.winnow_core.specs.Runs.{Keeps};
 ghost use Rattle.winnow_token.specs.Rest.{RestRuns};
 ghost use Rattle.winnow_token.specs.Rest.Laws.{rest_alike, rest_decided, rest_ends};
 ghost use Rattle.winnow_token.specs.Rest.Laws.{rest_exact, rest_fails};
+ghost use Rattle.winnow_core.specs.Says.{nothing_done, nothing_said};
 
 use crate::token::rest;
 use stream_errors::parser_error::ParserError;
@@ -32,6 +33,8 @@ impl<I: Stream, E: ParserError<I>> Parser<I, I::Slice, E> for Rest {
 
     ghost meaning = { λ _. Keeps (λ _. RestRuns I.reading) };
 
+    ghost says = { λ _. nothing_said };
+
     ghost claim = { λ s. record {
       premise = ⊤;
       backtracks = ⊤;
@@ -43,6 +46,8 @@ impl<I: Stream, E: ParserError<I>> Parser<I, I::Slice, E> for Rest {
     } };
 
     ghost leaves_ends = { λ form x i answer y j r. rest_ends I.reading i answer j r.0 };
+
+    ghost said = { λ _. nothing_done };
 
     ghost claimed = { λ s. record {
       exact = λ form is. rest_exact I.reading;

@@ -8,6 +8,7 @@ ghost use Rattle.winnow_core.specs.Runs.{Keeps};
 ghost use Rattle.winnow_token.specs.Rest.{RestLenRuns};
 ghost use Rattle.winnow_token.specs.Rest.Laws.{rest_len_alike, rest_len_decided};
 ghost use Rattle.winnow_token.specs.Rest.Laws.{rest_len_exact, rest_len_fails};
+ghost use Rattle.winnow_core.specs.Says.{nothing_done, nothing_said};
 
 use crate::token::rest_len;
 use stream_errors::parser_error::ParserError;
@@ -32,6 +33,8 @@ impl<I: Stream, E: ParserError<I>> Parser<I, usize, E> for RestLen {
 
     ghost meaning = { λ _. Keeps (λ _. RestLenRuns I.reading) };
 
+    ghost says = { λ _. nothing_said };
+
     ghost claim = { λ s. record {
       premise = ⊤;
       backtracks = ⊤;
@@ -43,6 +46,8 @@ impl<I: Stream, E: ParserError<I>> Parser<I, usize, E> for RestLen {
     } };
 
     ghost leaves_ends = { λ form x i answer y j r. same_ends I.reading i j r.0.1 };
+
+    ghost said = { λ _. nothing_done };
 
     ghost claimed = { λ s. record {
       exact = λ form is. rest_len_exact I.reading;

@@ -16,6 +16,7 @@ ghost use Rattle.winnow_token.specs.TakeWhile.Exact.{longest_takes, take_while_e
 ghost use Rattle.winnow_token.specs.TakeWhile.Exact.{take_while_fails};
 ghost use Rattle.winnow_token.specs.TakeWhile.Laws.{take_while_alike, take_while_ends};
 ghost use Rattle.winnow_token.specs.TakeWhile.Laws.{take_while_stays};
+ghost use Rattle.winnow_core.specs.Says.{nothing_done, nothing_said};
 
 use crate::token::members::{Others, take_members};
 use std::marker::PhantomData;
@@ -54,6 +55,8 @@ impl<S: ContainsToken<I::Token>, I: StreamIsPartial, E: ParserError<I>> Parser<I
         (λ x. TakeWhileRuns I.reading form
         (AnswersSeen I.seen_as (λ k b. S.tells x.1 k (not b))) (bounds_of x.0)) };
 
+    ghost says = { λ _. nothing_said };
+
     ghost claim = { λ s. record {
       premise = S.decides s.1 × SeesApart I.seen_as
           × IsWithin (bounds_of s.0).greatest (bounds_of s.0).least;
@@ -67,6 +70,8 @@ impl<S: ContainsToken<I::Token>, I: StreamIsPartial, E: ParserError<I>> Parser<I
 
     ghost leaves_ends = { λ form x i answer y j r. take_while_ends I.reading form
         (AnswersSeen I.seen_as (λ k b. S.tells x.1 k (not b))) (bounds_of x.0) i answer j r.0 };
+
+    ghost said = { λ _. nothing_done };
 
     ghost claimed = { λ s. record {
       exact = λ form is. take_while_exact I.reading form I.seen_as (Others S.tells) (λ x. x.1)

@@ -14,6 +14,7 @@ ghost use Rattle.winnow_token.specs.TakeUntil.Decided.{take_until_decided};
 ghost use Rattle.winnow_token.specs.TakeUntil.Laws.{take_until_exact, take_until_fails};
 ghost use Rattle.winnow_token.specs.TakeUntil.Laws.{take_until_alike, take_until_ends};
 ghost use Rattle.winnow_token.specs.TakeUntil.Laws.{take_until_stays};
+ghost use Rattle.winnow_core.specs.Says.{nothing_done, nothing_said};
 
 use crate::token::until::take_before;
 use std::marker::PhantomData;
@@ -49,6 +50,8 @@ impl<T: Copy, I: StreamIsPartial + FindSlice<T>, E: ParserError<I>> Parser<I, I:
     ghost meaning = { λ form. Keeps
         (λ x. TakeUntilRuns I.reading form (I.sought x.1) (bounds_of x.0)) };
 
+    ghost says = { λ _. nothing_said };
+
     ghost claim = { λ s. record {
       premise = IsWithin (bounds_of s.0).greatest (bounds_of s.0).least;
       backtracks = ⊤;
@@ -62,6 +65,8 @@ impl<T: Copy, I: StreamIsPartial + FindSlice<T>, E: ParserError<I>> Parser<I, I:
     ghost leaves_ends = { λ form x i answer y j r. take_until_ends I.reading form (I.sought x.1)
         (bounds_of x.0) i answer j
         r.0 };
+
+    ghost said = { λ _. nothing_done };
 
     ghost claimed = { λ s. record {
       exact = λ form is. take_until_exact I.reading form (λ x. I.sought x.1)

@@ -15,6 +15,7 @@ ghost use Rattle.winnow_comb.specs.Alt.FirstOf.{asserts, first_of_exact, first_o
 ghost use Rattle.winnow_comb.specs.Alt.Slice.{AltSliceRuns};
 ghost use Rattle.winnow_comb.specs.Alt.Slice.Decided.{AlikeByOne, alt_slice_decided};
 ghost use Rattle.winnow_comb.specs.Alt.Slice.Laws.{alt_slice_ends, slice_agrees, alt_slice_grows};
+ghost use Rattle.winnow_core.specs.Says.{nothing_done, nothing_said};
 
 use crate::combinator::impls::alt::{Alt, AltParser, attempt};
 use stream_errors::parser_error::ParserError;
@@ -32,6 +33,8 @@ impl<const N: usize, I: Stream, O, E: ParserError<I>, P: Parser<I, O, E>> Alt<I,
 
     ghost meaning = { λ form. AltSliceRuns (P.meaning form) (assert_kind form) };
 
+    ghost says = { λ _. nothing_said };
+
     ghost claim = { λ s. record {
       premise = All (λ x. (P.claim x).premise × (P.claim x).backtracks) s;
       backtracks = s ≡ [] → ⊥;
@@ -44,6 +47,8 @@ impl<const N: usize, I: Stream, O, E: ParserError<I>, P: Parser<I, O, E>> Alt<I,
 
     ghost leaves_ends = { λ form. alt_slice_ends I.reading (P.meaning form) (assert_kind form)
         (P.leaves_ends form) };
+
+    ghost said = { λ _. nothing_done };
 
     ghost claimed = { λ s. record {
       exact = λ form is. first_of_exact (P.meaning form) (assert_kind form)
@@ -115,6 +120,8 @@ impl<'a, I: Stream, O, E: ParserError<I>, P: Parser<I, O, E>> Alt<I, O, E> for &
 
     ghost meaning = { λ form. ByRefRuns (AltSliceRuns (P.meaning form) (assert_kind form)) };
 
+    ghost says = { λ _. nothing_said };
+
     ghost claim = { λ s. record {
       premise = All (λ x. (P.claim x).premise × (P.claim x).backtracks) s.0;
       backtracks = s.0 ≡ [] → ⊥;
@@ -128,6 +135,8 @@ impl<'a, I: Stream, O, E: ParserError<I>, P: Parser<I, O, E>> Alt<I, O, E> for &
     ghost leaves_ends = { λ form. by_ref_ends I.reading
         (AltSliceRuns (P.meaning form) (assert_kind form))
         (alt_slice_ends I.reading (P.meaning form) (assert_kind form) (P.leaves_ends form)) };
+
+    ghost said = { λ _. nothing_done };
 
     ghost claimed = { λ s. record {
       exact = λ form is. by_ref_exact (first_of_exact (P.meaning form) (assert_kind form)

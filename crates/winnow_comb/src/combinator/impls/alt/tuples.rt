@@ -6,6 +6,7 @@ ghost use Rattle.winnow_comb.specs.Alt.{OrElse};
 ghost use Rattle.winnow_comb.specs.Alt.Claim.{or_else_claim, or_else_claimed};
 ghost use Rattle.winnow_comb.specs.Alt.Laws.{or_else_ends, or_else_grows};
 ghost use Rattle.winnow_core.specs.Stable.Grows.{grows, stays};
+ghost use Rattle.winnow_core.specs.Says.{nothing_done, nothing_said};
 
 use crate::combinator::impls::alt::{Alt, AltParser, attempt};
 use stream_errors::parser_error::ParserError;
@@ -22,9 +23,13 @@ impl<I: Stream, O, E: ParserError<I>, P1: Parser<I, O, E>> Alt<I, O, E> for (P1,
 
     ghost meaning = { P1.meaning };
 
+    ghost says = { λ _. nothing_said };
+
     ghost claim = { P1.claim };
 
     ghost leaves_ends = { P1.leaves_ends };
+
+    ghost said = { λ _. nothing_done };
 
     ghost claimed = { P1.claimed };
 
@@ -51,10 +56,14 @@ impl<I: Stream, O, E: ParserError<I>, P1: Parser<I, O, E>, P2: Parser<I, O, E>> 
 
     ghost meaning = { λ form. OrElse (P1.meaning form) (P2.meaning form) };
 
+    ghost says = { λ _. nothing_said };
+
     ghost claim = { λ s. or_else_claim (P1.claim s.0) (P2.claim s.1) };
 
     ghost leaves_ends = { λ form. or_else_ends I.reading (P1.meaning form) (P2.meaning form)
         (P1.leaves_ends form) (P2.leaves_ends form) };
+
+    ghost said = { λ _. nothing_done };
 
     ghost claimed = { λ s. or_else_claimed (P1.claimed s.0) (P2.claimed s.1) };
 
@@ -94,6 +103,8 @@ impl<
     ghost meaning = { λ form. OrElse (P1.meaning form)
         (OrElse (P2.meaning form) (P3.meaning form)) };
 
+    ghost says = { λ _. nothing_said };
+
     ghost claim = { λ s. or_else_claim (P1.claim s.0)
         (or_else_claim (P2.claim s.1.0) (P3.claim s.1.1)) };
 
@@ -101,6 +112,8 @@ impl<
         (OrElse (P2.meaning form) (P3.meaning form)) (P1.leaves_ends form)
         (or_else_ends I.reading (P2.meaning form) (P3.meaning form) (P2.leaves_ends form)
         (P3.leaves_ends form)) };
+
+    ghost said = { λ _. nothing_done };
 
     ghost claimed = { λ s. or_else_claimed (P1.claimed s.0)
         (or_else_claimed (P2.claimed s.1.0) (P3.claimed s.1.1)) };
@@ -153,6 +166,8 @@ impl<
     ghost meaning = { λ form. OrElse (P1.meaning form)
         (OrElse (P2.meaning form) (OrElse (P3.meaning form) (P4.meaning form))) };
 
+    ghost says = { λ _. nothing_said };
+
     ghost claim = { λ s. or_else_claim (P1.claim s.0)
         (or_else_claim (P2.claim s.1.0)
         (or_else_claim (P3.claim s.1.1.0) (P4.claim s.1.1.1))) };
@@ -164,6 +179,8 @@ impl<
         (P2.leaves_ends form)
         (or_else_ends I.reading (P3.meaning form) (P4.meaning form) (P3.leaves_ends form)
         (P4.leaves_ends form))) };
+
+    ghost said = { λ _. nothing_done };
 
     ghost claimed = { λ s. or_else_claimed (P1.claimed s.0)
         (or_else_claimed (P2.claimed s.1.0)
@@ -225,6 +242,8 @@ impl<
         (OrElse (P2.meaning form)
         (OrElse (P3.meaning form) (OrElse (P4.meaning form) (P5.meaning form)))) };
 
+    ghost says = { λ _. nothing_said };
+
     ghost claim = { λ s. or_else_claim (P1.claim s.0)
         (or_else_claim (P2.claim s.1.0)
         (or_else_claim (P3.claim s.1.1.0)
@@ -241,6 +260,8 @@ impl<
         (OrElse (P4.meaning form) (P5.meaning form)) (P3.leaves_ends form)
         (or_else_ends I.reading (P4.meaning form) (P5.meaning form) (P4.leaves_ends form)
         (P5.leaves_ends form)))) };
+
+    ghost said = { λ _. nothing_done };
 
     ghost claimed = { λ s. or_else_claimed (P1.claimed s.0)
         (or_else_claimed (P2.claimed s.1.0)
@@ -315,6 +336,8 @@ impl<
         (OrElse (P3.meaning form)
         (OrElse (P4.meaning form) (OrElse (P5.meaning form) (P6.meaning form))))) };
 
+    ghost says = { λ _. nothing_said };
+
     ghost claim = { λ s. or_else_claim (P1.claim s.0)
         (or_else_claim (P2.claim s.1.0)
         (or_else_claim (P3.claim s.1.1.0)
@@ -337,6 +360,8 @@ impl<
         (OrElse (P5.meaning form) (P6.meaning form)) (P4.leaves_ends form)
         (or_else_ends I.reading (P5.meaning form) (P6.meaning form)
         (P5.leaves_ends form) (P6.leaves_ends form))))) };
+
+    ghost said = { λ _. nothing_done };
 
     ghost claimed = { λ s. or_else_claimed (P1.claimed s.0)
         (or_else_claimed (P2.claimed s.1.0)

@@ -1,0 +1,68 @@
+-- That one state and one input decide the runs of a parser follows from what it says.
+use Rattle.std.specs.Prelude.{◌≡◌, ◌++◌, List, Ok, Err}
+use Rattle.std.proofs.Common.{refl, sym, ap, ◌∙◌}
+use Rattle.std.proofs.lemmas.List.{append_cancel_right}
+use Rattle.streams.specs.Input.{Input, IsEndOf, same_parts}
+use Rattle.streams.specs.Kind.{backtrack, cut, incomplete, memory}
+use Rattle.streams.specs.Reading.{Reading}
+use Rattle.stream_errors.specs.Form.{Answer, ErrorForm}
+use Rattle.winnow_core.specs.Decided.{AlikeAnswers, IsDecided, NotMemory}
+use Rattle.winnow_core.specs.Outcome.{Alike, outcome_of}
+use Rattle.winnow_core.specs.Runs.{LeaveEnds, Meaning}
+use Rattle.winnow_core.specs.Says.{Said, Says, setting_of}
+
+-- answers of outcomes that are alike, neither of which is out of memory
+answers : {T O : Type 0} {alike : O → O → Type 0} (a b : Answer O) (rest end : List T)
+    → NotMemory a → NotMemory b → Alike alike (outcome_of a rest) (outcome_of b end)
+    → AlikeAnswers alike a b × (rest ≡ end)
+answers (Ok o) (Ok p) rest end na nb is = is
+answers (Ok o) (Err backtrack) rest end na nb is = absurd is
+answers (Ok o) (Err cut) rest end na nb is = absurd is
+answers (Ok o) (Err (incomplete need)) rest end na nb is = absurd is
+answers a (Err memory) rest end na nb is = absurd (nb refl)
+answers (Err memory) b rest end na nb is = absurd (na refl)
+answers (Err backtrack) (Ok p) rest end na nb is = absurd is
+answers (Err backtrack) (Err backtrack) rest end na nb is = (refl, is)
+answers (Err backtrack) (Err cut) rest end na nb is = absurd is
+answers (Err backtrack) (Err (incomplete need)) rest end na nb is = absurd is
+answers (Err cut) (Ok p) rest end na nb is = absurd is
+answers (Err cut) (Err backtrack) rest end na nb is = absurd is
+answers (Err cut) (Err cut) rest end na nb is = (refl, is)
+answers (Err cut) (Err (incomplete need)) rest end na nb is = absurd is
+answers (Err (incomplete need)) (Ok p) rest end na nb is = absurd is
+answers (Err (incomplete need)) (Err backtrack) rest end na nb is = absurd is
+answers (Err (incomplete need)) (Err cut) rest end na nb is = absurd is
+answers (Err (incomplete need)) (Err (incomplete other)) rest end na nb is =
+    (ap (λ n. incomplete n) is.0, is.1)
+
+-- ends of one input with the same tokens and status are the same
+pub same_end : {T L : Type 0} (reading : Reading T L) (i j k : Input T) → IsEndOf reading j i
+    → IsEndOf reading k i → j.left.tokens ≡ k.left.tokens → j.status ≡ k.status → j ≡ k
+same_end reading i j k e f tokens status =
+    let dropped = append_cancel_right e.ends.dropped f.ends.dropped k.left.tokens
+    (ap (λ t. e.ends.dropped ++ t) (sym tokens) ∙ sym e.ends.tokens ∙ f.ends.tokens) in
+    same_parts j k tokens
+    (e.ends.place ∙ ap (λ d. reading.advance i.left.place (reading.units d)) dropped
+    ∙ sym f.ends.place) (e.ends.possible ∙ sym f.ends.possible) status
+
+pub decided_of : {S T L O : Type 0} {says : Says T O} {s : S} {meaning : Meaning S T O}
+    (reading : Reading T L) → ((form : ErrorForm) → LeaveEnds reading (meaning form))
+    → Said says s meaning → (form : ErrorForm) → says.premise
+    → IsDecided s (meaning form) says.alike
+decided_of {says = says} {s} reading ends said form is =
+    let each = said.runs is in record {
+      kept = λ i answer t j free ran.
+          let did = each.did (setting_of form i) i answer t j
+          (record { more = refl; possible = refl }) ran in (did.kept, did.status);
+      decided = λ i a b t u j k na nb ran also.
+          let at = setting_of form i in
+          let here = record { more = refl; possible = refl } in
+          let one = each.did at i a t j here ran in
+          let two = each.did at i b u k here also in
+          let both = answers a b j.left.tokens k.left.tokens na nb
+          ((said.law is).one at i.left.tokens _ _ one.done two.done) in (
+            both.0,
+            same_end reading i j k (ends form s i a t j ran) (ends form s i b u k also) both.1
+                (one.status ∙ sym two.status),
+          );
+    }
