@@ -7,6 +7,7 @@ use Rattle.winnow_core.specs.Outcome.{Outcome, asks, Setting, on_cut, grown, Doe
 use Rattle.winnow_core.specs.Outcome.{longer, Alike}
 use Rattle.winnow_core.specs.Runs.{Meaning}
 pub mod Decided
+pub mod Leaf
 
 -- What is said of runs from a state.
 pub record Says (T O : Type 0) : Type 1 where
@@ -81,6 +82,9 @@ nothing_done = record { runs = λ never. absurd never; law = λ never. absurd ne
 abbrev pub setting_of : {T : Type 0} → ErrorForm → Input T → Setting
 setting_of form i = record { form = form; more = i.status.cut; possible = i.left.possible }
 
+pub here : {T : Type 0} (form : ErrorForm) (i : Input T) → IsAt (setting_of form i) i
+here form i = record { more = refl; possible = refl }
+
 -- What one call tells: its outcome is said, and no other is; and on a cut input a final one is that
 -- of every longer input.
 pub record Tells {T O : Type 0} (says : Says T O) (form : ErrorForm) (i : Input T)
@@ -97,8 +101,7 @@ pub kept_by : {S T O : Type 0} {says : Says T O} {s : S} {meaning : Meaning S T 
     → Said says s meaning → says.premise → (form : ErrorForm) (i : Input T) (answer : Answer O)
     (t : S) (j : Input T) → meaning form s i answer t j → t ≡ s
 kept_by said is form i answer t j ran =
-    ((said.runs is).did (setting_of form i) i answer t j
-    (record { more = refl; possible = refl }) ran).kept
+    ((said.runs is).did (setting_of form i) i answer t j (here form i) ran).kept
 
 pub told : {S T O : Type 0} {says : Says T O} {s : S} {meaning : Meaning S T O}
     → Said says s meaning → says.premise → (form : ErrorForm) (i : Input T) (answer : Answer O)
@@ -106,7 +109,7 @@ pub told : {S T O : Type 0} {says : Says T O} {s : S} {meaning : Meaning S T O}
     → Tells says form i (outcome_of answer j.left.tokens)
 told {says = says} said is form i answer t j ran =
     let at = setting_of form i in
-    let did = (said.runs is).did at i answer t j (record { more = refl; possible = refl }) ran in
+    let did = (said.runs is).did at i answer t j (here form i) ran in
     let law = said.law is in
     let x = outcome_of answer j.left.tokens in
     let P : ErrorForm → Bool → Bool → Type 0 =

@@ -9,30 +9,30 @@ use Rattle.stream_errors.specs.Form.{Answer, ErrorForm}
 use Rattle.winnow_core.specs.Decided.{AlikeAnswers, IsDecided, NotMemory}
 use Rattle.winnow_core.specs.Outcome.{Alike, outcome_of}
 use Rattle.winnow_core.specs.Runs.{LeaveEnds, Meaning}
-use Rattle.winnow_core.specs.Says.{Said, Says, setting_of}
+use Rattle.winnow_core.specs.Says.{Said, Says, here, setting_of}
 
 -- answers of outcomes that are alike, neither of which is out of memory
-answers : {T O : Type 0} {alike : O → O → Type 0} (a b : Answer O) (rest end : List T)
+answers : {T O : Type 0} (alike : O → O → Type 0) (a b : Answer O) (rest end : List T)
     → NotMemory a → NotMemory b → Alike alike (outcome_of a rest) (outcome_of b end)
     → AlikeAnswers alike a b × (rest ≡ end)
-answers (Ok o) (Ok p) rest end na nb is = is
-answers (Ok o) (Err backtrack) rest end na nb is = absurd is
-answers (Ok o) (Err cut) rest end na nb is = absurd is
-answers (Ok o) (Err (incomplete need)) rest end na nb is = absurd is
-answers a (Err memory) rest end na nb is = absurd (nb refl)
-answers (Err memory) b rest end na nb is = absurd (na refl)
-answers (Err backtrack) (Ok p) rest end na nb is = absurd is
-answers (Err backtrack) (Err backtrack) rest end na nb is = (refl, is)
-answers (Err backtrack) (Err cut) rest end na nb is = absurd is
-answers (Err backtrack) (Err (incomplete need)) rest end na nb is = absurd is
-answers (Err cut) (Ok p) rest end na nb is = absurd is
-answers (Err cut) (Err backtrack) rest end na nb is = absurd is
-answers (Err cut) (Err cut) rest end na nb is = (refl, is)
-answers (Err cut) (Err (incomplete need)) rest end na nb is = absurd is
-answers (Err (incomplete need)) (Ok p) rest end na nb is = absurd is
-answers (Err (incomplete need)) (Err backtrack) rest end na nb is = absurd is
-answers (Err (incomplete need)) (Err cut) rest end na nb is = absurd is
-answers (Err (incomplete need)) (Err (incomplete other)) rest end na nb is =
+answers alike (Ok o) (Ok p) rest end na nb is = is
+answers alike (Ok o) (Err backtrack) rest end na nb is = absurd is
+answers alike (Ok o) (Err cut) rest end na nb is = absurd is
+answers alike (Ok o) (Err (incomplete need)) rest end na nb is = absurd is
+answers alike a (Err memory) rest end na nb is = absurd (nb refl)
+answers alike (Err memory) b rest end na nb is = absurd (na refl)
+answers alike (Err backtrack) (Ok p) rest end na nb is = absurd is
+answers alike (Err backtrack) (Err backtrack) rest end na nb is = (refl, is)
+answers alike (Err backtrack) (Err cut) rest end na nb is = absurd is
+answers alike (Err backtrack) (Err (incomplete need)) rest end na nb is = absurd is
+answers alike (Err cut) (Ok p) rest end na nb is = absurd is
+answers alike (Err cut) (Err backtrack) rest end na nb is = absurd is
+answers alike (Err cut) (Err cut) rest end na nb is = (refl, is)
+answers alike (Err cut) (Err (incomplete need)) rest end na nb is = absurd is
+answers alike (Err (incomplete need)) (Ok p) rest end na nb is = absurd is
+answers alike (Err (incomplete need)) (Err backtrack) rest end na nb is = absurd is
+answers alike (Err (incomplete need)) (Err cut) rest end na nb is = absurd is
+answers alike (Err (incomplete need)) (Err (incomplete other)) rest end na nb is =
     (ap (λ n. incomplete n) is.0, is.1)
 
 -- ends of one input with the same tokens and status are the same
@@ -53,13 +53,12 @@ decided_of {says = says} {s} reading ends said form is =
     let each = said.runs is in record {
       kept = λ i answer t j free ran.
           let did = each.did (setting_of form i) i answer t j
-          (record { more = refl; possible = refl }) ran in (did.kept, did.status);
+          (here form i) ran in (did.kept, did.status);
       decided = λ i a b t u j k na nb ran also.
           let at = setting_of form i in
-          let here = record { more = refl; possible = refl } in
-          let one = each.did at i a t j here ran in
-          let two = each.did at i b u k here also in
-          let both = answers a b j.left.tokens k.left.tokens na nb
+          let one = each.did at i a t j (here form i) ran in
+          let two = each.did at i b u k (here form i) also in
+          let both = answers says.alike a b j.left.tokens k.left.tokens na nb
           ((said.law is).one at i.left.tokens _ _ one.done two.done) in (
             both.0,
             same_end reading i j k (ends form s i a t j ran) (ends form s i b u k also) both.1
