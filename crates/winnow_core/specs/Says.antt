@@ -8,6 +8,7 @@ use Rattle.winnow_core.specs.Outcome.{longer, Alike}
 use Rattle.winnow_core.specs.Runs.{Meaning}
 pub mod Decided
 pub mod Leaf
+pub mod Longer
 
 -- What is said of runs from a state.
 pub record Says (T O : Type 0) : Type 1 where

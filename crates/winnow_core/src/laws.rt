@@ -5,6 +5,7 @@ ghost use Rattle.stream_errors.specs.Form.{modal};
 ghost use Rattle.winnow_core.specs.Laws.{AnswersAlike, GoesBackOnFailure, ShowsOne};
 ghost use Rattle.winnow_core.specs.Laws.{TakesFromTheFront};
 ghost use Rattle.winnow_core.specs.Runs.{LeaveEnds};
+ghost use Rattle.winnow_core.specs.Says.Longer.{EachLongerGets};
 ghost use Rattle.winnow_core.specs.Stable.{EachSettlesOnCut, IsStable};
 
 use crate::agrees_with::AgreesWith;
@@ -16,6 +17,19 @@ use stream_errors::parser_error::ParserError;
 use stream_sets::parse_slice::ParseSlice;
 use streams::stream::{Stream, StreamIsPartial};
 use streams::token_slice::TokenSlice as Tokens;
+
+/// Each longer input gets the answer of a cut one, from a parser that says what it does and is
+/// stable: the same kind of error or an output alike, the same state, and the rest with what was
+/// added. The longer input may be cut still, or complete. Want of memory is no such answer.
+pub fn a_longer_input_gets_the_answer_of_a_cut_one<
+    P: Parser<I, O, E>,
+    I: Stream,
+    O,
+    E: ParserError<I>,
+>()
+    ensures { (s : P.State) → (P.says s).premise → (P.says s).stable
+        → EachLongerGets s P.meaning (P.says s).alike }
+{}
 
 /// After `parse_next` the input is an end of the input before, whatever it answers.
 pub fn leaves_an_end<P: Parser<I, O, E>, I: Stream, O, E: ParserError<I>>()

@@ -12,7 +12,7 @@ use Rattle.winnow_core.specs.Runs.{LeaveEnds, Meaning}
 use Rattle.winnow_core.specs.Says.{Said, Says, here, setting_of}
 
 -- answers of outcomes that are alike, neither of which is out of memory
-answers : {T O : Type 0} (alike : O → O → Type 0) (a b : Answer O) (rest end : List T)
+pub answers : {T O : Type 0} (alike : O → O → Type 0) (a b : Answer O) (rest end : List T)
     → NotMemory a → NotMemory b → Alike alike (outcome_of a rest) (outcome_of b end)
     → AlikeAnswers alike a b × (rest ≡ end)
 answers alike (Ok o) (Ok p) rest end na nb is = is
