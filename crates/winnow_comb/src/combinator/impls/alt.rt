@@ -6,7 +6,6 @@ ghost use Rattle.winnow_comb.specs.Attempt.{AttemptRuns};
 ghost use Rattle.winnow_core.specs.Claim.{Claim, Claimed};
 ghost use Rattle.winnow_core.specs.Runs.{LeaveEnds, Meaning};
 
-mod agreeing;
 mod slices;
 mod tuples;
 
