@@ -11,7 +11,6 @@ branches in the crate `winnow_comb`, with their laws, the parsers of classes of 
 crate `winnow_ascii`, and those of integers in the crates `winnow_integers` and `winnow_binary`;
 what all of these claim, and that they are stable. It prints the crates whose files it writes.
 """
-from family.agreements import write_agreements
 from family.choices import write_choices
 from family.chosen import write_chosen
 from family.claims import write_claims
@@ -28,7 +27,6 @@ from family.stable import write_stable
 if __name__ == "__main__":
     write_sets()
     write_sequences()
-    write_agreements()
     write_known()
     write_reads()
     write_choices()

@@ -1,5 +1,5 @@
 """Choices among the members of a tuple, with their laws, in the crate `winnow_comb`."""
-from family.common import AGREE, LIKE, MOST, NUMBER, block, conjunction, rust_tuple, upto, write
+from family.common import MOST, NUMBER, conjunction, rust_tuple, upto, write
 from family.stable import choice_block
 
 
@@ -85,25 +85,6 @@ def choice_impl(n):
     return "\n".join(lines)
 
 
-def choice_agrees(n):
-    """That choices among n branches agree, where these do."""
-    parameters = ["I: Stream", LIKE, "O", "E: ParserError<I>", "F: ParserError<J>"]
-    for k in upto(n):
-        parameters += ["P%d: AgreesWith<I, O, E, Q%d, J, F>" % (k, k), "Q%d: Parser<J, O, F>" % k]
-    law = "P%d.agrees" % n
-    part = "(λ p. p.alternatives.%d) (λ q. q.alternatives.%d)" % (n - 1, n - 1)
-    for k in range(n - 1, 0, -1):
-        law = "(or_else_agrees (λ p. p.alternatives.%d) (λ q. q.alternatives.%d) %s P%d.agrees %s)" % (k - 1, k - 1, part, k, law)
-        part = "(λ p. p) (λ q. q)"
-    if n == 1:
-        law = "(agrees1 (λ p. p.alternatives.0) (λ q. q.alternatives.0) (λ X m. m) P1.agrees)"
-    like = nested(lambda k: "P%d.like p.alternatives.%d q.alternatives.%d" % (k, k - 1, k - 1), n, product)
-    members = "    ghost like = { λ p q. %s };\n\n    ghost agrees = { %s };\n%s" % (like, law[1:-1], AGREE)
-    tuples = [rust_tuple(["%s%d" % (x, k) for k in upto(n)]) for x in "PQ"]
-    trait = "AgreesWith<I, O, E, AltParser<%s, J, O, F>, J, F>" % tuples[1]
-    return block(parameters, trait, "AltParser<%s, I, O, E>" % tuples[0], "", members)
-
-
 CHOICE_IMPLS = """//! Tuples as branches.
 //!
 //! {head}
@@ -121,22 +102,6 @@ use winnow_core::stable::Stable;
 
 {family}
 """
-
-CHOICES_AGREE = """//! Choices among the members of tuples agree where these do.
-//!
-//! {head}
-ghost use Rattle.winnow_comb.specs.Alt.Laws.{{or_else_agrees}};
-ghost use Rattle.winnow_core.specs.Agrees.{{agrees1}};
-
-use crate::combinator::impls::alt::AltParser;
-use stream_errors::parser_error::ParserError;
-use streams::stream::Stream;
-use winnow_core::agrees_with::AgreesWith;
-use winnow_core::parser::Parser;
-
-{family}
-"""
-
 
 def law_run(n, k):
     """The run of the branch k of n, between the states that the nested pairs have for it."""
@@ -278,7 +243,6 @@ def write_choices():
     impls = comb + "src/combinator/impls/alt/"
     family = "\n\n".join("%s\n\n%s" % (choice_impl(n), choice_block(n)) for n in upto(MOST))
     write(impls + "tuples.rt", CHOICE_IMPLS, family=family)
-    write(impls + "agreeing.rt", CHOICES_AGREE, family="\n\n".join(choice_agrees(n) for n in upto(MOST)))
     # what the prover does not find: choices behind three branches that backtracked
     for n in range(4, MOST + 1):
         answers = "\n\n".join(choice_answer(n, k) for k in range(4, n + 1))

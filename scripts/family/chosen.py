@@ -1,7 +1,7 @@
 """The parsers of integers whose bytes stand in an order that is chosen, in `winnow_binary`."""
 from family.common import camel, documented, write
 from family.integer_claims import chosen_claims
-from family.integers import ALIKE, IMPORTS, WIDTHS, Integer
+from family.integers import IMPORTS, WIDTHS, Integer
 from family.stable import integer_block
 
 CHOSEN = "crates/winnow_binary/"
@@ -67,11 +67,10 @@ ghost use Rattle.std.specs.Prelude.{{◌≡◌, ⊤}};
 ghost use Rattle.winnow_binary.specs.Chosen.{{ChosenRuns}};
 ghost use Rattle.winnow_integers.specs.Integer.{{{value}}};
 ghost use Rattle.winnow_integers.specs.Integer.Grammar.{{Integer, integer_takes}};
-ghost use Rattle.winnow_integers.specs.Integer.Laws.{{integer_alike, integer_ends, integer_exact}};
+ghost use Rattle.winnow_integers.specs.Integer.Laws.{{integer_ends, integer_exact}};
 ghost use Rattle.winnow_integers.specs.Integer.Laws.{{integer_decided, integer_fails, integer_stays}};
 ghost use Rattle.winnow_integers.specs.Integer.Laws.{{some_bytes}};
 ghost use Rattle.winnow_integers.specs.declared.binary.endianness.Endianness.{{Endianness}};
-ghost use Rattle.winnow_core.specs.Agrees.{{agrees_by}};
 ghost use Rattle.winnow_core.specs.Exact.Allowed.{{backs}};
 ghost use Rattle.winnow_core.specs.Stable.Grows.{{leaf_stays}};
 
@@ -117,9 +116,7 @@ impl<I: StreamIsPartial + ByteStream, E: ParserError<I>> Parser<I, {type}, E> fo
 }}
 
 {stable}
-
 """
-    + ALIKE
 )
 
 CHOSEN_SPECS = """-- Integers whose bytes stand in an order that is chosen.
@@ -156,9 +153,7 @@ def write_chosen():
         row, number = one.sample()
         kind = camel(name)
         text = "%s of %s, which stand in an order that is chosen." % (one.kind(), one.bytes())
-        agrees = "agrees_by (λ p. p.endian) (λ q. q.endian) (integer_alike %d %s I.same_reading)" % (one.width, one.value)
         stable = integer_block(one, kind + "<I, E>", "x", "(%s x)" % one.value)
-        parts = {"kind": kind, "own": kind + "<I, E>", "other": kind + "<J, F>"}
-        parts |= {"like": "p.endian ≡ q.endian", "agrees": agrees, "stable": stable}
+        parts = {"kind": kind, "own": kind + "<I, E>", "stable": stable}
         parts |= chosen_claims(one) | vars(one)
         write(CHOSEN + "src/binary/impls/%s.rt" % name, CHOSEN_STRUCT, about=text, name=name, row=row, number=number, **parts)

@@ -114,7 +114,6 @@ ghost use Rattle.grammars.specs.Grammar.{{Class}};
 ghost use Rattle.winnow_ascii.specs.Class.{{ClassRuns}};
 ghost use Rattle.winnow_ascii.specs.Class.Laws.{{SeenOnce, class_decided, class_exact, class_fails}};
 ghost use Rattle.winnow_ascii.specs.Class.Laws.{{{laws}}};
-ghost use Rattle.winnow_core.specs.Agrees.{{agrees_plain}};
 ghost use Rattle.winnow_core.specs.Exact.Allowed.{{backs}};
 ghost use Rattle.winnow_core.specs.Literal.Laws.{{ShowSame}};
 ghost use Rattle.winnow_core.specs.Runs.{{Keeps}};
@@ -124,9 +123,7 @@ ghost use Rattle.winnow_token.specs.TakeWhile.Laws.{{take_while_stays}};
 use crate::ascii::{call};
 use stream_errors::parser_error::ParserError;
 use stream_sets::as_char::AsChar;
-use streams::reads_like::ReadsLike;
-use streams::stream::{{Stream, StreamIsPartial}};
-use winnow_core::agrees_with::AgreesWith;
+use streams::stream::StreamIsPartial;
 use winnow_core::parser::Parser;
 use winnow_core::stable::Stable;
 
@@ -161,17 +158,6 @@ where
 }}
 
 {stable}
-
-impl<I: StreamIsPartial + ReadsLike<J>, J: StreamIsPartial + Stream<Token = I::Token, Seen = I::Seen, Slice = I::Slice>, E: ParserError<I>, F: ParserError<J>> AgreesWith<I, I::Slice, E, {kind}, J, F> for {kind}
-where
-    I::Token: AsChar,
-{{
-    ghost like = {{ λ p q. ⊤ }};
-
-    ghost agrees = {{ agrees_plain (class_alike {member} {least} I.Token.code I.same_reading I.same_tokens) }};
-
-    fn agree() {{}}
-}}
 """
 
 def write_classes():
@@ -188,7 +174,7 @@ def write_classes():
         about = "The longest beginning of %s, %s." % (members, "at least one" if least else "none too")
         blocks = {
             "stable": class_block(camel(call), least),
-            "laws": ("class_takes, one_is_some, " if least else "") + "class_alike, class_ends",
+            "laws": ("class_takes, one_is_some, " if least else "") + "class_ends",
             **class_claims(is_member, least),
         }
         write(ascii_crate + "src/ascii/impls/%s.rt" % call, CLASS_STRUCT, about=about, **blocks, call=call, kind=camel(call), member=is_member, least=least, front=front, rest=rest)

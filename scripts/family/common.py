@@ -14,9 +14,6 @@ BETWEEN = "abcde"
 UNDECIDED = {"decides": "⊥", "alike": "λ o p. o ≡ p"}
 NOT_DECIDED = {"decided": "λ form never. absurd never"}
 NEVER_TAKES = "λ is never. absurd never"
-# What stands behind `agrees` in a block: with it the block is proved much sooner.
-AGREE = "\n    fn agree() {}"
-LIKE = "J: Stream<Token = I::Token, Seen = I::Seen, Slice = I::Slice>"
 
 
 def upto(n):

@@ -127,25 +127,9 @@ RULES = {"u": "rules, ◌∙◌", "i": "rules"}
 
 IMPORTS = """use stream_errors::parser_error::ParserError;
 use streams::byte_stream::ByteStream;
-use streams::reads_like::ReadsLike;
-use streams::stream::{{Stream, StreamIsPartial}};
-use winnow_core::agrees_with::AgreesWith;
+use streams::stream::StreamIsPartial;
 use winnow_core::parser::Parser;
 use winnow_core::stable::Stable;
-"""
-
-ALIKE = """impl<
-    I: StreamIsPartial + ByteStream + ReadsLike<J>,
-    J: StreamIsPartial + ByteStream + Stream<Token = u8, Seen = u8, Slice = I::Slice>,
-    E: ParserError<I>,
-    F: ParserError<J>,
-> AgreesWith<I, {type}, E, {other}, J, F> for {own} {{
-    ghost like = {{ λ p q. {like} }};
-
-    ghost agrees = {{ {agrees} }};
-
-    fn agree() {{}}
-}}
 """
 
 STRUCT = (
@@ -155,11 +139,10 @@ STRUCT = (
 ghost use Rattle.std.specs.Prelude.{{◌≡◌, ⊤}};
 ghost use Rattle.winnow_integers.specs.Integer.{{IntegerRuns, {value}}};
 ghost use Rattle.winnow_integers.specs.Integer.Grammar.{{Integer, integer_takes}};
-ghost use Rattle.winnow_integers.specs.Integer.Laws.{{integer_alike, integer_ends, integer_exact}};
+ghost use Rattle.winnow_integers.specs.Integer.Laws.{{integer_ends, integer_exact}};
 ghost use Rattle.winnow_integers.specs.Integer.Laws.{{integer_decided, integer_fails, integer_stays}};
 ghost use Rattle.winnow_integers.specs.Integer.Laws.{{some_bytes}};
 ghost use Rattle.winnow_integers.specs.declared.binary.endianness.Endianness.TheVariants.{{{constructor}}};
-ghost use Rattle.winnow_core.specs.Agrees.{{agrees_plain}};
 ghost use Rattle.winnow_core.specs.Exact.Allowed.{{backs}};
 ghost use Rattle.winnow_core.specs.Runs.{{Keeps}};
 ghost use Rattle.winnow_core.specs.Stable.Grows.{{leaf_stays}};
@@ -197,9 +180,7 @@ impl<I: StreamIsPartial + ByteStream, E: ParserError<I>> Parser<I, {type}, E> fo
 }}
 
 {stable}
-
 """
-    + ALIKE
 )
 
 
@@ -285,9 +266,8 @@ def write_fixed():
     for name, one in rows.items():
         row, number = one.sample()
         own = camel(name)
-        agrees = "agrees_plain (integer_alike %d (λ _. %s %s) I.same_reading)" % (one.width, one.value, one.constructor)
         stable = integer_block(one, own, "_", "(%s %s)" % (one.value, one.constructor))
-        parts = {"own": own, "other": own, "like": "⊤", "agrees": agrees, "stable": stable}
+        parts = {"own": own, "stable": stable}
         parts |= fixed_claims(one) | vars(one)
         write(FIXED + "src/binary/impls/%s.rt" % name, STRUCT, about=about(one), name=name, row=row, number=number, **parts)
         path = struct_path(name, one)

@@ -1,12 +1,9 @@
 """Sequences: tuples of one to six parsers, in the crate `winnow_core`."""
 from family.common import (
-    AGREE,
     BETWEEN,
-    LIKE,
     MOST,
     NUMBER,
     ORDINAL,
-    block,
     conjunction,
     disjunction,
     rust_tuple,
@@ -171,50 +168,23 @@ def sequence_impl(n):
     return "\n".join(lines)
 
 
-def sequence_agrees(n):
-    """That tuples of n parsers agree, where their members do."""
-    tuples = {x: rust_tuple(["%s%d" % (x, k) for k in upto(n)]) for x in "OPQ"}
-    parameters = ["I: Stream", LIKE] + ["O%d: Drop" % k if k < n else "O%d" % k for k in upto(n)]
-    parameters += ["E: ParserError<I>", "F: ParserError<J>"]
-    for k in upto(n):
-        parameters += ["P%d: AgreesWith<I, O%d, E, Q%d, J, F>" % (k, k, k), "Q%d: Parser<J, O%d, F>" % (k, k)]
-    names = upto(n) if n > 1 else [""]
-    states = " ".join("X%s" % k for k in names)
-    children = " ".join("m%s" % k for k in names)
-    made = "λ %s %s form. SequenceRuns%d %s" % (states, children, n, " ".join("(m%s form)" % k for k in names))
-    parts = " ".join("(λ p. p.%d) (λ q. q.%d)" % (k - 1, k - 1) for k in upto(n))
-    law = "agrees_one" if n == 1 else "agrees%d" % n
-    members = [
-        "    ghost like = { λ p q. %s };" % conjunction(["P%d.like p.%d q.%d" % (k, k - 1, k - 1) for k in upto(n)]),
-        "",
-        "    ghost agrees = { %s %s (%s) %s };" % (law, parts, made, " ".join("P%d.agrees" % k for k in upto(n))),
-        AGREE,
-    ]
-    trait = "AgreesWith<I, %s, E, %s, J, F>" % (tuples["O"], tuples["Q"])
-    return block(parameters, trait, tuples["P"], "", "\n".join(members))
-
-
 SEQUENCE_IMPLS = """//! Tuples: their members run in order, and the first failure is handed on.
 //!
 //! {head}
 ghost use Rattle.std.specs.Prelude.{{◌≡◌, ⊤}};
 ghost use Rattle.grammars.specs.Grammar.{{Made, Nothing}};
 ghost use Rattle.grammars.specs.Grammar.Unique.{{made_of_takes}};
-ghost use Rattle.winnow_core.specs.Agrees.{{agrees_plain}};
-ghost use Rattle.winnow_core.specs.Agrees.Sizes.{{{agreements}}};
 ghost use Rattle.winnow_core.specs.Ends.{{same_ends}};
 ghost use Rattle.winnow_core.specs.Exact.Allowed.{{backs}};
 ghost use Rattle.winnow_core.specs.Exact.Nothing.{{unit_decided, unit_exact, unit_fails}};
 ghost use Rattle.winnow_core.specs.InOrder.Decided.{{AlikeOne, tuple1_decided}};
 ghost use Rattle.winnow_core.specs.InOrder.Exact.{{OneTuple, tuple1_exact, tuple1_fails}};
-ghost use Rattle.winnow_core.specs.SameMeaning.{{same_refl}};
 ghost use Rattle.winnow_core.specs.Sequence.{{{names}}};
 {claims}
 ghost use Rattle.winnow_core.specs.Sequence.Laws.{{{laws}}};
 
 mod stable;
 
-use crate::agrees_with::AgreesWith;
 use crate::parser::Parser;
 use stream_errors::parser_error::ParserError;
 use streams::stream::Stream;
@@ -238,8 +208,6 @@ impl<I: Stream, E: ParserError<I>> Parser<I, (), E> for () {{
         Ok(())
     }}
 }}
-
-{nothing}
 
 {family}
 """
@@ -300,12 +268,6 @@ use Rattle.std.proofs.Common.{{rules, refl, inl, inr}}
 
 
 CLAIMS = "ghost use Rattle.winnow_core.specs.Sequence.Claim.{sequence%d_claim, sequence%d_claimed};"
-NOTHING = [
-    "    ghost like = { λ p q. ⊤ };",
-    "",
-    "    ghost agrees = { agrees_plain (same_refl (λ _. SequenceRuns0)) };",
-    AGREE,
-]
 
 
 def write_sequences():
@@ -315,18 +277,15 @@ def write_sequences():
     names = ", ".join("SequenceRuns%d" % n for n in range(MOST + 1))
     some = ", ".join("SequenceRuns%d" % n for n in every)
     write(core + "specs/Sequence/Laws.antt", SEQUENCE_ENDS, names=some, family="\n\n".join(sequence_ends_law(n) for n in every))
-    nothing = block(["I: Stream", LIKE, "E: ParserError<I>", "F: ParserError<J>"], "AgreesWith<I, (), E, (), J, F>", "()", "", "\n".join(NOTHING))
     write(
         core + "src/parser/tuples.rt",
         SEQUENCE_IMPLS,
         names=names,
         laws=", ".join("sequence%d_ends" % n for n in every),
-        agreements=", ".join(["agrees%d" % n for n in every if n > 1] + ["agrees_one"]),
         claims="\n".join(CLAIMS % (n, n) for n in every if n > 1),
-        nothing=nothing,
         nothing_claim=NOTHING_CLAIMS["claim"],
         nothing_claimed=NOTHING_CLAIMS["claimed"],
-        family="\n\n".join("%s\n\n%s" % (sequence_impl(n), sequence_agrees(n)) for n in every),
+        family="\n\n".join(sequence_impl(n) for n in every),
     )
     for n in every:
         chains = ", ".join(trans(k) for k in range(2, n + 1))

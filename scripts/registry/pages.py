@@ -7,7 +7,7 @@ ADAPTERS = """Parser::map Parser::value Parser::default_value Parser::void Parse
 Parser::parse_to Parser::take Parser::with_taken Parser::span Parser::with_span"""
 
 PAGES = [
-    ("parser", "Parsers, and how they are run", "", "Parser Func ModalParser AgreesWith *"),
+    ("parser", "Parsers, and how they are run", "", "Parser Func ModalParser *"),
     ("parser_outputs", "Calls of a parser: another output", "", ADAPTERS),
     (
         "parser_tests",
@@ -55,7 +55,7 @@ PAGES = [
         "combinator_folds",
         "Folds of operators",
         "combinator",
-        "FoldUnary FoldBinary NoFold FoldsUnaryLike FoldsBinaryLike",
+        "FoldUnary FoldBinary NoFold",
     ),
     (
         "binary",
@@ -77,7 +77,7 @@ PAGES = [
         "stream_types",
         "Types of streams",
         "stream",
-        "Partial LocatingSlice TokenSlice Recoverable Recover ByteStream ReadsLike",
+        "Partial LocatingSlice TokenSlice Recoverable Recover ByteStream",
     ),
     (
         "stream_positions",

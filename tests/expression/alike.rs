@@ -1,35 +1,14 @@
-//! Expressions over text, and the like ones over text that may be cut and is complete.
+//! Expressions over text, and the same ones over text that may be cut and is complete.
 use crate::grammar::{Writes, operand_of};
 use crate::shape::Shape;
 use stream_errors::parser_error::ParserError;
 use streams::partial::Partial;
-use streams::stream::Stream;
 use test_support::outcomes::Ending::{Fails, Takes};
 use test_support::outcomes::Kind::Backtrack;
 use test_support::rows::{Modal, like_ends};
 use winnow_core::parser::Parser;
-use winnow_expression::combinator::{
-    FoldsBinaryLike, FoldsUnaryLike, Infix, Postfix, Prefix, expression,
-};
+use winnow_expression::combinator::{Infix, Postfix, Prefix, expression};
 use winnow_token::token::impls::Any;
-
-impl<
-    I: Stream,
-    E: ParserError<I>,
-    J: Stream<Token = I::Token, Seen = I::Seen, Slice = I::Slice>,
-    D: ParserError<J>,
-> FoldsUnaryLike<I, Shape, E, J, D> for Writes {
-    ghost same_folds = { tt };
-}
-
-impl<
-    I: Stream,
-    E: ParserError<I>,
-    J: Stream<Token = I::Token, Seen = I::Seen, Slice = I::Slice>,
-    D: ParserError<J>,
-> FoldsBinaryLike<I, Shape, E, J, D> for Writes {
-    ghost same_folds = { tt };
-}
 
 #[test]
 fn expression_of_like_parts(rt: HostRuntime) {

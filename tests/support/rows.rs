@@ -8,7 +8,6 @@ use stream_errors::input_error::InputError;
 use stream_errors::mode::ErrMode;
 use stream_errors::parser_error::ParserError;
 use streams::stream::{Location, Stream};
-use winnow_core::agrees_with::AgreesWith;
 use winnow_core::parser::Parser;
 
 /// Errors with a mode.
@@ -246,8 +245,7 @@ where
     }
 }
 
-/// A parser ends so on a text, and so does the like one on the whole text at a stream that is read
-/// alike.
+/// A parser ends so on a text, and so does the same parser on the whole text at another stream.
 pub fn like_ends<I, J, O, E, P, Q>(
     rt: &impl Abort,
     name: &str,
@@ -260,7 +258,7 @@ where
     J: OfText + Stream<Token = I::Token, Seen = I::Seen, Slice = I::Slice>,
     O: Drop,
     E: ParserError<I> + ParserError<J>,
-    P: AgreesWith<I, O, E, Q, J, E> + Drop,
+    P: Parser<I, O, E> + Drop,
     Q: Parser<J, O, E> + Drop,
 {
     let (mut first, mut like) = parsers;

@@ -1,13 +1,12 @@
 -- How bits are counted, how they move the place, and which bits a slice shows.
 use Rattle.std.specs.Prelude.{◌≡◌, ◌<◌, ℕ, ◌+◌, ◌*◌, ◌-◌, ◌/◌, ◌%◌, Bool, true, false, min}
 use Rattle.std.specs.Prelude.{List, [], ◌++◌, ◌≤◌, length, take, drop, nat_lt}
-use Rattle.std.proofs.Common.{refl, sym, ap, subst, ◌∙◌, arith, length-append, length-drop}
+use Rattle.std.proofs.Common.{refl, sym, ap, ◌∙◌, arith, length-append, length-drop}
 use Rattle.std.proofs.lemmas.Bool.{ltb-true, lt-ltb}
 use Rattle.std.proofs.lemmas.List.{length-take}
 use Rattle.streams.specs.Counted.{length-positive}
 use Rattle.streams.specs.Place.{Place, further, no_place, same_place}
 use Rattle.streams.specs.Reading.{Reading}
-use Rattle.streams.specs.SameReading.{SameReading, reading_path, same_reading_refl}
 use Rattle.stream_bits.specs.BitList.{bits_of, length_bits, length_low, low_bits}
 
 -- how far one byte moves the place of the stream inside
@@ -122,10 +121,3 @@ bits_reading reading = record {
         length_shown reading slice ys q,
       );
 }
-
--- the bits of streams that are read alike are read alike
-pub bits_alike : {S : Type 0} {a b : Reading ℕ S} → SameReading a b
-    → SameReading (bits_reading a) (bits_reading b)
-bits_alike {a} {b} same =
-    let P : Reading _ _ → Type 0 = λ r. SameReading (bits_reading a) (bits_reading r) in
-    subst P (reading_path same) (same_reading_refl (bits_reading a))

@@ -2,11 +2,11 @@
 #![tactic(auto, using(streams::specs::Ends::ends_follow))]
 
 ghost use Rattle.std.specs.Prelude.{◌≡◌, ◌<◌, ◌≤◌, ◌+◌, ◌*◌, ◌/◌, ◌%◌, ◌^◌, ◌==◌, List, Bool, true};
-ghost use Rattle.std.specs.Prelude.{length, [], ℕ, MatchOption, refl};
+ghost use Rattle.std.specs.Prelude.{length, [], ℕ, MatchOption};
 ghost use Rattle.streams.specs.Input.{Input, IsEndOf, Remaining, Takes};
 ghost use Rattle.stream_bits.specs.BitInput.{bits_follow, bits_from, bits_input, bits_left};
 ghost use Rattle.stream_bits.specs.BitInput.{can_be_read};
-ghost use Rattle.stream_bits.specs.BitReading.{StandsBetween, bits_alike, bits_reading};
+ghost use Rattle.stream_bits.specs.BitReading.{StandsBetween, bits_reading};
 ghost use Rattle.stream_bits.specs.Offsets.{bits_to_come};
 ghost use Rattle.streams.specs.Stream.{Cuts, IsBoundary, with_offsets};
 ghost use Rattle.stream_bits.specs.Within.{ReadsNumber};
@@ -14,7 +14,6 @@ ghost use Rattle.stream_bits.specs.Within.{ReadsNumber};
 use crate::offsets::BitOffsets;
 use streams::byte_stream::ByteStream;
 use streams::needed::Needed;
-use streams::reads_like::ReadsLike;
 use streams::stream::{Location, Stream, StreamIsPartial};
 use streams::token_test::TokenTest;
 
@@ -269,15 +268,4 @@ impl<I: ByteStream + Location> Location for Bits<I> {
     fn previous_token_end(&self) -> usize {
         self.0.previous_token_end()
     }
-}
-
-impl<
-    I: ByteStream + ReadsLike<J>,
-    J: ByteStream + Stream<Token = u8, Seen = u8, Slice = I::Slice>,
-> ReadsLike<Bits<J>> for Bits<I> {
-    ghost same_reading = { bits_alike I.same_reading };
-
-    ghost same_tokens = { refl };
-
-    ghost same_missing = { refl };
 }

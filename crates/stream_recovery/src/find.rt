@@ -4,8 +4,6 @@ use std::alloc::Allocator;
 use std::ops;
 use stream_errors::has_kind::HasKind;
 use stream_searches::find::FindSlice;
-use stream_searches::find::like::FindsLike;
-use streams::stream::Stream;
 
 impl<T, I: FindSlice<T>, R: HasKind + Drop, A: Allocator> FindSlice<T> for Recoverable<I, R, A> {
     ghost sought = { I.sought };
@@ -16,16 +14,4 @@ impl<T, I: FindSlice<T>, R: HasKind + Drop, A: Allocator> FindSlice<T> for Recov
     }
 
     ghost stays_first = { I.stays_first };
-}
-
-impl<
-    T,
-    I: FindsLike<T, J>,
-    J: FindSlice<T> + Stream<Token = I::Token, Seen = I::Seen, Slice = I::Slice>,
-    R: HasKind + Drop,
-    S: HasKind + Drop,
-    A: Allocator,
-    B: Allocator,
-> FindsLike<T, Recoverable<J, S, B>> for Recoverable<I, R, A> {
-    ghost same_sought = { I.same_sought };
 }

@@ -6,7 +6,6 @@
 
 mod compare;
 mod find;
-mod like;
 mod recover;
 pub mod recoverable;
 mod slices;

@@ -7,7 +7,6 @@ ghost use Rattle.std.specs.Char.{encode_utf8};
 ghost use Rattle.stream_searches.specs.Compare.{ComparesAs, StandsFirst, IsShort, same-length};
 
 mod caseless;
-pub mod like;
 mod text;
 mod tokens;
 mod wrapped;

@@ -6,7 +6,6 @@ ghost use Rattle.stream_searches.specs.FindSlice.{FindsSlice};
 ghost use Rattle.stream_searches.specs.FirstMatch.{StaysFirst, literal_stays, two_stay, three_stay};
 
 mod characters;
-pub mod like;
 mod place;
 mod several;
 mod text;

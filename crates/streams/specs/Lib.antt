@@ -12,7 +12,6 @@ pub mod Needed
 pub mod Partial
 pub mod Place
 pub mod Reading
-pub mod SameReading
 pub mod Stream
 pub mod Text
 pub mod TokenSlice

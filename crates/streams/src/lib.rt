@@ -11,7 +11,6 @@ pub mod has_kind;
 pub mod locating;
 pub mod needed;
 pub mod partial;
-pub mod reads_like;
 pub mod stream;
 pub mod text;
 pub mod token_slice;

@@ -58,7 +58,6 @@ pub use Rattle.streams.specs.Needed
 pub use Rattle.streams.specs.Partial
 pub use Rattle.streams.specs.Place
 pub use Rattle.streams.specs.Reading
-pub use Rattle.streams.specs.SameReading
 pub use Rattle.streams.specs.Stream
 pub use Rattle.streams.specs.Text
 pub use Rattle.streams.specs.TokenSlice
@@ -109,7 +108,6 @@ pub use Rattle.stream_bits.specs.Within
 -- Streams that record the errors from which parsers recover.
 pub use Rattle.stream_recovery.specs.Recorded
 -- The core of the parsers: the trait `Parser` with its adapters, parsers by value, and sequences.
-pub use Rattle.winnow_core.specs.Agrees
 pub use Rattle.winnow_core.specs.AndThen
 pub use Rattle.winnow_core.specs.ByRef
 pub use Rattle.winnow_core.specs.Claim

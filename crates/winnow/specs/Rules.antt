@@ -1,4 +1,3 @@
 -- Lemmas and rulesets that callers name in `using(..)`.
 pub use Rattle.streams.specs.Ends.{ends_follow}
 pub use Rattle.stream_errors.specs.Given.{contexts_kept}
-pub use Rattle.winnow_core.specs.Laws.{run_of_like}

@@ -26,7 +26,6 @@ pub mod prelude;
 pub mod stable;
 pub mod stream;
 
-pub use winnow_core::agrees_with::AgreesWith;
 pub use winnow_core::parser::{Func, ModalParser, Parser};
 pub use winnow_recovery::{RecoverableParser, RecoveringParser};
 pub use winnow_token::token;

@@ -2,10 +2,8 @@
 pub use byte_sets::byte_set::ByteSet;
 pub use stream_errors::recover::Recover;
 pub use stream_recovery::recoverable::Recoverable;
-pub use stream_searches::compare::like::ComparesLike;
 pub use stream_searches::compare::{Compare, CompareResult};
 pub use stream_searches::find::FindSlice;
-pub use stream_searches::find::like::FindsLike;
 pub use stream_searches::slice_len::{SliceLen, SlicesWithLength};
 pub use stream_sets::accumulate::Accumulate;
 pub use stream_sets::as_bstr::{AsBStr, SlicesAsBytes};
@@ -17,7 +15,6 @@ pub use stream_sets::sets::{ContainsToken, Pred};
 pub use streams::byte_stream::ByteStream;
 pub use streams::locating::LocatingSlice;
 pub use streams::partial::Partial;
-pub use streams::reads_like::ReadsLike;
 pub use streams::stream::{Location, Stream, StreamIsPartial, UpdateSlice};
 pub use streams::token_slice::TokenSlice;
 pub use text_positions::excerpt::{Excerpt, position_in};

@@ -1,5 +1,4 @@
 -- Written by scripts/registries.py: do not edit.
-pub mod BitAgree
 pub mod BitBool
 pub mod BitLaws
 pub mod BitPattern

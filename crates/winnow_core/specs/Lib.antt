@@ -1,5 +1,4 @@
 -- Written by scripts/registries.py: do not edit.
-pub mod Agrees
 pub mod AndThen
 pub mod ByRef
 pub mod Chain

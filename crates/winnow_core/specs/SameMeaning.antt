@@ -45,13 +45,6 @@ same_trans {f = f} {g = g} one two = record {
       };
 }
 
--- what is made of equal things is one
-pub same_by {ℓ} : {X : Type ℓ} {S T O : Type 0} (make : X → Meaning S T O) {x y : X} → x ≡ y
-    → SameMeaning (λ s. s) (make x) (make y)
-same_by make {x} {y} e =
-    let P : _ → Type 0 = λ z. SameMeaning (λ s. s) (make x) (make z)
-    in subst P e (same_refl (make x))
-
 -- runs that are equivalent along an equivalence of states
 abbrev Equivalent : {S U T O : Type 0} → S ≃ U → Meaning S T O → Meaning U T O → Type 0
 Equivalent {S} {U} {T} {O} e m n =

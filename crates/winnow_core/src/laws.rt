@@ -2,13 +2,12 @@
 ghost use Rattle.std.specs.Prelude.{◌≡◌, List, [], ◌∷◌};
 ghost use Rattle.std.specs.Str.{chars};
 ghost use Rattle.stream_errors.specs.Form.{modal};
-ghost use Rattle.winnow_core.specs.Laws.{AnswersAlike, GoesBackOnFailure, ShowsOne};
+ghost use Rattle.winnow_core.specs.Laws.{GoesBackOnFailure, ShowsOne};
 ghost use Rattle.winnow_core.specs.Laws.{TakesFromTheFront};
 ghost use Rattle.winnow_core.specs.Runs.{LeaveEnds};
 ghost use Rattle.winnow_core.specs.Says.Longer.{EachLongerGets};
 ghost use Rattle.winnow_core.specs.Stable.{EachSettlesOnCut, IsStable};
 
-use crate::agrees_with::AgreesWith;
 use crate::combinator::impls::{AndThen, Eof, ParseTo, Take, TryMap, Verify, VerifyMap, WithTaken};
 use crate::parser::Parser;
 use crate::stable::Stable;
@@ -103,22 +102,6 @@ pub fn and_then_goes_back<
 >()
     ensures { GoesBackOnFailure (λ s. s.0) (P.meaning E.form)
         (⟦<AndThen<P, G, I, O, O2, E> as Parser<I, O2, E>>⟧.meaning E.form) }
-{}
-
-/// A parser over a stream has, on each input, the runs of the like parser over a stream that is
-/// read like it; so what a partial stream that is marked complete is answered, the plain stream is
-/// answered.
-pub fn a_complete_stream_is_answered_as_the_plain_one<
-    P: AgreesWith<I, O, E, Q, J, F>,
-    Q: Parser<J, O, F>,
-    I: Stream,
-    J: Stream<Token = I::Token, Seen = I::Seen, Slice = I::Slice>,
-    O,
-    E: ParserError<I>,
-    F: ParserError<J>,
->()
-    ensures { E.form ≡ F.form
-        → AnswersAlike P.state Q.state P.like (P.meaning E.form) (Q.meaning F.form) }
 {}
 
 /// Over bytes, the slice that [`take`](crate::parser::Parser::take) answers and then the rest are

@@ -5,7 +5,6 @@
 //! definition of `specs/` with the parser's name, over the meanings of its children.
 #![tactic(auto)]
 
-pub mod agrees_with;
 pub mod combinator;
 pub mod laws;
 pub mod literal;

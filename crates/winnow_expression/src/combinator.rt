@@ -9,8 +9,6 @@ pub mod operators;
 pub mod places;
 pub mod precedence;
 
-pub use crate::combinator::folds::{
-    FoldBinary, FoldUnary, FoldsBinaryLike, FoldsUnaryLike, NoFold,
-};
+pub use crate::combinator::folds::{FoldBinary, FoldUnary, NoFold};
 pub use crate::combinator::operators::{Infix, Postfix, Prefix};
 pub use crate::combinator::precedence::expression;

@@ -4,12 +4,10 @@ use Rattle.std.specs.Borrow.{Bor}
 use Rattle.std.proofs.Common.{inl, inr, refl, ap}
 use Rattle.streams.specs.Input.{Input, IsEndOf}
 use Rattle.streams.specs.Reading.{Reading}
-use Rattle.streams.specs.SameReading.{SameFacts, SameReading, facts_path, reading_path}
 use Rattle.stream_errors.specs.Form.{Answer, ErrorForm, modal}
 use Rattle.streams.specs.Kind.{backtrack, Kind, memory}
 use Rattle.winnow_core.specs.Literal.Laws.{literal_ends, literal_stays}
 use Rattle.winnow_core.specs.Runs.{Keeps}
-use Rattle.winnow_core.specs.SameMeaning.{SameMeaning, same_by, same_trans}
 use Rattle.winnow_ascii.specs.Crlf.Laws.{crlf_ends, crlf_stays}
 use Rattle.winnow_ascii.specs.LineEnding.{LineEndingRuns}
 use Rattle.winnow_core.specs.Stable.Grows.{Stays}
@@ -31,16 +29,6 @@ line_ending_ends spells reading form i answer j (inl (text, is, r, stays)) =
     literal_ends reading form (spells text) (λ slice. slice) i answer j r
 line_ending_ends spells reading form i answer j (inr (text, is, first, r)) =
     crlf_ends spells reading form i answer j r
-
--- over streams that are read and compared alike they mean the same
-pub line_ending_alike : {T L : Type 0} {a b : Reading T L}
-    {spells others : Bor (List ℕ) → List T → Type 0} → SameReading a b → SameFacts spells others
-    → SameMeaning (λ (s : ⊤). s) (λ form. Keeps (λ _. LineEndingRuns spells a form))
-    (λ form. Keeps (λ _. LineEndingRuns others b form))
-line_ending_alike {a} {b} {spells} {others} reading spelled =
-    same_trans
-    (same_by (λ r form. Keeps (λ _. LineEndingRuns spells r form)) (reading_path reading))
-    (same_by (λ s form. Keeps (λ _. LineEndingRuns s b form)) (facts_path spelled))
 
 module _ {T L : Type 0} (spells : Bor (List ℕ) → List T → Type 0) (reading : Reading T L) where
   -- on a cut input, runs of a final answer are runs on each longer one

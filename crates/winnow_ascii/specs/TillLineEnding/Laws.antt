@@ -1,18 +1,15 @@
 -- What holds of the runs of what stands before a line end.
-use Rattle.std.specs.Prelude.{ℕ, List, ⊤, ◌++◌, ◌≡◌, [], ◌∷◌, true, Bool, Err, length}
+use Rattle.std.specs.Prelude.{ℕ, List, ◌++◌, ◌≡◌, [], ◌∷◌, true, Bool, Err, length}
 use Rattle.std.specs.Borrow.{Bor}
 use Rattle.std.proofs.Common.{inl, inr, ap, ◌∙◌, append_assoc, refl, sym, subst, arith}
 use Rattle.std.proofs.Common.{length-append}
 use Rattle.streams.specs.Input.{Input, IsEndOf, takes_end, Takes, with_more}
 use Rattle.streams.specs.Reading.{Reading}
-use Rattle.streams.specs.SameReading.{SameFacts, SameReading, facts_path, reading_path}
 use Rattle.stream_errors.specs.Form.{Answer, ErrorForm, modal}
 use Rattle.stream_searches.specs.Compare.{StandsFirst, IsShort}
 use Rattle.stream_searches.specs.FirstMatch.{StaysFirst}
 use Rattle.streams.specs.Equal.{same_rest}
 use Rattle.winnow_core.specs.Ends.{same_ends}
-use Rattle.winnow_core.specs.Runs.{Keeps}
-use Rattle.winnow_core.specs.SameMeaning.{SameMeaning, same_by, same_trans}
 use Rattle.winnow_ascii.specs.TillLineEnding.{LineRuns, TillLineEndingRuns, SeeksSome, SpellsOne}
 use Rattle.winnow_core.specs.Stable.Longer.{passes_cut, short_final, takes_more}
 use Rattle.winnow_token.specs.TakeUntil.Laws.{match_more}
@@ -45,21 +42,6 @@ till_line_ending_ends spells sought reading form i answer j
     line_ends sought reading form i slice j line
 till_line_ending_ends spells sought reading form i answer j
     (inr (inr (inr (inr (k, lacks, e))))) = same_ends reading i j lacks.3
-
--- over streams that are read, compared and searched alike they mean the same
-pub till_line_ending_alike : {T L : Type 0} {a b : Reading T L}
-    {spells others : Bor (List ℕ) → List T → Type 0}
-    {sought searched : ℕ × ℕ → List T → Type 0} → SameReading a b → SameFacts spells others
-    → SameFacts sought searched
-    → SameMeaning (λ (s : ⊤). s) (λ form. Keeps (λ _. TillLineEndingRuns spells sought a form))
-    (λ form. Keeps (λ _. TillLineEndingRuns others searched b form))
-till_line_ending_alike {a} {b} {spells} {others} {sought} {searched} reading spelled found =
-    same_trans
-    (same_trans
-    (same_by (λ r form. Keeps (λ _. TillLineEndingRuns spells sought r form))
-    (reading_path reading))
-    (same_by (λ s form. Keeps (λ _. TillLineEndingRuns s sought b form)) (facts_path spelled)))
-    (same_by (λ s form. Keeps (λ _. TillLineEndingRuns others s b form)) (facts_path found))
 
 -- a list that more stand after stands first still
 stands_more : {T : Type 0} (spelled : List T → Type 0) (tokens more : List T)

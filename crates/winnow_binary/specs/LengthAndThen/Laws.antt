@@ -4,15 +4,12 @@ use Rattle.std.proofs.Common.{ap, subst, ◌∙◌, inl, inr, refl, sym, arith, 
 use Rattle.streams.specs.Input.{Input, Status, Takes, passes_end}
 use Rattle.streams.specs.Place.{Place}
 use Rattle.streams.specs.Reading.{Reading, ShowsOneList}
-use Rattle.streams.specs.SameReading.{SameReading, reading_path}
 use Rattle.streams.specs.Stream.{IsUpdate, update_begins, update_tokens}
 use Rattle.stream_errors.specs.Form.{ErrorForm, modal, Answer}
 use Rattle.streams.specs.Following.{Following, follows_end}
-use Rattle.winnow_core.specs.Agrees.{Agrees}
-use Rattle.winnow_core.specs.Agrees.Sizes.{agrees2}
 use Rattle.winnow_core.specs.AndThen.{completed}
 use Rattle.winnow_core.specs.Ends.{same_ends}
-use Rattle.winnow_core.specs.Runs.{LeaveEnds, Meaning, Runs}
+use Rattle.winnow_core.specs.Runs.{LeaveEnds, Runs}
 use Rattle.winnow_binary.specs.Length.Laws.{length_ends, length_grows}
 use Rattle.winnow_binary.specs.LengthAndThen.{LengthAndThenRuns, TakenRuns, only_first}
 use Rattle.winnow_core.specs.Stable.Grows.{Grows, final_by}
@@ -70,32 +67,6 @@ only_first_is {taken = taken} {earlier = earlier} {later = later} {now = now} on
     (record earlier.status { cut = false }) (update_tokens one takes.shown update)
     (update_begins takes update) (update.possible ∙ takes.passed.possible)
     (ap (λ (s : Status). record s { cut = false }) (update.status ∙ takes.passed.status))
-
--- over streams that are read alike they agree, where those of both do
-pub length_and_then_agrees : {P Q P1 Q1 S1 U1 P2 Q2 S2 U2 T N L O : Type 0} (number : N → ℕ)
-    (part1 : P → P1) (other_part1 : Q → Q1) (part2 : P → P2) (other_part2 : Q → Q2)
-    {a b : Reading T L} {counts others : Bool} {state1 : P1 → S1} {other1 : Q1 → U1}
-    {like1 : P1 → Q1 → Type 0} {m1 : Meaning S1 T N} {n1 : Meaning U1 T N} {state2 : P2 → S2}
-    {other2 : Q2 → U2} {like2 : P2 → Q2 → Type 0} {m2 : Meaning S2 T O} {n2 : Meaning U2 T O}
-    → SameReading a b → counts ≡ others → Agrees state1 other1 like1 m1 n1
-    → Agrees state2 other2 like2 m2 n2
-    → Agrees (λ p. (state1 (part1 p), state2 (part2 p)))
-    (λ q. (other1 (other_part1 q), other2 (other_part2 q)))
-    (λ p q. like1 (part1 p) (other_part1 q) × like2 (part2 p) (other_part2 q))
-    (λ form. LengthAndThenRuns number a form counts (m1 form) (m2 form))
-    (λ form. LengthAndThenRuns number b form others (n1 form) (n2 form))
-length_and_then_agrees number part1 other_part1 part2 other_part2 {a} {b} {counts} {others}
-    {state1} {other1} {like1} {m1} {n1} {state2} {other2} {like2} {m2} {n2} reading missing
-    first second =
-    let At : Reading _ _ → Bool → Type 0 =
-    λ r c. Agrees (λ p. (state1 (part1 p), state2 (part2 p)))
-    (λ q. (other1 (other_part1 q), other2 (other_part2 q)))
-    (λ p q. like1 (part1 p) (other_part1 q) × like2 (part2 p) (other_part2 q))
-    (λ form. LengthAndThenRuns number a form counts (m1 form) (m2 form))
-    (λ form. LengthAndThenRuns number r form c (n1 form) (n2 form)) in
-    subst (λ c. At b c) missing (subst (λ r. At r counts) (reading_path reading)
-    (agrees2 part1 other_part1 part2 other_part2
-    (λ X Y x y form. LengthAndThenRuns number a form counts (x form) (y form)) first second))
 
 module _ {T : Type 0} {following : Following T} where
   module _ {L : Type 0} (reading : Reading T L) (counts : Bool) where

@@ -1,12 +1,10 @@
 -- What holds of the runs of a length and that many tokens.
-use Rattle.std.specs.Prelude.{◌≡◌, ℕ, Bool, ⊤, false, length}
-use Rattle.std.proofs.Common.{subst, refl, ap}
+use Rattle.std.specs.Prelude.{ℕ, Bool, ⊤, false}
+use Rattle.std.proofs.Common.{refl, ap}
 use Rattle.streams.specs.Reading.{Reading}
-use Rattle.streams.specs.SameReading.{SameReading, reading_path}
 use Rattle.stream_errors.specs.Form.{ErrorForm, modal}
 use Rattle.streams.specs.Following.{Following}
-use Rattle.winnow_core.specs.Agrees.{Agrees, agrees1}
-use Rattle.winnow_core.specs.Runs.{Keeps, LeaveEnds, Meaning, Runs}
+use Rattle.winnow_core.specs.Runs.{Keeps, LeaveEnds, Runs}
 use Rattle.winnow_token.specs.Take.{TakeRuns}
 use Rattle.winnow_token.specs.Take.Laws.{take_ends, take_stays}
 use Rattle.winnow_binary.specs.Length.Laws.{length_ends, length_grows}
@@ -28,23 +26,6 @@ pub length_take_ends : {S T N L : Type 0} (number : N → ℕ) (reading : Readin
 length_take_ends number reading form counts count ends s i answer t j ran =
     length_ends reading number count (λ n. Keeps (λ _. TakeRuns reading form counts n)) ends
     (λ n x a y u k r. take_ends reading form counts n a y k r.0) (s, tt) i answer (t, tt) j ran
-
--- over streams that are read alike they agree, where those of the length do
-pub length_take_agrees : {P P' Q Q' S U T N L : Type 0} (number : N → ℕ) (part : P' → P)
-    (other_part : Q' → Q) {a b : Reading T L} {counts others : Bool} {state : P → S}
-    {other : Q → U} {like : P → Q → Type 0} {m : Meaning S T N} {n : Meaning U T N}
-    → SameReading a b → counts ≡ others → Agrees state other like m n
-    → Agrees (λ p. state (part p)) (λ q. other (other_part q))
-    (λ p q. like (part p) (other_part q)) (λ form. LengthTakeRuns number a form counts (m form))
-    (λ form. LengthTakeRuns number b form others (n form))
-length_take_agrees number part other_part {a} {b} {counts} {others} {state} {other} {like} {m} {n}
-    reading missing child =
-    let At : Reading _ _ → Bool → Type 0 =
-    λ r c. Agrees (λ p. state (part p)) (λ q. other (other_part q))
-    (λ p q. like (part p) (other_part q)) (λ form. LengthTakeRuns number a form counts (m form))
-    (λ form. LengthTakeRuns number r form c (n form)) in
-    subst (λ c. At b c) missing (subst (λ r. At r counts) (reading_path reading)
-    (agrees1 part other_part (λ X x form. LengthTakeRuns number a form counts (x form)) child))
 
 module _ {T : Type 0} {following : Following T} where
   module _ {L : Type 0} (reading : Reading T L) (counts : Bool) where

@@ -1,13 +1,10 @@
 -- What holds of the runs of one bit.
-use Rattle.std.specs.Prelude.{Bool, ⊤, Err}
+use Rattle.std.specs.Prelude.{Bool, Err}
 use Rattle.std.proofs.Common.{inl, inr}
 use Rattle.streams.specs.Input.{Input, IsEndOf, passes_end}
 use Rattle.streams.specs.Reading.{Reading}
-use Rattle.streams.specs.SameReading.{SameReading, reading_path}
 use Rattle.stream_errors.specs.Form.{Answer, ErrorForm, modal}
 use Rattle.winnow_core.specs.Ends.{same_ends}
-use Rattle.winnow_core.specs.Runs.{Keeps}
-use Rattle.winnow_core.specs.SameMeaning.{SameMeaning, same_by}
 use Rattle.winnow_bits.specs.BitBool.{BitBoolRuns}
 use Rattle.winnow_core.specs.Stable.Grows.{Stays, final_by}
 use Rattle.winnow_core.specs.Stable.Longer.{passes_more, same_more, short_final}
@@ -20,13 +17,6 @@ bit_bool_ends reading form i answer j (inl (b, passes, e)) = passes_end passes
 bit_bool_ends reading form i answer j (inr (inl (cannot, e, same))) = same_ends reading i j same
 bit_bool_ends reading form i answer j (inr (inr (k, possible, none, kind, e, same))) =
     same_ends reading i j same
-
--- over streams that are read alike they mean the same
-pub bit_bool_alike : {L : Type 0} {a b : Reading Bool L} → SameReading a b
-    → SameMeaning (λ (s : ⊤). s) (λ form. Keeps (λ _. BitBoolRuns a form))
-    (λ form. Keeps (λ _. BitBoolRuns b form))
-bit_bool_alike reading =
-    same_by (λ r form. Keeps (λ _. BitBoolRuns r form)) (reading_path reading)
 
 module _ {L : Type 0} (reading : Reading Bool L) where
   -- one bit

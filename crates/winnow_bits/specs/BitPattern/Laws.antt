@@ -3,11 +3,8 @@ use Rattle.std.specs.Prelude.{ℕ, Bool, Ok, Err}
 use Rattle.std.proofs.Common.{inl, inr}
 use Rattle.streams.specs.Input.{Input, IsEndOf, with_more}
 use Rattle.streams.specs.Reading.{Reading}
-use Rattle.streams.specs.SameReading.{SameReading, reading_path}
 use Rattle.stream_errors.specs.Form.{Answer, ErrorForm, modal}
 use Rattle.winnow_core.specs.Ends.{same_ends}
-use Rattle.winnow_core.specs.Runs.{Keeps}
-use Rattle.winnow_core.specs.SameMeaning.{SameMeaning, same_by}
 use Rattle.winnow_bits.specs.BitPattern.{BitPatternRuns}
 use Rattle.winnow_bits.specs.BitTake.Laws.{bit_take_ends, bit_take_stays}
 use Rattle.winnow_core.specs.Stable.Grows.{Stays, final_by}
@@ -23,15 +20,6 @@ bit_pattern_ends number width reading form wanted n i answer j
     (inr (inl (o, m, taken, other, e, same))) = same_ends reading i j same
 bit_pattern_ends number width reading form wanted n i answer j (inr (inr (k, failed, e))) =
     bit_take_ends number width reading form n i (Err k) j failed
-
--- over streams that are read alike they mean the same
-pub bit_pattern_alike : {O L : Type 0} (number : O → ℕ) (width : ℕ) {a b : Reading Bool L}
-    → SameReading a b → SameMeaning (λ (s : ℕ × ℕ). s)
-    (λ form. Keeps (λ s. BitPatternRuns number width a form s.0 s.1))
-    (λ form. Keeps (λ s. BitPatternRuns number width b form s.0 s.1))
-bit_pattern_alike number width reading =
-    same_by (λ r form. Keeps (λ (s : ℕ × ℕ). BitPatternRuns number width r form s.0 s.1))
-    (reading_path reading)
 
 module _ {L : Type 0} (reading : Reading Bool L) where
   -- ... that must be one number

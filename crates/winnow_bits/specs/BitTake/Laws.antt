@@ -3,12 +3,9 @@ use Rattle.std.specs.Prelude.{ℕ, Bool, List, Err}
 use Rattle.std.proofs.Common.{inl, inr}
 use Rattle.streams.specs.Input.{Input, IsEndOf, passes_end, with_more}
 use Rattle.streams.specs.Reading.{Reading}
-use Rattle.streams.specs.SameReading.{SameReading, reading_path}
 use Rattle.stream_errors.specs.Form.{Answer, ErrorForm, modal}
 use Rattle.stream_bits.specs.Within.{ReadsNumber}
 use Rattle.winnow_core.specs.Ends.{same_ends}
-use Rattle.winnow_core.specs.Runs.{Keeps}
-use Rattle.winnow_core.specs.SameMeaning.{SameMeaning, same_by}
 use Rattle.winnow_bits.specs.BitTake.{BitTakeRuns}
 use Rattle.winnow_core.specs.Stable.Longer.{passes_more, same_more, short_final}
 use Rattle.winnow_core.specs.Stable.Grows.{Stays, final_by}
@@ -23,14 +20,6 @@ bit_take_ends number width reading form n i answer j (inr (inl (cannot, e, same)
     same_ends reading i j same
 bit_take_ends number width reading form n i answer j
     (inr (inr (k, fits, possible, few, kind, e, same))) = same_ends reading i j same
-
--- over streams that are read alike they mean the same
-pub bit_take_alike : {O L : Type 0} (number : O → ℕ) (width : ℕ) {a b : Reading Bool L}
-    → SameReading a b → SameMeaning (λ (s : ℕ). s)
-    (λ form. Keeps (λ n. BitTakeRuns number width a form n))
-    (λ form. Keeps (λ n. BitTakeRuns number width b form n))
-bit_take_alike number width reading =
-    same_by (λ r form. Keeps (λ n. BitTakeRuns number width r form n)) (reading_path reading)
 
 module _ {L : Type 0} (reading : Reading Bool L) where
   reads_more : (count : ℕ) (more : List Bool) (flag : Bool) (i : Input Bool) (n : ℕ)

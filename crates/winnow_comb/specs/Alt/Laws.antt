@@ -7,9 +7,7 @@ use Rattle.streams.specs.Kind.{backtrack, Kind, memory}
 use Rattle.streams.specs.Reading.{Reading}
 use Rattle.stream_errors.specs.Form.{Answer}
 use Rattle.streams.specs.Following.{Following}
-use Rattle.winnow_core.specs.Agrees.{Agrees}
-use Rattle.winnow_core.specs.Agrees.Sizes.{agrees2}
-use Rattle.winnow_core.specs.Runs.{Runs, LeaveEnds, Meaning}
+use Rattle.winnow_core.specs.Runs.{Runs, LeaveEnds}
 use Rattle.winnow_comb.specs.Alt.{OrElse}
 use Rattle.winnow_core.specs.Stable.Grows.{Grows}
 use Rattle.winnow_core.specs.Decided.{AlikeAnswers, IsDecided, NotMemory}
@@ -29,20 +27,6 @@ or_else_ends reading run others ends other_ends s i answer t j (inl (r, other, k
 or_else_ends reading run others ends other_ends s i answer t j (inr (a, r, q)) =
     is_end_of_trans (other_ends s.1 (back_at i.left a) answer t.1 j q)
     (is_end_of_back refl (ends s.0 i (Err backtrack) t.0 a r))
-
--- they agree, where those of the branches do
-pub or_else_agrees : {P Q P1 Q1 S1 U1 P2 Q2 S2 U2 T O : Type 0} (part1 : P → P1)
-    (other_part1 : Q → Q1) (part2 : P → P2) (other_part2 : Q → Q2) {state1 : P1 → S1}
-    {other1 : Q1 → U1} {like1 : P1 → Q1 → Type 0} {m1 : Meaning S1 T O} {n1 : Meaning U1 T O}
-    {state2 : P2 → S2} {other2 : Q2 → U2} {like2 : P2 → Q2 → Type 0} {m2 : Meaning S2 T O}
-    {n2 : Meaning U2 T O} → Agrees state1 other1 like1 m1 n1 → Agrees state2 other2 like2 m2 n2
-    → Agrees (λ p. (state1 (part1 p), state2 (part2 p)))
-    (λ q. (other1 (other_part1 q), other2 (other_part2 q)))
-    (λ p q. like1 (part1 p) (other_part1 q) × like2 (part2 p) (other_part2 q))
-    (λ form. OrElse (m1 form) (m2 form)) (λ form. OrElse (n1 form) (n2 form))
-or_else_agrees part1 other_part1 part2 other_part2 one others =
-    agrees2 part1 other_part1 part2 other_part2 (λ X Y m n form. OrElse (m form) (n form)) one
-    others
 
 -- A branch that was run from the start backtracked, and the others answer from the start.
 pub or_else_next : {S1 S2 T O : Type 0} (run : Runs S1 T O) (others : Runs S2 T O) (s : S1 × S2)

@@ -3,7 +3,6 @@ use Rattle.std.specs.Prelude.{⊤, ◌≡◌, ◌⊎◌, [], Ok, Err}
 use Rattle.std.proofs.Common.{inl, inr, refl, sym, ap, subst, ◌∙◌}
 use Rattle.streams.specs.Input.{Input, IsEndOf, takes_end}
 use Rattle.streams.specs.Reading.{Reading}
-use Rattle.streams.specs.SameReading.{SameReading, reading_path}
 use Rattle.stream_errors.specs.Form.{Answer}
 use Rattle.winnow_core.specs.Decided.{AlikeAnswers, IsDecided}
 use Rattle.winnow_core.specs.Decided.Inputs.{both_err, both_ok, same_passed}
@@ -11,7 +10,6 @@ use Rattle.winnow_core.specs.Ends.{same_ends}
 use Rattle.winnow_core.specs.Eof.{EofRuns}
 use Rattle.winnow_core.specs.Literal.Laws.{ShowSame}
 use Rattle.winnow_core.specs.Runs.{Keeps}
-use Rattle.winnow_core.specs.SameMeaning.{SameMeaning, same_by}
 use Rattle.streams.specs.Kind.{Kind, backtrack, memory}
 use Rattle.grammars.specs.Grammar.{NoTokens, NoneStands}
 use Rattle.stream_errors.specs.Form.Known.{ok_is_err, same_ok, same_kind}
@@ -22,11 +20,6 @@ pub eof_ends : {T L : Type 0} (reading : Reading T L) (i : Input T) (answer : An
     (j : Input T) → EofRuns reading i answer j → IsEndOf reading j i
 eof_ends reading i answer j (inl (slice, nothing, takes, e)) = takes_end takes
 eof_ends reading i answer j (inr (some, e, same)) = same_ends reading i j same
-
--- over streams that are read alike it means the same
-pub eof_alike : {T L : Type 0} {a b : Reading T L} → SameReading a b
-    → SameMeaning (λ (s : ⊤). s) (λ _. Keeps (λ _. EofRuns a)) (λ _. Keeps (λ _. EofRuns b))
-eof_alike same = same_by (λ r form. Keeps (λ _. EofRuns r)) (reading_path same)
 
 -- ---- one state and one input decide it
 

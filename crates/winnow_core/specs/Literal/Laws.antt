@@ -4,14 +4,12 @@ use Rattle.std.proofs.Common.{inl, inr, subst, append_assoc, arith, length-appen
 use Rattle.std.proofs.Common.{◌∙◌}
 use Rattle.streams.specs.Input.{Input, IsEndOf, takes_end, Takes}
 use Rattle.streams.specs.Reading.{Reading}
-use Rattle.streams.specs.SameReading.{SameFacts, SameReading, facts_path, reading_path}
 use Rattle.stream_errors.specs.Form.{Answer, ErrorForm, modal}
 use Rattle.stream_searches.specs.Compare.{StandsFirst, IsShort}
 use Rattle.streams.specs.Kind.{incomplete, Kind, backtrack, memory}
 use Rattle.winnow_core.specs.Ends.{same_ends}
 use Rattle.winnow_core.specs.Literal.{LiteralRuns, IsOneToken}
 use Rattle.winnow_core.specs.Runs.{Keeps}
-use Rattle.winnow_core.specs.SameMeaning.{SameMeaning, same_by, same_trans}
 use Rattle.winnow_core.specs.Stable.Longer.{one_beginning, same_more, takes_more}
 use Rattle.winnow_core.specs.Stable.Grows.{Stays, final_by, not_whole}
 use Rattle.streams.specs.Equal.{true_is_false}
@@ -34,18 +32,6 @@ literal_ends reading form spelled output i answer j (inr (inl (short, is_cut, e,
     same_ends reading i j same
 literal_ends reading form spelled output i answer j (inr (inr (other, whole, e, same))) =
     same_ends reading i j same
-
--- over streams that are read and compared alike it means the same; its output is made of the
--- literal and the slice
-pub literal_alike : {X T L O : Type 0} (output : X → L → O) {a b : Reading T L}
-    {spells others : X → List T → Type 0} → SameReading a b → SameFacts spells others
-    → SameMeaning (λ s. s) (λ form. Keeps (λ x. LiteralRuns a form (spells x) (output x)))
-    (λ form. Keeps (λ x. LiteralRuns b form (others x) (output x)))
-literal_alike output {a} {b} {spells} {others} reading spelled =
-    same_trans
-    (same_by (λ r form. Keeps (λ x. LiteralRuns r form (spells x) (output x)))
-    (reading_path reading))
-    (same_by (λ sp form. Keeps (λ x. LiteralRuns b form (sp x) (output x))) (facts_path spelled))
 
 -- what neither stands first nor is short does not stand first in a longer input, and is not short
 -- there

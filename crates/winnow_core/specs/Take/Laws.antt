@@ -1,13 +1,11 @@
 -- What holds of the runs of the slice that a parser read.
 use Rattle.std.specs.Prelude.{◌≡◌, List, ◌++◌, Ok, Err}
-use Rattle.std.proofs.Common.{ap, sym, ◌∙◌, inl, inr, subst, append_assoc}
+use Rattle.std.proofs.Common.{ap, sym, ◌∙◌, inl, inr, append_assoc}
 use Rattle.streams.specs.Reading.{Reading}
-use Rattle.streams.specs.SameReading.{SameReading, reading_path}
 use Rattle.streams.specs.Following.{Following}
 use Rattle.winnow_core.specs.Laws.{TakesFromTheFront}
 use Rattle.winnow_core.specs.Take.{TakeRuns}
-use Rattle.winnow_core.specs.Agrees.{Agrees, agrees1}
-use Rattle.winnow_core.specs.Runs.{Runs, LeaveEnds, Meaning}
+use Rattle.winnow_core.specs.Runs.{Runs, LeaveEnds}
 use Rattle.winnow_core.specs.Stable.Grows.{Grows, final_by}
 
 -- they leave an end, where those of the child do
@@ -16,20 +14,6 @@ pub take_ends : {S T L O : Type 0} (reading : Reading T L) (run : Runs S T O)
 take_ends reading run child s i answer t j (inl (o, front, slice, r, splits, shown, e)) =
     child s i (Ok o) t j r
 take_ends reading run child s i answer t j (inr (k, r, e)) = child s i (Err k) t j r
-
--- over streams that are read alike it agrees, where the child does
-pub take_agrees : {P P' Q Q' S U T L O : Type 0} (part : P' → P) (other_part : Q' → Q)
-    {a b : Reading T L} {state : P → S} {other : Q → U} {like : P → Q → Type 0}
-    {m : Meaning S T O} {n : Meaning U T O} → SameReading a b → Agrees state other like m n
-    → Agrees (λ p. state (part p)) (λ q. other (other_part q))
-    (λ p q. like (part p) (other_part q)) (λ form. TakeRuns a (m form))
-    (λ form. TakeRuns b (n form))
-take_agrees part other_part {a} {b} {state} {other} {like} {m} {n} same child =
-    let P : Reading _ _ → Type 0 =
-    λ r. Agrees (λ p. state (part p)) (λ q. other (other_part q))
-    (λ p q. like (part p) (other_part q)) (λ form. TakeRuns a (m form))
-    (λ form. TakeRuns r (n form)) in
-    subst P (reading_path same) (agrees1 part other_part (λ X x form. TakeRuns a (x form)) child)
 
 -- where a slice shows one list of tokens, those of the slice that it answers and then the rest are
 -- the input before

@@ -1,28 +1,11 @@
 -- What holds of the runs of an output with the slice that was read.
 use Rattle.std.specs.Prelude.{◌≡◌, List, ◌++◌}
-use Rattle.std.proofs.Common.{ap, sym, subst, ◌∙◌, inl, inr, append_assoc}
+use Rattle.std.proofs.Common.{ap, sym, ◌∙◌, inl, inr, append_assoc}
 use Rattle.streams.specs.Reading.{Reading}
-use Rattle.streams.specs.SameReading.{SameReading, reading_path}
-use Rattle.winnow_core.specs.Agrees.{Agrees, agrees1}
 use Rattle.winnow_core.specs.Laws.{TakesFromTheFront}
-use Rattle.winnow_core.specs.Runs.{Runs, Meaning}
+use Rattle.winnow_core.specs.Runs.{Runs}
 use Rattle.winnow_core.specs.WithTaken.{WithTakenRuns}
 use Rattle.winnow_core.specs.MakesOutput.Laws.{MakesMore}
-
--- over streams that are read alike it agrees, where the child does
-pub with_taken_agrees : {P P' Q Q' S U T L O : Type 0} (part : P' → P) (other_part : Q' → Q)
-    {a b : Reading T L} {state : P → S} {other : Q → U} {like : P → Q → Type 0}
-    {m : Meaning S T O} {n : Meaning U T O} → SameReading a b → Agrees state other like m n
-    → Agrees (λ p. state (part p)) (λ q. other (other_part q))
-    (λ p q. like (part p) (other_part q)) (λ form. WithTakenRuns a (m form))
-    (λ form. WithTakenRuns b (n form))
-with_taken_agrees part other_part {a} {b} {state} {other} {like} {m} {n} same child =
-    let P : Reading _ _ → Type 0 =
-    λ r. Agrees (λ p. state (part p)) (λ q. other (other_part q))
-    (λ p q. like (part p) (other_part q)) (λ form. WithTakenRuns a (m form))
-    (λ form. WithTakenRuns r (n form)) in
-    subst P (reading_path same)
-    (agrees1 part other_part (λ X x form. WithTakenRuns a (x form)) child)
 
 -- where a slice shows one list of tokens, those of the slice that it answers and then the rest are
 -- the input before

@@ -4,15 +4,11 @@
 ghost use Rattle.std.specs.Prelude.{◌≡◌, ⊤};
 ghost use Rattle.grammars.specs.Grammar.{Made, Nothing};
 ghost use Rattle.grammars.specs.Grammar.Unique.{made_of_takes};
-ghost use Rattle.winnow_core.specs.Agrees.{agrees_plain};
-ghost use Rattle.winnow_core.specs.Agrees.Sizes.{agrees2, agrees3, agrees4, agrees5, agrees6};
-ghost use Rattle.winnow_core.specs.Agrees.Sizes.{agrees_one};
 ghost use Rattle.winnow_core.specs.Ends.{same_ends};
 ghost use Rattle.winnow_core.specs.Exact.Allowed.{backs};
 ghost use Rattle.winnow_core.specs.Exact.Nothing.{unit_decided, unit_exact, unit_fails};
 ghost use Rattle.winnow_core.specs.InOrder.Decided.{AlikeOne, tuple1_decided};
 ghost use Rattle.winnow_core.specs.InOrder.Exact.{OneTuple, tuple1_exact, tuple1_fails};
-ghost use Rattle.winnow_core.specs.SameMeaning.{same_refl};
 ghost use Rattle.winnow_core.specs.Sequence.{SequenceRuns0, SequenceRuns1, SequenceRuns2};
 ghost use Rattle.winnow_core.specs.Sequence.{SequenceRuns3, SequenceRuns4, SequenceRuns5};
 ghost use Rattle.winnow_core.specs.Sequence.{SequenceRuns6};
@@ -27,7 +23,6 @@ ghost use Rattle.winnow_core.specs.Says.{nothing_done, nothing_said};
 
 mod stable;
 
-use crate::agrees_with::AgreesWith;
 use crate::parser::Parser;
 use stream_errors::parser_error::ParserError;
 use streams::stream::Stream;
@@ -67,19 +62,6 @@ impl<I: Stream, E: ParserError<I>> Parser<I, (), E> for () {
     fn parse_next(&mut self, _input: &mut I) -> Result<(), E> {
         Ok(())
     }
-}
-
-impl<
-    I: Stream,
-    J: Stream<Token = I::Token, Seen = I::Seen, Slice = I::Slice>,
-    E: ParserError<I>,
-    F: ParserError<J>,
-> AgreesWith<I, (), E, (), J, F> for () {
-    ghost like = { λ p q. ⊤ };
-
-    ghost agrees = { agrees_plain (same_refl (λ _. SequenceRuns0)) };
-
-    fn agree() {}
 }
 
 impl<I: Stream, O1, E: ParserError<I>, P1: Parser<I, O1, E>> Parser<I, (O1,), E> for (P1,) {
@@ -125,23 +107,6 @@ impl<I: Stream, O1, E: ParserError<I>, P1: Parser<I, O1, E>> Parser<I, (O1,), E>
     }
 }
 
-impl<
-    I: Stream,
-    J: Stream<Token = I::Token, Seen = I::Seen, Slice = I::Slice>,
-    O1,
-    E: ParserError<I>,
-    F: ParserError<J>,
-    P1: AgreesWith<I, O1, E, Q1, J, F>,
-    Q1: Parser<J, O1, F>,
-> AgreesWith<I, (O1,), E, (Q1,), J, F> for (P1,) {
-    ghost like = { λ p q. P1.like p.0 q.0 };
-
-    ghost agrees = { agrees_one (λ p. p.0) (λ q. q.0) (λ X m form. SequenceRuns1 (m form))
-        P1.agrees };
-
-    fn agree() {}
-}
-
 impl<I: Stream, O1: Drop, O2, E: ParserError<I>, P1: Parser<I, O1, E>, P2: Parser<I, O2, E>> Parser<
     I,
     (O1, O2),
@@ -172,26 +137,6 @@ impl<I: Stream, O1: Drop, O2, E: ParserError<I>, P1: Parser<I, O1, E>, P2: Parse
         let second = self.1.parse_next(input)?;
         Ok((first, second))
     }
-}
-
-impl<
-    I: Stream,
-    J: Stream<Token = I::Token, Seen = I::Seen, Slice = I::Slice>,
-    O1: Drop,
-    O2,
-    E: ParserError<I>,
-    F: ParserError<J>,
-    P1: AgreesWith<I, O1, E, Q1, J, F>,
-    Q1: Parser<J, O1, F>,
-    P2: AgreesWith<I, O2, E, Q2, J, F>,
-    Q2: Parser<J, O2, F>,
-> AgreesWith<I, (O1, O2), E, (Q1, Q2), J, F> for (P1, P2) {
-    ghost like = { λ p q. P1.like p.0 q.0 × P2.like p.1 q.1 };
-
-    ghost agrees = { agrees2 (λ p. p.0) (λ q. q.0) (λ p. p.1) (λ q. q.1)
-        (λ X1 X2 m1 m2 form. SequenceRuns2 (m1 form) (m2 form)) P1.agrees P2.agrees };
-
-    fn agree() {}
 }
 
 impl<
@@ -230,30 +175,6 @@ impl<
         let third = self.2.parse_next(input)?;
         Ok((first, second, third))
     }
-}
-
-impl<
-    I: Stream,
-    J: Stream<Token = I::Token, Seen = I::Seen, Slice = I::Slice>,
-    O1: Drop,
-    O2: Drop,
-    O3,
-    E: ParserError<I>,
-    F: ParserError<J>,
-    P1: AgreesWith<I, O1, E, Q1, J, F>,
-    Q1: Parser<J, O1, F>,
-    P2: AgreesWith<I, O2, E, Q2, J, F>,
-    Q2: Parser<J, O2, F>,
-    P3: AgreesWith<I, O3, E, Q3, J, F>,
-    Q3: Parser<J, O3, F>,
-> AgreesWith<I, (O1, O2, O3), E, (Q1, Q2, Q3), J, F> for (P1, P2, P3) {
-    ghost like = { λ p q. P1.like p.0 q.0 × P2.like p.1 q.1 × P3.like p.2 q.2 };
-
-    ghost agrees = { agrees3 (λ p. p.0) (λ q. q.0) (λ p. p.1) (λ q. q.1) (λ p. p.2) (λ q. q.2)
-        (λ X1 X2 X3 m1 m2 m3 form. SequenceRuns3 (m1 form) (m2 form) (m3 form)) P1.agrees
-        P2.agrees P3.agrees };
-
-    fn agree() {}
 }
 
 impl<
@@ -304,34 +225,6 @@ impl<
 
 impl<
     I: Stream,
-    J: Stream<Token = I::Token, Seen = I::Seen, Slice = I::Slice>,
-    O1: Drop,
-    O2: Drop,
-    O3: Drop,
-    O4,
-    E: ParserError<I>,
-    F: ParserError<J>,
-    P1: AgreesWith<I, O1, E, Q1, J, F>,
-    Q1: Parser<J, O1, F>,
-    P2: AgreesWith<I, O2, E, Q2, J, F>,
-    Q2: Parser<J, O2, F>,
-    P3: AgreesWith<I, O3, E, Q3, J, F>,
-    Q3: Parser<J, O3, F>,
-    P4: AgreesWith<I, O4, E, Q4, J, F>,
-    Q4: Parser<J, O4, F>,
-> AgreesWith<I, (O1, O2, O3, O4), E, (Q1, Q2, Q3, Q4), J, F> for (P1, P2, P3, P4) {
-    ghost like = { λ p q. P1.like p.0 q.0 × P2.like p.1 q.1 × P3.like p.2 q.2 × P4.like p.3 q.3 };
-
-    ghost agrees = { agrees4 (λ p. p.0) (λ q. q.0) (λ p. p.1) (λ q. q.1) (λ p. p.2) (λ q. q.2)
-        (λ p. p.3) (λ q. q.3)
-        (λ X1 X2 X3 X4 m1 m2 m3 m4 form. SequenceRuns4 (m1 form) (m2 form) (m3 form)
-        (m4 form)) P1.agrees P2.agrees P3.agrees P4.agrees };
-
-    fn agree() {}
-}
-
-impl<
-    I: Stream,
     O1: Drop,
     O2: Drop,
     O3: Drop,
@@ -378,38 +271,6 @@ impl<
         let fifth = self.4.parse_next(input)?;
         Ok((first, second, third, fourth, fifth))
     }
-}
-
-impl<
-    I: Stream,
-    J: Stream<Token = I::Token, Seen = I::Seen, Slice = I::Slice>,
-    O1: Drop,
-    O2: Drop,
-    O3: Drop,
-    O4: Drop,
-    O5,
-    E: ParserError<I>,
-    F: ParserError<J>,
-    P1: AgreesWith<I, O1, E, Q1, J, F>,
-    Q1: Parser<J, O1, F>,
-    P2: AgreesWith<I, O2, E, Q2, J, F>,
-    Q2: Parser<J, O2, F>,
-    P3: AgreesWith<I, O3, E, Q3, J, F>,
-    Q3: Parser<J, O3, F>,
-    P4: AgreesWith<I, O4, E, Q4, J, F>,
-    Q4: Parser<J, O4, F>,
-    P5: AgreesWith<I, O5, E, Q5, J, F>,
-    Q5: Parser<J, O5, F>,
-> AgreesWith<I, (O1, O2, O3, O4, O5), E, (Q1, Q2, Q3, Q4, Q5), J, F> for (P1, P2, P3, P4, P5) {
-    ghost like = { λ p q. P1.like p.0 q.0 × P2.like p.1 q.1 × P3.like p.2 q.2 × P4.like p.3 q.3
-        × P5.like p.4 q.4 };
-
-    ghost agrees = { agrees5 (λ p. p.0) (λ q. q.0) (λ p. p.1) (λ q. q.1) (λ p. p.2) (λ q. q.2)
-        (λ p. p.3) (λ q. q.3) (λ p. p.4) (λ q. q.4)
-        (λ X1 X2 X3 X4 X5 m1 m2 m3 m4 m5 form. SequenceRuns5 (m1 form) (m2 form) (m3 form)
-        (m4 form) (m5 form)) P1.agrees P2.agrees P3.agrees P4.agrees P5.agrees };
-
-    fn agree() {}
 }
 
 impl<
@@ -470,41 +331,4 @@ impl<
         let sixth = self.5.parse_next(input)?;
         Ok((first, second, third, fourth, fifth, sixth))
     }
-}
-
-impl<
-    I: Stream,
-    J: Stream<Token = I::Token, Seen = I::Seen, Slice = I::Slice>,
-    O1: Drop,
-    O2: Drop,
-    O3: Drop,
-    O4: Drop,
-    O5: Drop,
-    O6,
-    E: ParserError<I>,
-    F: ParserError<J>,
-    P1: AgreesWith<I, O1, E, Q1, J, F>,
-    Q1: Parser<J, O1, F>,
-    P2: AgreesWith<I, O2, E, Q2, J, F>,
-    Q2: Parser<J, O2, F>,
-    P3: AgreesWith<I, O3, E, Q3, J, F>,
-    Q3: Parser<J, O3, F>,
-    P4: AgreesWith<I, O4, E, Q4, J, F>,
-    Q4: Parser<J, O4, F>,
-    P5: AgreesWith<I, O5, E, Q5, J, F>,
-    Q5: Parser<J, O5, F>,
-    P6: AgreesWith<I, O6, E, Q6, J, F>,
-    Q6: Parser<J, O6, F>,
-> AgreesWith<I, (O1, O2, O3, O4, O5, O6), E, (Q1, Q2, Q3, Q4, Q5, Q6), J, F>
-    for (P1, P2, P3, P4, P5, P6) {
-    ghost like = { λ p q. P1.like p.0 q.0 × P2.like p.1 q.1 × P3.like p.2 q.2 × P4.like p.3 q.3
-        × P5.like p.4 q.4 × P6.like p.5 q.5 };
-
-    ghost agrees = { agrees6 (λ p. p.0) (λ q. q.0) (λ p. p.1) (λ q. q.1) (λ p. p.2) (λ q. q.2)
-        (λ p. p.3) (λ q. q.3) (λ p. p.4) (λ q. q.4) (λ p. p.5) (λ q. q.5)
-        (λ X1 X2 X3 X4 X5 X6 m1 m2 m3 m4 m5 m6 form. SequenceRuns6 (m1 form) (m2 form)
-        (m3 form) (m4 form) (m5 form) (m6 form)) P1.agrees P2.agrees P3.agrees P4.agrees
-        P5.agrees P6.agrees };
-
-    fn agree() {}
 }

@@ -2,8 +2,7 @@
 ghost use Rattle.streams.specs.Input.{Input, IsEndOf};
 ghost use Rattle.stream_errors.specs.Form.{Answer, ErrorForm, answer_by};
 ghost use Rattle.winnow_core.specs.Ends.{same_ends};
-ghost use Rattle.winnow_expression.specs.Folds.{RefusesBinary, RefusesUnary, SameBinary, SameUnary};
-ghost use Rattle.winnow_expression.specs.Folds.{same_binary, same_unary};
+ghost use Rattle.winnow_expression.specs.Folds.{RefusesBinary, RefusesUnary};
 
 use stream_errors::parser_error::ParserError;
 use streams::stream::Stream;
@@ -85,56 +84,6 @@ pub trait FoldBinary<I: Stream, O, E: ParserError<I>>: Drop {
         (j : Input I.Seen) → folds form f i v w a j → IsEndOf I.reading j i };
 }
 
-/// A fold of one operand that does over the stream `J` what it does over `I`.
-///
-/// So the expressions over both are alike, as one over text is like that over text that may be cut.
-///
-/// ```
-/// fn over_both<'i, F>(_fold: F)
-/// where
-///     F: FoldsUnaryLike<&'i str, bool, EmptyError, Partial<&'i str>, EmptyError>,
-/// {
-/// }
-///
-/// over_both(NoFold);
-/// ```
-pub trait FoldsUnaryLike<
-    I: Stream,
-    O,
-    E: ParserError<I>,
-    J: Stream<Token = I::Token, Seen = I::Seen, Slice = I::Slice>,
-    D: ParserError<J>,
->: FoldUnary<I, O, E>
-    + FoldUnary<J, O, D> {
-    // It does the same over both.
-    ghost same_folds: { SameUnary ⟦<Self as FoldUnary<I, O, E>>⟧.folds
-        ⟦<Self as FoldUnary<J, O, D>>⟧.folds };
-}
-
-/// A fold of two operands that does over the stream `J` what it does over `I`.
-///
-/// ```
-/// fn over_both<'i, F>(_fold: F)
-/// where
-///     F: FoldsBinaryLike<&'i str, bool, EmptyError, Partial<&'i str>, EmptyError>,
-/// {
-/// }
-///
-/// over_both(NoFold);
-/// ```
-pub trait FoldsBinaryLike<
-    I: Stream,
-    O,
-    E: ParserError<I>,
-    J: Stream<Token = I::Token, Seen = I::Seen, Slice = I::Slice>,
-    D: ParserError<J>,
->: FoldBinary<I, O, E>
-    + FoldBinary<J, O, D> {
-    // It does the same over both.
-    ghost same_folds: { SameBinary ⟦<Self as FoldBinary<I, O, E>>⟧.folds
-        ⟦<Self as FoldBinary<J, O, D>>⟧.folds };
-}
-
 /// The fold of an expression that has no such operators: it is never applied.
 ///
 /// ```
@@ -163,24 +112,4 @@ impl<I: Stream, O: Drop, E: ParserError<I>> FoldBinary<I, O, E> for NoFold {
     fn apply(&self, input: &mut I, left: O, right: O) -> Result<O, E> {
         Err(E::assert(input, "no operator was set"))
     }
-}
-
-impl<
-    I: Stream,
-    O: Drop,
-    E: ParserError<I>,
-    J: Stream<Token = I::Token, Seen = I::Seen, Slice = I::Slice>,
-    D: ParserError<J>,
-> FoldsUnaryLike<I, O, E, J, D> for NoFold {
-    ghost same_folds = { same_unary (λ form f i v a j. RefusesUnary form i v a j) };
-}
-
-impl<
-    I: Stream,
-    O: Drop,
-    E: ParserError<I>,
-    J: Stream<Token = I::Token, Seen = I::Seen, Slice = I::Slice>,
-    D: ParserError<J>,
-> FoldsBinaryLike<I, O, E, J, D> for NoFold {
-    ghost same_folds = { same_binary (λ form f i v w a j. RefusesBinary form i v w a j) };
 }

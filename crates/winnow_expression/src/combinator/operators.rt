@@ -1,8 +1,6 @@
 //! Operators, as their parsers answer them.
 ghost use Rattle.std.specs.Prelude.{◌≡◌, ◌+ℤ◌, pos, MatchOption};
-ghost use Rattle.winnow_core.specs.Agrees.{agrees_by};
 ghost use Rattle.winnow_core.specs.Runs.{Keeps};
-ghost use Rattle.winnow_core.specs.SameMeaning.{same_refl};
 ghost use Rattle.winnow_core.specs.Stable.Grows.{leaf_stays};
 ghost use Rattle.winnow_expression.specs.Calls.{asked};
 ghost use Rattle.winnow_expression.specs.Operators.{IsInfixClone, IsPostfixClone, IsPrefixClone};
@@ -14,7 +12,6 @@ ghost use Rattle.winnow_core.specs.Says.{nothing_done, nothing_said};
 
 use stream_errors::parser_error::ParserError;
 use streams::stream::Stream;
-use winnow_core::agrees_with::AgreesWith;
 use winnow_core::parser::Parser;
 use winnow_core::stable::Stable;
 
@@ -214,20 +211,6 @@ impl<I: Stream, F: Clone, E: ParserError<I>> Stable<I, Prefix<F>, E> for Prefix<
     fn stay() {}
 }
 
-impl<
-    I: Stream,
-    J: Stream<Token = I::Token, Seen = I::Seen, Slice = I::Slice>,
-    F: Clone,
-    E: ParserError<I>,
-    D: ParserError<J>,
-> AgreesWith<I, Prefix<F>, E, Prefix<F>, J, D> for Prefix<F> {
-    ghost like = { λ p q. p ≡ q };
-
-    ghost agrees = { agrees_by (λ p. p) (λ q. q) (same_refl _) };
-
-    fn agree() {}
-}
-
 impl<I: Stream, F: Clone, E: ParserError<I>> Stable<I, Postfix<F>, E> for Postfix<F> {
     ghost stable = { leaf_stays I.following _
         (operator_stays (IsPostfixClone F.is_clone) (λ s. F.is_infallible s.1)) };
@@ -235,39 +218,11 @@ impl<I: Stream, F: Clone, E: ParserError<I>> Stable<I, Postfix<F>, E> for Postfi
     fn stay() {}
 }
 
-impl<
-    I: Stream,
-    J: Stream<Token = I::Token, Seen = I::Seen, Slice = I::Slice>,
-    F: Clone,
-    E: ParserError<I>,
-    D: ParserError<J>,
-> AgreesWith<I, Postfix<F>, E, Postfix<F>, J, D> for Postfix<F> {
-    ghost like = { λ p q. p ≡ q };
-
-    ghost agrees = { agrees_by (λ p. p) (λ q. q) (same_refl _) };
-
-    fn agree() {}
-}
-
 impl<I: Stream, F: Clone, E: ParserError<I>> Stable<I, Infix<F>, E> for Infix<F> {
     ghost stable = { leaf_stays I.following _
         (operator_stays (IsInfixClone F.is_clone) (λ s. F.is_infallible (fold_of s))) };
 
     fn stay() {}
-}
-
-impl<
-    I: Stream,
-    J: Stream<Token = I::Token, Seen = I::Seen, Slice = I::Slice>,
-    F: Clone,
-    E: ParserError<I>,
-    D: ParserError<J>,
-> AgreesWith<I, Infix<F>, E, Infix<F>, J, D> for Infix<F> {
-    ghost like = { λ p q. p ≡ q };
-
-    ghost agrees = { agrees_by (λ p. p) (λ q. q) (same_refl _) };
-
-    fn agree() {}
 }
 
 /// A clone of an operator; none where a request for memory was refused to the clone of its fold.

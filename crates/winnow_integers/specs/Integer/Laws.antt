@@ -4,14 +4,12 @@ use Rattle.std.proofs.Common.{refl, sym, ap, subst, ◌∙◌, inl, inr, arith, 
 use Rattle.streams.specs.Input.{Input, IsEndOf, Passes, passes_end}
 use Rattle.streams.specs.Kind.{Kind, backtrack, memory}
 use Rattle.streams.specs.Reading.{Reading}
-use Rattle.streams.specs.SameReading.{SameReading, reading_path}
 use Rattle.stream_errors.specs.Form.{Answer, ErrorForm, modal}
 use Rattle.stream_errors.specs.Form.Known.{ok_is_err, same_kind, same_ok, same_output}
 use Rattle.winnow_core.specs.Decided.{AlikeAnswers, IsDecided}
 use Rattle.winnow_core.specs.Decided.Inputs.{both_err, both_ok, one_short, same_passed}
 use Rattle.winnow_core.specs.Ends.{same_ends}
 use Rattle.winnow_core.specs.Runs.{Keeps}
-use Rattle.winnow_core.specs.SameMeaning.{SameMeaning, same_by}
 use Rattle.winnow_integers.specs.Integer.{IntegerRuns}
 use Rattle.winnow_core.specs.Stable.Grows.{Stays, final_by}
 use Rattle.winnow_core.specs.Stable.Longer.{passes_more, short_final}
@@ -29,14 +27,6 @@ integer_ends width value reading form i answer j (inl (bytes, as_many, are, pass
     passes_end passes
 integer_ends width value reading form i answer j (inr (k, few, kind, e, same)) =
     same_ends reading i j same
-
--- over streams that are read alike they mean the same; what the values depend on is the state
-pub integer_alike : {X S O : Type 0} (width : ℕ) (value : X → List ℕ → O) {a b : Reading ℕ S}
-    → SameReading a b
-    → SameMeaning (λ (x : X). x) (λ form. Keeps (λ x. IntegerRuns width (value x) a form))
-    (λ form. Keeps (λ x. IntegerRuns width (value x) b form))
-integer_alike width value reading =
-    same_by (λ r form. Keeps (λ x. IntegerRuns width (value x) r form)) (reading_path reading)
 
 -- bytes that were taken, and what is made of them
 pub integer_made : {S O : Type 0} (width : ℕ) (value : List ℕ → O) (reading : Reading ℕ S)

@@ -3,13 +3,11 @@ use Rattle.std.specs.Prelude.{◌≡◌, ℕ, ℤ, List, true, ⊤, Err}
 use Rattle.std.proofs.Common.{refl, sym, ap, subst, inl, inr, ◌∙◌}
 use Rattle.streams.specs.Input.{Input, IsEndOf, with_more}
 use Rattle.streams.specs.Reading.{Reading}
-use Rattle.streams.specs.SameReading.{SameReading, reading_path}
 use Rattle.stream_errors.specs.Form.{Answer, ErrorForm, modal}
 use Rattle.winnow_core.specs.Decided.{AlikeAnswers, IsDecided}
 use Rattle.winnow_core.specs.Decided.Inputs.{both_err, both_ok}
 use Rattle.winnow_core.specs.Ends.{same_ends}
 use Rattle.winnow_core.specs.Runs.{Keeps}
-use Rattle.winnow_core.specs.SameMeaning.{SameMeaning, same_by, same_trans}
 use Rattle.winnow_numbers.specs.DecInt.{DecIntRuns}
 use Rattle.winnow_numbers.specs.DecUint.Laws.{OneNumber}
 use Rattle.winnow_numbers.specs.DecimalText.{signed_value}
@@ -33,18 +31,6 @@ dec_int_ends number fits seen code reading form i answer j
     (inr (inl (sign, digits, a, runs, misfit, e, same))) = same_ends reading i j same
 dec_int_ends number fits seen code reading form i answer j (inr (inr (k, none, e))) =
     no_numeral_ends seen code reading form true i k j none
-
--- over streams that are read alike they mean the same
-pub dec_int_alike : {N K T S : Type 0} (number : N → ℤ) (fits : ℤ → Type 0) (code : K → ℕ)
-    {seen others : K → T} {a b : Reading T S} → SameReading a b → seen ≡ others
-    → SameMeaning (λ (s : ⊤). s)
-    (λ form. Keeps (λ _. DecIntRuns number fits seen code a form))
-    (λ form. Keeps (λ _. DecIntRuns number fits others code b form))
-dec_int_alike number fits code {seen} {others} {a} {b} reading tokens =
-    same_trans
-    (same_by (λ r form. Keeps (λ _. DecIntRuns number fits seen code r form))
-    (reading_path reading))
-    (same_by (λ f form. Keeps (λ _. DecIntRuns number fits f code b form)) tokens)
 
 module _ {K T L : Type 0} (seen : K → T) (code : K → ℕ) (reading : Reading T L) where
   -- on a cut input, runs of a final answer are runs on each longer one

@@ -3,11 +3,9 @@ use Rattle.std.specs.Prelude.{◌≡◌, ℕ, false, ⊤, [], Err, Ok}
 use Rattle.std.proofs.Common.{inl, inr, ap}
 use Rattle.streams.specs.Input.{Input, IsEndOf, with_more}
 use Rattle.streams.specs.Reading.{Reading}
-use Rattle.streams.specs.SameReading.{SameReading, reading_path}
 use Rattle.stream_errors.specs.Form.{Answer, ErrorForm, modal}
 use Rattle.winnow_core.specs.Ends.{same_ends}
 use Rattle.winnow_core.specs.Runs.{Keeps}
-use Rattle.winnow_core.specs.SameMeaning.{SameMeaning, same_by, same_trans}
 use Rattle.winnow_numbers.specs.DecUint.{DecUintRuns}
 use Rattle.winnow_numbers.specs.Numeral.Laws.{no_numeral_ends, numeral_ends, numeral_more}
 use Rattle.winnow_numbers.specs.Numeral.Laws.{no_numeral_more}
@@ -29,18 +27,6 @@ dec_uint_ends number bound seen code reading form i answer j
     (inr (inl (digits, a, runs, misfit, e, same))) = same_ends reading i j same
 dec_uint_ends number bound seen code reading form i answer j (inr (inr (k, none, e))) =
     no_numeral_ends seen code reading form false i k j none
-
--- over streams that are read alike they mean the same
-pub dec_uint_alike : {N K T S : Type 0} (number : N → ℕ) (bound : ℕ) (code : K → ℕ)
-    {seen others : K → T} {a b : Reading T S} → SameReading a b → seen ≡ others
-    → SameMeaning (λ (s : ⊤). s)
-    (λ form. Keeps (λ _. DecUintRuns number bound seen code a form))
-    (λ form. Keeps (λ _. DecUintRuns number bound others code b form))
-dec_uint_alike number bound code {seen} {others} {a} {b} reading tokens =
-    same_trans
-    (same_by (λ r form. Keeps (λ _. DecUintRuns number bound seen code r form))
-    (reading_path reading))
-    (same_by (λ f form. Keeps (λ _. DecUintRuns number bound f code b form)) tokens)
 
 module _ {K T L : Type 0} (seen : K → T) (code : K → ℕ) (reading : Reading T L) where
   -- on a cut input, runs of a final answer are runs on each longer one

@@ -6,7 +6,6 @@ use Rattle.std.proofs.Common.{inl, inr, ap, ◌∙◌, append_assoc, refl, sym, 
 use Rattle.std.proofs.lemmas.List.Elements.{All-head}
 use Rattle.streams.specs.Input.{Input, IsEndOf, passes_end}
 use Rattle.streams.specs.Reading.{Reading}
-use Rattle.streams.specs.SameReading.{SameReading, reading_path}
 use Rattle.stream_errors.specs.Form.{Answer, ErrorForm, modal}
 use Rattle.streams.specs.Kind.{incomplete, Kind, backtrack, memory}
 use Rattle.stream_sets.specs.AsChar.{IsHexDigit}
@@ -14,7 +13,6 @@ use Rattle.winnow_core.specs.Decided.{AlikeAnswers, IsDecided}
 use Rattle.winnow_core.specs.Decided.Inputs.{both_err, both_ok}
 use Rattle.winnow_core.specs.Ends.{same_ends}
 use Rattle.winnow_core.specs.Runs.{Keeps}
-use Rattle.winnow_core.specs.SameMeaning.{SameMeaning, same_by, same_trans}
 use Rattle.winnow_numbers.specs.DecUint.Laws.{OneNumber}
 use Rattle.winnow_numbers.specs.HexUint.{HexUintRuns}
 use Rattle.winnow_core.specs.Stable.Longer.{same_more, passes_more, passes_cut}
@@ -44,18 +42,6 @@ hex_uint_ends number most seen code reading form i answer j
     (inr (inr (inl (none, whole, e, same)))) = same_ends reading i j same
 hex_uint_ends number most seen code reading form i answer j
     (inr (inr (inr (front, t, rest, split, are, many, is, e, same)))) = same_ends reading i j same
-
--- over streams that are read alike they mean the same
-pub hex_uint_alike : {N K T S : Type 0} (number : N → ℕ) (most : ℕ) (code : K → ℕ)
-    {seen others : K → T} {a b : Reading T S} → SameReading a b → seen ≡ others
-    → SameMeaning (λ (s : ⊤). s)
-    (λ form. Keeps (λ _. HexUintRuns number most seen code a form))
-    (λ form. Keeps (λ _. HexUintRuns number most others code b form))
-hex_uint_alike number most code {seen} {others} {a} {b} reading tokens =
-    same_trans
-    (same_by (λ r form. Keeps (λ _. HexUintRuns number most seen code r form))
-    (reading_path reading))
-    (same_by (λ f form. Keeps (λ _. HexUintRuns number most f code b form)) tokens)
 
 module _ {K T L : Type 0} (seen : K → T) (code : K → ℕ) (reading : Reading T L) where
   -- on a cut input, runs of a final answer are runs on each longer one

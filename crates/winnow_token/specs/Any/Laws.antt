@@ -4,11 +4,9 @@ use Rattle.std.specs.Prelude.{Some, Ok}
 use Rattle.std.proofs.Common.{inl, inr, sym, ap, subst, ◌∙◌, refl, arith}
 use Rattle.streams.specs.Input.{Input, IsEndOf, passes_end, Passes}
 use Rattle.streams.specs.Reading.{Reading}
-use Rattle.streams.specs.SameReading.{SameReading, reading_path}
 use Rattle.stream_errors.specs.Form.{Answer, ErrorForm, modal}
 use Rattle.winnow_core.specs.Ends.{same_ends}
 use Rattle.winnow_core.specs.Runs.{Keeps}
-use Rattle.winnow_core.specs.SameMeaning.{SameMeaning, same_by, same_trans}
 use Rattle.winnow_token.specs.Any.{AnyRuns, NoTokenRuns}
 use Rattle.winnow_core.specs.Stable.Longer.{short_final, passes_more}
 use Rattle.winnow_core.specs.Stable.{IsFinal}
@@ -30,15 +28,6 @@ pub any_ends : {K T L : Type 0} (seen : K → T) (reading : Reading T L) (form :
     → IsEndOf reading j i
 any_ends seen reading form i answer j (inl (x, passes, e)) = passes_end passes
 any_ends seen reading form i answer j (inr (k, none, kind, e, same)) = same_ends reading i j same
-
--- over streams that are read alike it means the same
-pub any_alike : {K T L : Type 0} {seen others : K → T} {a b : Reading T L} → SameReading a b
-    → seen ≡ others → SameMeaning (λ (s : ⊤). s) (λ form. Keeps (λ _. AnyRuns seen a form))
-    (λ form. Keeps (λ _. AnyRuns others b form))
-any_alike {seen = seen} {others} {a} {b} reading tokens =
-    same_trans
-    (same_by (λ r form. Keeps (λ _. AnyRuns seen r form)) (reading_path reading))
-    (same_by (λ f form. Keeps (λ _. AnyRuns f b form)) tokens)
 
 -- no token is left
 pub no_token_final : {T O P : Type 0} (i : Input T) {j : Input T} {answer : Answer O}

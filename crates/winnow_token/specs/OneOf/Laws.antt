@@ -3,11 +3,9 @@ use Rattle.std.specs.Prelude.{◌≡◌, Bool, ◌++◌, ◌⊎◌, true, false,
 use Rattle.std.proofs.Common.{inl, inr, ap, refl, sym, ◌∙◌, subst, arith}
 use Rattle.streams.specs.Input.{Input, IsEndOf, passes_end}
 use Rattle.streams.specs.Reading.{Reading}
-use Rattle.streams.specs.SameReading.{SameReading, reading_path}
 use Rattle.stream_errors.specs.Form.{Answer, ErrorForm, modal}
 use Rattle.winnow_core.specs.Ends.{same_ends}
 use Rattle.winnow_core.specs.Runs.{Keeps}
-use Rattle.winnow_core.specs.SameMeaning.{SameMeaning, same_by, same_trans}
 use Rattle.winnow_token.specs.OneOf.{OneOfRuns}
 use Rattle.winnow_core.specs.Stable.Longer.{same_more, passes_more}
 use Rattle.winnow_core.specs.Stable.Grows.{Stays}
@@ -35,16 +33,6 @@ one_of_ends seen reading form member i answer j
     (inr (inl (x, rest, split, stranger, e, same))) = same_ends reading i j same
 one_of_ends seen reading form member i answer j (inr (inr (k, none, kind, e, same))) =
     same_ends reading i j same
-
--- over streams that are read alike it means the same
-pub one_of_alike : {X K T L : Type 0} (member : X → K → Bool → Type 0) {seen others : K → T}
-    {a b : Reading T L} → SameReading a b → seen ≡ others
-    → SameMeaning (λ (s : X). s) (λ form. Keeps (λ x. OneOfRuns seen a form (member x)))
-    (λ form. Keeps (λ x. OneOfRuns others b form (member x)))
-one_of_alike member {seen} {others} {a} {b} reading tokens =
-    same_trans
-    (same_by (λ r form. Keeps (λ x. OneOfRuns seen r form (member x))) (reading_path reading))
-    (same_by (λ f form. Keeps (λ x. OneOfRuns f b form (member x))) tokens)
 
 -- on a cut input, runs of a final answer are runs on each longer one
 pub one_of_stays : {K T L : Type 0} (seen : K → T) (reading : Reading T L)

@@ -3,11 +3,9 @@ use Rattle.std.specs.Prelude.{◌≡◌, ℕ, Bool, Err, ◌<◌, List, length, 
 use Rattle.std.proofs.Common.{inl, inr, sym, ap, subst, ◌∙◌, arith, length-append, refl}
 use Rattle.streams.specs.Input.{Input, IsEndOf, Takes, takes_end}
 use Rattle.streams.specs.Reading.{Reading}
-use Rattle.streams.specs.SameReading.{SameReading, reading_path}
 use Rattle.stream_errors.specs.Form.{Answer, ErrorForm, modal}
 use Rattle.winnow_core.specs.Ends.{same_ends}
 use Rattle.winnow_core.specs.Runs.{Keeps}
-use Rattle.winnow_core.specs.SameMeaning.{SameMeaning, same_by, same_trans}
 use Rattle.winnow_token.specs.Take.{TakeRuns}
 use Rattle.winnow_core.specs.Stable.Longer.{takes_more, short_final}
 use Rattle.winnow_core.specs.Stable.Grows.{Stays, final_by}
@@ -29,16 +27,6 @@ pub take_ends : {T L : Type 0} (reading : Reading T L) (form : ErrorForm) (count
 take_ends reading form counts n i answer j (inl (front, slice, count, takes, e)) = takes_end takes
 take_ends reading form counts n i answer j (inr (k, few, kind, e, same)) =
     same_ends reading i j same
-
--- over streams that are read alike they mean the same
-pub take_alike : {T L : Type 0} {a b : Reading T L} {counts others : Bool} → SameReading a b
-    → counts ≡ others → SameMeaning (λ (s : ℕ). s)
-    (λ form. Keeps (λ n. TakeRuns a form counts n))
-    (λ form. Keeps (λ n. TakeRuns b form others n))
-take_alike {a = a} {b} {counts} {others} reading missing =
-    same_trans
-    (same_by (λ r form. Keeps (λ n. TakeRuns r form counts n)) (reading_path reading))
-    (same_by (λ c form. Keeps (λ n. TakeRuns b form c n)) missing)
 
 -- on a cut input, runs of a final answer are runs on each longer one
 pub take_stays : {T L : Type 0} (reading : Reading T L) (counts : Bool) (n : ℕ)

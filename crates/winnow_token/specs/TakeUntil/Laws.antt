@@ -4,15 +4,12 @@ use Rattle.std.specs.Prelude.{false, Ok}
 use Rattle.std.proofs.Common.{inl, inr, arith, refl, sym, ap, ◌∙◌, append_assoc, subst}
 use Rattle.streams.specs.Input.{Input, IsEndOf, takes_end, Takes, with_more}
 use Rattle.streams.specs.Reading.{Reading}
-use Rattle.streams.specs.SameReading.{SameFacts, SameReading, facts_path, reading_path}
 use Rattle.stream_errors.specs.Form.{Answer, ErrorForm, modal}
-use Rattle.stream_sets.specs.Range.{Bounds, bounds_of, IsWithin}
-use Rattle.stream_sets.specs.declared.range.Range.{Range}
+use Rattle.stream_sets.specs.Range.{Bounds, IsWithin}
 use Rattle.stream_searches.specs.FindSlice.{IsFirstMatch}
 use Rattle.stream_searches.specs.FirstMatch.{StaysFirst}
 use Rattle.winnow_core.specs.Ends.{same_ends}
 use Rattle.winnow_core.specs.Runs.{Keeps}
-use Rattle.winnow_core.specs.SameMeaning.{SameMeaning, same_by, same_trans}
 use Rattle.winnow_token.specs.TakeUntil.{TakeUntilRuns}
 use Rattle.winnow_core.specs.Stable.Longer.{one_beginning, same_more, takes_more, short_final}
 use Rattle.winnow_core.specs.Stable.Grows.{Stays, final_by}
@@ -43,19 +40,6 @@ take_until_ends reading form sought bounds i answer j
 take_until_ends reading form sought bounds i answer j
     (inr (inr (inr (inr (start, end, m, most, is, le, many, e, same))))) =
     same_ends reading i j same
-
--- over streams that are read and searched alike they mean the same
-pub take_until_alike : {X T L : Type 0} {sought others : X → List T → Type 0}
-    {a b : Reading T L} → SameReading a b → SameFacts sought others
-    → SameMeaning (λ (s : Range × X). s)
-    (λ form. Keeps (λ x. TakeUntilRuns a form (sought x.1) (bounds_of x.0)))
-    (λ form. Keeps (λ x. TakeUntilRuns b form (others x.1) (bounds_of x.0)))
-take_until_alike {X} {sought = sought} {others} {a} {b} reading same =
-    same_trans
-    (same_by (λ r form. Keeps
-    (λ (x : Range × X). TakeUntilRuns r form (sought x.1) (bounds_of x.0))) (reading_path reading))
-    (same_by (λ f form. Keeps
-    (λ (x : Range × X). TakeUntilRuns b form (f x.1) (bounds_of x.0))) (facts_path same))
 
 -- beginnings of as many units are the same
 no_more_units : {T L P : Type 0} (reading : Reading T L) (xs : List T) (y : T) (ys : List T)

@@ -3,16 +3,11 @@ use Rattle.std.specs.Prelude.{◌≡◌, Bool, ℕ, List, ◌++◌, Option, fals
 use Rattle.std.proofs.Common.{inl, inr, ap, sym, subst, ◌∙◌, append_assoc, ◌⊎◌}
 use Rattle.streams.specs.Input.{Input, IsEndOf, takes_end}
 use Rattle.streams.specs.Reading.{Reading}
-use Rattle.streams.specs.SameReading.{SameReading, reading_path}
-use Rattle.streams.specs.Stream.{AnswersSeen}
 use Rattle.stream_errors.specs.Form.{Answer, ErrorForm, modal}
-use Rattle.stream_sets.specs.Range.{Bounds, bounds_of}
-use Rattle.stream_sets.specs.declared.range.Range.{Range}
+use Rattle.stream_sets.specs.Range.{Bounds}
 use Rattle.streams.specs.Equal.{same_first}
 use Rattle.streams.specs.Kind.{incomplete}
 use Rattle.winnow_core.specs.Ends.{same_ends}
-use Rattle.winnow_core.specs.Runs.{Keeps}
-use Rattle.winnow_core.specs.SameMeaning.{SameMeaning, same_by, same_trans}
 use Rattle.winnow_token.specs.TakeWhile.{TakeWhileRuns, IsEnded}
 use Rattle.stream_sets.specs.Longest.{IsLongest}
 use Rattle.winnow_core.specs.Stable.Grows.{not_whole, Stays, final_by}
@@ -33,25 +28,6 @@ take_while_ends reading form member bounds i answer j
 take_while_ends reading form member bounds i answer j
     (inr (inr (inr (front, rest, within, longest, ended, few, e, same)))) =
     same_ends reading i j same
-
--- over streams that are read alike they mean the same
-pub take_while_alike : {X K T L : Type 0} (member : X → K → Bool → Type 0) {seen others : K → T}
-    {a b : Reading T L} → SameReading a b → seen ≡ others
-    → SameMeaning (λ (s : Range × X). s)
-    (λ form. Keeps (λ x. TakeWhileRuns a form (AnswersSeen seen (member x.1))
-    (bounds_of x.0)))
-    (λ form. Keeps (λ x. TakeWhileRuns b form (AnswersSeen others (member x.1))
-    (bounds_of x.0)))
-take_while_alike {X} member {seen} {others} {a} {b} reading tokens =
-    same_trans
-    (same_by (λ r form. Keeps
-    (λ (x : Range × X). TakeWhileRuns r form (AnswersSeen seen (member x.1))
-    (bounds_of x.0)))
-    (reading_path reading))
-    (same_by (λ f form. Keeps
-    (λ (x : Range × X). TakeWhileRuns b form (AnswersSeen f (member x.1))
-    (bounds_of x.0)))
-    tokens)
 
 -- what ended is ended in a longer input
 ended_more : {T : Type 0} (member : T → Bool → Type 0) (greatest : Option ℕ)

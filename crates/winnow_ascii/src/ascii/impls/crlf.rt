@@ -1,24 +1,21 @@
 //! A carriage return and a line feed.
-ghost use Rattle.std.specs.Prelude.{⊤, [], ◌∷◌, ◌≡◌};
+ghost use Rattle.std.specs.Prelude.{⊤, [], ◌∷◌};
 ghost use Rattle.grammars.specs.Grammar.{SpelledBy};
 ghost use Rattle.grammars.specs.Grammar.Searches.{LiterallyBytes};
 ghost use Rattle.grammars.specs.Grammar.Unique.{literally_takes};
-ghost use Rattle.winnow_core.specs.Agrees.{agrees_plain};
 ghost use Rattle.winnow_core.specs.Exact.Allowed.{backs};
 ghost use Rattle.winnow_core.specs.Literal.Laws.{ShowSame, text_decided};
 ghost use Rattle.winnow_core.specs.Literal.Laws.{SpellsByText, text_exact, text_fails};
 ghost use Rattle.winnow_core.specs.Runs.{Keeps};
 ghost use Rattle.winnow_core.specs.Stable.Grows.{leaf_stays};
 ghost use Rattle.winnow_ascii.specs.Crlf.{CrlfRuns};
-ghost use Rattle.winnow_ascii.specs.Crlf.Laws.{crlf_alike, crlf_ends, crlf_stays};
+ghost use Rattle.winnow_ascii.specs.Crlf.Laws.{crlf_ends, crlf_stays};
 ghost use Rattle.winnow_core.specs.Says.{nothing_done, nothing_said};
 
 use crate::ascii::crlf;
 use stream_errors::parser_error::ParserError;
 use stream_searches::compare::Compare;
-use stream_searches::compare::like::ComparesLike;
-use streams::stream::{Stream, StreamIsPartial};
-use winnow_core::agrees_with::AgreesWith;
+use streams::stream::StreamIsPartial;
 use winnow_core::parser::Parser;
 use winnow_core::stable::Stable;
 
@@ -75,19 +72,4 @@ impl<I: StreamIsPartial + Compare<&'static str>, E: ParserError<I>> Stable<I, I:
     ghost stable = { leaf_stays I.following _ (λ _. crlf_stays I.spells I.reading) };
 
     fn stay() {}
-}
-
-impl<
-    I: StreamIsPartial + ComparesLike<&'static str, J>,
-    J: StreamIsPartial
-        + Compare<&'static str>
-        + Stream<Token = I::Token, Seen = I::Seen, Slice = I::Slice>,
-    E: ParserError<I>,
-    F: ParserError<J>,
-> AgreesWith<I, I::Slice, E, Crlf, J, F> for Crlf {
-    ghost like = { λ p q. ⊤ };
-
-    ghost agrees = { agrees_plain (crlf_alike I.same_reading I.same_spells) };
-
-    fn agree() {}
 }

@@ -1,10 +1,9 @@
 //! A line end, with or without a carriage return.
-ghost use Rattle.std.specs.Prelude.{⊤, ◌<◌, ◌∷◌, [], ◌≡◌};
+ghost use Rattle.std.specs.Prelude.{⊤, ◌<◌, ◌∷◌, []};
 ghost use Rattle.grammars.specs.Grammar.{SpelledBy};
 ghost use Rattle.grammars.specs.Grammar.Searches.{LineEnd};
 ghost use Rattle.grammars.specs.Grammar.Unique.{either_takes, literally_takes};
 ghost use Rattle.winnow_ascii.specs.LineEnding.Laws.{line_ending_decided};
-ghost use Rattle.winnow_core.specs.Agrees.{agrees_plain};
 ghost use Rattle.winnow_core.specs.Exact.Allowed.{backs};
 ghost use Rattle.winnow_core.specs.Literal.Laws.{ShowSame};
 ghost use Rattle.winnow_core.specs.Literal.Laws.{SpellsByText};
@@ -12,16 +11,14 @@ ghost use Rattle.winnow_core.specs.Runs.{Keeps};
 ghost use Rattle.winnow_core.specs.Stable.Grows.{leaf_stays};
 ghost use Rattle.winnow_ascii.specs.LineEnding.{LineEndingRuns};
 ghost use Rattle.winnow_ascii.specs.LineEnding.Laws.{line_ending_exact, line_ending_fails};
-ghost use Rattle.winnow_ascii.specs.LineEnding.Laws.{line_ending_alike, line_ending_ends};
+ghost use Rattle.winnow_ascii.specs.LineEnding.Laws.{line_ending_ends};
 ghost use Rattle.winnow_ascii.specs.LineEnding.Laws.{line_ending_stays};
 ghost use Rattle.winnow_core.specs.Says.{nothing_done, nothing_said};
 
 use crate::ascii::line_ending;
 use stream_errors::parser_error::ParserError;
 use stream_searches::compare::Compare;
-use stream_searches::compare::like::ComparesLike;
-use streams::stream::{Stream, StreamIsPartial};
-use winnow_core::agrees_with::AgreesWith;
+use streams::stream::StreamIsPartial;
 use winnow_core::parser::Parser;
 use winnow_core::stable::Stable;
 
@@ -80,19 +77,4 @@ impl<I: StreamIsPartial + Compare<&'static str>, E: ParserError<I>> Stable<I, I:
     ghost stable = { leaf_stays I.following _ (λ _. line_ending_stays I.spells I.reading) };
 
     fn stay() {}
-}
-
-impl<
-    I: StreamIsPartial + ComparesLike<&'static str, J>,
-    J: StreamIsPartial
-        + Compare<&'static str>
-        + Stream<Token = I::Token, Seen = I::Seen, Slice = I::Slice>,
-    E: ParserError<I>,
-    F: ParserError<J>,
-> AgreesWith<I, I::Slice, E, LineEnding, J, F> for LineEnding {
-    ghost like = { λ p q. ⊤ };
-
-    ghost agrees = { agrees_plain (line_ending_alike I.same_reading I.same_spells) };
-
-    fn agree() {}
 }

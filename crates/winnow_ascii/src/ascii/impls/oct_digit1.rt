@@ -8,8 +8,7 @@ ghost use Rattle.stream_sets.specs.Range.{from_to};
 ghost use Rattle.grammars.specs.Grammar.{Class};
 ghost use Rattle.winnow_ascii.specs.Class.{ClassRuns};
 ghost use Rattle.winnow_ascii.specs.Class.Laws.{SeenOnce, class_decided, class_exact, class_fails};
-ghost use Rattle.winnow_ascii.specs.Class.Laws.{class_takes, one_is_some, class_alike, class_ends};
-ghost use Rattle.winnow_core.specs.Agrees.{agrees_plain};
+ghost use Rattle.winnow_ascii.specs.Class.Laws.{class_takes, one_is_some, class_ends};
 ghost use Rattle.winnow_core.specs.Exact.Allowed.{backs};
 ghost use Rattle.winnow_core.specs.Literal.Laws.{ShowSame};
 ghost use Rattle.winnow_core.specs.Runs.{Keeps};
@@ -20,9 +19,7 @@ ghost use Rattle.winnow_core.specs.Says.{nothing_done, nothing_said};
 use crate::ascii::oct_digit1;
 use stream_errors::parser_error::ParserError;
 use stream_sets::as_char::AsChar;
-use streams::reads_like::ReadsLike;
-use streams::stream::{Stream, StreamIsPartial};
-use winnow_core::agrees_with::AgreesWith;
+use streams::stream::StreamIsPartial;
 use winnow_core::parser::Parser;
 use winnow_core::stable::Stable;
 
@@ -83,21 +80,4 @@ where
         (λ _. take_while_stays I.reading _ (from_to 1 None)) };
 
     fn stay() {}
-}
-
-impl<
-    I: StreamIsPartial + ReadsLike<J>,
-    J: StreamIsPartial + Stream<Token = I::Token, Seen = I::Seen, Slice = I::Slice>,
-    E: ParserError<I>,
-    F: ParserError<J>,
-> AgreesWith<I, I::Slice, E, OctDigit1, J, F> for OctDigit1
-where
-    I::Token: AsChar,
-{
-    ghost like = { λ p q. ⊤ };
-
-    ghost agrees = { agrees_plain
-        (class_alike IsOctDigit 1 I.Token.code I.same_reading I.same_tokens) };
-
-    fn agree() {}
 }

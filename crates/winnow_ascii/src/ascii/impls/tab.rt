@@ -3,22 +3,19 @@ ghost use Rattle.std.specs.Prelude.{⊤, [], ◌≡◌};
 ghost use Rattle.std.proofs.Common.{refl};
 ghost use Rattle.grammars.specs.Grammar.{Literally};
 ghost use Rattle.grammars.specs.Grammar.Unique.{literally_takes};
-ghost use Rattle.winnow_core.specs.Agrees.{agrees_plain};
 ghost use Rattle.winnow_core.specs.Exact.Allowed.{backs};
 ghost use Rattle.winnow_core.specs.Literal.Laws.{literal_decided, literal_exact, literal_fails};
 ghost use Rattle.winnow_core.specs.Literal.Laws.{literal_stays};
 ghost use Rattle.winnow_core.specs.Runs.{Keeps};
 ghost use Rattle.winnow_core.specs.Stable.Grows.{leaf_stays};
 ghost use Rattle.winnow_ascii.specs.Tab.{TabRuns};
-ghost use Rattle.winnow_ascii.specs.Tab.Laws.{tab_alike, tab_ends};
+ghost use Rattle.winnow_ascii.specs.Tab.Laws.{tab_ends};
 ghost use Rattle.winnow_core.specs.Says.{nothing_done, nothing_said};
 
 use crate::ascii::tab;
 use stream_errors::parser_error::ParserError;
 use stream_searches::compare::Compare;
-use stream_searches::compare::like::ComparesLike;
-use streams::stream::{Stream, StreamIsPartial};
-use winnow_core::agrees_with::AgreesWith;
+use streams::stream::StreamIsPartial;
 use winnow_core::parser::Parser;
 use winnow_core::stable::Stable;
 
@@ -74,17 +71,4 @@ impl<I: StreamIsPartial + Compare<char>, E: ParserError<I>> Stable<I, char, E> f
         (λ _. literal_stays I.reading (I.spells 9) (λ _. 9)) };
 
     fn stay() {}
-}
-
-impl<
-    I: StreamIsPartial + ComparesLike<char, J>,
-    J: StreamIsPartial + Compare<char> + Stream<Token = I::Token, Seen = I::Seen, Slice = I::Slice>,
-    E: ParserError<I>,
-    F: ParserError<J>,
-> AgreesWith<I, char, E, Tab, J, F> for Tab {
-    ghost like = { λ p q. ⊤ };
-
-    ghost agrees = { agrees_plain (tab_alike I.same_reading I.same_spells) };
-
-    fn agree() {}
 }

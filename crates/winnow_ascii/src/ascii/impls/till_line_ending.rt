@@ -1,7 +1,6 @@
 //! What stands before a line end.
 ghost use Rattle.std.specs.Prelude.{⊤};
 ghost use Rattle.grammars.specs.Grammar.Searches.{Line};
-ghost use Rattle.winnow_core.specs.Agrees.{agrees_plain};
 ghost use Rattle.winnow_core.specs.Exact.Allowed.{backs};
 ghost use Rattle.winnow_core.specs.Literal.Laws.{ShowSame, SpellsByText};
 ghost use Rattle.winnow_core.specs.Runs.{Keeps};
@@ -10,7 +9,6 @@ ghost use Rattle.winnow_ascii.specs.TillLineEnding.{TillLineEndingRuns};
 ghost use Rattle.winnow_ascii.specs.TillLineEnding.Decided.{till_line_ending_decided};
 ghost use Rattle.winnow_ascii.specs.TillLineEnding.Exact.{till_line_ending_exact};
 ghost use Rattle.winnow_ascii.specs.TillLineEnding.Exact.{till_line_ending_fails};
-ghost use Rattle.winnow_ascii.specs.TillLineEnding.Laws.{till_line_ending_alike};
 ghost use Rattle.winnow_ascii.specs.TillLineEnding.Laws.{till_line_ending_ends};
 ghost use Rattle.winnow_ascii.specs.TillLineEnding.Laws.{till_line_ending_stays};
 ghost use Rattle.winnow_core.specs.Says.{nothing_done, nothing_said};
@@ -19,11 +17,8 @@ use crate::ascii::till_line_ending;
 use crate::stable::LineEnds;
 use stream_errors::parser_error::ParserError;
 use stream_searches::compare::Compare;
-use stream_searches::compare::like::ComparesLike;
 use stream_searches::find::FindSlice;
-use stream_searches::find::like::FindsLike;
-use streams::stream::{Stream, StreamIsPartial};
-use winnow_core::agrees_with::AgreesWith;
+use streams::stream::StreamIsPartial;
 use winnow_core::parser::Parser;
 use winnow_core::stable::Stable;
 
@@ -81,21 +76,4 @@ impl<I: LineEnds, E: ParserError<I>> Stable<I, I::Slice, E> for TillLineEnding {
         I.seeks_some I.spells_one) };
 
     fn stay() {}
-}
-
-impl<
-    I: StreamIsPartial + ComparesLike<&'static str, J> + FindsLike<(char, char), J>,
-    J: StreamIsPartial
-        + Compare<&'static str>
-        + FindSlice<(char, char)>
-        + Stream<Token = I::Token, Seen = I::Seen, Slice = I::Slice>,
-    E: ParserError<I>,
-    F: ParserError<J>,
-> AgreesWith<I, I::Slice, E, TillLineEnding, J, F> for TillLineEnding {
-    ghost like = { λ p q. ⊤ };
-
-    ghost agrees = { agrees_plain
-        (till_line_ending_alike I.same_reading I.same_spells I.same_sought) };
-
-    fn agree() {}
 }

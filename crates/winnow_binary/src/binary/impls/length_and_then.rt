@@ -10,18 +10,14 @@ ghost use Rattle.winnow_binary.specs.LengthAndThen.{LengthAndThenRuns, TakenRuns
 ghost use Rattle.winnow_binary.specs.LengthAndThen.Decided.{length_and_then_decided};
 ghost use Rattle.winnow_binary.specs.LengthAndThen.Laws.{length_and_then_exact};
 ghost use Rattle.winnow_binary.specs.LengthAndThen.Laws.{length_and_then_fails};
-ghost use Rattle.winnow_binary.specs.LengthAndThen.Laws.{length_and_then_agrees};
 ghost use Rattle.winnow_binary.specs.LengthAndThen.Laws.{length_and_then_ends};
 ghost use Rattle.winnow_binary.specs.LengthAndThen.Laws.{length_and_then_grows};
-ghost use Rattle.std.specs.Prelude.{◌≡◌};
 ghost use Rattle.winnow_core.specs.Says.{nothing_done, nothing_said};
 
 use std::marker::PhantomData;
 use stream_errors::parser_error::ParserError;
 use stream_sets::numbers::ToUsize;
-use streams::reads_like::ReadsLike;
 use streams::stream::{Stream, StreamIsPartial, UpdateSlice};
-use winnow_core::agrees_with::AgreesWith;
 use winnow_core::parser::Parser;
 use winnow_core::short::short;
 use winnow_core::stable::Stable;
@@ -158,27 +154,4 @@ impl<
         (grows (P.leaves_ends modal) P.stable)) };
 
     fn stay() {}
-}
-
-impl<
-    P: AgreesWith<I, N, E, Q, J, F>,
-    Q: Parser<J, N, F>,
-    G: AgreesWith<I, O, E, H, J, F>,
-    H: Parser<J, O, F>,
-    I: StreamIsPartial + UpdateSlice + Copy + ReadsLike<J>,
-    J: StreamIsPartial
-        + UpdateSlice
-        + Copy
-        + Stream<Token = I::Token, Seen = I::Seen, Slice = I::Slice>,
-    N: ToUsize + Drop,
-    O,
-    E: ParserError<I>,
-    F: ParserError<J>,
-> AgreesWith<I, O, E, LengthAndThen<Q, H, J, N, O, F>, J, F> for LengthAndThen<P, G, I, N, O, E> {
-    ghost like = { λ p q. P.like p.count q.count × G.like p.parser q.parser };
-
-    ghost agrees = { length_and_then_agrees N.number (λ p. p.count) (λ q. q.count)
-        (λ p. p.parser) (λ q. q.parser) I.same_reading I.same_missing P.agrees G.agrees };
-
-    fn agree() {}
 }

@@ -1,7 +1,6 @@
 //! A length, and that many items.
 ghost use Rattle.grammars.specs.Grammar.Lengths.{SaysOne, Sized, Times, sized_times_takes};
 ghost use Rattle.stream_errors.specs.Form.{assert_kind, modal};
-ghost use Rattle.winnow_core.specs.Agrees.Sizes.{agrees2};
 ghost use Rattle.winnow_core.specs.Exact.Allowed.{fails_as, wanted, softly};
 ghost use Rattle.winnow_core.specs.Stable.Grows.{grows, stays};
 ghost use Rattle.winnow_binary.specs.Length.Decided.{OneLength};
@@ -10,7 +9,6 @@ ghost use Rattle.winnow_binary.specs.LengthRepeat.Decided.{length_repeat_decided
 ghost use Rattle.winnow_binary.specs.LengthRepeat.Laws.{length_repeat_exact, length_repeat_fails};
 ghost use Rattle.winnow_binary.specs.LengthRepeat.Laws.{length_repeat_ends, length_repeat_grows};
 ghost use Rattle.winnow_repeat.specs.Repeat.Decided.{HeldAlike};
-ghost use Rattle.std.specs.Prelude.{◌≡◌};
 ghost use Rattle.winnow_core.specs.Says.{nothing_done, nothing_said};
 
 use std::alloc::Allocator;
@@ -19,7 +17,6 @@ use stream_errors::parser_error::ParserError;
 use stream_sets::accumulate::Accumulate;
 use stream_sets::numbers::ToUsize;
 use streams::stream::Stream;
-use winnow_core::agrees_with::AgreesWith;
 use winnow_core::parser::Parser;
 use winnow_core::stable::Stable;
 use winnow_repeat::combinator::items::repeat_many;
@@ -118,28 +115,4 @@ impl<
         (grows (P.leaves_ends modal) P.stable) (grows (G.leaves_ends modal) G.stable)) };
 
     fn stay() {}
-}
-
-impl<
-    P: AgreesWith<I, N, E, Q, J, F>,
-    Q: Parser<J, N, F>,
-    G: AgreesWith<I, O, E, H, J, F>,
-    H: Parser<J, O, F>,
-    I: Stream,
-    J: Stream<Token = I::Token, Seen = I::Seen, Slice = I::Slice>,
-    N: ToUsize + Drop,
-    O: Drop,
-    C: Accumulate<O, A>,
-    E: ParserError<I>,
-    F: ParserError<J>,
-    A: Allocator + Copy,
-> AgreesWith<I, C, E, LengthRepeat<Q, H, J, N, O, C, F, A>, J, F>
-    for LengthRepeat<P, G, I, N, O, C, E, A> {
-    ghost like = { λ p q. P.like p.count q.count × G.like p.parser q.parser };
-
-    ghost agrees = { agrees2 (λ p. p.count) (λ q. q.count) (λ p. p.parser) (λ q. q.parser)
-        (λ X Y m n form. LengthRepeatRuns N.number C.accumulator (assert_kind form) (m form)
-        (n form)) P.agrees G.agrees };
-
-    fn agree() {}
 }

@@ -8,17 +8,14 @@ ghost use Rattle.winnow_binary.specs.Length.Decided.{OneLength};
 ghost use Rattle.winnow_binary.specs.LengthTake.{LengthTakeRuns};
 ghost use Rattle.winnow_binary.specs.LengthTake.Decided.{length_take_decided};
 ghost use Rattle.winnow_binary.specs.LengthTake.Laws.{length_take_exact, length_take_fails};
-ghost use Rattle.winnow_binary.specs.LengthTake.Laws.{length_take_takes, length_take_agrees};
+ghost use Rattle.winnow_binary.specs.LengthTake.Laws.{length_take_takes};
 ghost use Rattle.winnow_binary.specs.LengthTake.Laws.{length_take_ends, length_take_stays};
-ghost use Rattle.std.specs.Prelude.{◌≡◌};
 ghost use Rattle.winnow_core.specs.Says.{nothing_done, nothing_said};
 
 use std::marker::PhantomData;
 use stream_errors::parser_error::ParserError;
 use stream_sets::numbers::ToUsize;
-use streams::reads_like::ReadsLike;
-use streams::stream::{Stream, StreamIsPartial};
-use winnow_core::agrees_with::AgreesWith;
+use streams::stream::StreamIsPartial;
 use winnow_core::parser::Parser;
 use winnow_core::stable::Stable;
 use winnow_token::token::take;
@@ -94,21 +91,4 @@ impl<P: Stable<I, N, E>, I: StreamIsPartial, N: ToUsize + Drop, E: ParserError<I
         (grows (P.leaves_ends modal) P.stable) };
 
     fn stay() {}
-}
-
-impl<
-    P: AgreesWith<I, N, E, Q, J, F>,
-    Q: Parser<J, N, F>,
-    I: StreamIsPartial + ReadsLike<J>,
-    J: StreamIsPartial + Stream<Token = I::Token, Seen = I::Seen, Slice = I::Slice>,
-    N: ToUsize + Drop,
-    E: ParserError<I>,
-    F: ParserError<J>,
-> AgreesWith<I, I::Slice, E, LengthTake<Q, J, N, F>, J, F> for LengthTake<P, I, N, E> {
-    ghost like = { λ p q. P.like p.count q.count };
-
-    ghost agrees = { length_take_agrees N.number (λ p. p.count) (λ q. q.count) I.same_reading
-        I.same_missing P.agrees };
-
-    fn agree() {}
 }

@@ -5,11 +5,10 @@ ghost use Rattle.std.specs.Prelude.{◌≡◌, ⊤};
 ghost use Rattle.winnow_binary.specs.Chosen.{ChosenRuns};
 ghost use Rattle.winnow_integers.specs.Integer.{unsigned_value};
 ghost use Rattle.winnow_integers.specs.Integer.Grammar.{Integer, integer_takes};
-ghost use Rattle.winnow_integers.specs.Integer.Laws.{integer_alike, integer_ends, integer_exact};
+ghost use Rattle.winnow_integers.specs.Integer.Laws.{integer_ends, integer_exact};
 ghost use Rattle.winnow_integers.specs.Integer.Laws.{integer_decided, integer_fails, integer_stays};
 ghost use Rattle.winnow_integers.specs.Integer.Laws.{some_bytes};
 ghost use Rattle.winnow_integers.specs.declared.binary.endianness.Endianness.{Endianness};
-ghost use Rattle.winnow_core.specs.Agrees.{agrees_by};
 ghost use Rattle.winnow_core.specs.Exact.Allowed.{backs};
 ghost use Rattle.winnow_core.specs.Stable.Grows.{leaf_stays};
 ghost use Rattle.winnow_core.specs.Says.{nothing_done, nothing_said};
@@ -17,9 +16,7 @@ ghost use Rattle.winnow_core.specs.Says.{nothing_done, nothing_said};
 use std::marker::PhantomData;
 use stream_errors::parser_error::ParserError;
 use streams::byte_stream::ByteStream;
-use streams::reads_like::ReadsLike;
-use streams::stream::{Stream, StreamIsPartial};
-use winnow_core::agrees_with::AgreesWith;
+use streams::stream::StreamIsPartial;
 use winnow_core::parser::Parser;
 use winnow_core::stable::Stable;
 use winnow_integers::binary::{Endianness, be_u24, le_u24};
@@ -82,18 +79,4 @@ impl<I: StreamIsPartial + ByteStream, E: ParserError<I>> Stable<I, u32, E> for U
     ghost stable = { leaf_stays I.following _ (λ x. integer_stays 3 (unsigned_value x) I.reading) };
 
     fn stay() {}
-}
-
-impl<
-    I: StreamIsPartial + ByteStream + ReadsLike<J>,
-    J: StreamIsPartial + ByteStream + Stream<Token = u8, Seen = u8, Slice = I::Slice>,
-    E: ParserError<I>,
-    F: ParserError<J>,
-> AgreesWith<I, u32, E, U24<J, F>, J, F> for U24<I, E> {
-    ghost like = { λ p q. p.endian ≡ q.endian };
-
-    ghost agrees = { agrees_by (λ p. p.endian) (λ q. q.endian)
-        (integer_alike 3 unsigned_value I.same_reading) };
-
-    fn agree() {}
 }

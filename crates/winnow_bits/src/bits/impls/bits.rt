@@ -1,6 +1,5 @@
 //! A parser of bits, run on bytes.
 ghost use Rattle.stream_errors.specs.Form.{modal};
-ghost use Rattle.winnow_bits.specs.BitAgree.{bits_agree};
 ghost use Rattle.winnow_bits.specs.BitsOfBytes.{BitsOfBytesRuns};
 ghost use Rattle.winnow_bits.specs.BitsOfBytes.Laws.{bits_of_bytes_ends, bits_of_bytes_stays};
 ghost use Rattle.winnow_core.specs.Claim.{no_claim, nothing_claimed};
@@ -13,9 +12,6 @@ pub use stream_bits::offsets::BitOffsets;
 use stream_errors::convert::ErrorConvert;
 use stream_errors::parser_error::ParserError;
 use streams::byte_stream::ByteStream;
-use streams::reads_like::ReadsLike;
-use streams::stream::Stream;
-use winnow_core::agrees_with::AgreesWith;
 use winnow_core::parser::Parser;
 use winnow_core::stable::Stable;
 
@@ -92,22 +88,4 @@ impl<
         (P.meaning modal) P.stable };
 
     fn stay() {}
-}
-
-impl<
-    I: ByteStream + Copy + ReadsLike<J>,
-    J: ByteStream + Copy + Stream<Token = u8, Seen = u8, Slice = I::Slice>,
-    P: AgreesWith<Bits<I>, O, E, Q, Bits<J>, D>,
-    Q: Parser<Bits<J>, O, D>,
-    O: Drop,
-    E: ParserError<Bits<I>> + ErrorConvert<F>,
-    D: ParserError<Bits<J>> + ErrorConvert<G>,
-    F: ParserError<I>,
-    G: ParserError<J>,
-> AgreesWith<I, O, F, BitsParser<Q, J, O, D, G>, J, G> for BitsParser<P, I, O, E, F> {
-    ghost like = { λ p q. P.like p.parser q.parser };
-
-    ghost agrees = { bits_agree (λ p. p.parser) (λ q. q.parser) I.same_reading P.agrees };
-
-    fn agree() {}
 }

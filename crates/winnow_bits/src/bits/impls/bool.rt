@@ -1,10 +1,9 @@
 //! One bit.
 ghost use Rattle.std.specs.Prelude.{⊤};
 ghost use Rattle.stream_bits.specs.BitInput.{bits_follow};
-ghost use Rattle.stream_bits.specs.BitReading.{bits_alike, bits_reading};
+ghost use Rattle.stream_bits.specs.BitReading.{bits_reading};
 ghost use Rattle.winnow_bits.specs.BitBool.{BitBoolRuns};
-ghost use Rattle.winnow_bits.specs.BitBool.Laws.{bit_bool_alike, bit_bool_ends, bit_bool_stays};
-ghost use Rattle.winnow_core.specs.Agrees.{agrees_plain};
+ghost use Rattle.winnow_bits.specs.BitBool.Laws.{bit_bool_ends, bit_bool_stays};
 ghost use Rattle.winnow_core.specs.Runs.{Keeps};
 ghost use Rattle.winnow_core.specs.Stable.Grows.{leaf_stays};
 ghost use Rattle.winnow_core.specs.Claim.{no_claim, nothing_claimed};
@@ -14,9 +13,7 @@ use crate::bits;
 use stream_bits::bits::Bits;
 use stream_errors::parser_error::ParserError;
 use streams::byte_stream::ByteStream;
-use streams::reads_like::ReadsLike;
-use streams::stream::{Stream, StreamIsPartial};
-use winnow_core::agrees_with::AgreesWith;
+use streams::stream::StreamIsPartial;
 use winnow_core::parser::Parser;
 use winnow_core::stable::Stable;
 
@@ -60,17 +57,4 @@ impl<I: ByteStream + StreamIsPartial, E: ParserError<Bits<I>>> Stable<Bits<I>, b
         (λ _. bit_bool_stays (bits_reading I.reading)) };
 
     fn stay() {}
-}
-
-impl<
-    I: ByteStream + StreamIsPartial + ReadsLike<J>,
-    J: ByteStream + StreamIsPartial + Stream<Token = u8, Seen = u8, Slice = I::Slice>,
-    E: ParserError<Bits<I>>,
-    F: ParserError<Bits<J>>,
-> AgreesWith<Bits<I>, bool, E, Bool, Bits<J>, F> for Bool {
-    ghost like = { λ p q. ⊤ };
-
-    ghost agrees = { agrees_plain (bit_bool_alike (bits_alike I.same_reading)) };
-
-    fn agree() {}
 }

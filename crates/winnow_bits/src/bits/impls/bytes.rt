@@ -1,7 +1,6 @@
 //! A parser of bytes, run on bits.
 ghost use Rattle.stream_bits.specs.BitReading.{bits_reading};
 ghost use Rattle.stream_errors.specs.Form.{modal};
-ghost use Rattle.winnow_bits.specs.BitAgree.{bytes_agree};
 ghost use Rattle.winnow_bits.specs.BytesOfBits.{BytesOfBitsRuns};
 ghost use Rattle.winnow_bits.specs.BytesOfBits.Laws.{bytes_of_bits_ends, bytes_of_bits_stays};
 ghost use Rattle.winnow_core.specs.Claim.{no_claim, nothing_claimed};
@@ -13,9 +12,6 @@ use stream_bits::bits::Bits;
 use stream_errors::convert::ErrorConvert;
 use stream_errors::parser_error::ParserError;
 use streams::byte_stream::ByteStream;
-use streams::reads_like::ReadsLike;
-use streams::stream::Stream;
-use winnow_core::agrees_with::AgreesWith;
 use winnow_core::parser::Parser;
 use winnow_core::stable::Stable;
 
@@ -88,22 +84,4 @@ impl<
         (P.meaning modal) (P.leaves_ends modal) P.stable };
 
     fn stay() {}
-}
-
-impl<
-    I: ByteStream + Copy + ReadsLike<J>,
-    J: ByteStream + Copy + Stream<Token = u8, Seen = u8, Slice = I::Slice>,
-    P: AgreesWith<I, O, E, Q, J, D>,
-    Q: Parser<J, O, D>,
-    O,
-    E: ParserError<I> + ErrorConvert<F>,
-    D: ParserError<J> + ErrorConvert<G>,
-    F: ParserError<Bits<I>>,
-    G: ParserError<Bits<J>>,
-> AgreesWith<Bits<I>, O, F, Bytes<Q, J, O, D, G>, Bits<J>, G> for Bytes<P, I, O, E, F> {
-    ghost like = { λ p q. P.like p.parser q.parser };
-
-    ghost agrees = { bytes_agree (λ p. p.parser) (λ q. q.parser) I.same_reading P.agrees };
-
-    fn agree() {}
 }

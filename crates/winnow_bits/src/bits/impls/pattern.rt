@@ -1,11 +1,10 @@
 //! That many bits, which must be a number.
-ghost use Rattle.std.specs.Prelude.{◌≡◌, ℕ};
+ghost use Rattle.std.specs.Prelude.{ℕ};
 ghost use Rattle.stream_bits.specs.BitInput.{bits_follow};
-ghost use Rattle.stream_bits.specs.BitReading.{bits_alike, bits_reading};
+ghost use Rattle.stream_bits.specs.BitReading.{bits_reading};
 ghost use Rattle.winnow_bits.specs.BitPattern.{BitPatternRuns};
-ghost use Rattle.winnow_bits.specs.BitPattern.Laws.{bit_pattern_alike, bit_pattern_ends};
+ghost use Rattle.winnow_bits.specs.BitPattern.Laws.{bit_pattern_ends};
 ghost use Rattle.winnow_bits.specs.BitPattern.Laws.{bit_pattern_stays};
-ghost use Rattle.winnow_core.specs.Agrees.{agrees_by_parts};
 ghost use Rattle.winnow_core.specs.Runs.{Keeps};
 ghost use Rattle.winnow_core.specs.Stable.Grows.{leaf_stays};
 ghost use Rattle.winnow_core.specs.Claim.{no_claim, nothing_claimed};
@@ -17,9 +16,7 @@ use std::marker::PhantomData;
 use stream_bits::bits::Bits;
 use stream_errors::parser_error::ParserError;
 use streams::byte_stream::ByteStream;
-use streams::reads_like::ReadsLike;
-use streams::stream::{Stream, StreamIsPartial};
-use winnow_core::agrees_with::AgreesWith;
+use streams::stream::StreamIsPartial;
 use winnow_core::parser::Parser;
 use winnow_core::stable::Stable;
 
@@ -84,20 +81,4 @@ impl<I: ByteStream + StreamIsPartial, O: BitOutput, E: ParserError<Bits<I>>> Sta
         (λ x. bit_pattern_stays (bits_reading I.reading) O.number O.WIDTH x.0 x.1) };
 
     fn stay() {}
-}
-
-impl<
-    I: ByteStream + StreamIsPartial + ReadsLike<J>,
-    J: ByteStream + StreamIsPartial + Stream<Token = u8, Seen = u8, Slice = I::Slice>,
-    O: BitOutput,
-    E: ParserError<Bits<I>>,
-    F: ParserError<Bits<J>>,
-> AgreesWith<Bits<I>, O, E, Pattern<J, O, F>, Bits<J>, F> for Pattern<I, O, E> {
-    ghost like = { λ p q. (O.number p.value ≡ O.number q.value) × (p.count ≡ q.count) };
-
-    ghost agrees = { agrees_by_parts (λ p. O.number p.value) (λ p. p.count)
-        (λ q. O.number q.value) (λ q. q.count)
-        (bit_pattern_alike O.number O.WIDTH (bits_alike I.same_reading)) };
-
-    fn agree() {}
 }

@@ -1,10 +1,9 @@
 //! That many bits, as a number.
-ghost use Rattle.std.specs.Prelude.{◌≡◌, ℕ};
+ghost use Rattle.std.specs.Prelude.{ℕ};
 ghost use Rattle.stream_bits.specs.BitInput.{bits_follow};
-ghost use Rattle.stream_bits.specs.BitReading.{bits_alike, bits_reading};
+ghost use Rattle.stream_bits.specs.BitReading.{bits_reading};
 ghost use Rattle.winnow_bits.specs.BitTake.{BitTakeRuns};
-ghost use Rattle.winnow_bits.specs.BitTake.Laws.{bit_take_alike, bit_take_ends, bit_take_stays};
-ghost use Rattle.winnow_core.specs.Agrees.{agrees_by};
+ghost use Rattle.winnow_bits.specs.BitTake.Laws.{bit_take_ends, bit_take_stays};
 ghost use Rattle.winnow_core.specs.Runs.{Keeps};
 ghost use Rattle.winnow_core.specs.Stable.Grows.{leaf_stays};
 ghost use Rattle.winnow_core.specs.Claim.{no_claim, nothing_claimed};
@@ -16,9 +15,7 @@ use std::marker::PhantomData;
 use stream_bits::bits::Bits;
 use stream_errors::parser_error::ParserError;
 use streams::byte_stream::ByteStream;
-use streams::reads_like::ReadsLike;
-use streams::stream::{Stream, StreamIsPartial};
-use winnow_core::agrees_with::AgreesWith;
+use streams::stream::StreamIsPartial;
 use winnow_core::parser::Parser;
 use winnow_core::stable::Stable;
 
@@ -72,19 +69,4 @@ impl<I: ByteStream + StreamIsPartial, O: BitOutput, E: ParserError<Bits<I>>> Sta
         (bit_take_stays (bits_reading I.reading) O.number O.WIDTH) };
 
     fn stay() {}
-}
-
-impl<
-    I: ByteStream + StreamIsPartial + ReadsLike<J>,
-    J: ByteStream + StreamIsPartial + Stream<Token = u8, Seen = u8, Slice = I::Slice>,
-    O: BitOutput,
-    E: ParserError<Bits<I>>,
-    F: ParserError<Bits<J>>,
-> AgreesWith<Bits<I>, O, E, Take<J, O, F>, Bits<J>, F> for Take<I, O, E> {
-    ghost like = { λ p q. p.count ≡ q.count };
-
-    ghost agrees = { agrees_by (λ p. p.count) (λ q. q.count)
-        (bit_take_alike O.number O.WIDTH (bits_alike I.same_reading)) };
-
-    fn agree() {}
 }

@@ -1,16 +1,13 @@
 -- What holds of the runs of choices among the items of an array or a slice.
-use Rattle.std.specs.Prelude.{◌≡◌, ℕ, List, [], ◌∷◌, map, Err, Bool}
+use Rattle.std.specs.Prelude.{◌≡◌, List, [], ◌∷◌, Err, Bool}
 use Rattle.std.proofs.Common.{refl, inl, inr}
 use Rattle.streams.specs.Input.{Input, Remaining, IsEndOf, back_at, is_end_of_back, is_end_of_trans}
 use Rattle.streams.specs.Input.{with_more}
 use Rattle.streams.specs.Kind.{Kind, backtrack}
 use Rattle.streams.specs.Reading.{Reading}
-use Rattle.stream_errors.specs.Form.{ErrorForm}
 use Rattle.streams.specs.Following.{Following}
-use Rattle.winnow_core.specs.Agrees.{Agrees, AllAlike, agrees_list, agrees_with}
-use Rattle.winnow_core.specs.ByRef.{ByRefRuns}
 use Rattle.winnow_core.specs.Ends.{same_ends}
-use Rattle.winnow_core.specs.Runs.{Runs, LeaveEnds, Meaning}
+use Rattle.winnow_core.specs.Runs.{Runs, LeaveEnds}
 use Rattle.winnow_comb.specs.Alt.Slice.{AltSliceRuns, Backtracked}
 use Rattle.winnow_core.specs.Stable.Longer.{same_grows}
 use Rattle.winnow_core.specs.Stable.Grows.{Grows, MayGrow}
@@ -36,22 +33,6 @@ alt_slice_ends reading run assert_kind ends s i answer t j
     (inr (before, x, rest, ran, y, m, old, new, backtracked, r, last)) =
     is_end_of_trans (ends x m answer y j r)
     (backtracked_ends reading run ends before i ran m i.left refl backtracked)
-
--- choices among the items of slices agree, where those of their items do; the slices are after
--- references
-pub slice_agrees : {P P' Q Q' S U T O : Type 0} (parts : P' → List P)
-    (other_parts : Q' → List Q) (name : P' → ℕ) (other_name : Q' → ℕ)
-    (assert_kind : ErrorForm → Kind) {state : P → S} {other : Q → U} {like : P → Q → Type 0}
-    {m : Meaning S T O} {n : Meaning U T O} → Agrees state other like m n
-    → Agrees (λ p. (map state (parts p), name p))
-    (λ q. (map other (other_parts q), other_name q))
-    (λ p q. AllAlike like (parts p) (other_parts q) × (name p ≡ other_name q))
-    (λ form. ByRefRuns (AltSliceRuns (m form) (assert_kind form)))
-    (λ form. ByRefRuns (AltSliceRuns (n form) (assert_kind form)))
-slice_agrees parts other_parts name other_name assert_kind child =
-    agrees_with (λ p. p) (λ q. q) name other_name (λ X x form. ByRefRuns (x form))
-    (agrees_list parts other_parts (λ X x form. AltSliceRuns (x form) (assert_kind form))
-    child)
 
 module _ {T : Type 0} {following : Following T} where
   -- branches that backtracked did so on a longer input

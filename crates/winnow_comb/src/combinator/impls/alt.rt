@@ -7,7 +7,6 @@ ghost use Rattle.winnow_core.specs.Claim.{Claim, Claimed};
 ghost use Rattle.winnow_core.specs.Runs.{LeaveEnds, Meaning};
 ghost use Rattle.winnow_core.specs.Says.{nothing_done, nothing_said};
 
-mod agreeing;
 mod slices;
 mod tuples;
 

@@ -1,10 +1,9 @@
 //! A child that is run on a condition.
-ghost use Rattle.std.specs.Prelude.{◌≡◌, Bool};
+ghost use Rattle.std.specs.Prelude.{Bool};
 ghost use Rattle.grammars.specs.Grammar.{When};
 ghost use Rattle.stream_errors.specs.Form.{modal};
 ghost use Rattle.winnow_comb.specs.Cond.Laws.{cond_decided};
 ghost use Rattle.winnow_comb.specs.Opt.Laws.{AlikeOptions};
-ghost use Rattle.winnow_core.specs.Agrees.{agrees_with};
 ghost use Rattle.winnow_core.specs.Stable.Grows.{grows, stays};
 ghost use Rattle.winnow_comb.specs.Cond.{CondRuns};
 ghost use Rattle.winnow_comb.specs.Cond.Laws.{cond_exact, cond_fails, cond_ends, cond_grows};
@@ -13,7 +12,6 @@ ghost use Rattle.winnow_core.specs.Says.{nothing_done, nothing_said};
 use std::marker::PhantomData;
 use stream_errors::parser_error::ParserError;
 use streams::stream::Stream;
-use winnow_core::agrees_with::AgreesWith;
 use winnow_core::parser::Parser;
 use winnow_core::stable::Stable;
 
@@ -81,21 +79,4 @@ impl<I: Stream, O, E: ParserError<I>, P: Stable<I, O, E>> Stable<I, Option<O>, E
     ghost stable = { stays (cond_grows (grows (P.leaves_ends modal) P.stable)) };
 
     fn stay() {}
-}
-
-impl<
-    P: AgreesWith<I, O, E, Q, J, F>,
-    Q: Parser<J, O, F>,
-    I: Stream,
-    J: Stream<Token = I::Token, Seen = I::Seen, Slice = I::Slice>,
-    O,
-    E: ParserError<I>,
-    F: ParserError<J>,
-> AgreesWith<I, Option<O>, E, Cond<Q, J, O, F>, J, F> for Cond<P, I, O, E> {
-    ghost like = { λ p q. P.like p.parser q.parser × (p.condition ≡ q.condition) };
-
-    ghost agrees = { agrees_with (λ p. p.parser) (λ q. q.parser) (λ p. p.condition)
-        (λ q. q.condition) (λ X m form. CondRuns (m form)) P.agrees };
-
-    fn agree() {}
 }

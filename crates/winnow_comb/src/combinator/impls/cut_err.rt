@@ -1,6 +1,5 @@
 //! A child whose errors cut.
 ghost use Rattle.stream_errors.specs.Form.{modal};
-ghost use Rattle.winnow_core.specs.Agrees.{agrees1};
 ghost use Rattle.winnow_core.specs.Stable.Grows.{grows, stays};
 ghost use Rattle.winnow_comb.specs.CutErr.{CutErrRuns};
 ghost use Rattle.winnow_comb.specs.CutErr.Laws.{cut_err_decided, cut_err_exact, cut_err_fails};
@@ -12,7 +11,6 @@ use std::marker::PhantomData;
 use stream_errors::modal::ModalError;
 use stream_errors::parser_error::ParserError;
 use streams::stream::Stream;
-use winnow_core::agrees_with::AgreesWith;
 use winnow_core::parser::Parser;
 use winnow_core::stable::Stable;
 
@@ -77,21 +75,4 @@ impl<P: Stable<I, O, E>, I: Stream, O, E: ParserError<I> + ModalError> Stable<I,
     ghost stable = { stays (cut_err_grows (grows (P.leaves_ends modal) P.stable)) };
 
     fn stay() {}
-}
-
-impl<
-    P: AgreesWith<I, O, E, Q, J, F>,
-    Q: Parser<J, O, F>,
-    I: Stream,
-    J: Stream<Token = I::Token, Seen = I::Seen, Slice = I::Slice>,
-    O,
-    E: ParserError<I> + ModalError,
-    F: ParserError<J> + ModalError,
-> AgreesWith<I, O, E, CutErr<Q, J, O, F>, J, F> for CutErr<P, I, O, E> {
-    ghost like = { λ p q. P.like p.parser q.parser };
-
-    ghost agrees = { agrees1 (λ p. p.parser) (λ q. q.parser) (λ X m form. CutErrRuns (m form))
-        P.agrees };
-
-    fn agree() {}
 }

@@ -2,7 +2,6 @@
 ghost use Rattle.std.specs.Prelude.{◌⊎◌};
 ghost use Rattle.grammars.specs.Grammar.{Three};
 ghost use Rattle.stream_errors.specs.Form.{modal};
-ghost use Rattle.winnow_core.specs.Agrees.Sizes.{agrees3};
 ghost use Rattle.winnow_core.specs.Exact.Allowed.{fails_as};
 ghost use Rattle.winnow_core.specs.Exact.Along.{either_way};
 ghost use Rattle.winnow_core.specs.InOrder.Decided.{three_decided};
@@ -15,7 +14,6 @@ ghost use Rattle.winnow_core.specs.Says.{nothing_done, nothing_said};
 use std::marker::PhantomData;
 use stream_errors::parser_error::ParserError;
 use streams::stream::Stream;
-use winnow_core::agrees_with::AgreesWith;
 use winnow_core::parser::Parser;
 use winnow_core::stable::Stable;
 
@@ -120,31 +118,4 @@ impl<
         (grows (P3.leaves_ends modal) P3.stable)) };
 
     fn stay() {}
-}
-
-impl<
-    P1: AgreesWith<I, A1, E, Q1, J, F>,
-    Q1: Parser<J, A1, F>,
-    P2: AgreesWith<I, A2, E, Q2, J, F>,
-    Q2: Parser<J, A2, F>,
-    P3: AgreesWith<I, A3, E, Q3, J, F>,
-    Q3: Parser<J, A3, F>,
-    I: Stream,
-    J: Stream<Token = I::Token, Seen = I::Seen, Slice = I::Slice>,
-    A1: Drop,
-    A2: Drop,
-    A3: Drop,
-    E: ParserError<I>,
-    F: ParserError<J>,
-> AgreesWith<I, A2, E, Delimited<Q1, Q2, Q3, J, A1, A2, A3, F>, J, F>
-    for Delimited<P1, P2, P3, I, A1, A2, A3, E> {
-    ghost like = { λ p q. P1.like p.ignored1 q.ignored1 × P2.like p.parser q.parser
-        × P3.like p.ignored2 q.ignored2 };
-
-    ghost agrees = { agrees3 (λ p. p.ignored1) (λ q. q.ignored1) (λ p. p.parser) (λ q. q.parser)
-        (λ p. p.ignored2) (λ q. q.ignored2)
-        (λ X1 X2 X3 m1 m2 m3 form. DelimitedRuns (m1 form) (m2 form) (m3 form)) P1.agrees
-        P2.agrees P3.agrees };
-
-    fn agree() {}
 }

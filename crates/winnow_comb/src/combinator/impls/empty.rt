@@ -1,12 +1,10 @@
 //! The parser that takes nothing.
-ghost use Rattle.std.specs.Prelude.{⊤, ◌<◌, ◌≡◌};
+ghost use Rattle.std.specs.Prelude.{⊤, ◌<◌};
 ghost use Rattle.grammars.specs.Grammar.{Nothing};
 ghost use Rattle.winnow_comb.specs.Empty.Laws.{empty_decided};
-ghost use Rattle.winnow_core.specs.Agrees.{agrees_plain};
 ghost use Rattle.winnow_core.specs.Ends.{same_ends};
 ghost use Rattle.winnow_core.specs.Exact.Allowed.{backs};
 ghost use Rattle.winnow_core.specs.Runs.{Keeps};
-ghost use Rattle.winnow_core.specs.SameMeaning.{same_refl};
 ghost use Rattle.winnow_core.specs.Stable.Grows.{leaf_stays};
 ghost use Rattle.winnow_comb.specs.Empty.{EmptyRuns};
 ghost use Rattle.winnow_comb.specs.Empty.Laws.{empty_exact, empty_fails, empty_stays};
@@ -15,7 +13,6 @@ ghost use Rattle.winnow_core.specs.Says.{nothing_done, nothing_said};
 use crate::combinator::basic::empty;
 use stream_errors::parser_error::ParserError;
 use streams::stream::Stream;
-use winnow_core::agrees_with::AgreesWith;
 use winnow_core::parser::Parser;
 use winnow_core::stable::Stable;
 
@@ -68,17 +65,4 @@ impl<I: Stream, E: ParserError<I>> Stable<I, (), E> for Empty {
     ghost stable = { leaf_stays I.following _ (λ _. empty_stays) };
 
     fn stay() {}
-}
-
-impl<
-    I: Stream,
-    J: Stream<Token = I::Token, Seen = I::Seen, Slice = I::Slice>,
-    E: ParserError<I>,
-    F: ParserError<J>,
-> AgreesWith<I, (), E, Empty, J, F> for Empty {
-    ghost like = { λ p q. ⊤ };
-
-    ghost agrees = { agrees_plain (same_refl (λ _. Keeps (λ _. EmptyRuns))) };
-
-    fn agree() {}
 }

@@ -2,11 +2,9 @@
 ghost use Rattle.std.specs.Prelude.{⊤, ◌<◌, ◌≡◌};
 ghost use Rattle.grammars.specs.Grammar.{Never};
 ghost use Rattle.winnow_comb.specs.Fail.Laws.{fail_decided};
-ghost use Rattle.winnow_core.specs.Agrees.{agrees_plain};
 ghost use Rattle.winnow_core.specs.Ends.{same_ends};
 ghost use Rattle.winnow_core.specs.Exact.Allowed.{backs};
 ghost use Rattle.winnow_core.specs.Runs.{Keeps};
-ghost use Rattle.winnow_core.specs.SameMeaning.{same_refl};
 ghost use Rattle.winnow_core.specs.Stable.Grows.{leaf_stays};
 ghost use Rattle.winnow_comb.specs.Fail.{FailRuns};
 ghost use Rattle.winnow_comb.specs.Fail.Laws.{fail_exact, fail_backs, never_takes, fail_stays};
@@ -15,7 +13,6 @@ ghost use Rattle.winnow_core.specs.Says.{nothing_done, nothing_said};
 use crate::combinator::basic::fail;
 use stream_errors::parser_error::ParserError;
 use streams::stream::Stream;
-use winnow_core::agrees_with::AgreesWith;
 use winnow_core::parser::Parser;
 use winnow_core::stable::Stable;
 
@@ -68,18 +65,4 @@ impl<I: Stream, O, E: ParserError<I>> Stable<I, O, E> for Fail {
     ghost stable = { leaf_stays I.following _ (λ _. fail_stays) };
 
     fn stay() {}
-}
-
-impl<
-    I: Stream,
-    J: Stream<Token = I::Token, Seen = I::Seen, Slice = I::Slice>,
-    O,
-    E: ParserError<I>,
-    F: ParserError<J>,
-> AgreesWith<I, O, E, Fail, J, F> for Fail {
-    ghost like = { λ p q. ⊤ };
-
-    ghost agrees = { agrees_plain (same_refl (λ _. Keeps (λ _. FailRuns))) };
-
-    fn agree() {}
 }

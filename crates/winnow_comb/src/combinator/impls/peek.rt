@@ -1,7 +1,6 @@
 //! A child whose run consumes nothing.
 ghost use Rattle.grammars.specs.Grammar.{Ahead};
 ghost use Rattle.stream_errors.specs.Form.{modal};
-ghost use Rattle.winnow_core.specs.Agrees.{agrees1};
 ghost use Rattle.winnow_core.specs.Stable.Grows.{grows, stays};
 ghost use Rattle.winnow_comb.specs.Peek.{PeekRuns};
 ghost use Rattle.winnow_comb.specs.Peek.Laws.{peek_decided, peek_exact, peek_fails, peek_ends};
@@ -11,7 +10,6 @@ ghost use Rattle.winnow_core.specs.Says.{nothing_done, nothing_said};
 use std::marker::PhantomData;
 use stream_errors::parser_error::ParserError;
 use streams::stream::Stream;
-use winnow_core::agrees_with::AgreesWith;
 use winnow_core::parser::Parser;
 use winnow_core::stable::Stable;
 
@@ -74,21 +72,4 @@ impl<P: Stable<I, O, E>, I: Stream, O, E: ParserError<I>> Stable<I, O, E> for Pe
     ghost stable = { stays (peek_grows (grows (P.leaves_ends modal) P.stable)) };
 
     fn stay() {}
-}
-
-impl<
-    P: AgreesWith<I, O, E, Q, J, F>,
-    Q: Parser<J, O, F>,
-    I: Stream,
-    J: Stream<Token = I::Token, Seen = I::Seen, Slice = I::Slice>,
-    O,
-    E: ParserError<I>,
-    F: ParserError<J>,
-> AgreesWith<I, O, E, Peek<Q, J, O, F>, J, F> for Peek<P, I, O, E> {
-    ghost like = { λ p q. P.like p.parser q.parser };
-
-    ghost agrees = { agrees1 (λ p. p.parser) (λ q. q.parser) (λ X m form. PeekRuns (m form))
-        P.agrees };
-
-    fn agree() {}
 }

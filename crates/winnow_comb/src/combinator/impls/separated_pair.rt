@@ -2,7 +2,6 @@
 ghost use Rattle.std.specs.Prelude.{◌⊎◌};
 ghost use Rattle.grammars.specs.Grammar.{Three};
 ghost use Rattle.stream_errors.specs.Form.{modal};
-ghost use Rattle.winnow_core.specs.Agrees.Sizes.{agrees3};
 ghost use Rattle.winnow_core.specs.Exact.Allowed.{fails_as};
 ghost use Rattle.winnow_core.specs.Exact.Along.{either_way};
 ghost use Rattle.winnow_core.specs.InOrder.Decided.{AlikePairs, three_decided};
@@ -15,7 +14,6 @@ ghost use Rattle.winnow_core.specs.Says.{nothing_done, nothing_said};
 use std::marker::PhantomData;
 use stream_errors::parser_error::ParserError;
 use streams::stream::Stream;
-use winnow_core::agrees_with::AgreesWith;
 use winnow_core::parser::Parser;
 use winnow_core::stable::Stable;
 
@@ -124,31 +122,4 @@ impl<
         (grows (P3.leaves_ends modal) P3.stable)) };
 
     fn stay() {}
-}
-
-impl<
-    P1: AgreesWith<I, O1, E, Q1, J, F>,
-    Q1: Parser<J, O1, F>,
-    P2: AgreesWith<I, O2, E, Q2, J, F>,
-    Q2: Parser<J, O2, F>,
-    P3: AgreesWith<I, O3, E, Q3, J, F>,
-    Q3: Parser<J, O3, F>,
-    I: Stream,
-    J: Stream<Token = I::Token, Seen = I::Seen, Slice = I::Slice>,
-    O1: Drop,
-    O2: Drop,
-    O3,
-    E: ParserError<I>,
-    F: ParserError<J>,
-> AgreesWith<I, (O1, O3), E, SeparatedPair<Q1, Q2, Q3, J, O1, O2, O3, F>, J, F>
-    for SeparatedPair<P1, P2, P3, I, O1, O2, O3, E> {
-    ghost like = { λ p q. P1.like p.first q.first × P2.like p.separator q.separator
-        × P3.like p.second q.second };
-
-    ghost agrees = { agrees3 (λ p. p.first) (λ q. q.first) (λ p. p.separator) (λ q. q.separator)
-        (λ p. p.second) (λ q. q.second)
-        (λ X1 X2 X3 m1 m2 m3 form. SeparatedPairRuns (m1 form) (m2 form) (m3 form)) P1.agrees
-        P2.agrees P3.agrees };
-
-    fn agree() {}
 }

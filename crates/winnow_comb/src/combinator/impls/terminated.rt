@@ -2,7 +2,6 @@
 ghost use Rattle.std.specs.Prelude.{◌⊎◌};
 ghost use Rattle.grammars.specs.Grammar.{Both};
 ghost use Rattle.stream_errors.specs.Form.{modal};
-ghost use Rattle.winnow_core.specs.Agrees.Sizes.{agrees2};
 ghost use Rattle.winnow_core.specs.Exact.Allowed.{fails_as};
 ghost use Rattle.winnow_core.specs.Exact.Along.{either_way};
 ghost use Rattle.winnow_core.specs.InOrder.Decided.{both_decided};
@@ -15,7 +14,6 @@ ghost use Rattle.winnow_core.specs.Says.{nothing_done, nothing_said};
 use std::marker::PhantomData;
 use stream_errors::parser_error::ParserError;
 use streams::stream::Stream;
-use winnow_core::agrees_with::AgreesWith;
 use winnow_core::parser::Parser;
 use winnow_core::stable::Stable;
 
@@ -102,25 +100,4 @@ impl<
         (grows (P2.leaves_ends modal) P2.stable)) };
 
     fn stay() {}
-}
-
-impl<
-    P1: AgreesWith<I, O1, E, Q1, J, F>,
-    Q1: Parser<J, O1, F>,
-    P2: AgreesWith<I, O2, E, Q2, J, F>,
-    Q2: Parser<J, O2, F>,
-    I: Stream,
-    J: Stream<Token = I::Token, Seen = I::Seen, Slice = I::Slice>,
-    O1: Drop,
-    O2: Drop,
-    E: ParserError<I>,
-    F: ParserError<J>,
-> AgreesWith<I, O1, E, Terminated<Q1, Q2, J, O1, O2, F>, J, F>
-    for Terminated<P1, P2, I, O1, O2, E> {
-    ghost like = { λ p q. P1.like p.parser q.parser × P2.like p.ignored q.ignored };
-
-    ghost agrees = { agrees2 (λ p. p.parser) (λ q. q.parser) (λ p. p.ignored) (λ q. q.ignored)
-        (λ X1 X2 m1 m2 form. TerminatedRuns (m1 form) (m2 form)) P1.agrees P2.agrees };
-
-    fn agree() {}
 }

@@ -4,7 +4,6 @@ ghost use Rattle.grammars.specs.Grammar.{Made};
 ghost use Rattle.grammars.specs.Grammar.Outputs.{RejectsAll};
 ghost use Rattle.grammars.specs.Grammar.Unique.{made_of_takes};
 ghost use Rattle.stream_errors.specs.Form.{modal};
-ghost use Rattle.winnow_core.specs.Agrees.{agrees_with};
 ghost use Rattle.winnow_core.specs.AndThen.{AndThenSettles, AndThenRuns, and_then_inner};
 ghost use Rattle.winnow_core.specs.AndThen.{and_then_outer};
 ghost use Rattle.winnow_core.specs.AndThen.Decided.{OneInput, and_then_decided};
@@ -15,7 +14,6 @@ ghost use Rattle.winnow_core.specs.Settles.Laws.{settles_ends, settles_grows};
 ghost use Rattle.winnow_core.specs.Stable.Grows.{grows, stays};
 ghost use Rattle.winnow_core.specs.Says.{nothing_done, nothing_said};
 
-use crate::agrees_with::AgreesWith;
 use crate::parser::Parser;
 use crate::stable::Stable;
 use std::marker::PhantomData;
@@ -130,23 +128,4 @@ impl<
         (grows (F.leaves_ends modal) F.stable)) };
 
     fn stay() {}
-}
-
-impl<
-    P: AgreesWith<I, O, E, Q, J, E>,
-    Q: Parser<J, O, E>,
-    G: Parser<O, O2, E>,
-    I: Stream,
-    J: Stream<Token = I::Token, Seen = I::Seen, Slice = I::Slice>,
-    O: StreamIsPartial + Drop,
-    O2,
-    E: ParserError<I> + ParserError<J> + ParserError<O>,
-> AgreesWith<I, O2, E, AndThen<Q, G, J, O, O2, E>, J, E> for AndThen<P, G, I, O, O2, E> {
-    ghost like = { λ p q. P.like p.outer q.outer × (G.state p.inner ≡ G.state q.inner) };
-
-    ghost agrees = { agrees_with (λ p. p.outer) (λ q. q.outer) (λ p. G.state p.inner)
-        (λ q. G.state q.inner)
-        (λ X m form. AndThenRuns O.view (m form) (G.meaning form)) P.agrees };
-
-    fn agree() {}
 }

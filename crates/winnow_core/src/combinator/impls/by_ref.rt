@@ -1,14 +1,12 @@
 //! The parser after a reference.
-ghost use Rattle.std.specs.Prelude.{◌≡◌, ℕ};
+ghost use Rattle.std.specs.Prelude.{ℕ};
 ghost use Rattle.stream_errors.specs.Form.{modal};
-ghost use Rattle.winnow_core.specs.Agrees.{agrees_with};
 ghost use Rattle.winnow_core.specs.ByRef.{ByRefRuns};
 ghost use Rattle.winnow_core.specs.ByRef.Laws.{by_ref_exact, by_ref_fails, by_ref_grows};
 ghost use Rattle.winnow_core.specs.Decided.Adapters.{by_ref_decided};
 ghost use Rattle.winnow_core.specs.Stable.Grows.{grows, stays};
 ghost use Rattle.winnow_core.specs.Says.{nothing_done, nothing_said};
 
-use crate::agrees_with::AgreesWith;
 use crate::parser::Parser;
 use crate::stable::Stable;
 use std::marker::PhantomData;
@@ -72,24 +70,4 @@ impl<'p, P: Stable<I, O, E>, I: Stream, O, E: ParserError<I>> Stable<I, O, E>
     ghost stable = { stays (by_ref_grows (grows (P.leaves_ends modal) P.stable)) };
 
     fn stay() {}
-}
-
-impl<
-    'p,
-    P: AgreesWith<I, O, E, Q, J, F>,
-    Q: Parser<J, O, F>,
-    I: Stream,
-    J: Stream<Token = I::Token, Seen = I::Seen, Slice = I::Slice>,
-    O,
-    E: ParserError<I>,
-    F: ParserError<J>,
-> AgreesWith<I, O, E, ByRef<'p, Q, J, O, F>, J, F> for ByRef<'p, P, I, O, E> {
-    ghost like = { λ p q. P.like p.parser.now q.parser.now
-        × (p.parser.ghost_name ≡ q.parser.ghost_name) };
-
-    ghost agrees = { agrees_with (λ p. p.parser.now) (λ q. q.parser.now)
-        (λ p. p.parser.ghost_name) (λ q. q.parser.ghost_name) (λ X m form. ByRefRuns (m form))
-        P.agrees };
-
-    fn agree() {}
 }

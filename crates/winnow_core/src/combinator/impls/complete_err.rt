@@ -1,6 +1,5 @@
 //! Errors that do not ask for more input.
 ghost use Rattle.std.specs.Prelude.{◌≡◌};
-ghost use Rattle.winnow_core.specs.Agrees.{agrees1};
 ghost use Rattle.winnow_core.specs.CompleteErr.{CompleteErrBecomes, CompleteErrRuns};
 ghost use Rattle.winnow_core.specs.CompleteErr.{complete_err_parser};
 ghost use Rattle.winnow_core.specs.Decided.Errors.{complete_err_decided};
@@ -8,7 +7,6 @@ ghost use Rattle.winnow_core.specs.Exact.Errors.{complete_err_exact, complete_er
 ghost use Rattle.winnow_core.specs.MakesError.Laws.{makes_error_ends};
 ghost use Rattle.winnow_core.specs.Says.{nothing_done, nothing_said};
 
-use crate::agrees_with::AgreesWith;
 use crate::parser::Parser;
 use std::marker::PhantomData;
 use stream_errors::parser_error::ParserError;
@@ -87,21 +85,4 @@ impl<F: Parser<I, O, E>, I: Stream, O, E: ParserError<I>> Parser<I, O, E>
             }
         }
     }
-}
-
-impl<
-    P: AgreesWith<I, O, E, Q, J, F>,
-    Q: Parser<J, O, F>,
-    I: Stream,
-    J: Stream<Token = I::Token, Seen = I::Seen, Slice = I::Slice>,
-    O,
-    E: ParserError<I>,
-    F: ParserError<J>,
-> AgreesWith<I, O, E, CompleteErr<Q, J, O, F>, J, F> for CompleteErr<P, I, O, E> {
-    ghost like = { λ p q. P.like p.parser q.parser };
-
-    ghost agrees = { agrees1 (λ p. p.parser) (λ q. q.parser)
-        (λ X m form. CompleteErrRuns (m form)) P.agrees };
-
-    fn agree() {}
 }

@@ -2,7 +2,6 @@
 ghost use Rattle.std.specs.Prelude.{◌≡◌};
 ghost use Rattle.stream_errors.specs.Form.{modal};
 ghost use Rattle.stream_errors.specs.Given.{Keeping};
-ghost use Rattle.winnow_core.specs.Agrees.{agrees_with};
 ghost use Rattle.winnow_core.specs.Context.{ContextBecomes, ContextRuns, context_parser};
 ghost use Rattle.winnow_core.specs.Context.{context_told};
 ghost use Rattle.winnow_core.specs.Context.Laws.{context_keeps};
@@ -14,7 +13,6 @@ ghost use Rattle.winnow_core.specs.MakesError.Laws.{makes_error_ends, makes_erro
 ghost use Rattle.winnow_core.specs.Stable.Grows.{grows, stays};
 ghost use Rattle.winnow_core.specs.Says.{nothing_done, nothing_said};
 
-use crate::agrees_with::AgreesWith;
 use crate::parser::Parser;
 use crate::stable::Stable;
 use std::alloc::Allocator;
@@ -136,26 +134,4 @@ impl<
         (grows (F.leaves_ends modal) F.stable)) };
 
     fn stay() {}
-}
-
-impl<
-    P: AgreesWith<I, O, E, Q, J, F>,
-    Q: Parser<J, O, F>,
-    I: Stream,
-    J: Stream<Token = I::Token, Seen = I::Seen, Slice = I::Slice>,
-    O,
-    E: ParserError<I> + AddContext<I, C, A>,
-    F: ParserError<J> + AddContext<J, C, A>,
-    C: Clone,
-    A: Allocator + Copy,
-> AgreesWith<I, O, E, Context<Q, J, O, F, C, A>, J, F> for Context<P, I, O, E, C, A> {
-    ghost like = { λ p q. P.like p.parser q.parser
-        × (◌≡◌ {A = C × (C → Keeping)} (p.context, E.context_gives)
-        (q.context, F.context_gives)) };
-
-    ghost agrees = { agrees_with (λ p. p.parser) (λ q. q.parser)
-        (λ p. (p.context, E.context_gives)) (λ q. (q.context, F.context_gives))
-        (λ X m form. ContextRuns C.is_clone C.is_infallible (m form)) P.agrees };
-
-    fn agree() {}
 }

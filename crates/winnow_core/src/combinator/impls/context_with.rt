@@ -3,7 +3,6 @@ ghost use Rattle.std.specs.Iterator.{IsFinite};
 ghost use Rattle.std.specs.Prelude.{◌≡◌};
 ghost use Rattle.stream_errors.specs.Form.{modal};
 ghost use Rattle.stream_errors.specs.Given.{Keeping};
-ghost use Rattle.winnow_core.specs.Agrees.{agrees_with};
 ghost use Rattle.winnow_core.specs.ContextWith.{ContextWithBecomes, ContextWithRuns};
 ghost use Rattle.winnow_core.specs.ContextWith.{context_with_closure, context_with_parser};
 ghost use Rattle.winnow_core.specs.ContextWith.Laws.{context_with_keeps};
@@ -12,7 +11,6 @@ ghost use Rattle.winnow_core.specs.Stable.Grows.{grows, stays};
 ghost use Rattle.winnow_core.specs.Claim.{no_claim, nothing_claimed};
 ghost use Rattle.winnow_core.specs.Says.{nothing_done, nothing_said};
 
-use crate::agrees_with::AgreesWith;
 use crate::parser::Parser;
 use crate::stable::Stable;
 use std::alloc::Allocator;
@@ -118,29 +116,4 @@ impl<
         (grows (P.leaves_ends modal) P.stable)) };
 
     fn stay() {}
-}
-
-impl<
-    P: AgreesWith<I, O, D, Q, J, E>,
-    Q: Parser<J, O, E>,
-    I: Stream,
-    J: Stream<Token = I::Token, Seen = I::Seen, Slice = I::Slice>,
-    O,
-    D: ParserError<I> + AddContext<I, C, A>,
-    E: ParserError<J> + AddContext<J, C, A>,
-    F: Fn() -> FI,
-    C,
-    FI: Iterator<Item = C>,
-    A: Allocator + Copy,
-> AgreesWith<I, O, D, ContextWith<Q, J, O, E, F, C, FI, A>, J, E>
-    for ContextWith<P, I, O, D, F, C, FI, A> {
-    ghost like = { λ p q. P.like p.parser q.parser
-        × (◌≡◌ {A = F × (C → Keeping)} (p.context, D.context_gives)
-        (q.context, E.context_gives)) };
-
-    ghost agrees = { agrees_with (λ p. p.parser) (λ q. q.parser)
-        (λ p. (p.context, D.context_gives)) (λ q. (q.context, E.context_gives))
-        (λ X m form. ContextWithRuns F.post FI.next_gives (m form)) P.agrees };
-
-    fn agree() {}
 }

@@ -3,7 +3,6 @@ ghost use Rattle.std.specs.Prelude.{◌≡◌};
 ghost use Rattle.grammars.specs.Grammar.{Made};
 ghost use Rattle.grammars.specs.Grammar.Unique.{made_of_takes};
 ghost use Rattle.stream_errors.specs.Form.{modal};
-ghost use Rattle.winnow_core.specs.Agrees.{agrees1};
 ghost use Rattle.winnow_core.specs.Decided.Adapters.{output_decided};
 ghost use Rattle.winnow_core.specs.DefaultValue.{DefaultValueRuns, default_value_parser};
 ghost use Rattle.winnow_core.specs.Exact.Adapters.{output_exact, output_fails};
@@ -12,7 +11,6 @@ ghost use Rattle.winnow_core.specs.MakesOutput.Laws.{makes_output_grows};
 ghost use Rattle.winnow_core.specs.Stable.Grows.{grows, stays};
 ghost use Rattle.winnow_core.specs.Says.{nothing_done, nothing_said};
 
-use crate::agrees_with::AgreesWith;
 use crate::parser::Parser;
 use crate::stable::Stable;
 use std::marker::PhantomData;
@@ -95,22 +93,4 @@ impl<F: Stable<I, O, E>, I: Stream, O: Drop, O2: Default, E: ParserError<I>> Sta
         (grows (F.leaves_ends modal) F.stable)) };
 
     fn stay() {}
-}
-
-impl<
-    P: AgreesWith<I, O, E, Q, J, F>,
-    Q: Parser<J, O, F>,
-    I: Stream,
-    J: Stream<Token = I::Token, Seen = I::Seen, Slice = I::Slice>,
-    O: Drop,
-    O2: Default,
-    E: ParserError<I>,
-    F: ParserError<J>,
-> AgreesWith<I, O2, E, DefaultValue<Q, J, O, O2, F>, J, F> for DefaultValue<P, I, O, O2, E> {
-    ghost like = { λ p q. P.like p.parser q.parser };
-
-    ghost agrees = { agrees1 (λ p. p.parser) (λ q. q.parser)
-        (λ X m form. DefaultValueRuns O2.is_default (m form)) P.agrees };
-
-    fn agree() {}
 }

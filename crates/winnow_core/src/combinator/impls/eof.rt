@@ -1,20 +1,17 @@
 //! The end of the input.
-ghost use Rattle.std.specs.Prelude.{⊤, ◌<◌, ◌≡◌};
+ghost use Rattle.std.specs.Prelude.{⊤, ◌<◌};
 ghost use Rattle.grammars.specs.Grammar.{NoTokens};
-ghost use Rattle.winnow_core.specs.Agrees.{agrees_plain};
 ghost use Rattle.winnow_core.specs.Eof.{EofRuns};
-ghost use Rattle.winnow_core.specs.Eof.Laws.{eof_alike, eof_decided, eof_ends, eof_exact};
+ghost use Rattle.winnow_core.specs.Eof.Laws.{eof_decided, eof_ends, eof_exact};
 ghost use Rattle.winnow_core.specs.Eof.Laws.{eof_fails};
 ghost use Rattle.winnow_core.specs.Exact.Allowed.{backs};
 ghost use Rattle.winnow_core.specs.Literal.Laws.{ShowSame};
 ghost use Rattle.winnow_core.specs.Runs.{Keeps};
 ghost use Rattle.winnow_core.specs.Says.{nothing_done, nothing_said};
 
-use crate::agrees_with::AgreesWith;
 use crate::combinator::eof;
 use crate::parser::Parser;
 use stream_errors::parser_error::ParserError;
-use streams::reads_like::ReadsLike;
 use streams::stream::Stream;
 
 /// The parser [`eof`](crate::combinator::eof).
@@ -60,17 +57,4 @@ impl<I: Stream, E: ParserError<I>> Parser<I, I::Slice, E> for Eof {
     fn parse_next(&mut self, input: &mut I) -> Result<I::Slice, E> {
         eof(input)
     }
-}
-
-impl<
-    I: ReadsLike<J>,
-    J: Stream<Token = I::Token, Seen = I::Seen, Slice = I::Slice>,
-    E: ParserError<I>,
-    F: ParserError<J>,
-> AgreesWith<I, I::Slice, E, Eof, J, F> for Eof {
-    ghost like = { λ p q. ⊤ };
-
-    ghost agrees = { agrees_plain (eof_alike I.same_reading) };
-
-    fn agree() {}
 }

@@ -1,6 +1,5 @@
 //! Errors that are converted.
 ghost use Rattle.std.specs.Prelude.{◌≡◌};
-ghost use Rattle.winnow_core.specs.Agrees.{agrees1};
 ghost use Rattle.winnow_core.specs.Decided.Errors.{err_into_decided};
 ghost use Rattle.winnow_core.specs.ErrInto.{ErrIntoBecomes, ErrIntoRuns, err_into_parser};
 ghost use Rattle.winnow_core.specs.ErrInto.Laws.{err_into_keeps};
@@ -10,7 +9,6 @@ ghost use Rattle.winnow_core.specs.MakesError.Laws.{makes_error_ends, makes_erro
 ghost use Rattle.winnow_core.specs.Stable.Grows.{grows_at, stays_beside};
 ghost use Rattle.winnow_core.specs.Says.{nothing_done, nothing_said};
 
-use crate::agrees_with::AgreesWith;
 use crate::parser::Parser;
 use crate::stable::{KeepsKinds, Stable};
 use std::marker::PhantomData;
@@ -105,22 +103,4 @@ impl<
         (grows_at F.meaning E.form E2.from_modal F.leaves_ends F.stable)) };
 
     fn stay() {}
-}
-
-/// The conversion is of one type of error, so both parsers have that.
-impl<
-    P: AgreesWith<I, O, E, Q, J, E>,
-    Q: Parser<J, O, E>,
-    I: Stream,
-    J: Stream<Token = I::Token, Seen = I::Seen, Slice = I::Slice>,
-    O,
-    E: ParserError<I> + ParserError<J>,
-    E2: ParserError<I> + ParserError<J> + From<E>,
-> AgreesWith<I, O, E2, ErrInto<Q, J, O, E, E2>, J, E2> for ErrInto<P, I, O, E, E2> {
-    ghost like = { λ p q. P.like p.parser q.parser };
-
-    ghost agrees = { agrees1 (λ p. p.parser) (λ q. q.parser)
-        (λ X m form. ErrIntoRuns E.kind E2.kind E2.from_gives (m E.form)) P.agrees };
-
-    fn agree() {}
 }

@@ -3,7 +3,6 @@ ghost use Rattle.std.specs.Prelude.{◌≡◌};
 ghost use Rattle.grammars.specs.Grammar.{Made};
 ghost use Rattle.grammars.specs.Grammar.Unique.{made_of_takes};
 ghost use Rattle.stream_errors.specs.Form.{modal};
-ghost use Rattle.winnow_core.specs.Agrees.{agrees_with};
 ghost use Rattle.winnow_core.specs.Closures.{Gives, Stays};
 ghost use Rattle.winnow_core.specs.Decided.Adapters.{map_decided};
 ghost use Rattle.winnow_core.specs.Decided.Made.{OutputsMadeAlike};
@@ -13,7 +12,6 @@ ghost use Rattle.winnow_core.specs.Map.Laws.{map_ends, map_grows};
 ghost use Rattle.winnow_core.specs.Stable.Grows.{grows, stays};
 ghost use Rattle.winnow_core.specs.Says.{nothing_done, nothing_said};
 
-use crate::agrees_with::AgreesWith;
 use crate::parser::Parser;
 use crate::stable::Stable;
 use std::marker::PhantomData;
@@ -92,23 +90,4 @@ impl<F: Stable<I, O, E>, G: FnMut(O) -> O2, I: Stream, O, O2, E: ParserError<I>>
     ghost stable = { stays (map_grows G.step (grows (F.leaves_ends modal) F.stable)) };
 
     fn stay() {}
-}
-
-impl<
-    P: AgreesWith<I, O, E, Q, J, F>,
-    Q: Parser<J, O, F>,
-    G: FnMut(O) -> O2,
-    I: Stream,
-    J: Stream<Token = I::Token, Seen = I::Seen, Slice = I::Slice>,
-    O,
-    O2,
-    E: ParserError<I>,
-    F: ParserError<J>,
-> AgreesWith<I, O2, E, Map<Q, G, J, O, O2, F>, J, F> for Map<P, G, I, O, O2, E> {
-    ghost like = { λ p q. P.like p.parser q.parser × (p.map ≡ q.map) };
-
-    ghost agrees = { agrees_with (λ p. p.parser) (λ q. q.parser) (λ p. p.map) (λ q. q.map)
-        (λ X m form. MapRuns (m form) G.step) P.agrees };
-
-    fn agree() {}
 }

@@ -1,6 +1,5 @@
 //! Errors made of errors by a closure.
 ghost use Rattle.std.specs.Prelude.{◌≡◌};
-ghost use Rattle.winnow_core.specs.Agrees.{agrees_with};
 ghost use Rattle.winnow_core.specs.Closures.{Stays};
 ghost use Rattle.winnow_core.specs.Decided.Errors.{map_err_decided};
 ghost use Rattle.winnow_core.specs.Exact.Errors.{map_err_exact, map_err_fails};
@@ -10,7 +9,6 @@ ghost use Rattle.winnow_core.specs.MapErr.{map_err_parser};
 ghost use Rattle.winnow_core.specs.MapErrKept.{KeepsEachKind};
 ghost use Rattle.winnow_core.specs.Says.{nothing_done, nothing_said};
 
-use crate::agrees_with::AgreesWith;
 use crate::parser::Parser;
 use std::marker::PhantomData;
 use stream_errors::parser_error::ParserError;
@@ -95,23 +93,4 @@ impl<
             Err(error) => Err((self.map)(error)),
         }
     }
-}
-
-/// The closure takes one type of error, so both parsers have that.
-impl<
-    P: AgreesWith<I, O, E, Q, J, E>,
-    Q: Parser<J, O, E>,
-    G: FnMut(E) -> E2,
-    I: Stream,
-    J: Stream<Token = I::Token, Seen = I::Seen, Slice = I::Slice>,
-    O,
-    E: ParserError<I> + ParserError<J>,
-    E2: ParserError<I> + ParserError<J>,
-> AgreesWith<I, O, E2, MapErr<Q, G, J, O, E, E2>, J, E2> for MapErr<P, G, I, O, E, E2> {
-    ghost like = { λ p q. P.like p.parser q.parser × (p.map ≡ q.map) };
-
-    ghost agrees = { agrees_with (λ p. p.parser) (λ q. q.parser) (λ p. p.map) (λ q. q.map)
-        (λ X m form. MapErrRuns E.kind E2.kind G.step (m E.form)) P.agrees };
-
-    fn agree() {}
 }

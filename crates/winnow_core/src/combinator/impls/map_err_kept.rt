@@ -1,7 +1,6 @@
 //! Errors made of errors of their kind by a closure.
 ghost use Rattle.std.specs.Prelude.{◌≡◌};
 ghost use Rattle.stream_errors.specs.Form.{modal};
-ghost use Rattle.winnow_core.specs.Agrees.{agrees_with};
 ghost use Rattle.winnow_core.specs.Closures.{Stays};
 ghost use Rattle.winnow_core.specs.Decided.Errors.{map_err_kept_decided};
 ghost use Rattle.winnow_core.specs.Exact.Errors.{map_err_kept_exact, map_err_kept_fails};
@@ -12,7 +11,6 @@ ghost use Rattle.winnow_core.specs.MapErrKept.{map_err_kept_parser};
 ghost use Rattle.winnow_core.specs.Stable.Grows.{grows, stays};
 ghost use Rattle.winnow_core.specs.Says.{nothing_done, nothing_said};
 
-use crate::agrees_with::AgreesWith;
 use crate::parser::Parser;
 use crate::stable::Stable;
 use std::marker::PhantomData;
@@ -115,22 +113,4 @@ impl<
         (map_err_kept_keeps E.kind E2.kind G.step) (grows (F.leaves_ends modal) F.stable)) };
 
     fn stay() {}
-}
-
-impl<
-    P: AgreesWith<I, O, E, Q, J, E>,
-    Q: Parser<J, O, E>,
-    G: FnMut(E) -> E2,
-    I: Stream,
-    J: Stream<Token = I::Token, Seen = I::Seen, Slice = I::Slice>,
-    O,
-    E: ParserError<I> + ParserError<J>,
-    E2: ParserError<I> + ParserError<J>,
-> AgreesWith<I, O, E2, MapErrKept<Q, G, J, O, E, E2>, J, E2> for MapErrKept<P, G, I, O, E, E2> {
-    ghost like = { λ p q. P.like p.parser q.parser × (p.map ≡ q.map) };
-
-    ghost agrees = { agrees_with (λ p. p.parser) (λ q. q.parser) (λ p. p.map) (λ q. q.map)
-        (λ X m form. MapErrKeptRuns E.kind E2.kind G.step (m form)) P.agrees };
-
-    fn agree() {}
 }

@@ -4,7 +4,6 @@ ghost use Rattle.grammars.specs.Grammar.{Made};
 ghost use Rattle.grammars.specs.Grammar.Outputs.{RejectsAll};
 ghost use Rattle.grammars.specs.Grammar.Unique.{made_of_takes};
 ghost use Rattle.stream_errors.specs.Form.{modal};
-ghost use Rattle.winnow_core.specs.Agrees.{agrees1};
 ghost use Rattle.winnow_core.specs.Decided.Adapters.{ReadsSame, parse_to_decided};
 ghost use Rattle.winnow_core.specs.Decided.Made.{OutputsMadeAlike};
 ghost use Rattle.winnow_core.specs.Exact.Settled.{ReadsNone, ReadsSome, parse_to_exact};
@@ -14,7 +13,6 @@ ghost use Rattle.winnow_core.specs.Settles.Laws.{settles_ends, settles_grows};
 ghost use Rattle.winnow_core.specs.Stable.Grows.{grows, stays_beside};
 ghost use Rattle.winnow_core.specs.Says.{nothing_done, nothing_said};
 
-use crate::agrees_with::AgreesWith;
 use crate::parser::Parser;
 use crate::stable::Stable;
 use std::marker::PhantomData;
@@ -108,22 +106,4 @@ impl<F: Stable<I, O, E>, I: Stream, O: ParseSlice<O2> + Drop, O2, E: ParserError
         (settles_grows (ParseToSettles O.reads) (grows (F.leaves_ends modal) F.stable)) };
 
     fn stay() {}
-}
-
-impl<
-    P: AgreesWith<I, O, E, Q, J, F>,
-    Q: Parser<J, O, F>,
-    I: Stream,
-    J: Stream<Token = I::Token, Seen = I::Seen, Slice = I::Slice>,
-    O: ParseSlice<O2> + Drop,
-    O2,
-    E: ParserError<I>,
-    F: ParserError<J>,
-> AgreesWith<I, O2, E, ParseTo<Q, J, O, O2, F>, J, F> for ParseTo<P, I, O, O2, E> {
-    ghost like = { λ p q. P.like p.parser q.parser };
-
-    ghost agrees = { agrees1 (λ p. p.parser) (λ q. q.parser)
-        (λ X m form. ParseToRuns O.reads (m form)) P.agrees };
-
-    fn agree() {}
 }

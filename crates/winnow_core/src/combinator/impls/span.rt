@@ -3,7 +3,6 @@ ghost use Rattle.std.specs.Prelude.{◌≡◌};
 ghost use Rattle.grammars.specs.Grammar.{Made};
 ghost use Rattle.grammars.specs.Grammar.Unique.{made_of_takes};
 ghost use Rattle.stream_errors.specs.Form.{modal};
-ghost use Rattle.winnow_core.specs.Agrees.{agrees1};
 ghost use Rattle.winnow_core.specs.Decided.Adapters.{span_decided};
 ghost use Rattle.winnow_core.specs.Exact.Adapters.{AnyPlaces, span_exact, span_fails};
 ghost use Rattle.winnow_core.specs.MakesOutput.Laws.{makes_output_ends, makes_output_grows};
@@ -11,7 +10,6 @@ ghost use Rattle.winnow_core.specs.Span.{SpanRuns, span_parser, places};
 ghost use Rattle.winnow_core.specs.Stable.Grows.{grows, stays};
 ghost use Rattle.winnow_core.specs.Says.{nothing_done, nothing_said};
 
-use crate::agrees_with::AgreesWith;
 use crate::parser::Parser;
 use crate::stable::Stable;
 use std::marker::PhantomData;
@@ -94,21 +92,4 @@ impl<F: Stable<I, O, E>, I: Location, O: Drop, E: ParserError<I>> Stable<I, Rang
         (grows (F.leaves_ends modal) F.stable)) };
 
     fn stay() {}
-}
-
-impl<
-    P: AgreesWith<I, O, E, Q, J, F>,
-    Q: Parser<J, O, F>,
-    I: Location,
-    J: Location<Token = I::Token, Seen = I::Seen, Slice = I::Slice>,
-    O: Drop,
-    E: ParserError<I>,
-    F: ParserError<J>,
-> AgreesWith<I, Range<usize>, E, Span<Q, J, O, F>, J, F> for Span<P, I, O, E> {
-    ghost like = { λ p q. P.like p.parser q.parser };
-
-    ghost agrees = { agrees1 (λ p. p.parser) (λ q. q.parser)
-        (λ X m form. SpanRuns (m form)) P.agrees };
-
-    fn agree() {}
 }

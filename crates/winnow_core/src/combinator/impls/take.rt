@@ -8,15 +8,13 @@ ghost use Rattle.winnow_core.specs.Exact.Adapters.{take_exact, take_fails, taken
 ghost use Rattle.winnow_core.specs.Literal.Laws.{ShowSame};
 ghost use Rattle.winnow_core.specs.Stable.Grows.{grows, stays};
 ghost use Rattle.winnow_core.specs.Take.{TakeRuns, take_parser};
-ghost use Rattle.winnow_core.specs.Take.Laws.{take_agrees, take_ends, take_adapter_grows};
+ghost use Rattle.winnow_core.specs.Take.Laws.{take_ends, take_adapter_grows};
 ghost use Rattle.winnow_core.specs.Says.{nothing_done, nothing_said};
 
-use crate::agrees_with::AgreesWith;
 use crate::parser::Parser;
 use crate::stable::Stable;
 use std::marker::PhantomData;
 use stream_errors::parser_error::ParserError;
-use streams::reads_like::ReadsLike;
 use streams::stream::Stream;
 
 /// The parser that [`Parser::take`](crate::parser::Parser::take) makes.
@@ -103,20 +101,4 @@ impl<F: Stable<I, O, E>, I: Stream, O: Drop, E: ParserError<I>> Stable<I, I::Sli
     ghost stable = { stays (take_adapter_grows I.reading (grows (F.leaves_ends modal) F.stable)) };
 
     fn stay() {}
-}
-
-impl<
-    P: AgreesWith<I, O, E, Q, J, F>,
-    Q: Parser<J, O, F>,
-    I: ReadsLike<J>,
-    J: Stream<Token = I::Token, Seen = I::Seen, Slice = I::Slice>,
-    O: Drop,
-    E: ParserError<I>,
-    F: ParserError<J>,
-> AgreesWith<I, I::Slice, E, Take<Q, J, O, F>, J, F> for Take<P, I, O, E> {
-    ghost like = { λ p q. P.like p.parser q.parser };
-
-    ghost agrees = { take_agrees (λ p. p.parser) (λ q. q.parser) I.same_reading P.agrees };
-
-    fn agree() {}
 }

@@ -5,7 +5,6 @@ ghost use Rattle.grammars.specs.Grammar.Outputs.{RejectsAll};
 ghost use Rattle.grammars.specs.Grammar.Unique.{made_of_takes};
 ghost use Rattle.stream_errors.specs.Form.{modal};
 ghost use Rattle.stream_errors.specs.Given.{Keeping};
-ghost use Rattle.winnow_core.specs.Agrees.{agrees_with};
 ghost use Rattle.winnow_core.specs.Closures.{Stays};
 ghost use Rattle.winnow_core.specs.Decided.Made.{OutputsMadeAlike};
 ghost use Rattle.winnow_core.specs.Exact.Allowed.{fails_as};
@@ -18,7 +17,6 @@ ghost use Rattle.winnow_core.specs.TryMap.{try_map_parser};
 ghost use Rattle.winnow_core.specs.TryMap.Decided.{TriesSame, try_map_decided};
 ghost use Rattle.winnow_core.specs.Says.{nothing_done, nothing_said};
 
-use crate::agrees_with::AgreesWith;
 use crate::parser::Parser;
 use crate::stable::Stable;
 use std::marker::PhantomData;
@@ -125,26 +123,4 @@ impl<
         (settles_grows (TryMapSettles G.step) (grows (F.leaves_ends modal) F.stable)) };
 
     fn stay() {}
-}
-
-impl<
-    P: AgreesWith<I, O, E, Q, J, F>,
-    Q: Parser<J, O, F>,
-    G: FnMut(O) -> Result<O2, E2>,
-    I: Stream,
-    J: Stream<Token = I::Token, Seen = I::Seen, Slice = I::Slice>,
-    O,
-    O2,
-    E: ParserError<I> + FromExternalError<I, E2>,
-    F: ParserError<J> + FromExternalError<J, E2>,
-    E2,
-> AgreesWith<I, O2, E, TryMap<Q, G, J, O, O2, F, E2>, J, F> for TryMap<P, G, I, O, O2, E, E2> {
-    ghost like = { λ p q. P.like p.parser q.parser
-        × (◌≡◌ {A = G × (E2 → Keeping)} (p.map, E.external_gives) (q.map, F.external_gives)) };
-
-    ghost agrees = { agrees_with (λ p. p.parser) (λ q. q.parser)
-        (λ p. (p.map, E.external_gives)) (λ q. (q.map, F.external_gives))
-        (λ X m form. TryMapRuns G.step (m form)) P.agrees };
-
-    fn agree() {}
 }

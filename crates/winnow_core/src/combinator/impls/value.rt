@@ -3,7 +3,6 @@ ghost use Rattle.std.specs.Prelude.{◌≡◌};
 ghost use Rattle.grammars.specs.Grammar.{Made};
 ghost use Rattle.grammars.specs.Grammar.Unique.{made_of_takes};
 ghost use Rattle.stream_errors.specs.Form.{modal};
-ghost use Rattle.winnow_core.specs.Agrees.{agrees_with};
 ghost use Rattle.winnow_core.specs.Decided.Adapters.{BothClones, value_decided};
 ghost use Rattle.winnow_core.specs.Exact.Adapters.{value_exact, value_fails};
 ghost use Rattle.winnow_core.specs.Exact.Allowed.{fails_as, wanted};
@@ -12,7 +11,6 @@ ghost use Rattle.winnow_core.specs.Value.{ValueRuns, value_kept, value_parser};
 ghost use Rattle.winnow_core.specs.Value.Laws.{value_ends, value_grows};
 ghost use Rattle.winnow_core.specs.Says.{nothing_done, nothing_said};
 
-use crate::agrees_with::AgreesWith;
 use crate::parser::Parser;
 use crate::stable::Stable;
 use std::marker::PhantomData;
@@ -99,22 +97,4 @@ impl<F: Stable<I, O, E>, I: Stream, O: Drop, O2: Clone, E: ParserError<I>> Stabl
         (value_grows O2.is_clone O2.is_infallible (grows (F.leaves_ends modal) F.stable)) };
 
     fn stay() {}
-}
-
-impl<
-    P: AgreesWith<I, O, E, Q, J, F>,
-    Q: Parser<J, O, F>,
-    I: Stream,
-    J: Stream<Token = I::Token, Seen = I::Seen, Slice = I::Slice>,
-    O: Drop,
-    O2: Clone,
-    E: ParserError<I>,
-    F: ParserError<J>,
-> AgreesWith<I, O2, E, Value<Q, J, O, O2, F>, J, F> for Value<P, I, O, O2, E> {
-    ghost like = { λ p q. P.like p.parser q.parser × (p.value ≡ q.value) };
-
-    ghost agrees = { agrees_with (λ p. p.parser) (λ q. q.parser) (λ p. p.value) (λ q. q.value)
-        (λ X m form. ValueRuns O2.is_clone O2.is_infallible (m form)) P.agrees };
-
-    fn agree() {}
 }

@@ -5,7 +5,6 @@ ghost use Rattle.grammars.specs.Grammar.{Made};
 ghost use Rattle.grammars.specs.Grammar.Outputs.{RejectsAll};
 ghost use Rattle.grammars.specs.Grammar.Unique.{made_of_takes};
 ghost use Rattle.stream_errors.specs.Form.{modal};
-ghost use Rattle.winnow_core.specs.Agrees.{agrees_with};
 ghost use Rattle.winnow_core.specs.Closures.{Stays, Finds};
 ghost use Rattle.winnow_core.specs.Decided.Adapters.{FindsSame, verify_decided};
 ghost use Rattle.winnow_core.specs.Exact.Settled.{Misses, settled_exact, verify_fails};
@@ -16,7 +15,6 @@ ghost use Rattle.winnow_core.specs.Verify.{VerifySettles, VerifyRuns, verify_clo
 ghost use Rattle.winnow_core.specs.Verify.{verify_parser};
 ghost use Rattle.winnow_core.specs.Says.{nothing_done, nothing_said};
 
-use crate::agrees_with::AgreesWith;
 use crate::parser::Parser;
 use crate::stable::Stable;
 use std::marker::PhantomData;
@@ -118,22 +116,4 @@ impl<F: Stable<I, O, E>, G: FnMut(&O) -> bool, I: Stream, O: Drop, E: ParserErro
         (grows (F.leaves_ends modal) F.stable)) };
 
     fn stay() {}
-}
-
-impl<
-    P: AgreesWith<I, O, E, Q, J, F>,
-    Q: Parser<J, O, F>,
-    G: FnMut(&O) -> bool,
-    I: Stream,
-    J: Stream<Token = I::Token, Seen = I::Seen, Slice = I::Slice>,
-    O: Drop,
-    E: ParserError<I>,
-    F: ParserError<J>,
-> AgreesWith<I, O, E, Verify<Q, G, J, O, F>, J, F> for Verify<P, G, I, O, E> {
-    ghost like = { λ p q. P.like p.parser q.parser × (p.filter ≡ q.filter) };
-
-    ghost agrees = { agrees_with (λ p. p.parser) (λ q. q.parser) (λ p. p.filter)
-        (λ q. q.filter) (λ X m form. VerifyRuns (CalledAt G.FnMut) (m form)) P.agrees };
-
-    fn agree() {}
 }

@@ -4,7 +4,6 @@ ghost use Rattle.grammars.specs.Grammar.{Made};
 ghost use Rattle.grammars.specs.Grammar.Outputs.{RejectsAll};
 ghost use Rattle.grammars.specs.Grammar.Unique.{made_of_takes};
 ghost use Rattle.stream_errors.specs.Form.{modal};
-ghost use Rattle.winnow_core.specs.Agrees.{agrees_with};
 ghost use Rattle.winnow_core.specs.Closures.{Stays, GivesSome};
 ghost use Rattle.winnow_core.specs.Decided.Adapters.{RefusesSame, verify_map_decided};
 ghost use Rattle.winnow_core.specs.Decided.Made.{OutputsMadeAlike};
@@ -14,7 +13,6 @@ ghost use Rattle.winnow_core.specs.VerifyMap.{VerifyMapRuns, verify_map_parser, 
 ghost use Rattle.winnow_core.specs.VerifyMap.Laws.{verify_map_ends, verify_map_grows};
 ghost use Rattle.winnow_core.specs.Says.{nothing_done, nothing_said};
 
-use crate::agrees_with::AgreesWith;
 use crate::parser::Parser;
 use crate::stable::Stable;
 use std::marker::PhantomData;
@@ -110,23 +108,4 @@ impl<F: Stable<I, O, E>, G: FnMut(O) -> Option<O2>, I: Stream, O, O2, E: ParserE
     ghost stable = { stays (verify_map_grows G.step (grows (F.leaves_ends modal) F.stable)) };
 
     fn stay() {}
-}
-
-impl<
-    P: AgreesWith<I, O, E, Q, J, F>,
-    Q: Parser<J, O, F>,
-    G: FnMut(O) -> Option<O2>,
-    I: Stream,
-    J: Stream<Token = I::Token, Seen = I::Seen, Slice = I::Slice>,
-    O,
-    O2,
-    E: ParserError<I>,
-    F: ParserError<J>,
-> AgreesWith<I, O2, E, VerifyMap<Q, G, J, O, O2, F>, J, F> for VerifyMap<P, G, I, O, O2, E> {
-    ghost like = { λ p q. P.like p.parser q.parser × (p.filter ≡ q.filter) };
-
-    ghost agrees = { agrees_with (λ p. p.parser) (λ q. q.parser) (λ p. p.filter) (λ q. q.filter)
-        (λ X m form. VerifyMapRuns (m form) G.step) P.agrees };
-
-    fn agree() {}
 }

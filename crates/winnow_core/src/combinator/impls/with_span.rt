@@ -3,7 +3,6 @@ ghost use Rattle.std.specs.Prelude.{◌≡◌};
 ghost use Rattle.grammars.specs.Grammar.{Made};
 ghost use Rattle.grammars.specs.Grammar.Unique.{made_of_takes};
 ghost use Rattle.stream_errors.specs.Form.{modal};
-ghost use Rattle.winnow_core.specs.Agrees.{agrees1};
 ghost use Rattle.winnow_core.specs.Decided.Adapters.{AlikeBetween, with_span_decided};
 ghost use Rattle.winnow_core.specs.Exact.Adapters.{WithPlaces, with_span_exact, with_span_fails};
 ghost use Rattle.winnow_core.specs.MakesOutput.Laws.{makes_output_ends, makes_output_grows};
@@ -12,7 +11,6 @@ ghost use Rattle.winnow_core.specs.Stable.Grows.{grows, stays};
 ghost use Rattle.winnow_core.specs.WithSpan.{WithSpanRuns, with_span_parser};
 ghost use Rattle.winnow_core.specs.Says.{nothing_done, nothing_said};
 
-use crate::agrees_with::AgreesWith;
 use crate::parser::Parser;
 use crate::stable::Stable;
 use std::marker::PhantomData;
@@ -96,21 +94,4 @@ impl<F: Stable<I, O, E>, I: Location, O, E: ParserError<I>> Stable<I, (O, Range<
         (λ more flag i o j both is. is) (grows (F.leaves_ends modal) F.stable)) };
 
     fn stay() {}
-}
-
-impl<
-    P: AgreesWith<I, O, E, Q, J, F>,
-    Q: Parser<J, O, F>,
-    I: Location,
-    J: Location<Token = I::Token, Seen = I::Seen, Slice = I::Slice>,
-    O,
-    E: ParserError<I>,
-    F: ParserError<J>,
-> AgreesWith<I, (O, Range<usize>), E, WithSpan<Q, J, O, F>, J, F> for WithSpan<P, I, O, E> {
-    ghost like = { λ p q. P.like p.parser q.parser };
-
-    ghost agrees = { agrees1 (λ p. p.parser) (λ q. q.parser)
-        (λ X m form. WithSpanRuns (m form)) P.agrees };
-
-    fn agree() {}
 }

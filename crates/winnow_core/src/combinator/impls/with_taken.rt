@@ -10,16 +10,14 @@ ghost use Rattle.winnow_core.specs.Literal.Laws.{ShowSame};
 ghost use Rattle.winnow_core.specs.MakesOutput.Laws.{makes_output_ends, makes_output_grows};
 ghost use Rattle.winnow_core.specs.Stable.Grows.{grows, stays};
 ghost use Rattle.winnow_core.specs.WithTaken.{WithTakenRuns, with_taken_parser};
-ghost use Rattle.winnow_core.specs.WithTaken.Laws.{with_taken_agrees, made_with_taken};
+ghost use Rattle.winnow_core.specs.WithTaken.Laws.{made_with_taken};
 ghost use Rattle.winnow_core.specs.Says.{nothing_done, nothing_said};
 
-use crate::agrees_with::AgreesWith;
 use crate::combinator::impls::take::slice_from;
 use crate::parser::Parser;
 use crate::stable::Stable;
 use std::marker::PhantomData;
 use stream_errors::parser_error::ParserError;
-use streams::reads_like::ReadsLike;
 use streams::stream::Stream;
 
 /// The parser that [`Parser::with_taken`](crate::parser::Parser::with_taken) makes.
@@ -95,20 +93,4 @@ impl<F: Stable<I, O, E>, I: Stream, O, E: ParserError<I>> Stable<I, (O, I::Slice
         (grows (F.leaves_ends modal) F.stable)) };
 
     fn stay() {}
-}
-
-impl<
-    P: AgreesWith<I, O, E, Q, J, F>,
-    Q: Parser<J, O, F>,
-    I: ReadsLike<J>,
-    J: Stream<Token = I::Token, Seen = I::Seen, Slice = I::Slice>,
-    O,
-    E: ParserError<I>,
-    F: ParserError<J>,
-> AgreesWith<I, (O, I::Slice), E, WithTaken<Q, J, O, F>, J, F> for WithTaken<P, I, O, E> {
-    ghost like = { λ p q. P.like p.parser q.parser };
-
-    ghost agrees = { with_taken_agrees (λ p. p.parser) (λ q. q.parser) I.same_reading P.agrees };
-
-    fn agree() {}
 }

@@ -1,7 +1,6 @@
 //! Text with escapes, and what it stands for.
 ghost use Rattle.std.specs.Prelude.{◌≡◌, None};
 ghost use Rattle.stream_errors.specs.Form.{assert_kind, incomplete_kind, plain, modal};
-ghost use Rattle.winnow_core.specs.Agrees.Sizes.{agrees3};
 ghost use Rattle.winnow_core.specs.Stable.Grows.{grows, stays};
 ghost use Rattle.winnow_escapes.specs.Controls.{grows_on_some};
 ghost use Rattle.winnow_escapes.specs.Escaped.{EscapedRuns, escaped_control, escaped_escape};
@@ -16,8 +15,7 @@ use std::marker::PhantomData;
 use stream_errors::control::ControlError;
 use stream_errors::parser_error::ParserError;
 use stream_sets::accumulate::Accumulate;
-use streams::stream::{Stream, StreamIsPartial};
-use winnow_core::agrees_with::AgreesWith;
+use streams::stream::StreamIsPartial;
 use winnow_core::parser::Parser;
 use winnow_core::stable::Stable;
 
@@ -130,35 +128,4 @@ impl<
         (assert_kind modal)) };
 
     fn stay() {}
-}
-
-impl<
-    N: AgreesWith<I, O, E, M, J, F>,
-    M: Parser<J, O, F>,
-    K: AgreesWith<I, D, ControlError, L, J, ControlError>,
-    L: Parser<J, D, ControlError>,
-    X: AgreesWith<I, P, E, Y, J, F>,
-    Y: Parser<J, P, F>,
-    I: StreamIsPartial,
-    J: StreamIsPartial + Stream<Token = I::Token, Seen = I::Seen, Slice = I::Slice>,
-    O: Drop,
-    D: Drop,
-    P: Drop,
-    C: Accumulate<O, A> + Accumulate<P, A>,
-    E: ParserError<I>,
-    F: ParserError<J>,
-    A: Copy,
-> AgreesWith<I, C, E, Escaped<M, L, Y, J, O, D, P, C, F, A>, J, F>
-    for Escaped<N, K, X, I, O, D, P, C, E, A> {
-    ghost like = { λ p q. N.like p.normal q.normal × K.like p.control q.control
-        × X.like p.escape q.escape };
-
-    ghost agrees = { agrees3 (λ p. p.normal) (λ q. q.normal) (λ p. p.control) (λ q. q.control)
-        (λ p. p.escape) (λ q. q.escape)
-        (λ S W V normal control escape form. EscapedRuns (normal form) (control plain)
-        (escape form)
-        (turns_kept ⟦<C as Accumulate<O, A>>⟧.accumulator ⟦<C as Accumulate<P, A>>⟧.accumulator)
-        (assert_kind form) (incomplete_kind form None)) N.agrees K.agrees X.agrees };
-
-    fn agree() {}
 }

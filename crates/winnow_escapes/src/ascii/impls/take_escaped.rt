@@ -1,11 +1,9 @@
 //! Text with escapes, as it stands.
 ghost use Rattle.std.specs.Prelude.{◌≡◌, None};
 ghost use Rattle.stream_errors.specs.Form.{assert_kind, incomplete_kind, plain, modal};
-ghost use Rattle.winnow_core.specs.Agrees.Sizes.{agrees3};
 ghost use Rattle.winnow_core.specs.Stable.Grows.{grows, stays};
-ghost use Rattle.winnow_core.specs.Take.Laws.{take_agrees, take_adapter_grows};
+ghost use Rattle.winnow_core.specs.Take.Laws.{take_adapter_grows};
 ghost use Rattle.winnow_escapes.specs.Controls.{grows_on_some};
-ghost use Rattle.winnow_escapes.specs.Escaped.{EscapedRuns};
 ghost use Rattle.winnow_escapes.specs.Escaped.Laws.{escaped_grows};
 ghost use Rattle.winnow_escapes.specs.TakeEscaped.{TakeEscapedRuns, no_turns_kept};
 ghost use Rattle.winnow_escapes.specs.TakeEscaped.{take_escaped_control, take_escaped_escapable};
@@ -18,9 +16,7 @@ use crate::ascii::impls::Escaped;
 use crate::stable::SettledControl;
 use stream_errors::control::ControlError;
 use stream_errors::parser_error::ParserError;
-use streams::reads_like::ReadsLike;
-use streams::stream::{Stream, StreamIsPartial};
-use winnow_core::agrees_with::AgreesWith;
+use streams::stream::StreamIsPartial;
 use winnow_core::combinator::impls::Take;
 use winnow_core::parser::Parser;
 use winnow_core::stable::Stable;
@@ -125,34 +121,4 @@ impl<
         (grows (X.leaves_ends modal) X.stable) no_turns_kept (assert_kind modal))) };
 
     fn stay() {}
-}
-
-impl<
-    N: AgreesWith<I, O, E, M, J, F>,
-    M: Parser<J, O, F>,
-    K: AgreesWith<I, D, ControlError, L, J, ControlError>,
-    L: Parser<J, D, ControlError>,
-    X: AgreesWith<I, P, E, Y, J, F>,
-    Y: Parser<J, P, F>,
-    I: StreamIsPartial + ReadsLike<J>,
-    J: StreamIsPartial + Stream<Token = I::Token, Seen = I::Seen, Slice = I::Slice>,
-    O: Drop,
-    D: Drop,
-    P: Drop,
-    E: ParserError<I>,
-    F: ParserError<J>,
-> AgreesWith<I, I::Slice, E, TakeEscaped<M, L, Y, J, O, D, P, F>, J, F>
-    for TakeEscaped<N, K, X, I, O, D, P, E> {
-    ghost like = { λ p q. N.like (take_escaped_normal p) (take_escaped_normal q)
-        × K.like (take_escaped_control p) (take_escaped_control q)
-        × X.like (take_escaped_escapable p) (take_escaped_escapable q) };
-
-    ghost agrees = { take_agrees (λ p. p) (λ q. q) I.same_reading
-        (agrees3 take_escaped_normal take_escaped_normal take_escaped_control
-        take_escaped_control take_escaped_escapable take_escaped_escapable
-        (λ S W V normal control escape form. EscapedRuns (normal form) (control plain)
-        (escape form) no_turns_kept (assert_kind form) (incomplete_kind form None))
-        N.agrees K.agrees X.agrees) };
-
-    fn agree() {}
 }

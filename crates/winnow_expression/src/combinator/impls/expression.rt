@@ -3,23 +3,20 @@ ghost use Rattle.std.specs.Prelude.{◌≡◌, ℤ, pos};
 ghost use Rattle.stream_errors.specs.Form.{assert_kind};
 ghost use Rattle.winnow_expression.specs.Expression.{LeveledRuns, infix_of, level_of, operand_of};
 ghost use Rattle.winnow_expression.specs.Expression.{postfix_of, prefix_of};
-ghost use Rattle.winnow_expression.specs.Expression.Agree.{expression_agrees};
 ghost use Rattle.winnow_expression.specs.Expression.Laws.{leveled_leaves};
 ghost use Rattle.winnow_expression.specs.Parts.{parts_grammar};
 ghost use Rattle.winnow_expression.specs.Places.Laws.{first_ends, next_ends};
 ghost use Rattle.winnow_core.specs.Claim.{no_claim, nothing_claimed};
 ghost use Rattle.winnow_core.specs.Says.{nothing_done, nothing_said};
 
-use crate::combinator::folds::{FoldBinary, FoldUnary, FoldsBinaryLike, FoldsUnaryLike};
+use crate::combinator::folds::{FoldBinary, FoldUnary};
 use crate::combinator::machine::expression_from;
 use crate::combinator::operators::{Infix, Postfix, Prefix};
 use crate::combinator::places::{OperandPlace, OperatorPlace};
 use std::alloc::Allocator;
 use std::marker::PhantomData;
 use stream_errors::parser_error::ParserError;
-use streams::reads_like::ReadsLike;
 use streams::stream::Stream;
-use winnow_core::agrees_with::AgreesWith;
 use winnow_core::parser::Parser;
 
 /// The parser that [`expression`](crate::combinator::expression) makes.
@@ -248,38 +245,4 @@ impl<
             input,
         )
     }
-}
-
-impl<
-    I: Stream + ReadsLike<J>,
-    J: Stream<Token = I::Token, Seen = I::Seen, Slice = I::Slice>,
-    O: Drop,
-    P: AgreesWith<I, O, E, P2, J, D>,
-    P2: Parser<J, O, D>,
-    Pre: AgreesWith<I, Prefix<F>, E, Pre2, J, D>,
-    Pre2: Parser<J, Prefix<F>, D>,
-    Post: AgreesWith<I, Postfix<G>, E, Post2, J, D>,
-    Post2: Parser<J, Postfix<G>, D>,
-    Pix: AgreesWith<I, Infix<H>, E, Pix2, J, D>,
-    Pix2: Parser<J, Infix<H>, D>,
-    F: FoldsUnaryLike<I, O, E, J, D>,
-    G: FoldsUnaryLike<I, O, E, J, D>,
-    H: FoldsBinaryLike<I, O, E, J, D>,
-    E: ParserError<I>,
-    D: ParserError<J>,
-    A: Allocator + Copy,
-> AgreesWith<I, O, E, Expression<J, O, P2, Pre2, Post2, Pix2, F, G, H, D, A>, J, D>
-    for Expression<I, O, P, Pre, Post, Pix, F, G, H, E, A> {
-    ghost like = { λ p q. (P.like p.first.operand q.first.operand
-        × Pre.like p.first.prefix q.first.prefix)
-        × (Post.like p.next.postfix q.next.postfix × Pix.like p.next.«infix» q.next.«infix»)
-        × (p.level ≡ q.level) };
-
-    ghost agrees = { expression_agrees (λ p. p.first.operand) (λ q. q.first.operand)
-        (λ p. p.first.prefix) (λ q. q.first.prefix) (λ p. p.next.postfix) (λ q. q.next.postfix)
-        (λ p. p.next.«infix») (λ q. q.next.«infix») (λ p. p.level) (λ q. q.level)
-        I.same_reading.units F.same_folds G.same_folds H.same_folds P.agrees Pre.agrees
-        Post.agrees Pix.agrees };
-
-    fn agree() {}
 }

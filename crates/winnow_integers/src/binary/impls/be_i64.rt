@@ -4,11 +4,10 @@
 ghost use Rattle.std.specs.Prelude.{◌≡◌, ⊤};
 ghost use Rattle.winnow_integers.specs.Integer.{IntegerRuns, signed_value};
 ghost use Rattle.winnow_integers.specs.Integer.Grammar.{Integer, integer_takes};
-ghost use Rattle.winnow_integers.specs.Integer.Laws.{integer_alike, integer_ends, integer_exact};
+ghost use Rattle.winnow_integers.specs.Integer.Laws.{integer_ends, integer_exact};
 ghost use Rattle.winnow_integers.specs.Integer.Laws.{integer_decided, integer_fails, integer_stays};
 ghost use Rattle.winnow_integers.specs.Integer.Laws.{some_bytes};
 ghost use Rattle.winnow_integers.specs.declared.binary.endianness.Endianness.TheVariants.{Big};
-ghost use Rattle.winnow_core.specs.Agrees.{agrees_plain};
 ghost use Rattle.winnow_core.specs.Exact.Allowed.{backs};
 ghost use Rattle.winnow_core.specs.Runs.{Keeps};
 ghost use Rattle.winnow_core.specs.Stable.Grows.{leaf_stays};
@@ -17,9 +16,7 @@ ghost use Rattle.winnow_core.specs.Says.{nothing_done, nothing_said};
 use crate::binary::be_i64;
 use stream_errors::parser_error::ParserError;
 use streams::byte_stream::ByteStream;
-use streams::reads_like::ReadsLike;
-use streams::stream::{Stream, StreamIsPartial};
-use winnow_core::agrees_with::AgreesWith;
+use streams::stream::StreamIsPartial;
 use winnow_core::parser::Parser;
 use winnow_core::stable::Stable;
 
@@ -73,17 +70,4 @@ impl<I: StreamIsPartial + ByteStream, E: ParserError<I>> Stable<I, i64, E> for B
     ghost stable = { leaf_stays I.following _ (λ _. integer_stays 8 (signed_value Big) I.reading) };
 
     fn stay() {}
-}
-
-impl<
-    I: StreamIsPartial + ByteStream + ReadsLike<J>,
-    J: StreamIsPartial + ByteStream + Stream<Token = u8, Seen = u8, Slice = I::Slice>,
-    E: ParserError<I>,
-    F: ParserError<J>,
-> AgreesWith<I, i64, E, BeI64, J, F> for BeI64 {
-    ghost like = { λ p q. ⊤ };
-
-    ghost agrees = { agrees_plain (integer_alike 8 (λ _. signed_value Big) I.same_reading) };
-
-    fn agree() {}
 }

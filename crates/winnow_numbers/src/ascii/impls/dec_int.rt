@@ -1,12 +1,11 @@
 //! Decimal signed numbers.
 ghost use Rattle.std.specs.Prelude.{⊤};
 ghost use Rattle.stream_sets.specs.Once.{SeesApart};
-ghost use Rattle.winnow_core.specs.Agrees.{agrees_plain};
 ghost use Rattle.winnow_core.specs.Exact.Allowed.{backs};
 ghost use Rattle.winnow_core.specs.Runs.{Keeps};
 ghost use Rattle.winnow_core.specs.Stable.Grows.{leaf_stays};
 ghost use Rattle.winnow_numbers.specs.DecInt.{DecIntRuns};
-ghost use Rattle.winnow_numbers.specs.DecInt.Laws.{dec_int_alike, dec_int_decided};
+ghost use Rattle.winnow_numbers.specs.DecInt.Laws.{dec_int_decided};
 ghost use Rattle.winnow_numbers.specs.DecInt.Laws.{dec_int_ends, dec_int_stays};
 ghost use Rattle.winnow_numbers.specs.DecUint.Laws.{OneNumber};
 ghost use Rattle.winnow_numbers.specs.Numeral.Exact.{dec_int_exact, dec_int_fails, signed_takes};
@@ -17,9 +16,7 @@ use crate::ascii::{Int, dec_int};
 use stream_errors::parser_error::ParserError;
 use stream_sets::as_bstr::{AsBStr, SlicesAsBytes};
 use stream_sets::as_char::AsChar;
-use streams::reads_like::ReadsLike;
-use streams::stream::{Stream, StreamIsPartial};
-use winnow_core::agrees_with::AgreesWith;
+use streams::stream::StreamIsPartial;
 use winnow_core::parser::Parser;
 use winnow_core::stable::Stable;
 
@@ -84,23 +81,4 @@ where
         (λ _. dec_int_stays I.seen_as I.Token.code I.reading O.number O.fits) };
 
     fn stay() {}
-}
-
-impl<
-    I: StreamIsPartial + SlicesAsBytes + ReadsLike<J>,
-    J: StreamIsPartial + SlicesAsBytes + Stream<Token = I::Token, Seen = I::Seen, Slice = I::Slice>,
-    O: Int,
-    E: ParserError<I>,
-    F: ParserError<J>,
-> AgreesWith<I, O, E, DecInt, J, F> for DecInt
-where
-    I::Token: AsChar,
-    I::Slice: AsBStr,
-{
-    ghost like = { λ p q. ⊤ };
-
-    ghost agrees = { agrees_plain
-        (dec_int_alike O.number O.fits I.Token.code I.same_reading I.same_tokens) };
-
-    fn agree() {}
 }

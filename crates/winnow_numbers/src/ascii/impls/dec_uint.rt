@@ -1,12 +1,11 @@
 //! Decimal unsigned numbers.
 ghost use Rattle.std.specs.Prelude.{⊤};
 ghost use Rattle.stream_sets.specs.Once.{SeesApart};
-ghost use Rattle.winnow_core.specs.Agrees.{agrees_plain};
 ghost use Rattle.winnow_core.specs.Exact.Allowed.{backs};
 ghost use Rattle.winnow_core.specs.Runs.{Keeps};
 ghost use Rattle.winnow_core.specs.Stable.Grows.{leaf_stays};
 ghost use Rattle.winnow_numbers.specs.DecUint.{DecUintRuns};
-ghost use Rattle.winnow_numbers.specs.DecUint.Laws.{OneNumber, dec_uint_decided, dec_uint_alike};
+ghost use Rattle.winnow_numbers.specs.DecUint.Laws.{OneNumber, dec_uint_decided};
 ghost use Rattle.winnow_numbers.specs.DecUint.Laws.{dec_uint_ends, dec_uint_stays};
 ghost use Rattle.winnow_numbers.specs.Numeral.Exact.{dec_uint_exact, dec_uint_fails, decimal_takes};
 ghost use Rattle.winnow_numbers.specs.Numeral.Grammar.{Decimal};
@@ -16,9 +15,7 @@ use crate::ascii::{Uint, dec_uint};
 use stream_errors::parser_error::ParserError;
 use stream_sets::as_bstr::{AsBStr, SlicesAsBytes};
 use stream_sets::as_char::AsChar;
-use streams::reads_like::ReadsLike;
-use streams::stream::{Stream, StreamIsPartial};
-use winnow_core::agrees_with::AgreesWith;
+use streams::stream::StreamIsPartial;
 use winnow_core::parser::Parser;
 use winnow_core::stable::Stable;
 
@@ -83,23 +80,4 @@ where
         (λ _. dec_uint_stays I.seen_as I.Token.code I.reading O.number O.bound) };
 
     fn stay() {}
-}
-
-impl<
-    I: StreamIsPartial + SlicesAsBytes + ReadsLike<J>,
-    J: StreamIsPartial + SlicesAsBytes + Stream<Token = I::Token, Seen = I::Seen, Slice = I::Slice>,
-    O: Uint,
-    E: ParserError<I>,
-    F: ParserError<J>,
-> AgreesWith<I, O, E, DecUint, J, F> for DecUint
-where
-    I::Token: AsChar,
-    I::Slice: AsBStr,
-{
-    ghost like = { λ p q. ⊤ };
-
-    ghost agrees = { agrees_plain
-        (dec_uint_alike O.number O.bound I.Token.code I.same_reading I.same_tokens) };
-
-    fn agree() {}
 }

@@ -2,14 +2,13 @@
 ghost use Rattle.std.specs.Prelude.{◌≡◌, ◌+◌, ◌*◌, ◌^◌, ◌<◌, ℕ, ⊤};
 ghost use Rattle.std.proofs.Common.{arith};
 ghost use Rattle.stream_sets.specs.Once.{SeesApart};
-ghost use Rattle.winnow_core.specs.Agrees.{agrees_plain};
 ghost use Rattle.winnow_core.specs.Exact.Allowed.{backs};
 ghost use Rattle.winnow_core.specs.Runs.{Keeps};
 ghost use Rattle.winnow_core.specs.Stable.Grows.{leaf_stays};
 ghost use Rattle.winnow_numbers.specs.DecUint.Laws.{OneNumber};
 ghost use Rattle.winnow_numbers.specs.HexUint.{HexUintRuns};
 ghost use Rattle.winnow_numbers.specs.HexUint.Laws.{hex_uint_exact, hex_uint_fails};
-ghost use Rattle.winnow_numbers.specs.HexUint.Laws.{hexadecimal_takes, hex_uint_alike};
+ghost use Rattle.winnow_numbers.specs.HexUint.Laws.{hexadecimal_takes};
 ghost use Rattle.winnow_numbers.specs.HexUint.Laws.{hex_uint_decided};
 ghost use Rattle.winnow_numbers.specs.HexUint.Laws.{hex_uint_ends, hex_uint_stays};
 ghost use Rattle.winnow_numbers.specs.Numeral.Grammar.{Hexadecimal};
@@ -20,9 +19,7 @@ use crate::ascii::impls::hex_uint::sealed::SealedMarker;
 use stream_errors::parser_error::ParserError;
 use stream_sets::as_bstr::{AsBStr, SlicesAsBytes};
 use stream_sets::as_char::AsChar;
-use streams::reads_like::ReadsLike;
-use streams::stream::{Stream, StreamIsPartial};
-use winnow_core::agrees_with::AgreesWith;
+use streams::stream::StreamIsPartial;
 use winnow_core::parser::Parser;
 use winnow_core::stable::Stable;
 
@@ -246,23 +243,4 @@ where
         (λ _. hex_uint_stays I.seen_as I.Token.code I.reading O.number O.nibbles) };
 
     fn stay() {}
-}
-
-impl<
-    I: StreamIsPartial + SlicesAsBytes + ReadsLike<J>,
-    J: StreamIsPartial + SlicesAsBytes + Stream<Token = I::Token, Seen = I::Seen, Slice = I::Slice>,
-    O: HexUint,
-    E: ParserError<I>,
-    F: ParserError<J>,
-> AgreesWith<I, O, E, HexUintParser, J, F> for HexUintParser
-where
-    I::Token: AsChar,
-    I::Slice: AsBStr,
-{
-    ghost like = { λ p q. ⊤ };
-
-    ghost agrees = { agrees_plain
-        (hex_uint_alike O.number O.nibbles I.Token.code I.same_reading I.same_tokens) };
-
-    fn agree() {}
 }

@@ -4,7 +4,6 @@
 ghost use Rattle.std.specs.Prelude.{◌≡◌, true};
 ghost use Rattle.stream_errors.specs.Form.{answer_by};
 ghost use Rattle.streams.specs.Input.{IsEndOf};
-ghost use Rattle.winnow_core.specs.Agrees.Beside.{agrees2_with};
 ghost use Rattle.winnow_recovery.specs.Recovery.{Recovery, recovery_of};
 ghost use Rattle.winnow_recovery.specs.ResumeAfter.Laws.{resume_after_ends};
 ghost use Rattle.winnow_recovery.specs.ResumeAfter.{ResumeAfterRuns, ResumeRuns};
@@ -17,8 +16,6 @@ use std::marker::PhantomData;
 use stream_errors::parser_error::ParserError;
 use stream_errors::recover::Recover;
 use stream_errors::recoverable::FromRecoverableError;
-use streams::stream::Stream;
-use winnow_core::agrees_with::AgreesWith;
 use winnow_core::parser::Parser;
 
 /// The parser that
@@ -104,30 +101,6 @@ impl<
             }
         }
     }
-}
-
-impl<
-    P: AgreesWith<I, O, E, Q, J, F>,
-    Q: Parser<J, O, F>,
-    R: AgreesWith<I, (), E, W, J, F>,
-    W: Parser<J, (), F>,
-    I: Recover<E>,
-    J: Recover<F> + Stream<Token = I::Token, Seen = I::Seen, Slice = I::Slice>,
-    O,
-    E: ParserError<I> + FromRecoverableError<I, E>,
-    F: ParserError<J> + FromRecoverableError<J, F>,
-> AgreesWith<I, Option<O>, E, ResumeAfter<Q, W, J, O, F>, J, F> for ResumeAfter<P, R, I, O, E> {
-    ghost like = { λ p q. P.like p.parser q.parser × R.like p.recover q.recover
-        × (recovery_of I.supports_recovery E.recoverable_grows
-        ≡ recovery_of J.supports_recovery F.recoverable_grows) };
-
-    ghost agrees = { agrees2_with (λ p. p.parser) (λ q. q.parser) (λ p. p.recover)
-        (λ q. q.recover)
-        (λ p. recovery_of I.supports_recovery E.recoverable_grows)
-        (λ q. recovery_of J.supports_recovery F.recoverable_grows)
-        (λ X Y m n form. ResumeAfterRuns (m form) (n form)) P.agrees R.agrees };
-
-    fn agree() {}
 }
 
 /// Runs a parser, and the one that recovers where that fails.

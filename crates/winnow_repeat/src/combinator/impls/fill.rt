@@ -1,18 +1,15 @@
 //! A buffer that is filled.
-ghost use Rattle.std.specs.Prelude.{◌≡◌};
 ghost use Rattle.stream_errors.specs.Form.{answer_by, modal};
 ghost use Rattle.streams.specs.Input.{IsEndOf};
 ghost use Rattle.winnow_core.specs.Stable.Grows.{grows, stays};
 ghost use Rattle.winnow_repeat.specs.Fill.{Buffer, FillRuns, FillsElements, fill_buffer};
 ghost use Rattle.winnow_repeat.specs.Fill.Laws.{fill_ends, fill_grows};
-ghost use Rattle.winnow_core.specs.Agrees.{agrees_with};
 ghost use Rattle.winnow_core.specs.Claim.{no_claim, nothing_claimed};
 ghost use Rattle.winnow_core.specs.Says.{nothing_done, nothing_said};
 
 use std::marker::PhantomData;
 use stream_errors::parser_error::ParserError;
 use streams::stream::Stream;
-use winnow_core::agrees_with::AgreesWith;
 use winnow_core::parser::Parser;
 use winnow_core::stable::Stable;
 
@@ -60,25 +57,6 @@ impl<'b, P: Stable<I, O, E>, I: Stream, O: Drop, E: ParserError<I>> Stable<I, ()
     ghost stable = { stays (fill_grows (P.meaning modal) (grows (P.leaves_ends modal) P.stable)) };
 
     fn stay() {}
-}
-
-impl<
-    'b,
-    P: AgreesWith<I, O, E, Q, J, F>,
-    Q: Parser<J, O, F>,
-    I: Stream,
-    J: Stream<Token = I::Token, Seen = I::Seen, Slice = I::Slice>,
-    O: Drop,
-    E: ParserError<I>,
-    F: ParserError<J>,
-> AgreesWith<I, (), E, Fill<'b, Q, J, O, F>, J, F> for Fill<'b, P, I, O, E> {
-    ghost like = { λ p q. P.like p.parser q.parser
-        × (fill_buffer p ≡ fill_buffer q) };
-
-    ghost agrees = { agrees_with (λ p. p.parser) (λ q. q.parser) fill_buffer fill_buffer
-        (λ X m form. FillRuns (m form)) P.agrees };
-
-    fn agree() {}
 }
 
 /// Overwrites each element of a buffer by the output of a run.

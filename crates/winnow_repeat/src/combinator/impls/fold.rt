@@ -7,7 +7,6 @@ ghost use Rattle.stream_sets.specs.declared.range.Range.{Range};
 ghost use Rattle.grammars.specs.Grammar.Folded.{FoldOf, Folded, StaysFolding, StaysMaking};
 ghost use Rattle.grammars.specs.Grammar.Unique.{repeated_take};
 ghost use Rattle.stream_errors.specs.Form.{answer_by, assert_kind, modal};
-ghost use Rattle.winnow_core.specs.Agrees.{agrees_with};
 ghost use Rattle.winnow_core.specs.Exact.Allowed.{fails_as, softly};
 ghost use Rattle.winnow_core.specs.Stable.Grows.{grows, stays};
 ghost use Rattle.winnow_repeat.specs.Fold.{FoldOneRuns, FoldTakes, RangedFolds, fold_closure};
@@ -23,7 +22,6 @@ use std::marker::PhantomData;
 use stream_errors::parser_error::ParserError;
 use stream_sets::range::Range;
 use streams::stream::Stream;
-use winnow_core::agrees_with::AgreesWith;
 use winnow_core::parser::Parser;
 use winnow_core::stable::Stable;
 
@@ -176,30 +174,6 @@ impl<
         (grows (P.leaves_ends modal) P.stable)) };
 
     fn stay() {}
-}
-
-impl<
-    P: AgreesWith<I, O, E, Q, J, F>,
-    Q: Parser<J, O, F>,
-    G: FnMut() -> R,
-    H: FnMut(R, O) -> R,
-    I: Stream,
-    J: Stream<Token = I::Token, Seen = I::Seen, Slice = I::Slice>,
-    O: Drop,
-    R: Drop,
-    E: ParserError<I>,
-    F: ParserError<J>,
-> AgreesWith<I, R, E, RepeatFold<Q, G, H, J, O, R, F>, J, F> for RepeatFold<P, G, H, I, O, R, E> {
-    ghost like = { λ p q. P.like p.parser q.parser
-        × (◌≡◌ {A = Range × (G × H)} (p.occurrences, (p.init, p.op.closure))
-        (q.occurrences, (q.init, q.op.closure))) };
-
-    ghost agrees = { agrees_with (λ p. p.parser) (λ q. q.parser)
-        (λ p. (p.occurrences, (p.init, p.op.closure)))
-        (λ q. (q.occurrences, (q.init, q.op.closure)))
-        (λ X m form. RangedFolds G.step H.step (m form) (assert_kind form)) P.agrees };
-
-    fn agree() {}
 }
 
 /// Folds one item or more: the value to begin with is made after the first.

@@ -5,7 +5,6 @@ ghost use Rattle.stream_sets.specs.Range.{IsWithin, bounds_of};
 ghost use Rattle.stream_sets.specs.declared.range.Range.{Range};
 ghost use Rattle.grammars.specs.Grammar.{Repeated};
 ghost use Rattle.stream_errors.specs.Form.{answer_by, assert_kind, modal};
-ghost use Rattle.winnow_core.specs.Agrees.{agrees_with};
 ghost use Rattle.winnow_core.specs.Exact.Allowed.{fails_as, wanted, softly};
 ghost use Rattle.winnow_core.specs.Stable.Grows.{grows, stays};
 ghost use Rattle.winnow_repeat.specs.Fold.{fold_closure, fold_init, fold_occurrences, fold_parser};
@@ -29,7 +28,6 @@ use stream_errors::parser_error::ParserError;
 use stream_sets::accumulate::Accumulate;
 use stream_sets::range::Range;
 use streams::stream::Stream;
-use winnow_core::agrees_with::AgreesWith;
 use winnow_core::parser::Parser;
 use winnow_core::stable::Stable;
 
@@ -206,26 +204,6 @@ impl<
         (grows (P.leaves_ends modal) P.stable)) };
 
     fn stay() {}
-}
-
-impl<
-    P: AgreesWith<I, O, E, Q, J, F>,
-    Q: Parser<J, O, F>,
-    I: Stream,
-    J: Stream<Token = I::Token, Seen = I::Seen, Slice = I::Slice>,
-    O: Drop,
-    C: Accumulate<O, A>,
-    E: ParserError<I>,
-    F: ParserError<J>,
-    A: Allocator + Copy,
-> AgreesWith<I, C, E, Repeat<Q, J, O, C, F, A>, J, F> for Repeat<P, I, O, C, E, A> {
-    ghost like = { λ p q. P.like p.parser q.parser × (p.occurrences ≡ q.occurrences) };
-
-    ghost agrees = { agrees_with (λ p. p.parser) (λ q. q.parser) (λ p. p.occurrences)
-        (λ q. q.occurrences)
-        (λ X m form. RangedRuns (m form) C.accumulator (assert_kind form)) P.agrees };
-
-    fn agree() {}
 }
 
 /// Repeats once or more: the accumulator is made after the first item.

@@ -1,11 +1,10 @@
 //! Repetition until a terminator.
-ghost use Rattle.std.specs.Prelude.{◌≡◌, ◌<◌, ⊤};
+ghost use Rattle.std.specs.Prelude.{◌<◌, ⊤};
 ghost use Rattle.streams.specs.Input.{IsEndOf};
 ghost use Rattle.stream_sets.specs.Range.{IsWithin, bounds_of};
 ghost use Rattle.stream_sets.specs.declared.range.Range.{Range};
 ghost use Rattle.grammars.specs.Grammar.Till.{Till, till_takes};
 ghost use Rattle.stream_errors.specs.Form.{answer_by, assert_kind, modal};
-ghost use Rattle.winnow_core.specs.Agrees.Beside.{agrees2_with};
 ghost use Rattle.winnow_core.specs.Exact.Allowed.{fails_as, wanted, softly};
 ghost use Rattle.winnow_core.specs.InOrder.Decided.{AlikePairs};
 ghost use Rattle.winnow_core.specs.Stable.Grows.{grows, stays};
@@ -23,7 +22,6 @@ use stream_errors::parser_error::ParserError;
 use stream_sets::accumulate::Accumulate;
 use stream_sets::range::Range;
 use streams::stream::Stream;
-use winnow_core::agrees_with::AgreesWith;
 use winnow_core::parser::Parser;
 use winnow_core::stable::Stable;
 
@@ -132,32 +130,6 @@ impl<
         (grows (G.leaves_ends modal) G.stable)) };
 
     fn stay() {}
-}
-
-impl<
-    P: AgreesWith<I, O, E, Q, J, F>,
-    Q: Parser<J, O, F>,
-    G: AgreesWith<I, D, E, W, J, F>,
-    W: Parser<J, D, F>,
-    I: Stream,
-    J: Stream<Token = I::Token, Seen = I::Seen, Slice = I::Slice>,
-    O: Drop,
-    D,
-    C: Accumulate<O, A>,
-    E: ParserError<I>,
-    F: ParserError<J>,
-    A: Allocator + Copy,
-> AgreesWith<I, (C, D), E, RepeatTill<Q, W, J, O, D, C, F, A>, J, F>
-    for RepeatTill<P, G, I, O, D, C, E, A> {
-    ghost like = { λ p q. P.like p.parser q.parser × G.like p.terminator q.terminator
-        × (p.occurrences ≡ q.occurrences) };
-
-    ghost agrees = { agrees2_with (λ p. p.parser) (λ q. q.parser) (λ p. p.terminator)
-        (λ q. q.terminator) (λ p. p.occurrences) (λ q. q.occurrences)
-        (λ X Y m n form. RangedTillRuns (m form) (n form) C.accumulator (assert_kind form))
-        P.agrees G.agrees };
-
-    fn agree() {}
 }
 
 /// Reads that many items into an accumulator, and lets them consume nothing.

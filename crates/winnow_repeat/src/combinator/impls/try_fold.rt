@@ -8,7 +8,6 @@ ghost use Rattle.winnow_core.specs.Stable.Grows.{grows, stays};
 ghost use Rattle.winnow_repeat.specs.Fold.Laws.{ranged_fold_many_ends, fold_any_grows};
 ghost use Rattle.winnow_repeat.specs.TryFold.{TryFoldRuns, TryFoldTakes, try_fold_closure};
 ghost use Rattle.winnow_repeat.specs.TryFold.{try_fold_init, try_fold_occurrences, try_fold_parser};
-ghost use Rattle.winnow_core.specs.Agrees.{agrees_with};
 ghost use Rattle.winnow_core.specs.Claim.{no_claim, nothing_claimed};
 ghost use Rattle.winnow_core.specs.Says.{nothing_done, nothing_said};
 
@@ -18,7 +17,6 @@ use stream_errors::external::FromExternalError;
 use stream_errors::parser_error::ParserError;
 use stream_sets::range::Range;
 use streams::stream::Stream;
-use winnow_core::agrees_with::AgreesWith;
 use winnow_core::parser::Parser;
 use winnow_core::stable::Stable;
 
@@ -162,31 +160,4 @@ impl<
         (grows (P.leaves_ends modal) P.stable)) };
 
     fn stay() {}
-}
-
-impl<
-    P: AgreesWith<I, O, E, Q, J, F>,
-    Q: Parser<J, O, F>,
-    G: FnMut() -> R,
-    H: FnMut(R, O) -> Result<R, X>,
-    I: Stream,
-    J: Stream<Token = I::Token, Seen = I::Seen, Slice = I::Slice>,
-    O: Drop,
-    R: Drop,
-    E: ParserError<I> + FromExternalError<I, X>,
-    F: ParserError<J> + FromExternalError<J, X>,
-    X,
-> AgreesWith<I, R, E, RepeatTryFold<Q, G, H, J, O, R, F, X>, J, F>
-    for RepeatTryFold<P, G, H, I, O, R, E, X> {
-    ghost like = { λ p q. P.like p.parser q.parser
-        × (◌≡◌ {A = Range × (G × (H × (X → Keeping)))}
-        (p.occurrences, (p.init, (p.op.closure, E.external_gives)))
-        (q.occurrences, (q.init, (q.op.closure, F.external_gives)))) };
-
-    ghost agrees = { agrees_with (λ p. p.parser) (λ q. q.parser)
-        (λ p. (p.occurrences, (p.init, (p.op.closure, E.external_gives))))
-        (λ q. (q.occurrences, (q.init, (q.op.closure, F.external_gives))))
-        (λ X m form. TryFoldRuns G.step H.step (m form) (assert_kind form)) P.agrees };
-
-    fn agree() {}
 }

@@ -8,7 +8,6 @@ ghost use Rattle.winnow_repeat.specs.Fold.Laws.{ranged_fold_many_ends, fold_any_
 ghost use Rattle.winnow_repeat.specs.VerifyFold.{VerifyFoldRuns, VerifyFoldTakes};
 ghost use Rattle.winnow_repeat.specs.VerifyFold.{verify_fold_closure, verify_fold_init};
 ghost use Rattle.winnow_repeat.specs.VerifyFold.{verify_fold_occurrences, verify_fold_parser};
-ghost use Rattle.winnow_core.specs.Agrees.{agrees_with};
 ghost use Rattle.winnow_core.specs.Claim.{no_claim, nothing_claimed};
 ghost use Rattle.winnow_core.specs.Says.{nothing_done, nothing_said};
 
@@ -17,7 +16,6 @@ use std::marker::PhantomData;
 use stream_errors::parser_error::ParserError;
 use stream_sets::range::Range;
 use streams::stream::Stream;
-use winnow_core::agrees_with::AgreesWith;
 use winnow_core::parser::Parser;
 use winnow_core::stable::Stable;
 
@@ -148,29 +146,4 @@ impl<
         (grows (P.leaves_ends modal) P.stable)) };
 
     fn stay() {}
-}
-
-impl<
-    P: AgreesWith<I, O, E, Q, J, F>,
-    Q: Parser<J, O, F>,
-    G: FnMut() -> R,
-    H: FnMut(R, O) -> Option<R>,
-    I: Stream,
-    J: Stream<Token = I::Token, Seen = I::Seen, Slice = I::Slice>,
-    O: Drop,
-    R: Drop,
-    E: ParserError<I>,
-    F: ParserError<J>,
-> AgreesWith<I, R, E, RepeatVerifyFold<Q, G, H, J, O, R, F>, J, F>
-    for RepeatVerifyFold<P, G, H, I, O, R, E> {
-    ghost like = { λ p q. P.like p.parser q.parser
-        × (◌≡◌ {A = Range × (G × H)} (p.occurrences, (p.init, p.op.closure))
-        (q.occurrences, (q.init, q.op.closure))) };
-
-    ghost agrees = { agrees_with (λ p. p.parser) (λ q. q.parser)
-        (λ p. (p.occurrences, (p.init, p.op.closure)))
-        (λ q. (q.occurrences, (q.init, q.op.closure)))
-        (λ X m form. VerifyFoldRuns G.step H.step (m form) (assert_kind form)) P.agrees };
-
-    fn agree() {}
 }

@@ -1,11 +1,10 @@
 //! Elements with separators between them.
-ghost use Rattle.std.specs.Prelude.{◌≡◌, ◌<◌, ⊤};
+ghost use Rattle.std.specs.Prelude.{◌<◌, ⊤};
 ghost use Rattle.streams.specs.Input.{IsEndOf};
 ghost use Rattle.stream_sets.specs.Range.{IsWithin, from_to, bounds_of};
 ghost use Rattle.stream_sets.specs.declared.range.Range.{Range};
 ghost use Rattle.grammars.specs.Grammar.{SeparatedBy};
 ghost use Rattle.stream_errors.specs.Form.{answer_by, assert_kind, modal};
-ghost use Rattle.winnow_core.specs.Agrees.Beside.{agrees2_with};
 ghost use Rattle.winnow_core.specs.Exact.Allowed.{fails_as, wanted, softly};
 ghost use Rattle.winnow_core.specs.Stable.Grows.{grows, stays};
 ghost use Rattle.winnow_repeat.specs.Repeat.Decided.{HeldAlike};
@@ -24,7 +23,6 @@ use stream_errors::parser_error::ParserError;
 use stream_sets::accumulate::Accumulate;
 use stream_sets::range::Range;
 use streams::stream::Stream;
-use winnow_core::agrees_with::AgreesWith;
 use winnow_core::parser::Parser;
 use winnow_core::stable::Stable;
 use winnow_repeat::combinator::items::is_descending;
@@ -124,33 +122,6 @@ impl<
         (grows (P.leaves_ends modal) P.stable) (grows (S.leaves_ends modal) S.stable)) };
 
     fn stay() {}
-}
-
-impl<
-    P: AgreesWith<I, O, E, Q, J, F>,
-    Q: Parser<J, O, F>,
-    S: AgreesWith<I, D, E, W, J, F>,
-    W: Parser<J, D, F>,
-    I: Stream,
-    J: Stream<Token = I::Token, Seen = I::Seen, Slice = I::Slice>,
-    O: Drop,
-    D: Drop,
-    C: Accumulate<O, A>,
-    E: ParserError<I>,
-    F: ParserError<J>,
-    A: Allocator + Copy,
-> AgreesWith<I, C, E, Separated<Q, W, J, O, D, C, F, A>, J, F>
-    for Separated<P, S, I, O, D, C, E, A> {
-    ghost like = { λ p q. P.like p.link.parser q.link.parser
-        × S.like p.link.separator q.link.separator × (p.occurrences ≡ q.occurrences) };
-
-    ghost agrees = { agrees2_with (λ p. p.link.parser) (λ q. q.link.parser)
-        (λ p. p.link.separator) (λ q. q.link.separator) (λ p. p.occurrences)
-        (λ q. q.occurrences)
-        (λ X Y m n form. RangedElements (m form) (n form) C.accumulator (assert_kind form))
-        P.agrees S.agrees };
-
-    fn agree() {}
 }
 
 /// Reads elements into an accumulator, at least `least` and at most `greatest` if there is a bound.

@@ -7,7 +7,6 @@ ghost use Rattle.winnow_separated.specs.SeparatedFoldl1.{JoinedLinksRun, Separat
 ghost use Rattle.winnow_separated.specs.SeparatedFoldl1.{foldl1_closure, foldl1_parser};
 ghost use Rattle.winnow_separated.specs.SeparatedFoldl1.{foldl1_separator};
 ghost use Rattle.winnow_separated.specs.SeparatedFoldl1.Laws.{foldl1_ends, foldl1_grows};
-ghost use Rattle.winnow_core.specs.Agrees.Beside.{agrees2_with};
 ghost use Rattle.winnow_core.specs.Claim.{no_claim, nothing_claimed};
 ghost use Rattle.winnow_core.specs.Says.{nothing_done, nothing_said};
 
@@ -15,7 +14,6 @@ use crate::combinator::impls::link::Link;
 use std::marker::PhantomData;
 use stream_errors::parser_error::ParserError;
 use streams::stream::Stream;
-use winnow_core::agrees_with::AgreesWith;
 use winnow_core::parser::Parser;
 use winnow_core::stable::Stable;
 
@@ -98,32 +96,6 @@ impl<
         (grows (P.leaves_ends modal) P.stable) (grows (S.leaves_ends modal) S.stable)) };
 
     fn stay() {}
-}
-
-impl<
-    P: AgreesWith<I, O, E, Q, J, F>,
-    Q: Parser<J, O, F>,
-    S: AgreesWith<I, D, E, W, J, F>,
-    W: Parser<J, D, F>,
-    H: FnMut(O, D, O) -> O,
-    I: Stream,
-    J: Stream<Token = I::Token, Seen = I::Seen, Slice = I::Slice>,
-    O: Drop,
-    D: Drop,
-    E: ParserError<I>,
-    F: ParserError<J>,
-> AgreesWith<I, O, E, SeparatedFoldl1<Q, W, H, J, O, D, F>, J, F>
-    for SeparatedFoldl1<P, S, H, I, O, D, E> {
-    ghost like = { λ p q. P.like p.link.parser q.link.parser
-        × S.like p.link.separator q.link.separator × (p.op ≡ q.op) };
-
-    ghost agrees = { agrees2_with (λ p. p.link.parser) (λ q. q.link.parser)
-        (λ p. p.link.separator) (λ q. q.link.separator) (λ p. p.op)
-        (λ q. q.op)
-        (λ X Y m n form. SeparatedFoldl1Runs H.step (m form) (n form) (assert_kind form))
-        P.agrees S.agrees };
-
-    fn agree() {}
 }
 
 /// Joins links to a first element, each as it is read, until one backtracks.

@@ -6,7 +6,6 @@ ghost use Rattle.winnow_separated.specs.SeparatedFoldr1.{FoldsRight, SeparatedFo
 ghost use Rattle.winnow_separated.specs.SeparatedFoldr1.{foldr1_closure, foldr1_parser};
 ghost use Rattle.winnow_separated.specs.SeparatedFoldr1.{foldr1_separator};
 ghost use Rattle.winnow_separated.specs.SeparatedFoldr1.Laws.{foldr1_ends, foldr1_grows};
-ghost use Rattle.winnow_core.specs.Agrees.Beside.{agrees2_with};
 ghost use Rattle.winnow_core.specs.Claim.{no_claim, nothing_claimed};
 ghost use Rattle.winnow_core.specs.Says.{nothing_done, nothing_said};
 
@@ -14,7 +13,6 @@ use std::alloc::Allocator;
 use std::marker::PhantomData;
 use stream_errors::parser_error::ParserError;
 use streams::stream::Stream;
-use winnow_core::agrees_with::AgreesWith;
 use winnow_core::parser::Parser;
 use winnow_core::stable::Stable;
 use winnow_repeat::combinator::items::repeat_many;
@@ -109,32 +107,6 @@ impl<
         (grows (P.leaves_ends modal) P.stable) (grows (S.leaves_ends modal) S.stable)) };
 
     fn stay() {}
-}
-
-impl<
-    P: AgreesWith<I, O, E, Q, J, F>,
-    Q: Parser<J, O, F>,
-    S: AgreesWith<I, D, E, W, J, F>,
-    W: Parser<J, D, F>,
-    H: FnMut(O, D, O) -> O,
-    I: Stream,
-    J: Stream<Token = I::Token, Seen = I::Seen, Slice = I::Slice>,
-    O: Drop,
-    D: Drop,
-    E: ParserError<I>,
-    F: ParserError<J>,
-    A: Allocator + Copy,
-> AgreesWith<I, O, E, SeparatedFoldr1<Q, W, H, J, O, D, F, A>, J, F>
-    for SeparatedFoldr1<P, S, H, I, O, D, E, A> {
-    ghost like = { λ p q. P.like p.pair.1 q.pair.1 × S.like p.pair.0 q.pair.0
-        × (p.op ≡ q.op) };
-
-    ghost agrees = { agrees2_with (λ p. p.pair.1) (λ q. q.pair.1) (λ p. p.pair.0)
-        (λ q. q.pair.0) (λ p. p.op) (λ q. q.op)
-        (λ X Y m n form. SeparatedFoldr1Runs A H.step (m form) (n form)
-        (assert_kind form)) P.agrees S.agrees };
-
-    fn agree() {}
 }
 
 /// Joins a first element and links after it, from the last one on.

@@ -1,20 +1,17 @@
 //! One token.
 ghost use Rattle.std.specs.Prelude.{⊤};
 ghost use Rattle.grammars.specs.Grammar.{Token};
-ghost use Rattle.winnow_core.specs.Agrees.{agrees_plain};
 ghost use Rattle.winnow_core.specs.Exact.Allowed.{backs};
 ghost use Rattle.winnow_core.specs.Runs.{Keeps};
 ghost use Rattle.winnow_core.specs.Stable.Grows.{leaf_stays};
 ghost use Rattle.winnow_token.specs.Any.{AnyRuns};
-ghost use Rattle.winnow_token.specs.Any.Laws.{any_exact, any_fails, token_takes, any_alike};
+ghost use Rattle.winnow_token.specs.Any.Laws.{any_exact, any_fails, token_takes};
 ghost use Rattle.winnow_token.specs.Any.Laws.{any_ends, any_stays, SeenSame, any_decided};
 ghost use Rattle.winnow_core.specs.Says.{nothing_done, nothing_said};
 
 use crate::token::any;
 use stream_errors::parser_error::ParserError;
-use streams::reads_like::ReadsLike;
-use streams::stream::{Stream, StreamIsPartial};
-use winnow_core::agrees_with::AgreesWith;
+use streams::stream::StreamIsPartial;
 use winnow_core::parser::Parser;
 use winnow_core::stable::Stable;
 
@@ -68,17 +65,4 @@ impl<I: StreamIsPartial, E: ParserError<I>> Stable<I, I::Token, E> for Any {
     ghost stable = { leaf_stays I.following _ (λ _. any_stays I.seen_as I.reading) };
 
     fn stay() {}
-}
-
-impl<
-    I: StreamIsPartial + ReadsLike<J>,
-    J: StreamIsPartial + Stream<Token = I::Token, Seen = I::Seen, Slice = I::Slice>,
-    E: ParserError<I>,
-    F: ParserError<J>,
-> AgreesWith<I, I::Token, E, Any, J, F> for Any {
-    ghost like = { λ p q. ⊤ };
-
-    ghost agrees = { agrees_plain (any_alike I.same_reading I.same_tokens) };
-
-    fn agree() {}
 }

@@ -1,12 +1,11 @@
 //! A literal.
-ghost use Rattle.std.specs.Prelude.{◌≡◌, [], ⊤};
+ghost use Rattle.std.specs.Prelude.{[], ⊤};
 ghost use Rattle.grammars.specs.Grammar.{Literally};
 ghost use Rattle.grammars.specs.Grammar.Unique.{literally_takes};
-ghost use Rattle.winnow_core.specs.Agrees.{agrees_by};
 ghost use Rattle.winnow_core.specs.Exact.Allowed.{backs};
 ghost use Rattle.winnow_core.specs.Literal.{LiteralRuns};
 ghost use Rattle.winnow_core.specs.Literal.Laws.{ShowSame, literal_decided, literal_exact};
-ghost use Rattle.winnow_core.specs.Literal.Laws.{literal_fails, literal_alike, literal_ends};
+ghost use Rattle.winnow_core.specs.Literal.Laws.{literal_fails, literal_ends};
 ghost use Rattle.winnow_core.specs.Literal.Laws.{literal_stays};
 ghost use Rattle.winnow_core.specs.Runs.{Keeps};
 ghost use Rattle.winnow_core.specs.Stable.Grows.{leaf_stays};
@@ -15,9 +14,7 @@ ghost use Rattle.winnow_core.specs.Says.{nothing_done, nothing_said};
 use std::marker::PhantomData;
 use stream_errors::parser_error::ParserError;
 use stream_searches::compare::Compare;
-use stream_searches::compare::like::ComparesLike;
-use streams::stream::{Stream, StreamIsPartial};
-use winnow_core::agrees_with::AgreesWith;
+use streams::stream::StreamIsPartial;
 use winnow_core::literal::take_literal;
 use winnow_core::parser::Parser;
 use winnow_core::stable::Stable;
@@ -83,19 +80,4 @@ impl<T: Copy, I: StreamIsPartial + Compare<T>, E: ParserError<I>> Stable<I, I::S
         (λ x. literal_stays I.reading (I.spells x) (λ slice. slice)) };
 
     fn stay() {}
-}
-
-impl<
-    T: Copy,
-    I: StreamIsPartial + ComparesLike<T, J>,
-    J: StreamIsPartial + Compare<T> + Stream<Token = I::Token, Seen = I::Seen, Slice = I::Slice>,
-    E: ParserError<I>,
-    F: ParserError<J>,
-> AgreesWith<I, I::Slice, E, Literal<T, J, F>, J, F> for Literal<T, I, E> {
-    ghost like = { λ p q. p.literal ≡ q.literal };
-
-    ghost agrees = { agrees_by (λ p. p.literal) (λ q. q.literal)
-        (literal_alike (λ _ slice. slice) I.same_reading I.same_spells) };
-
-    fn agree() {}
 }

@@ -1,16 +1,15 @@
 //! One token of a set.
-ghost use Rattle.std.specs.Prelude.{◌≡◌, ⊤};
+ghost use Rattle.std.specs.Prelude.{⊤};
 ghost use Rattle.streams.specs.Stream.{AnswersSeen};
 ghost use Rattle.stream_sets.specs.Once.{SeesApart, seen_once, TellsOnce};
 ghost use Rattle.grammars.specs.Grammar.{Token, TokenOf};
-ghost use Rattle.winnow_core.specs.Agrees.{agrees_by};
 ghost use Rattle.winnow_core.specs.Exact.Allowed.{backs};
 ghost use Rattle.winnow_core.specs.Runs.{Keeps};
 ghost use Rattle.winnow_core.specs.Stable.Grows.{leaf_stays};
 ghost use Rattle.winnow_token.specs.OneOf.{OneOfRuns};
 ghost use Rattle.winnow_token.specs.Any.Laws.{SeenSame};
 ghost use Rattle.winnow_token.specs.OneOf.Laws.{one_of_decided, one_of_exact, one_of_fails};
-ghost use Rattle.winnow_token.specs.OneOf.Laws.{token_of_takes, one_of_alike, one_of_ends};
+ghost use Rattle.winnow_token.specs.OneOf.Laws.{token_of_takes, one_of_ends};
 ghost use Rattle.winnow_token.specs.OneOf.Laws.{one_of_stays};
 ghost use Rattle.winnow_core.specs.Says.{nothing_done, nothing_said};
 
@@ -18,9 +17,7 @@ use crate::token::one::take_member;
 use std::marker::PhantomData;
 use stream_errors::parser_error::ParserError;
 use stream_sets::sets::ContainsToken;
-use streams::reads_like::ReadsLike;
-use streams::stream::{Stream, StreamIsPartial};
-use winnow_core::agrees_with::AgreesWith;
+use streams::stream::StreamIsPartial;
 use winnow_core::parser::Parser;
 use winnow_core::stable::Stable;
 
@@ -89,22 +86,4 @@ where
     ghost stable = { leaf_stays I.following _ (λ x. one_of_stays I.seen_as I.reading (S.tells x)) };
 
     fn stay() {}
-}
-
-impl<
-    S: ContainsToken<I::Token>,
-    I: StreamIsPartial + ReadsLike<J>,
-    J: StreamIsPartial + Stream<Token = I::Token, Seen = I::Seen, Slice = I::Slice>,
-    E: ParserError<I>,
-    F: ParserError<J>,
-> AgreesWith<I, I::Token, E, OneOf<S, J, F>, J, F> for OneOf<S, I, E>
-where
-    I::Token: Copy,
-{
-    ghost like = { λ p q. p.set ≡ q.set };
-
-    ghost agrees = { agrees_by (λ p. p.set) (λ q. q.set)
-        (one_of_alike S.tells I.same_reading I.same_tokens) };
-
-    fn agree() {}
 }

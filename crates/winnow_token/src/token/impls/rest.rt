@@ -1,20 +1,17 @@
 //! All that is left.
 ghost use Rattle.std.specs.Prelude.{⊤};
 ghost use Rattle.grammars.specs.Grammar.{AllTokens};
-ghost use Rattle.winnow_core.specs.Agrees.{agrees_plain};
 ghost use Rattle.winnow_core.specs.Exact.Allowed.{backs};
 ghost use Rattle.winnow_core.specs.Literal.Laws.{ShowSame};
 ghost use Rattle.winnow_core.specs.Runs.{Keeps};
 ghost use Rattle.winnow_token.specs.Rest.{RestRuns};
-ghost use Rattle.winnow_token.specs.Rest.Laws.{rest_alike, rest_decided, rest_ends};
+ghost use Rattle.winnow_token.specs.Rest.Laws.{rest_decided, rest_ends};
 ghost use Rattle.winnow_token.specs.Rest.Laws.{rest_exact, rest_fails};
 ghost use Rattle.winnow_core.specs.Says.{nothing_done, nothing_said};
 
 use crate::token::rest;
 use stream_errors::parser_error::ParserError;
-use streams::reads_like::ReadsLike;
 use streams::stream::Stream;
-use winnow_core::agrees_with::AgreesWith;
 use winnow_core::parser::Parser;
 
 /// The parser [`rest`](crate::token::rest).
@@ -60,17 +57,4 @@ impl<I: Stream, E: ParserError<I>> Parser<I, I::Slice, E> for Rest {
     fn parse_next(&mut self, input: &mut I) -> Result<I::Slice, E> {
         rest(input)
     }
-}
-
-impl<
-    I: ReadsLike<J>,
-    J: Stream<Token = I::Token, Seen = I::Seen, Slice = I::Slice>,
-    E: ParserError<I>,
-    F: ParserError<J>,
-> AgreesWith<I, I::Slice, E, Rest, J, F> for Rest {
-    ghost like = { λ p q. ⊤ };
-
-    ghost agrees = { agrees_plain (rest_alike I.same_reading) };
-
-    fn agree() {}
 }

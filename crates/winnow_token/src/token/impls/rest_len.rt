@@ -1,20 +1,17 @@
 //! How much is left.
 ghost use Rattle.std.specs.Prelude.{⊤, ◌<◌, ◌≡◌};
 ghost use Rattle.grammars.specs.Grammar.{UnitsLeft};
-ghost use Rattle.winnow_core.specs.Agrees.{agrees_plain};
 ghost use Rattle.winnow_core.specs.Ends.{same_ends};
 ghost use Rattle.winnow_core.specs.Exact.Allowed.{backs};
 ghost use Rattle.winnow_core.specs.Runs.{Keeps};
 ghost use Rattle.winnow_token.specs.Rest.{RestLenRuns};
-ghost use Rattle.winnow_token.specs.Rest.Laws.{rest_len_alike, rest_len_decided};
+ghost use Rattle.winnow_token.specs.Rest.Laws.{rest_len_decided};
 ghost use Rattle.winnow_token.specs.Rest.Laws.{rest_len_exact, rest_len_fails};
 ghost use Rattle.winnow_core.specs.Says.{nothing_done, nothing_said};
 
 use crate::token::rest_len;
 use stream_errors::parser_error::ParserError;
-use streams::reads_like::ReadsLike;
 use streams::stream::Stream;
-use winnow_core::agrees_with::AgreesWith;
 use winnow_core::parser::Parser;
 
 /// The parser [`rest_len`](crate::token::rest_len).
@@ -60,17 +57,4 @@ impl<I: Stream, E: ParserError<I>> Parser<I, usize, E> for RestLen {
     fn parse_next(&mut self, input: &mut I) -> Result<usize, E> {
         rest_len(input)
     }
-}
-
-impl<
-    I: ReadsLike<J>,
-    J: Stream<Token = I::Token, Seen = I::Seen, Slice = I::Slice>,
-    E: ParserError<I>,
-    F: ParserError<J>,
-> AgreesWith<I, usize, E, RestLen, J, F> for RestLen {
-    ghost like = { λ p q. ⊤ };
-
-    ghost agrees = { agrees_plain (rest_len_alike I.same_reading) };
-
-    fn agree() {}
 }

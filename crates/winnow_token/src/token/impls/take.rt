@@ -1,21 +1,18 @@
 //! That many tokens.
-ghost use Rattle.std.specs.Prelude.{◌≡◌, ℕ, ◌<◌, ⊤};
+ghost use Rattle.std.specs.Prelude.{ℕ, ◌<◌, ⊤};
 ghost use Rattle.grammars.specs.Grammar.{Counted};
-ghost use Rattle.winnow_core.specs.Agrees.{agrees_by};
 ghost use Rattle.winnow_core.specs.Exact.Allowed.{backs};
 ghost use Rattle.winnow_core.specs.Literal.Laws.{ShowSame};
 ghost use Rattle.winnow_core.specs.Runs.{Keeps};
 ghost use Rattle.winnow_core.specs.Stable.Grows.{leaf_stays};
 ghost use Rattle.winnow_token.specs.Take.{TakeRuns};
 ghost use Rattle.winnow_token.specs.Take.Laws.{take_count_decided, counted_takes, take_exact};
-ghost use Rattle.winnow_token.specs.Take.Laws.{take_fails, take_alike, take_ends, take_stays};
+ghost use Rattle.winnow_token.specs.Take.Laws.{take_fails, take_ends, take_stays};
 ghost use Rattle.winnow_core.specs.Says.{nothing_done, nothing_said};
 
 use std::marker::PhantomData;
 use stream_errors::parser_error::ParserError;
-use streams::reads_like::ReadsLike;
-use streams::stream::{Stream, StreamIsPartial};
-use winnow_core::agrees_with::AgreesWith;
+use streams::stream::StreamIsPartial;
 use winnow_core::parser::Parser;
 use winnow_core::short::short;
 use winnow_core::stable::Stable;
@@ -77,18 +74,4 @@ impl<I: StreamIsPartial, E: ParserError<I>> Stable<I, I::Slice, E> for Take<I, E
     ghost stable = { leaf_stays I.following _ (take_stays I.reading I.counts_missing) };
 
     fn stay() {}
-}
-
-impl<
-    I: StreamIsPartial + ReadsLike<J>,
-    J: StreamIsPartial + Stream<Token = I::Token, Seen = I::Seen, Slice = I::Slice>,
-    E: ParserError<I>,
-    F: ParserError<J>,
-> AgreesWith<I, I::Slice, E, Take<J, F>, J, F> for Take<I, E> {
-    ghost like = { λ p q. p.count ≡ q.count };
-
-    ghost agrees = { agrees_by (λ p. p.count) (λ q. q.count)
-        (take_alike I.same_reading I.same_missing) };
-
-    fn agree() {}
 }

@@ -1,11 +1,10 @@
 //! Takes of the tokens outside a set.
-ghost use Rattle.std.specs.Prelude.{◌≡◌, not, ◌<◌, ⊤};
+ghost use Rattle.std.specs.Prelude.{not, ◌<◌, ⊤};
 ghost use Rattle.streams.specs.Stream.{AnswersSeen};
 ghost use Rattle.stream_sets.specs.Once.{SeesApart, others_once, seen_once, Others, TellsOnce};
 ghost use Rattle.stream_sets.specs.Range.{bounds_of, IsWithin};
 ghost use Rattle.stream_sets.specs.declared.range.Range.{Range};
 ghost use Rattle.grammars.specs.Grammar.{Longest};
-ghost use Rattle.winnow_core.specs.Agrees.{agrees_by_parts};
 ghost use Rattle.winnow_core.specs.Exact.Allowed.{backs};
 ghost use Rattle.winnow_core.specs.Literal.Laws.{ShowSame};
 ghost use Rattle.winnow_core.specs.Runs.{Keeps};
@@ -14,7 +13,7 @@ ghost use Rattle.winnow_token.specs.TakeWhile.{TakeWhileRuns};
 ghost use Rattle.winnow_token.specs.TakeWhile.Decided.{take_while_decided};
 ghost use Rattle.winnow_token.specs.TakeWhile.Exact.{longest_takes, take_while_exact};
 ghost use Rattle.winnow_token.specs.TakeWhile.Exact.{take_while_fails};
-ghost use Rattle.winnow_token.specs.TakeWhile.Laws.{take_while_alike, take_while_ends};
+ghost use Rattle.winnow_token.specs.TakeWhile.Laws.{take_while_ends};
 ghost use Rattle.winnow_token.specs.TakeWhile.Laws.{take_while_stays};
 ghost use Rattle.winnow_core.specs.Says.{nothing_done, nothing_said};
 
@@ -23,9 +22,7 @@ use std::marker::PhantomData;
 use stream_errors::parser_error::ParserError;
 use stream_sets::range::Range;
 use stream_sets::sets::ContainsToken;
-use streams::reads_like::ReadsLike;
-use streams::stream::{Stream, StreamIsPartial};
-use winnow_core::agrees_with::AgreesWith;
+use streams::stream::StreamIsPartial;
 use winnow_core::parser::Parser;
 use winnow_core::stable::Stable;
 
@@ -99,20 +96,4 @@ impl<S: ContainsToken<I::Token>, I: StreamIsPartial, E: ParserError<I>> Stable<I
         (AnswersSeen I.seen_as (λ k b. S.tells x.1 k (not b))) (bounds_of x.0)) };
 
     fn stay() {}
-}
-
-impl<
-    S: ContainsToken<I::Token>,
-    I: StreamIsPartial + ReadsLike<J>,
-    J: StreamIsPartial + Stream<Token = I::Token, Seen = I::Seen, Slice = I::Slice>,
-    E: ParserError<I>,
-    F: ParserError<J>,
-> AgreesWith<I, I::Slice, E, TakeTill<S, J, F>, J, F> for TakeTill<S, I, E> {
-    ghost like = { λ p q. (p.occurrences ≡ q.occurrences) × (p.set ≡ q.set) };
-
-    ghost agrees = { agrees_by_parts (λ p. p.occurrences) (λ p. p.set) (λ q. q.occurrences)
-        (λ q. q.set) (take_while_alike (λ x k b. S.tells x k (not b)) I.same_reading
-        I.same_tokens) };
-
-    fn agree() {}
 }

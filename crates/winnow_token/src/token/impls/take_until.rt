@@ -1,10 +1,9 @@
 //! Takes of what stands before a literal.
-ghost use Rattle.std.specs.Prelude.{◌≡◌, ◌<◌, ⊤};
+ghost use Rattle.std.specs.Prelude.{◌<◌, ⊤};
 ghost use Rattle.stream_sets.specs.Range.{bounds_of, IsWithin};
 ghost use Rattle.stream_sets.specs.declared.range.Range.{Range};
 ghost use Rattle.grammars.specs.Grammar.Searches.{Before};
 ghost use Rattle.grammars.specs.Grammar.Searches.Unique.{before_takes};
-ghost use Rattle.winnow_core.specs.Agrees.{agrees_by_parts};
 ghost use Rattle.winnow_core.specs.Exact.Allowed.{backs};
 ghost use Rattle.winnow_core.specs.Literal.Laws.{ShowSame};
 ghost use Rattle.winnow_core.specs.Runs.{Keeps};
@@ -12,7 +11,7 @@ ghost use Rattle.winnow_core.specs.Stable.Grows.{leaf_stays};
 ghost use Rattle.winnow_token.specs.TakeUntil.{TakeUntilRuns};
 ghost use Rattle.winnow_token.specs.TakeUntil.Decided.{take_until_decided};
 ghost use Rattle.winnow_token.specs.TakeUntil.Laws.{take_until_exact, take_until_fails};
-ghost use Rattle.winnow_token.specs.TakeUntil.Laws.{take_until_alike, take_until_ends};
+ghost use Rattle.winnow_token.specs.TakeUntil.Laws.{take_until_ends};
 ghost use Rattle.winnow_token.specs.TakeUntil.Laws.{take_until_stays};
 ghost use Rattle.winnow_core.specs.Says.{nothing_done, nothing_said};
 
@@ -20,10 +19,8 @@ use crate::token::until::take_before;
 use std::marker::PhantomData;
 use stream_errors::parser_error::ParserError;
 use stream_searches::find::FindSlice;
-use stream_searches::find::like::FindsLike;
 use stream_sets::range::Range;
-use streams::stream::{Stream, StreamIsPartial};
-use winnow_core::agrees_with::AgreesWith;
+use streams::stream::StreamIsPartial;
 use winnow_core::parser::Parser;
 use winnow_core::stable::Stable;
 
@@ -91,19 +88,4 @@ impl<T: Copy, I: StreamIsPartial + FindSlice<T>, E: ParserError<I>> Stable<I, I:
         (bounds_of x.0)) };
 
     fn stay() {}
-}
-
-impl<
-    T: Copy,
-    I: StreamIsPartial + FindsLike<T, J>,
-    J: StreamIsPartial + FindSlice<T> + Stream<Token = I::Token, Seen = I::Seen, Slice = I::Slice>,
-    E: ParserError<I>,
-    F: ParserError<J>,
-> AgreesWith<I, I::Slice, E, TakeUntil<T, J, F>, J, F> for TakeUntil<T, I, E> {
-    ghost like = { λ p q. (p.occurrences ≡ q.occurrences) × (p.literal ≡ q.literal) };
-
-    ghost agrees = { agrees_by_parts (λ p. p.occurrences) (λ p. p.literal) (λ q. q.occurrences)
-        (λ q. q.literal) (take_until_alike I.same_reading I.same_sought) };
-
-    fn agree() {}
 }

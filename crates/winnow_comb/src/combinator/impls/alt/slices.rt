@@ -4,7 +4,6 @@ ghost use Rattle.std.specs.List.{All};
 ghost use Rattle.streams.specs.Input.{IsEndOf};
 ghost use Rattle.grammars.specs.Grammar.FirstOf.{FirstOf, first_of_takes};
 ghost use Rattle.stream_errors.specs.Form.{answer_by, assert_kind, modal};
-ghost use Rattle.winnow_core.specs.Agrees.{AllAlike, agrees_list};
 ghost use Rattle.winnow_core.specs.ByRef.{ByRefRuns};
 ghost use Rattle.winnow_core.specs.ByRef.Laws.{by_ref_exact, by_ref_fails, by_ref_ends};
 ghost use Rattle.winnow_core.specs.ByRef.Laws.{by_ref_grows};
@@ -14,13 +13,12 @@ ghost use Rattle.winnow_core.specs.Stable.Grows.{grows, stays};
 ghost use Rattle.winnow_comb.specs.Alt.FirstOf.{asserts, first_of_exact, first_of_fails};
 ghost use Rattle.winnow_comb.specs.Alt.Slice.{AltSliceRuns};
 ghost use Rattle.winnow_comb.specs.Alt.Slice.Decided.{AlikeByOne, alt_slice_decided};
-ghost use Rattle.winnow_comb.specs.Alt.Slice.Laws.{alt_slice_ends, slice_agrees, alt_slice_grows};
+ghost use Rattle.winnow_comb.specs.Alt.Slice.Laws.{alt_slice_ends, alt_slice_grows};
 ghost use Rattle.winnow_core.specs.Says.{nothing_done, nothing_said};
 
 use crate::combinator::impls::alt::{Alt, AltParser, attempt};
 use stream_errors::parser_error::ParserError;
 use streams::stream::Stream;
-use winnow_core::agrees_with::AgreesWith;
 use winnow_core::parser::Parser;
 use winnow_core::stable::Stable;
 
@@ -93,24 +91,6 @@ impl<'a, P: Stable<I, O, E>, I: Stream, O, E: ParserError<I>> Stable<I, O, E>
     fn stay() {}
 }
 
-impl<
-    const N: usize,
-    P: AgreesWith<I, O, E, Q, J, F>,
-    Q: Parser<J, O, F>,
-    I: Stream,
-    J: Stream<Token = I::Token, Seen = I::Seen, Slice = I::Slice>,
-    O,
-    E: ParserError<I>,
-    F: ParserError<J>,
-> AgreesWith<I, O, E, AltParser<[Q; N], J, O, F>, J, F> for AltParser<[P; N], I, O, E> {
-    ghost like = { λ p q. AllAlike P.like p.alternatives q.alternatives };
-
-    fn agree() {}
-
-    ghost agrees = { agrees_list (λ p. p.alternatives) (λ q. q.alternatives)
-        (λ X m form. AltSliceRuns (m form) (assert_kind form)) P.agrees };
-}
-
 impl<'a, I: Stream, O, E: ParserError<I>, P: Parser<I, O, E>> Alt<I, O, E> for &'a mut [P] {
     ghost can_choose = { λ s. All P.can_parse s.now };
 
@@ -162,26 +142,6 @@ impl<'a, I: Stream, O, E: ParserError<I>, P: Parser<I, O, E>> Alt<I, O, E> for &
     fn choice(&mut self, input: &mut I) -> Result<O, E> {
         choose(self, input)
     }
-}
-
-impl<
-    'a,
-    P: AgreesWith<I, O, E, Q, J, F>,
-    Q: Parser<J, O, F>,
-    I: Stream,
-    J: Stream<Token = I::Token, Seen = I::Seen, Slice = I::Slice>,
-    O,
-    E: ParserError<I>,
-    F: ParserError<J>,
-> AgreesWith<I, O, E, AltParser<&'a mut [Q], J, O, F>, J, F> for AltParser<&'a mut [P], I, O, E> {
-    ghost like = { λ p q. AllAlike P.like p.alternatives.now q.alternatives.now
-        × (p.alternatives.ghost_name ≡ q.alternatives.ghost_name) };
-
-    ghost agrees = { slice_agrees (λ p. p.alternatives.now) (λ q. q.alternatives.now)
-        (λ p. p.alternatives.ghost_name) (λ q. q.alternatives.ghost_name) assert_kind
-        P.agrees };
-
-    fn agree() {}
 }
 
 /// Runs the branches of a slice in order, each from the start.
