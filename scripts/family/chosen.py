@@ -67,11 +67,13 @@ ghost use Rattle.std.specs.Prelude.{{◌≡◌, ⊤}};
 ghost use Rattle.winnow_binary.specs.Chosen.{{ChosenRuns}};
 ghost use Rattle.winnow_integers.specs.Integer.{{{value}}};
 ghost use Rattle.winnow_integers.specs.Integer.Grammar.{{Integer, integer_takes}};
-ghost use Rattle.winnow_integers.specs.Integer.Laws.{{integer_ends, integer_exact}};
-ghost use Rattle.winnow_integers.specs.Integer.Laws.{{integer_decided, integer_fails, integer_stays}};
+ghost use Rattle.winnow_integers.specs.Integer.Laws.{{integer_exact, integer_fails}};
+ghost use Rattle.winnow_integers.specs.Integer.Laws.{{integer_leaves, integer_stays}};
 ghost use Rattle.winnow_integers.specs.Integer.Laws.{{some_bytes}};
+ghost use Rattle.winnow_integers.specs.Integer.Says.{{integer_said, integer_says}};
 ghost use Rattle.winnow_integers.specs.declared.binary.endianness.Endianness.{{Endianness}};
 ghost use Rattle.winnow_core.specs.Exact.Allowed.{{backs}};
+ghost use Rattle.winnow_core.specs.Says.Decided.{{decided_of}};
 ghost use Rattle.winnow_core.specs.Stable.Grows.{{leaf_stays}};
 
 use std::marker::PhantomData;
@@ -100,9 +102,13 @@ impl<I: StreamIsPartial + ByteStream, E: ParserError<I>> Parser<I, {type}, E> fo
 
     ghost meaning = {{ λ form. ChosenRuns {width} {value} I.reading form }};
 
+{says}
+
 {claim}
 
-    ghost leaves_ends = {{ λ form x i answer y j r. integer_ends {width} ({value} x) I.reading form i answer j r.0 }};
+{ends}
+
+{said}
 
 {claimed}
 

@@ -139,11 +139,13 @@ STRUCT = (
 ghost use Rattle.std.specs.Prelude.{{◌≡◌, ⊤}};
 ghost use Rattle.winnow_integers.specs.Integer.{{IntegerRuns, {value}}};
 ghost use Rattle.winnow_integers.specs.Integer.Grammar.{{Integer, integer_takes}};
-ghost use Rattle.winnow_integers.specs.Integer.Laws.{{integer_ends, integer_exact}};
-ghost use Rattle.winnow_integers.specs.Integer.Laws.{{integer_decided, integer_fails, integer_stays}};
+ghost use Rattle.winnow_integers.specs.Integer.Laws.{{integer_exact, integer_fails}};
+ghost use Rattle.winnow_integers.specs.Integer.Laws.{{integer_leaves, integer_stays}};
 ghost use Rattle.winnow_integers.specs.Integer.Laws.{{some_bytes}};
+ghost use Rattle.winnow_integers.specs.Integer.Says.{{integer_said, integer_says}};
 ghost use Rattle.winnow_integers.specs.declared.binary.endianness.Endianness.TheVariants.{{{constructor}}};
 ghost use Rattle.winnow_core.specs.Exact.Allowed.{{backs}};
+ghost use Rattle.winnow_core.specs.Says.Decided.{{decided_of}};
 ghost use Rattle.winnow_core.specs.Runs.{{Keeps}};
 ghost use Rattle.winnow_core.specs.Stable.Grows.{{leaf_stays}};
 
@@ -167,9 +169,13 @@ impl<I: StreamIsPartial + ByteStream, E: ParserError<I>> Parser<I, {type}, E> fo
 
     ghost meaning = {{ λ form. Keeps (λ _. IntegerRuns {width} ({value} {constructor}) I.reading form) }};
 
+{says}
+
 {claim}
 
-    ghost leaves_ends = {{ λ form x i answer y j r. integer_ends {width} ({value} {constructor}) I.reading form i answer j r.0 }};
+{ends}
+
+{said}
 
 {claimed}
 

@@ -14,9 +14,9 @@ pub use winnow_comb::laws::items::{
 };
 pub use winnow_comb::laws::{not_goes_back, opt_goes_back_on_none, peek_goes_back};
 pub use winnow_core::laws::{
-    a_cut_input_is_answered_as_each_longer_one, and_then_goes_back,
-    bytes_with_the_output_and_the_rest_are_the_input, eof_is_not_stable, leaves_an_end,
-    parse_to_goes_back, taken_bytes_and_the_rest_are_the_input,
+    a_cut_input_is_answered_as_each_longer_one, a_longer_input_gets_the_answer_of_a_cut_one,
+    and_then_goes_back, bytes_with_the_output_and_the_rest_are_the_input, eof_is_not_stable,
+    leaves_an_end, parse_to_goes_back, taken_bytes_and_the_rest_are_the_input,
     taken_text_and_the_rest_are_the_input, taken_tokens_and_the_rest_are_the_input,
     text_with_the_output_and_the_rest_are_the_input, the_slice_taken_and_the_rest_are_the_input,
     the_slice_with_the_output_and_the_rest_are_the_input,

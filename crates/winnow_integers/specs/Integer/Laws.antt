@@ -1,20 +1,17 @@
 -- What holds of the runs of integers.
 use Rattle.std.specs.Prelude.{◌≡◌, ℕ, List, Ok, Err, ◌⊎◌, ◌<◌, suc, false, length}
-use Rattle.std.proofs.Common.{refl, sym, ap, subst, ◌∙◌, inl, inr, arith, length-append}
-use Rattle.streams.specs.Input.{Input, IsEndOf, Passes, passes_end}
-use Rattle.streams.specs.Kind.{Kind, backtrack, memory}
+use Rattle.std.proofs.Common.{refl, ap, ◌∙◌, inl, inr, arith, length-append}
+use Rattle.streams.specs.Input.{Input, IsEndOf, passes_end}
+use Rattle.streams.specs.Kind.{Kind, backtrack}
 use Rattle.streams.specs.Reading.{Reading}
 use Rattle.stream_errors.specs.Form.{Answer, ErrorForm, modal}
 use Rattle.stream_errors.specs.Form.Known.{ok_is_err, same_kind, same_ok, same_output}
-use Rattle.winnow_core.specs.Decided.{AlikeAnswers, IsDecided}
-use Rattle.winnow_core.specs.Decided.Inputs.{both_err, both_ok, one_short, same_passed}
 use Rattle.winnow_core.specs.Ends.{same_ends}
-use Rattle.winnow_core.specs.Runs.{Keeps}
+use Rattle.winnow_core.specs.Runs.{Keeps, LeaveEnds}
 use Rattle.winnow_integers.specs.Integer.{IntegerRuns}
 use Rattle.winnow_core.specs.Stable.Grows.{Stays, final_by}
 use Rattle.winnow_core.specs.Stable.Longer.{passes_more, short_final}
 use Rattle.grammars.specs.Grammar.{NoneStands}
-use Rattle.grammars.specs.Grammar.Lengths.{same_beginnings}
 use Rattle.winnow_core.specs.Exact.{Backtracks, IsExact}
 use Rattle.winnow_core.specs.Exact.Failed.{short_backtracks}
 use Rattle.winnow_integers.specs.Integer.Grammar.{Integer, integer_unique}
@@ -27,6 +24,12 @@ integer_ends width value reading form i answer j (inl (bytes, as_many, are, pass
     passes_end passes
 integer_ends width value reading form i answer j (inr (k, few, kind, e, same)) =
     same_ends reading i j same
+
+pub integer_leaves : {X S O : Type 0} (width : ℕ) (value : X → List ℕ → O) (reading : Reading ℕ S)
+    (form : ErrorForm)
+    → LeaveEnds reading (Keeps (λ y. IntegerRuns width (value y) reading form))
+integer_leaves width value reading form x i answer y j r =
+    integer_ends width (value x) reading form i answer j r.0
 
 -- bytes that were taken, and what is made of them
 pub integer_made : {S O : Type 0} (width : ℕ) (value : List ℕ → O) (reading : Reading ℕ S)
@@ -95,36 +98,6 @@ module _ {X L O : Type 0} (width : ℕ) (value : X → List ℕ → O) (reading 
       none i k j (inl (bytes, many, are, passes, e)) = ok_is_err e refl
       none i k j (inr (l, few, short, e, same)) = λ o rest (bytes, many, are, split, is). absurd
           (omega (arith, ap (λ l. length l) split, length-append bytes rest, many, few))
-
-  integer_meet : (i : Input ℕ) (a b : Answer O) (j k : Input ℕ)
-      → IntegerRuns width (value x) reading form i a j
-      → IntegerRuns width (value x) reading form i b k
-      → AlikeAnswers (λ o p. o ≡ p) a b × (j ≡ k)
-  integer_meet i a b j k (inl (f, many, are, passes, e)) (inl (g, many2, are2, passes2, d)) =
-      let same = (same_beginnings g f k.left.tokens j.left.tokens (many2 ∙ sym many)
-      (sym passes2.tokens ∙ passes.tokens)).0 in
-      let P : List ℕ → Type 0 = λ l. Passes reading l i k in (
-        both_ok (λ o p. o ≡ p) e d (ap (value x) (sym same)),
-        same_passed f passes (subst P same passes2),
-      )
-  integer_meet i a b j k (inl (f, many, are, passes, e)) (inr (l, few, short, d, same)) = absurd
-      (omega (arith, ap (λ l. length l) passes.tokens, length-append f j.left.tokens, many, few))
-  integer_meet i a b j k (inr (l, few, short, e, same)) (inl (g, many, are, passes, d)) = absurd
-      (omega (arith, ap (λ l. length l) passes.tokens, length-append g k.left.tokens, many, few))
-  integer_meet i a b j k (inr (l, few, short, e, same)) (inr (h, few2, short2, d, same2)) =
-      (both_err (λ o p. o ≡ p) e d (one_short form _ i l h short short2), same ∙ sym same2)
-
-  pub integer_decided : IsDecided x (Keeps (λ y. IntegerRuns width (value y) reading form))
-      (λ o p. o ≡ p)
-  integer_decided = record {
-    kept = λ i answer y j free (r, same). (same, still i answer j r);
-    decided = λ i a b t u j k na nb (r, same) (q, also). integer_meet i a b j k r q;
-  }
-    where
-      still : (i : Input ℕ) (answer : Answer O) (j : Input ℕ)
-          → IntegerRuns width (value x) reading form i answer j → j.status ≡ i.status
-      still i answer j (inl (bytes, many, are, passes, e)) = passes.status
-      still i answer j (inr (l, few, short, e, same)) = ap (λ z. z.status) same
 
   pub integer_fails : Backtracks x (Keeps (λ y. IntegerRuns width (value y) reading form))
   integer_fails = record { fails = λ i k y j is (r, kept). fails i k j is r }

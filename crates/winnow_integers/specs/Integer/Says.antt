@@ -1,16 +1,16 @@
 -- What integers say that they do.
 use Rattle.std.specs.Prelude.{◌≡◌, ◌⊎◌, ◌<◌, ◌-◌, ⊤, Bool, false, ℕ, List, ◌++◌, length, Option}
-use Rattle.std.specs.Prelude.{Ok, Err, Some}
-use Rattle.std.proofs.Common.{append_assoc, refl, sym, ap, subst, ◌∙◌, inl, inr, arith}
+use Rattle.std.specs.Prelude.{Some}
+use Rattle.std.proofs.Common.{append_assoc, sym, ap, ◌∙◌, inl, inr, arith}
 use Rattle.std.proofs.Common.{length-append}
 use Rattle.streams.specs.Input.{Input}
 use Rattle.streams.specs.Reading.{Reading}
-use Rattle.stream_errors.specs.Form.{Answer, ErrorForm}
+use Rattle.stream_errors.specs.Form.{Answer}
 use Rattle.grammars.specs.Grammar.Lengths.{same_beginnings}
 use Rattle.winnow_core.specs.Outcome.{Alike, Does, IsFinal, Outcome, Setting, as_longer, asks, both}
 use Rattle.winnow_core.specs.Outcome.{final_by, gave, grown, lacks, longer, on_cut, took}
 use Rattle.winnow_core.specs.Runs.{Keeps}
-use Rattle.winnow_core.specs.Says.{Did, IsAt, Lawful, Said, Says}
+use Rattle.winnow_core.specs.Says.{Did, IsAt, Said, Says}
 use Rattle.winnow_core.specs.Says.Lacks.{lacks_alike, lacks_whole, short_outcome}
 use Rattle.winnow_core.specs.Says.Leaf.{here_did, leaf_said, passes_did}
 use Rattle.winnow_integers.specs.Integer.{AreBytes, IntegerRuns}
@@ -65,15 +65,20 @@ module _ {O : Type 0} (width : ℕ) (value : List ℕ → O) where
   )
   stays more flag tokens x final (inr (few, e)) = absurd (final_by e final)
 
-  pub integer_said : {X L : Type 0} (reading : Reading ℕ L) (x : X)
-      → Said integer_says x (λ form. Keeps (λ _. IntegerRuns width value reading form))
-  integer_said reading x = leaf_said (λ form _. IntegerRuns width value reading form)
-      (λ is. did) (λ is. record { one = one; whole = whole; stays = λ is. stays })
-    where
-      did : (at : Setting) (i : Input ℕ) (answer : Answer O) (j : Input ℕ) → IsAt at i
-          → IntegerRuns width value reading at.form i answer j
-          → Did IntegerDoes at x i answer x j
-      did at i answer j is (inl (bytes, many, are, passes, e)) = passes_did passes
-          (inl (bytes, j.left.tokens, passes.tokens, many, are, gave j.left.tokens e))
-      did at i answer j is (inr (k, few, short, e, same)) = here_did same
-          (inr (few, short_outcome at i _ k i.left.tokens is short e))
+pub integer_said : {X L O : Type 0} (width : ℕ) (value : X → List ℕ → O) (reading : Reading ℕ L)
+    (x : X) → Said (integer_says width (value x)) x
+    (λ form. Keeps (λ y. IntegerRuns width (value y) reading form))
+integer_said {O = O} width value reading x =
+    leaf_said (λ form y. IntegerRuns width (value y) reading form) (λ is. did) (λ is. record {
+      one = one width (value x);
+      whole = whole width (value x);
+      stays = λ is. stays width (value x);
+    })
+  where
+    did : (at : Setting) (i : Input ℕ) (answer : Answer O) (j : Input ℕ) → IsAt at i
+        → IntegerRuns width (value x) reading at.form i answer j
+        → Did (IntegerDoes width (value x)) at x i answer x j
+    did at i answer j is (inl (bytes, many, are, passes, e)) = passes_did passes
+        (inl (bytes, j.left.tokens, passes.tokens, many, are, gave j.left.tokens e))
+    did at i answer j is (inr (k, few, short, e, same)) = here_did same
+        (inr (few, short_outcome at i _ k i.left.tokens is short e))

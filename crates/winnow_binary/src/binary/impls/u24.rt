@@ -5,13 +5,14 @@ ghost use Rattle.std.specs.Prelude.{◌≡◌, ⊤};
 ghost use Rattle.winnow_binary.specs.Chosen.{ChosenRuns};
 ghost use Rattle.winnow_integers.specs.Integer.{unsigned_value};
 ghost use Rattle.winnow_integers.specs.Integer.Grammar.{Integer, integer_takes};
-ghost use Rattle.winnow_integers.specs.Integer.Laws.{integer_ends, integer_exact};
-ghost use Rattle.winnow_integers.specs.Integer.Laws.{integer_decided, integer_fails, integer_stays};
+ghost use Rattle.winnow_integers.specs.Integer.Laws.{integer_exact, integer_fails};
+ghost use Rattle.winnow_integers.specs.Integer.Laws.{integer_leaves, integer_stays};
 ghost use Rattle.winnow_integers.specs.Integer.Laws.{some_bytes};
+ghost use Rattle.winnow_integers.specs.Integer.Says.{integer_said, integer_says};
 ghost use Rattle.winnow_integers.specs.declared.binary.endianness.Endianness.{Endianness};
 ghost use Rattle.winnow_core.specs.Exact.Allowed.{backs};
+ghost use Rattle.winnow_core.specs.Says.Decided.{decided_of};
 ghost use Rattle.winnow_core.specs.Stable.Grows.{leaf_stays};
-ghost use Rattle.winnow_core.specs.Says.{nothing_done, nothing_said};
 
 use std::marker::PhantomData;
 use stream_errors::parser_error::ParserError;
@@ -42,7 +43,7 @@ impl<I: StreamIsPartial + ByteStream, E: ParserError<I>> Parser<I, u32, E> for U
 
     ghost meaning = { λ form. ChosenRuns 3 unsigned_value I.reading form };
 
-    ghost says = { λ _. nothing_said };
+    ghost says = { λ s. integer_says 3 (unsigned_value s) };
 
     ghost claim = { λ s. record {
       premise = ⊤;
@@ -54,16 +55,16 @@ impl<I: StreamIsPartial + ByteStream, E: ParserError<I>> Parser<I, u32, E> for U
       alike = λ o p. o ≡ p;
     } };
 
-    ghost leaves_ends = { λ form x i answer y j r. integer_ends 3 (unsigned_value x) I.reading
-        form i answer j r.0 };
+    ghost leaves_ends = { integer_leaves 3 unsigned_value I.reading };
 
-    ghost said = { λ _. nothing_done };
+    ghost said = { integer_said 3 unsigned_value I.reading };
 
     ghost claimed = { λ s. record {
       exact = λ form is. integer_exact 3 unsigned_value I.reading form s;
       fails = λ form is. backs (integer_fails 3 unsigned_value I.reading form s);
       takes = λ is some. integer_takes 3 (unsigned_value s) (some_bytes 2);
-      decided = λ form is. integer_decided 3 unsigned_value I.reading form s;
+      decided = λ form is. decided_of I.reading (integer_leaves 3 unsigned_value I.reading)
+          (integer_said 3 unsigned_value I.reading s) form is;
     } };
 
     #[inline(always)]

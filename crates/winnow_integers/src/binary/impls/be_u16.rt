@@ -4,14 +4,15 @@
 ghost use Rattle.std.specs.Prelude.{◌≡◌, ⊤};
 ghost use Rattle.winnow_integers.specs.Integer.{IntegerRuns, unsigned_value};
 ghost use Rattle.winnow_integers.specs.Integer.Grammar.{Integer, integer_takes};
-ghost use Rattle.winnow_integers.specs.Integer.Laws.{integer_ends, integer_exact};
-ghost use Rattle.winnow_integers.specs.Integer.Laws.{integer_decided, integer_fails, integer_stays};
+ghost use Rattle.winnow_integers.specs.Integer.Laws.{integer_exact, integer_fails};
+ghost use Rattle.winnow_integers.specs.Integer.Laws.{integer_leaves, integer_stays};
 ghost use Rattle.winnow_integers.specs.Integer.Laws.{some_bytes};
+ghost use Rattle.winnow_integers.specs.Integer.Says.{integer_said, integer_says};
 ghost use Rattle.winnow_integers.specs.declared.binary.endianness.Endianness.TheVariants.{Big};
 ghost use Rattle.winnow_core.specs.Exact.Allowed.{backs};
+ghost use Rattle.winnow_core.specs.Says.Decided.{decided_of};
 ghost use Rattle.winnow_core.specs.Runs.{Keeps};
 ghost use Rattle.winnow_core.specs.Stable.Grows.{leaf_stays};
-ghost use Rattle.winnow_core.specs.Says.{nothing_done, nothing_said};
 
 use crate::binary::be_u16;
 use stream_errors::parser_error::ParserError;
@@ -36,7 +37,7 @@ impl<I: StreamIsPartial + ByteStream, E: ParserError<I>> Parser<I, u16, E> for B
 
     ghost meaning = { λ form. Keeps (λ _. IntegerRuns 2 (unsigned_value Big) I.reading form) };
 
-    ghost says = { λ _. nothing_said };
+    ghost says = { λ s. integer_says 2 (unsigned_value Big) };
 
     ghost claim = { λ s. record {
       premise = ⊤;
@@ -48,16 +49,17 @@ impl<I: StreamIsPartial + ByteStream, E: ParserError<I>> Parser<I, u16, E> for B
       alike = λ o p. o ≡ p;
     } };
 
-    ghost leaves_ends = { λ form x i answer y j r. integer_ends 2 (unsigned_value Big) I.reading
-        form i answer j r.0 };
+    ghost leaves_ends = { integer_leaves 2 (λ (_ : ⊤). unsigned_value Big) I.reading };
 
-    ghost said = { λ _. nothing_done };
+    ghost said = { integer_said 2 (λ (_ : ⊤). unsigned_value Big) I.reading };
 
     ghost claimed = { λ s. record {
       exact = λ form is. integer_exact 2 (λ (_ : ⊤). unsigned_value Big) I.reading form tt;
       fails = λ form is. backs (integer_fails 2 (λ (_ : ⊤). unsigned_value Big) I.reading form tt);
       takes = λ is some. integer_takes 2 (unsigned_value Big) (some_bytes 1);
-      decided = λ form is. integer_decided 2 (λ (_ : ⊤). unsigned_value Big) I.reading form tt;
+      decided = λ form is. decided_of I.reading
+          (integer_leaves 2 (λ (_ : ⊤). unsigned_value Big) I.reading)
+          (integer_said 2 (λ (_ : ⊤). unsigned_value Big) I.reading s) form is;
     } };
 
     #[inline(always)]

@@ -4,14 +4,15 @@
 ghost use Rattle.std.specs.Prelude.{◌≡◌, ⊤};
 ghost use Rattle.winnow_integers.specs.Integer.{IntegerRuns, unsigned_value};
 ghost use Rattle.winnow_integers.specs.Integer.Grammar.{Integer, integer_takes};
-ghost use Rattle.winnow_integers.specs.Integer.Laws.{integer_ends, integer_exact};
-ghost use Rattle.winnow_integers.specs.Integer.Laws.{integer_decided, integer_fails, integer_stays};
+ghost use Rattle.winnow_integers.specs.Integer.Laws.{integer_exact, integer_fails};
+ghost use Rattle.winnow_integers.specs.Integer.Laws.{integer_leaves, integer_stays};
 ghost use Rattle.winnow_integers.specs.Integer.Laws.{some_bytes};
+ghost use Rattle.winnow_integers.specs.Integer.Says.{integer_said, integer_says};
 ghost use Rattle.winnow_integers.specs.declared.binary.endianness.Endianness.TheVariants.{Little};
 ghost use Rattle.winnow_core.specs.Exact.Allowed.{backs};
+ghost use Rattle.winnow_core.specs.Says.Decided.{decided_of};
 ghost use Rattle.winnow_core.specs.Runs.{Keeps};
 ghost use Rattle.winnow_core.specs.Stable.Grows.{leaf_stays};
-ghost use Rattle.winnow_core.specs.Says.{nothing_done, nothing_said};
 
 use crate::binary::le_u32;
 use stream_errors::parser_error::ParserError;
@@ -36,7 +37,7 @@ impl<I: StreamIsPartial + ByteStream, E: ParserError<I>> Parser<I, u32, E> for L
 
     ghost meaning = { λ form. Keeps (λ _. IntegerRuns 4 (unsigned_value Little) I.reading form) };
 
-    ghost says = { λ _. nothing_said };
+    ghost says = { λ s. integer_says 4 (unsigned_value Little) };
 
     ghost claim = { λ s. record {
       premise = ⊤;
@@ -48,17 +49,18 @@ impl<I: StreamIsPartial + ByteStream, E: ParserError<I>> Parser<I, u32, E> for L
       alike = λ o p. o ≡ p;
     } };
 
-    ghost leaves_ends = { λ form x i answer y j r. integer_ends 4 (unsigned_value Little)
-        I.reading form i answer j r.0 };
+    ghost leaves_ends = { integer_leaves 4 (λ (_ : ⊤). unsigned_value Little) I.reading };
 
-    ghost said = { λ _. nothing_done };
+    ghost said = { integer_said 4 (λ (_ : ⊤). unsigned_value Little) I.reading };
 
     ghost claimed = { λ s. record {
       exact = λ form is. integer_exact 4 (λ (_ : ⊤). unsigned_value Little) I.reading form tt;
       fails = λ form is. backs
           (integer_fails 4 (λ (_ : ⊤). unsigned_value Little) I.reading form tt);
       takes = λ is some. integer_takes 4 (unsigned_value Little) (some_bytes 3);
-      decided = λ form is. integer_decided 4 (λ (_ : ⊤). unsigned_value Little) I.reading form tt;
+      decided = λ form is. decided_of I.reading
+          (integer_leaves 4 (λ (_ : ⊤). unsigned_value Little) I.reading)
+          (integer_said 4 (λ (_ : ⊤). unsigned_value Little) I.reading s) form is;
     } };
 
     #[inline(always)]
