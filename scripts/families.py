@@ -15,11 +15,11 @@ from family.choices import write_choices
 from family.chosen import write_chosen
 from family.claims import write_claims
 from family.classes import write_classes
-from family.decided import write_decided
 from family.exact import write_exact
 from family.integers import write_integers
 from family.known import write_known
 from family.reads import write_reads
+from family.says import write_says
 from family.sequences import write_sequences
 from family.sets import write_sets
 from family.stable import write_stable
@@ -35,6 +35,6 @@ if __name__ == "__main__":
     write_integers()
     write_chosen()
     write_exact()
-    write_decided()
+    write_says()
     write_claims()
     print("stream_sets grammars winnow_core winnow_comb winnow_ascii winnow_integers winnow_binary")

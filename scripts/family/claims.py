@@ -1,12 +1,9 @@
 """What tuples of two to six parsers claim, in the crate `winnow_core`."""
 from family.common import MOST, NEVER_TAKES, NUMBER
 from family.common import conjunction, record, tuple_type, write
-from family.decided import ALIKE
 from family.exact import LARGE, WORDS, numbered, prefix, spaced, sums, whole, word
 
 SIZES = range(2, MOST + 1)
-# How what is alike of the first and the last is made what is alike of all.
-JOINED = {2: "(λ o p q r a b. (a, b)) ", 3: "(λ o p q r x y a b c. (a, b, c)) "}
 
 
 def claim(n):
@@ -17,14 +14,15 @@ def claim(n):
         "spares_memory": conjunction(numbered("c#.spares_memory", n)),
         "consumes": sums("c#.consumes", n),
         "grammar": "%s %s" % (word(n), spaced("c#.grammar", n)),
-        "decides": conjunction(numbered("c#.decides", n)),
-        "alike": "%s %s" % (ALIKE[n], spaced("c#.alike", n)),
+        "decides": "says.premise",
+        "alike": "says.alike",
     }
     members = " → ".join(numbered("Claim T O#", n))
-    kind = "{T %s : Type 0} → %s → " % (spaced("O#", n), members)
+    outputs = tuple_type(numbered("O#", n))
+    kind = "{T %s : Type 0} → %s → Says T (%s) → " % (spaced("O#", n), members, outputs)
     lines = [
-        "abbrev pub sequence%d_claim : %sClaim T (%s)" % (n, kind, tuple_type(numbered("O#", n))),
-        "sequence%d_claim %s = record {" % (n, spaced("c#", n)),
+        "abbrev pub sequence%d_claim : %sClaim T (%s)" % (n, kind, outputs),
+        "sequence%d_claim %s says = record {" % (n, spaced("c#", n)),
     ]
     return "\n".join([*lines, *("  %s = %s;" % field for field in fields.items()), "}"])
 
@@ -40,22 +38,24 @@ def either_way(n):
 def claimed_kind(n):
     """Where n members keep their claims, the tuple keeps its own."""
     parameters = [
-        "{%s T %s : Type 0}" % (spaced("S#", n), spaced("O#", n)),
+        "{%s T L %s : Type 0}" % (spaced("S#", n), spaced("O#", n)),
         spaced("{c# : Claim T O#}", n),
         spaced("{m# : Meaning S# T O#}", n),
-        "{s : %s}" % tuple_type(numbered("S#", n)),
+        "{s : %s} {says : Says T (%s)} (reading : Reading T L)" % (tuple_type(numbered("S#", n)), tuple_type(numbered("O#", n))),
     ]
     members = " → ".join(numbered("Claimed c# s.@ m#", n))
-    runs = "λ form. SequenceRuns%d %s" % (n, spaced("(m# form)", n))
-    tuple_claim = "sequence%d_claim %s" % (n, spaced("c#", n))
-    return "%s → %s → Claimed (%s) s (%s)" % (" ".join(parameters), members, tuple_claim, runs)
+    runs = "SequenceRuns%d %s" % (n, spaced("(m# form)", n))
+    ends = "((form : ErrorForm) → LeaveEnds reading (%s))" % runs
+    said = "Said says s (λ form. %s)" % runs
+    tuple_claim = "sequence%d_claim %s says" % (n, spaced("c#", n))
+    whole = "Claimed (%s) s (λ form. %s)" % (tuple_claim, runs)
+    return "%s → %s → %s → %s → %s" % (" ".join(parameters), ends, members, said, whole)
 
 
 def claimed(n):
     """That a tuple of n keeps its claim, where its members keep theirs."""
     name, exact = prefix(n), spaced("(h#.exact form is.@)", n)
     output = "(%s) " % whole(n) if n < 4 else ""
-    also = "(%s %s) %s" % (ALIKE[n], spaced("c#.alike", n), JOINED[n]) if n < 4 else ""
     part = "(fails_as (λ b. b.@) (λ m. m.@) (h#.fails form is.@))"
     fails = [*numbered("(h#.exact form is.@)", n - 1), *numbered(part, n)]
     takes = "%s%s (%s some)" % (output, spaced("(h#.exact modal is.@)", n), either_way(n))
@@ -63,13 +63,11 @@ def claimed(n):
         "exact": "λ form is. %s_exact %s" % (name, exact),
         "fails": "λ form is. %s_fails %s" % (name, " ".join(fails)),
         "takes": "λ is some. %s_takes %s" % (name, takes),
-        "decided": "λ form is. %s_decided %s%s" % (name, also, spaced("(h#.decided form is.@)", n)),
+        "decided": "decided_of reading ends said",
     }
-    # The claims are named where a lemma takes what is alike of them.
-    named = " ".join(["{c1 = c1}", *numbered("{c#}", n)[1:]]) + " " if also else ""
     lines = [
         "pub sequence%d_claimed : %s" % (n, claimed_kind(n)),
-        "sequence%d_claimed %s%s = record {" % (n, named, spaced("h#", n)),
+        "sequence%d_claimed reading ends %s said = record {" % (n, spaced("h#", n)),
     ]
     return "\n".join([*lines, *("  %s = %s;" % field for field in fields.items()), "}"])
 
@@ -94,17 +92,25 @@ NOTHING_CLAIMS = {
             "exact": "λ form is. unit_exact",
             "fails": "λ form is. backs unit_fails",
             "takes": NEVER_TAKES,
-            "decided": "λ form is. unit_decided",
+            "decided": "decided_of I.reading (λ form s i answer t j r. same_ends I.reading i j r.1) unit_said",
         },
     ),
 }
+
+
+def ends(n):
+    """That a tuple of n parsers leaves an end."""
+    parts = "%s %s" % (spaced("(P#.meaning form)", n), spaced("(P#.leaves_ends form)", n))
+    return "(λ form. sequence%d_ends I.reading %s)" % (n, parts)
+
+
 CHILD = "(P1.meaning form) (record { 0 = s.0 })"
 ONE_CLAIMS = {
     "claim": record(
         "claim",
         {it: "(P1.claim s.0).%s" % it for it in ("premise", "backtracks", "spares_memory", "consumes")}
         | {"grammar": "Made OneTuple tt (P1.claim s.0).grammar"}
-        | {"decides": "(P1.claim s.0).decides", "alike": "AlikeOne (P1.claim s.0).alike"},
+        | {"decides": "(P1.says s.0).premise", "alike": "AlikeOne (P1.says s.0).alike"},
     ),
     "claimed": record(
         "claimed",
@@ -112,19 +118,23 @@ ONE_CLAIMS = {
             "exact": "λ form is. tuple1_exact %s ((P1.claimed s.0).exact form is)" % CHILD,
             "fails": "λ form is. tuple1_fails %s ((P1.claimed s.0).fails form is)" % CHILD,
             "takes": "λ is some. made_of_takes OneTuple tt ((P1.claimed s.0).takes is some)",
-            "decided": "λ form is. tuple1_decided %s ((P1.claimed s.0).decided form is)" % CHILD,
+            "decided": "decided_of I.reading %s (one_said (P1.said s.0))" % ends(1),
         },
     ),
 }
 
 
 def member_claims(n):
-    """The ghost members of a tuple of n parsers by which it claims what theirs do."""
+    """The ghost members of a tuple of n parsers by which it says and claims what theirs do."""
+    word = "one" if n == 1 else "sequence%d" % n
+    says, said = ("%s_%s %s" % (word, it, spaced("(P#.%s s.@)" % it, n)) for it in ("says", "said"))
+    member = "    ghost %s = { λ s. %s };"
+    members = {"says": member % ("says", says), "said": member % ("said", said)}
     if n == 1:
-        return ONE_CLAIMS
-    of = {name: spaced("(P#.%s s.@)" % name, n) for name in ("claim", "claimed")}
-    member = "    ghost %s = { λ s. sequence%d_%s %s };"
-    return {name: member % (name, n, name, members) for name, members in of.items()}
+        return members | ONE_CLAIMS
+    claim = "%s_claim %s (%s)" % (word, spaced("(P#.claim s.@)", n), says)
+    claimed = "%s_claimed I.reading %s %s (%s)" % (word, ends(n), spaced("(P#.claimed s.@)", n), said)
+    return members | {"claim": member % ("claim", claim), "claimed": member % ("claimed", claimed)}
 
 
 CLAIMS = """-- What tuples of two to six parsers claim: what their members do, one behind the other.
@@ -132,17 +142,17 @@ CLAIMS = """-- What tuples of two to six parsers claim: what their members do, o
 use Rattle.std.specs.Prelude.{{◌⊎◌}}
 use Rattle.grammars.specs.Grammar.{{Both, Three}}
 use Rattle.grammars.specs.Grammar.Tuples.{{{words}}}
-use Rattle.stream_errors.specs.Form.{{modal}}
+use Rattle.stream_errors.specs.Form.{{ErrorForm, modal}}
+use Rattle.streams.specs.Reading.{{Reading}}
 use Rattle.winnow_core.specs.Claim.{{Claim, Claimed}}
 use Rattle.winnow_core.specs.Exact.Allowed.{{fails_as}}
 use Rattle.winnow_core.specs.Exact.Along.{{either_way}}
-use Rattle.winnow_core.specs.InOrder.Decided.{{AlikePairs, AlikeTriples, both_decided}}
-use Rattle.winnow_core.specs.InOrder.Decided.{{three_decided}}
 use Rattle.winnow_core.specs.InOrder.Exact.{{both_exact, both_fails, both_takes}}
 use Rattle.winnow_core.specs.InOrder.Three.{{three_exact, three_fails, three_takes}}
-use Rattle.winnow_core.specs.Runs.{{Meaning}}
+use Rattle.winnow_core.specs.Runs.{{LeaveEnds, Meaning}}
+use Rattle.winnow_core.specs.Says.{{Said, Says}}
+use Rattle.winnow_core.specs.Says.Decided.{{decided_of}}
 use Rattle.winnow_core.specs.Sequence.{{{runs}}}
-use Rattle.winnow_core.specs.Sequence.Decided.{{{decided}}}
 {exact}
 
 {family}
@@ -159,7 +169,6 @@ def write_claims():
         CLAIMS,
         words=", ".join(sorted(WORDS[n] for n in LARGE)),
         runs=", ".join("SequenceRuns%d" % n for n in SIZES),
-        decided=", ".join([ALIKE[n] for n in LARGE] + ["tuple%d_decided" % n for n in LARGE]),
         exact="\n".join(LAWS % (n, n, n) for n in LARGE),
         family="\n\n".join(FAMILY % (NUMBER[n], claim(n), claimed(n)) for n in SIZES),
     )

@@ -130,7 +130,7 @@ def there_lemma(n):
     arguments = spaced("run#", n)
     name = "there%d" % n
     lines = [
-        "pub %s : {%s : Type 0} %s (s : %s) (i : Input T) (answer : Answer (%s)) (t : %s) (j : Input T)"
+        "%s : {%s : Type 0} %s (s : %s) (i : Input T) (answer : Answer (%s)) (t : %s) (j : Input T)"
         % (name, types, runs, states, tuple_type(numbered("O#", n)), states)
         + " → SequenceRuns%d %s s i answer t j → BothRuns %s (%s %s) run%d %s i answer %s j"
         % (n, arguments, joined(n), run_word(n - 1), spaced("run#", n - 1), n, split("s", n), split("t", n))

@@ -62,12 +62,13 @@ use Rattle.winnow_core.specs.Runs.{{Runs}}
 
 pub mod Cases
 pub mod Claim
-pub mod Decided
 pub mod Exact
 pub mod Grows
 pub mod Known
 pub mod LargeGrows
 pub mod Laws
+pub mod Says
+pub mod Small
 
 -- no children: nothing is taken
 abbrev pub SequenceRuns0 : {{T : Type 0}} → Runs ⊤ T ⊤
@@ -153,9 +154,13 @@ def sequence_impl(n):
         "",
         "    ghost meaning = { λ form. SequenceRuns%d %s };" % (n, meanings),
         "",
+        claims["says"],
+        "",
         claims["claim"],
         "",
         "    ghost leaves_ends = { λ form. sequence%d_ends I.reading %s %s };" % (n, meanings, " ".join("(P%d.leaves_ends form)" % k for k in upto(n))),
+        "",
+        claims["said"],
         "",
         claims["claimed"],
         "",
@@ -176,12 +181,15 @@ ghost use Rattle.grammars.specs.Grammar.{{Made, Nothing}};
 ghost use Rattle.grammars.specs.Grammar.Unique.{{made_of_takes}};
 ghost use Rattle.winnow_core.specs.Ends.{{same_ends}};
 ghost use Rattle.winnow_core.specs.Exact.Allowed.{{backs}};
-ghost use Rattle.winnow_core.specs.Exact.Nothing.{{unit_decided, unit_exact, unit_fails}};
-ghost use Rattle.winnow_core.specs.InOrder.Decided.{{AlikeOne, tuple1_decided}};
+ghost use Rattle.winnow_core.specs.Exact.Nothing.{{unit_exact, unit_fails}};
+ghost use Rattle.winnow_core.specs.InOrder.Decided.{{AlikeOne}};
 ghost use Rattle.winnow_core.specs.InOrder.Exact.{{OneTuple, tuple1_exact, tuple1_fails}};
+ghost use Rattle.winnow_core.specs.Says.Decided.{{decided_of}};
 ghost use Rattle.winnow_core.specs.Sequence.{{{names}}};
 {claims}
 ghost use Rattle.winnow_core.specs.Sequence.Laws.{{{laws}}};
+{says}
+ghost use Rattle.winnow_core.specs.Sequence.Small.{{one_said, one_says, unit_said, unit_says}};
 
 mod stable;
 
@@ -197,9 +205,13 @@ impl<I: Stream, E: ParserError<I>> Parser<I, (), E> for () {{
 
     ghost meaning = {{ λ _. SequenceRuns0 }};
 
+    ghost says = {{ λ _. unit_says }};
+
 {nothing_claim}
 
     ghost leaves_ends = {{ λ form s i answer t j r. same_ends I.reading i j r.1 }};
+
+    ghost said = {{ λ _. unit_said }};
 
 {nothing_claimed}
 
@@ -268,6 +280,7 @@ use Rattle.std.proofs.Common.{{rules, refl, inl, inr}}
 
 
 CLAIMS = "ghost use Rattle.winnow_core.specs.Sequence.Claim.{sequence%d_claim, sequence%d_claimed};"
+SAYS = "ghost use Rattle.winnow_core.specs.Sequence.Says.{sequence%d_said, sequence%d_says};"
 
 
 def write_sequences():
@@ -283,6 +296,7 @@ def write_sequences():
         names=names,
         laws=", ".join("sequence%d_ends" % n for n in every),
         claims="\n".join(CLAIMS % (n, n) for n in every if n > 1),
+        says="\n".join(SAYS % (n, n) for n in every if n > 1),
         nothing_claim=NOTHING_CLAIMS["claim"],
         nothing_claimed=NOTHING_CLAIMS["claimed"],
         family="\n\n".join(sequence_impl(n) for n in every),

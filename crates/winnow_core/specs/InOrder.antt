@@ -7,6 +7,7 @@ pub mod Decided
 pub mod Exact
 pub mod Known
 pub mod Laws
+pub mod Says
 pub mod Three
 
 -- A run of two children, the second where the first ended, to the first failure.

@@ -7,12 +7,13 @@ use Rattle.streams.specs.Kind.{Kind}
 use Rattle.winnow_core.specs.Runs.{Runs}
 pub mod Cases
 pub mod Claim
-pub mod Decided
 pub mod Exact
 pub mod Grows
 pub mod Known
 pub mod LargeGrows
 pub mod Laws
+pub mod Says
+pub mod Small
 
 -- no children: nothing is taken
 abbrev pub SequenceRuns0 : {T : Type 0} → Runs ⊤ T ⊤

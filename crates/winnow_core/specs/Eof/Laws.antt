@@ -4,11 +4,8 @@ use Rattle.std.proofs.Common.{inl, inr, refl, sym, ap, subst, ◌∙◌}
 use Rattle.streams.specs.Input.{Input, IsEndOf, takes_end}
 use Rattle.streams.specs.Reading.{Reading}
 use Rattle.stream_errors.specs.Form.{Answer}
-use Rattle.winnow_core.specs.Decided.{AlikeAnswers, IsDecided}
-use Rattle.winnow_core.specs.Decided.Inputs.{both_err, both_ok, same_passed}
 use Rattle.winnow_core.specs.Ends.{same_ends}
 use Rattle.winnow_core.specs.Eof.{EofRuns}
-use Rattle.winnow_core.specs.Literal.Laws.{ShowSame}
 use Rattle.winnow_core.specs.Runs.{Keeps}
 use Rattle.streams.specs.Kind.{Kind, backtrack, memory}
 use Rattle.grammars.specs.Grammar.{NoTokens, NoneStands}
@@ -20,31 +17,6 @@ pub eof_ends : {T L : Type 0} (reading : Reading T L) (i : Input T) (answer : An
     (j : Input T) → EofRuns reading i answer j → IsEndOf reading j i
 eof_ends reading i answer j (inl (slice, nothing, takes, e)) = takes_end takes
 eof_ends reading i answer j (inr (some, e, same)) = same_ends reading i j same
-
--- ---- one state and one input decide it
-
-module _ {T L : Type 0} (reading : Reading T L) where
-  eof_meet : (i : Input T) (a b : Answer L) (j k : Input T) → EofRuns reading i a j
-      → EofRuns reading i b k → AlikeAnswers (ShowSame reading) a b × (j ≡ k)
-  eof_meet i a b j k (inl (v, nothing, takes, e)) (inl (w, none, takes2, d)) = (
-    both_ok (ShowSame reading) e d ([], takes.shown, takes2.shown),
-    same_passed [] takes.passed takes2.passed,
-  )
-  eof_meet i a b j k (inl (v, nothing, takes, e)) (inr (some, d, same)) = absurd (some nothing)
-  eof_meet i a b j k (inr (some, e, same)) (inl (w, nothing, takes, d)) = absurd (some nothing)
-  eof_meet i a b j k (inr (some, e, same)) (inr (more, d, same2)) =
-      (both_err (ShowSame reading) e d refl, same ∙ sym same2)
-
-  pub eof_decided : IsDecided tt (Keeps (λ (_ : ⊤). EofRuns reading)) (ShowSame reading)
-  eof_decided = record {
-    kept = λ i answer t j free (r, same). (same, still i answer j r);
-    decided = λ i a b t u j k na nb (r, same) (q, also). eof_meet i a b j k r q;
-  }
-    where
-      still : (i : Input T) (answer : Answer L) (j : Input T) → EofRuns reading i answer j
-          → j.status ≡ i.status
-      still i answer j (inl (slice, nothing, takes, e)) = takes.passed.status
-      still i answer j (inr (some, e, same)) = ap (λ z. z.status) same
 
 -- ---- what it reads
 

@@ -1,11 +1,8 @@
 -- What the parser of nothing reads.
-use Rattle.std.specs.Prelude.{⊤}
-use Rattle.std.proofs.Common.{refl, sym, ap, ◌∙◌}
+use Rattle.std.proofs.Common.{refl, ap, ◌∙◌}
 use Rattle.grammars.specs.Grammar.{Nothing}
 use Rattle.grammars.specs.Grammar.Unique.{unique_nothing}
 use Rattle.stream_errors.specs.Form.Known.{ok_is_err, same_ok}
-use Rattle.winnow_core.specs.Decided.{IsDecided}
-use Rattle.winnow_core.specs.Decided.Inputs.{both_ok}
 use Rattle.winnow_core.specs.Exact.{Backtracks, IsExact}
 use Rattle.winnow_core.specs.Sequence.{SequenceRuns0}
 
@@ -17,13 +14,6 @@ module _ {T : Type 0} where
     stands = λ i o t j is (e, back). (same_ok refl e, ap (λ z. z.left.tokens) back);
     none = λ i k t j is (e, back). ok_is_err e refl;
     unique = unique_nothing tt;
-  }
-
-  pub unit_decided : IsDecided tt (SequenceRuns0 {T = T}) (λ (_ _ : ⊤). ⊤)
-  unit_decided = record {
-    kept = λ i answer t j free (e, back). (refl, ap (λ z. z.status) back);
-    decided = λ i a b t u j k na nb (e, back) (d, back2).
-        (both_ok (λ (_ _ : ⊤). ⊤) e d tt, back ∙ sym back2);
   }
 
   pub unit_fails : Backtracks tt (SequenceRuns0 {T = T})

@@ -7,7 +7,6 @@ use Rattle.winnow_core.specs.Decided.{AlikeAnswers, IsDecided, NotMemory}
 use Rattle.winnow_core.specs.Decided.Inputs.{both_err, both_ok, err_not_memory, ok_not_memory}
 use Rattle.winnow_core.specs.InOrder.{BothRuns, ThreeRuns}
 use Rattle.winnow_core.specs.Runs.{Runs}
-use Rattle.winnow_core.specs.Sequence.{SequenceRuns1}
 use Rattle.winnow_core.specs.States.{pair_is}
 
 -- Both parts are alike.
@@ -148,33 +147,3 @@ module _ {S1 S2 S3 T O1 O2 O3 O : Type 0} {output : O1 → O2 → O3 → O} {run
 abbrev pub AlikeOne : {A : Type 0} → (A → A → Type 0) → record { 0 : A } → record { 0 : A }
     → Type 0
 AlikeOne alike x y = alike x.0 y.0
-
-module _ {S T O : Type 0} (run : Runs S T O) (s : record { 0 : S }) {alike : O → O → Type 0}
-    (c : IsDecided s.0 run alike) where
-  one_meet : (i : Input T) (a b : Answer (record { 0 : O })) (t u : record { 0 : S })
-      (j k : Input T) → NotMemory a → NotMemory b → SequenceRuns1 run s i a t j
-      → SequenceRuns1 run s i b u k → AlikeAnswers (AlikeOne alike) a b × (j ≡ k)
-  one_meet i a b t u j k na nb (inl (o, x, e)) (inl (p, y, d)) =
-      let (like, place) = c.decided i (Ok o) (Ok p) t.0 u.0 j k ok_not_memory ok_not_memory x y in
-      (both_ok (AlikeOne alike) e d like, place)
-  one_meet i a b t u j k na nb (inl (o, x, e)) (inr (l, y, d)) = absurd
-      (c.decided i (Ok o) (Err l) t.0 u.0 j k ok_not_memory (err_not_memory d nb) x y).0
-  one_meet i a b t u j k na nb (inr (l, x, e)) (inl (p, y, d)) = absurd
-      (c.decided i (Err l) (Ok p) t.0 u.0 j k (err_not_memory e na) ok_not_memory x y).0
-  one_meet i a b t u j k na nb (inr (l, x, e)) (inr (h, y, d)) =
-      let (like, place) = c.decided i (Err l) (Err h) t.0 u.0 j k (err_not_memory e na)
-      (err_not_memory d nb) x y in
-      (both_err (AlikeOne alike) e d like, place)
-
-  pub tuple1_decided : IsDecided s (SequenceRuns1 run) (AlikeOne alike)
-  tuple1_decided = record { kept = kept; decided = one_meet }
-    where
-      kept : (i : Input T) (answer : Answer (record { 0 : O })) (t : record { 0 : S })
-          (j : Input T) → NotMemory answer → SequenceRuns1 run s i answer t j
-          → (t ≡ s) × (j.status ≡ i.status)
-      kept i answer t j free (inl (o, x, e)) =
-          let (same, status) = c.kept i (Ok o) t.0 j ok_not_memory x in
-          (ap (λ (m : S). record { 0 = m }) same, status)
-      kept i answer t j free (inr (l, x, e)) =
-          let (same, status) = c.kept i (Err l) t.0 j (err_not_memory e free) x in
-          (ap (λ (m : S). record { 0 = m }) same, status)

@@ -2,7 +2,7 @@
 use Rattle.std.specs.Prelude.{◌≡◌, ◌⊎◌, ⊤, false, true, List, ◌∷◌, ◌++◌, None, ℕ, Option}
 use Rattle.std.proofs.Common.{refl, sym, ◌∙◌, inl, inr, append_assoc, subst, ap}
 use Rattle.grammars.specs.Grammar.Unique.{one_front}
-use Rattle.stream_errors.specs.Form.{Answer}
+use Rattle.stream_errors.specs.Form.{Answer, incomplete_kind}
 use Rattle.stream_searches.specs.Compare.{IsShort, StandsFirst}
 use Rattle.streams.specs.Equal.{true_is_false}
 use Rattle.streams.specs.Input.{Input}
@@ -13,7 +13,8 @@ use Rattle.winnow_core.specs.Outcome.{Alike, Does, IsFinal, Outcome, Setting, as
 use Rattle.winnow_core.specs.Outcome.{both, final_by, gave, grown, lacks, longer, on_cut, took}
 use Rattle.winnow_core.specs.Decided.Inputs.{same_front}
 use Rattle.winnow_core.specs.Says.{Did, IsAt, Lawful, Said, Says}
-use Rattle.winnow_core.specs.Says.Leaf.{here_did, lacked, leaf_said, same_lack, takes_did}
+use Rattle.winnow_core.specs.Says.Lacks.{lacks_alike, short_outcome}
+use Rattle.winnow_core.specs.Says.Leaf.{here_did, leaf_said, takes_did}
 use Rattle.winnow_core.specs.Runs.{Keeps}
 
 -- It stands first, and a slice of it is taken; or a cut input is too short to tell; or it does not
@@ -63,7 +64,7 @@ module _ {T L O : Type 0} (reading : Reading T L) (spelled : List T → Type 0) 
   one at tokens x y (inr (inl (short, more, a))) (inl (f, v, r, is, there, e, b)) =
       short_is_none tokens f r is e short
   one at tokens x y (inr (inl (short, more, a))) (inr (inl (other, also, b))) =
-      both alike a b (same_lack alike at None tokens)
+      both alike a b (lacks_alike alike at None tokens)
   one at tokens x y (inr (inl (short, more, a))) (inr (inr (none, whole, b))) =
       true_is_false (sym more ∙ whole short)
   one at tokens x y (inr (inr (none, whole, a))) (inl (f, v, r, is, there, e, b)) =
@@ -119,8 +120,11 @@ did reading spelled output at s i answer j here (inl (front, slice, is, takes, e
       gave j.left.tokens e,
     ))
 did reading spelled output at s i answer j here (inr (inl (short, cut, e, same))) =
-    let more = sym here.more ∙ cut in
-    here_did same (inr (inl (short, more, lacked at None i.left.tokens more e)))
+    here_did same (inr (inl (
+      short,
+      sym here.more ∙ cut,
+      short_outcome at i None (incomplete_kind at.form None) i.left.tokens here (inl (cut, refl)) e,
+    )))
 did reading spelled output at s i answer j here (inr (inr (none, whole, e, same))) =
     here_did same
     (inr (inr (none, λ short. sym here.more ∙ whole short, gave i.left.tokens e)))

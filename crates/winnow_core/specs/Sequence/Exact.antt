@@ -42,7 +42,7 @@ same4 {O1 = O1} {O2} {O3} g1 g2 g3 g4 = record {
       ((o1, o2, o3), o4, c, (o1, o2, o3, a, b, x1, x2, x3, refl), x4, is);
 }
 
-pub there4 : {S1 S2 S3 S4 T O1 O2 O3 O4 : Type 0} (run1 : Runs S1 T O1) (run2 : Runs S2 T O2)
+there4 : {S1 S2 S3 S4 T O1 O2 O3 O4 : Type 0} (run1 : Runs S1 T O1) (run2 : Runs S2 T O2)
     (run3 : Runs S3 T O3) (run4 : Runs S4 T O4) (s : S1 × S2 × S3 × S4) (i : Input T)
     (answer : Answer (O1 × O2 × O3 × O4)) (t : S1 × S2 × S3 × S4) (j : Input T)
     → SequenceRuns4 run1 run2 run3 run4 s i answer t j
@@ -135,8 +135,8 @@ same5 {O1 = O1} {O2} {O3} {O4} g1 g2 g3 g4 g5 = record {
       ((o1, o2, o3, o4), o5, d, (o1, o2, o3, o4, a, b, c, x1, x2, x3, x4, refl), x5, is);
 }
 
-pub there5 : {S1 S2 S3 S4 S5 T O1 O2 O3 O4 O5 : Type 0} (run1 : Runs S1 T O1)
-    (run2 : Runs S2 T O2) (run3 : Runs S3 T O3) (run4 : Runs S4 T O4) (run5 : Runs S5 T O5)
+there5 : {S1 S2 S3 S4 S5 T O1 O2 O3 O4 O5 : Type 0} (run1 : Runs S1 T O1) (run2 : Runs S2 T O2)
+    (run3 : Runs S3 T O3) (run4 : Runs S4 T O4) (run5 : Runs S5 T O5)
     (s : S1 × S2 × S3 × S4 × S5) (i : Input T) (answer : Answer (O1 × O2 × O3 × O4 × O5))
     (t : S1 × S2 × S3 × S4 × S5) (j : Input T)
     → SequenceRuns5 run1 run2 run3 run4 run5 s i answer t j
@@ -259,7 +259,7 @@ same6 {O1 = O1} {O2} {O3} {O4} {O5} g1 g2 g3 g4 g5 g6 = record {
   );
 }
 
-pub there6 : {S1 S2 S3 S4 S5 S6 T O1 O2 O3 O4 O5 O6 : Type 0} (run1 : Runs S1 T O1)
+there6 : {S1 S2 S3 S4 S5 S6 T O1 O2 O3 O4 O5 O6 : Type 0} (run1 : Runs S1 T O1)
     (run2 : Runs S2 T O2) (run3 : Runs S3 T O3) (run4 : Runs S4 T O4) (run5 : Runs S5 T O5)
     (run6 : Runs S6 T O6) (s : S1 × S2 × S3 × S4 × S5 × S6) (i : Input T)
     (answer : Answer (O1 × O2 × O3 × O4 × O5 × O6)) (t : S1 × S2 × S3 × S4 × S5 × S6)

@@ -6,9 +6,10 @@ ghost use Rattle.grammars.specs.Grammar.{Made, Nothing};
 ghost use Rattle.grammars.specs.Grammar.Unique.{made_of_takes};
 ghost use Rattle.winnow_core.specs.Ends.{same_ends};
 ghost use Rattle.winnow_core.specs.Exact.Allowed.{backs};
-ghost use Rattle.winnow_core.specs.Exact.Nothing.{unit_decided, unit_exact, unit_fails};
-ghost use Rattle.winnow_core.specs.InOrder.Decided.{AlikeOne, tuple1_decided};
+ghost use Rattle.winnow_core.specs.Exact.Nothing.{unit_exact, unit_fails};
+ghost use Rattle.winnow_core.specs.InOrder.Decided.{AlikeOne};
 ghost use Rattle.winnow_core.specs.InOrder.Exact.{OneTuple, tuple1_exact, tuple1_fails};
+ghost use Rattle.winnow_core.specs.Says.Decided.{decided_of};
 ghost use Rattle.winnow_core.specs.Sequence.{SequenceRuns0, SequenceRuns1, SequenceRuns2};
 ghost use Rattle.winnow_core.specs.Sequence.{SequenceRuns3, SequenceRuns4, SequenceRuns5};
 ghost use Rattle.winnow_core.specs.Sequence.{SequenceRuns6};
@@ -19,7 +20,12 @@ ghost use Rattle.winnow_core.specs.Sequence.Claim.{sequence5_claim, sequence5_cl
 ghost use Rattle.winnow_core.specs.Sequence.Claim.{sequence6_claim, sequence6_claimed};
 ghost use Rattle.winnow_core.specs.Sequence.Laws.{sequence1_ends, sequence2_ends, sequence3_ends};
 ghost use Rattle.winnow_core.specs.Sequence.Laws.{sequence4_ends, sequence5_ends, sequence6_ends};
-ghost use Rattle.winnow_core.specs.Says.{nothing_done, nothing_said};
+ghost use Rattle.winnow_core.specs.Sequence.Says.{sequence2_said, sequence2_says};
+ghost use Rattle.winnow_core.specs.Sequence.Says.{sequence3_said, sequence3_says};
+ghost use Rattle.winnow_core.specs.Sequence.Says.{sequence4_said, sequence4_says};
+ghost use Rattle.winnow_core.specs.Sequence.Says.{sequence5_said, sequence5_says};
+ghost use Rattle.winnow_core.specs.Sequence.Says.{sequence6_said, sequence6_says};
+ghost use Rattle.winnow_core.specs.Sequence.Small.{one_said, one_says, unit_said, unit_says};
 
 mod stable;
 
@@ -35,7 +41,7 @@ impl<I: Stream, E: ParserError<I>> Parser<I, (), E> for () {
 
     ghost meaning = { λ _. SequenceRuns0 };
 
-    ghost says = { λ _. nothing_said };
+    ghost says = { λ _. unit_says };
 
     ghost claim = { λ s. record {
       premise = ⊤;
@@ -49,13 +55,14 @@ impl<I: Stream, E: ParserError<I>> Parser<I, (), E> for () {
 
     ghost leaves_ends = { λ form s i answer t j r. same_ends I.reading i j r.1 };
 
-    ghost said = { λ _. nothing_done };
+    ghost said = { λ _. unit_said };
 
     ghost claimed = { λ s. record {
       exact = λ form is. unit_exact;
       fails = λ form is. backs unit_fails;
       takes = λ is never. absurd never;
-      decided = λ form is. unit_decided;
+      decided = decided_of I.reading (λ form s i answer t j r. same_ends I.reading i j r.1)
+          unit_said;
     } };
 
     #[inline(always)]
@@ -73,7 +80,7 @@ impl<I: Stream, O1, E: ParserError<I>, P1: Parser<I, O1, E>> Parser<I, (O1,), E>
 
     ghost meaning = { λ form. SequenceRuns1 (P1.meaning form) };
 
-    ghost says = { λ _. nothing_said };
+    ghost says = { λ s. one_says (P1.says s.0) };
 
     ghost claim = { λ s. record {
       premise = (P1.claim s.0).premise;
@@ -81,14 +88,14 @@ impl<I: Stream, O1, E: ParserError<I>, P1: Parser<I, O1, E>> Parser<I, (O1,), E>
       spares_memory = (P1.claim s.0).spares_memory;
       consumes = (P1.claim s.0).consumes;
       grammar = Made OneTuple tt (P1.claim s.0).grammar;
-      decides = (P1.claim s.0).decides;
-      alike = AlikeOne (P1.claim s.0).alike;
+      decides = (P1.says s.0).premise;
+      alike = AlikeOne (P1.says s.0).alike;
     } };
 
     ghost leaves_ends = { λ form. sequence1_ends I.reading (P1.meaning form)
         (P1.leaves_ends form) };
 
-    ghost said = { λ _. nothing_done };
+    ghost said = { λ s. one_said (P1.said s.0) };
 
     ghost claimed = { λ s. record {
       exact = λ form is. tuple1_exact (P1.meaning form) (record { 0 = s.0 })
@@ -96,8 +103,9 @@ impl<I: Stream, O1, E: ParserError<I>, P1: Parser<I, O1, E>> Parser<I, (O1,), E>
       fails = λ form is. tuple1_fails (P1.meaning form) (record { 0 = s.0 })
           ((P1.claimed s.0).fails form is);
       takes = λ is some. made_of_takes OneTuple tt ((P1.claimed s.0).takes is some);
-      decided = λ form is. tuple1_decided (P1.meaning form) (record { 0 = s.0 })
-          ((P1.claimed s.0).decided form is);
+      decided = decided_of I.reading
+          (λ form. sequence1_ends I.reading (P1.meaning form) (P1.leaves_ends form))
+          (one_said (P1.said s.0));
     } };
 
     #[inline(always)]
@@ -120,16 +128,20 @@ impl<I: Stream, O1: Drop, O2, E: ParserError<I>, P1: Parser<I, O1, E>, P2: Parse
 
     ghost meaning = { λ form. SequenceRuns2 (P1.meaning form) (P2.meaning form) };
 
-    ghost says = { λ _. nothing_said };
+    ghost says = { λ s. sequence2_says (P1.says s.0) (P2.says s.1) };
 
-    ghost claim = { λ s. sequence2_claim (P1.claim s.0) (P2.claim s.1) };
+    ghost claim = { λ s. sequence2_claim (P1.claim s.0) (P2.claim s.1)
+        (sequence2_says (P1.says s.0) (P2.says s.1)) };
 
     ghost leaves_ends = { λ form. sequence2_ends I.reading (P1.meaning form) (P2.meaning form)
         (P1.leaves_ends form) (P2.leaves_ends form) };
 
-    ghost said = { λ _. nothing_done };
+    ghost said = { λ s. sequence2_said (P1.said s.0) (P2.said s.1) };
 
-    ghost claimed = { λ s. sequence2_claimed (P1.claimed s.0) (P2.claimed s.1) };
+    ghost claimed = { λ s. sequence2_claimed I.reading
+        (λ form. sequence2_ends I.reading (P1.meaning form) (P2.meaning form)
+        (P1.leaves_ends form) (P2.leaves_ends form)) (P1.claimed s.0) (P2.claimed s.1)
+        (sequence2_said (P1.said s.0) (P2.said s.1)) };
 
     #[inline(always)]
     fn parse_next(&mut self, input: &mut I) -> Result<(O1, O2), E> {
@@ -157,16 +169,21 @@ impl<
 
     ghost meaning = { λ form. SequenceRuns3 (P1.meaning form) (P2.meaning form) (P3.meaning form) };
 
-    ghost says = { λ _. nothing_said };
+    ghost says = { λ s. sequence3_says (P1.says s.0) (P2.says s.1) (P3.says s.2) };
 
-    ghost claim = { λ s. sequence3_claim (P1.claim s.0) (P2.claim s.1) (P3.claim s.2) };
+    ghost claim = { λ s. sequence3_claim (P1.claim s.0) (P2.claim s.1) (P3.claim s.2)
+        (sequence3_says (P1.says s.0) (P2.says s.1) (P3.says s.2)) };
 
     ghost leaves_ends = { λ form. sequence3_ends I.reading (P1.meaning form) (P2.meaning form)
         (P3.meaning form) (P1.leaves_ends form) (P2.leaves_ends form) (P3.leaves_ends form) };
 
-    ghost said = { λ _. nothing_done };
+    ghost said = { λ s. sequence3_said (P1.said s.0) (P2.said s.1) (P3.said s.2) };
 
-    ghost claimed = { λ s. sequence3_claimed (P1.claimed s.0) (P2.claimed s.1) (P3.claimed s.2) };
+    ghost claimed = { λ s. sequence3_claimed I.reading
+        (λ form. sequence3_ends I.reading (P1.meaning form) (P2.meaning form)
+        (P3.meaning form) (P1.leaves_ends form) (P2.leaves_ends form) (P3.leaves_ends form))
+        (P1.claimed s.0) (P2.claimed s.1) (P3.claimed s.2)
+        (sequence3_said (P1.said s.0) (P2.said s.1) (P3.said s.2)) };
 
     #[inline(always)]
     fn parse_next(&mut self, input: &mut I) -> Result<(O1, O2, O3), E> {
@@ -199,19 +216,24 @@ impl<
     ghost meaning = { λ form. SequenceRuns4 (P1.meaning form) (P2.meaning form)
         (P3.meaning form) (P4.meaning form) };
 
-    ghost says = { λ _. nothing_said };
+    ghost says = { λ s. sequence4_says (P1.says s.0) (P2.says s.1) (P3.says s.2) (P4.says s.3) };
 
     ghost claim = { λ s. sequence4_claim (P1.claim s.0) (P2.claim s.1) (P3.claim s.2)
-        (P4.claim s.3) };
+        (P4.claim s.3) (sequence4_says (P1.says s.0) (P2.says s.1) (P3.says s.2)
+        (P4.says s.3)) };
 
     ghost leaves_ends = { λ form. sequence4_ends I.reading (P1.meaning form) (P2.meaning form)
         (P3.meaning form) (P4.meaning form) (P1.leaves_ends form) (P2.leaves_ends form)
         (P3.leaves_ends form) (P4.leaves_ends form) };
 
-    ghost said = { λ _. nothing_done };
+    ghost said = { λ s. sequence4_said (P1.said s.0) (P2.said s.1) (P3.said s.2) (P4.said s.3) };
 
-    ghost claimed = { λ s. sequence4_claimed (P1.claimed s.0) (P2.claimed s.1) (P3.claimed s.2)
-        (P4.claimed s.3) };
+    ghost claimed = { λ s. sequence4_claimed I.reading
+        (λ form. sequence4_ends I.reading (P1.meaning form) (P2.meaning form)
+        (P3.meaning form) (P4.meaning form) (P1.leaves_ends form) (P2.leaves_ends form)
+        (P3.leaves_ends form) (P4.leaves_ends form)) (P1.claimed s.0) (P2.claimed s.1)
+        (P3.claimed s.2) (P4.claimed s.3)
+        (sequence4_said (P1.said s.0) (P2.said s.1) (P3.said s.2) (P4.said s.3)) };
 
     #[inline(always)]
     fn parse_next(&mut self, input: &mut I) -> Result<(O1, O2, O3, O4), E> {
@@ -247,20 +269,30 @@ impl<
     ghost meaning = { λ form. SequenceRuns5 (P1.meaning form) (P2.meaning form)
         (P3.meaning form) (P4.meaning form) (P5.meaning form) };
 
-    ghost says = { λ _. nothing_said };
+    ghost says = { λ s. sequence5_says (P1.says s.0) (P2.says s.1) (P3.says s.2) (P4.says s.3)
+        (P5.says s.4) };
 
     ghost claim = { λ s. sequence5_claim (P1.claim s.0) (P2.claim s.1) (P3.claim s.2)
-        (P4.claim s.3) (P5.claim s.4) };
+        (P4.claim s.3) (P5.claim s.4)
+        (sequence5_says (P1.says s.0) (P2.says s.1) (P3.says s.2) (P4.says s.3)
+        (P5.says s.4)) };
 
     ghost leaves_ends = { λ form. sequence5_ends I.reading (P1.meaning form) (P2.meaning form)
         (P3.meaning form) (P4.meaning form) (P5.meaning form) (P1.leaves_ends form)
         (P2.leaves_ends form) (P3.leaves_ends form) (P4.leaves_ends form)
         (P5.leaves_ends form) };
 
-    ghost said = { λ _. nothing_done };
+    ghost said = { λ s. sequence5_said (P1.said s.0) (P2.said s.1) (P3.said s.2) (P4.said s.3)
+        (P5.said s.4) };
 
-    ghost claimed = { λ s. sequence5_claimed (P1.claimed s.0) (P2.claimed s.1) (P3.claimed s.2)
-        (P4.claimed s.3) (P5.claimed s.4) };
+    ghost claimed = { λ s. sequence5_claimed I.reading
+        (λ form. sequence5_ends I.reading (P1.meaning form) (P2.meaning form)
+        (P3.meaning form) (P4.meaning form) (P5.meaning form) (P1.leaves_ends form)
+        (P2.leaves_ends form) (P3.leaves_ends form) (P4.leaves_ends form)
+        (P5.leaves_ends form)) (P1.claimed s.0) (P2.claimed s.1) (P3.claimed s.2)
+        (P4.claimed s.3) (P5.claimed s.4)
+        (sequence5_said (P1.said s.0) (P2.said s.1) (P3.said s.2) (P4.said s.3)
+        (P5.said s.4)) };
 
     #[inline(always)]
     fn parse_next(&mut self, input: &mut I) -> Result<(O1, O2, O3, O4, O5), E> {
@@ -306,20 +338,30 @@ impl<
     ghost meaning = { λ form. SequenceRuns6 (P1.meaning form) (P2.meaning form)
         (P3.meaning form) (P4.meaning form) (P5.meaning form) (P6.meaning form) };
 
-    ghost says = { λ _. nothing_said };
+    ghost says = { λ s. sequence6_says (P1.says s.0) (P2.says s.1) (P3.says s.2) (P4.says s.3)
+        (P5.says s.4) (P6.says s.5) };
 
     ghost claim = { λ s. sequence6_claim (P1.claim s.0) (P2.claim s.1) (P3.claim s.2)
-        (P4.claim s.3) (P5.claim s.4) (P6.claim s.5) };
+        (P4.claim s.3) (P5.claim s.4) (P6.claim s.5)
+        (sequence6_says (P1.says s.0) (P2.says s.1) (P3.says s.2) (P4.says s.3) (P5.says s.4)
+        (P6.says s.5)) };
 
     ghost leaves_ends = { λ form. sequence6_ends I.reading (P1.meaning form) (P2.meaning form)
         (P3.meaning form) (P4.meaning form) (P5.meaning form) (P6.meaning form)
         (P1.leaves_ends form) (P2.leaves_ends form) (P3.leaves_ends form)
         (P4.leaves_ends form) (P5.leaves_ends form) (P6.leaves_ends form) };
 
-    ghost said = { λ _. nothing_done };
+    ghost said = { λ s. sequence6_said (P1.said s.0) (P2.said s.1) (P3.said s.2) (P4.said s.3)
+        (P5.said s.4) (P6.said s.5) };
 
-    ghost claimed = { λ s. sequence6_claimed (P1.claimed s.0) (P2.claimed s.1) (P3.claimed s.2)
-        (P4.claimed s.3) (P5.claimed s.4) (P6.claimed s.5) };
+    ghost claimed = { λ s. sequence6_claimed I.reading
+        (λ form. sequence6_ends I.reading (P1.meaning form) (P2.meaning form)
+        (P3.meaning form) (P4.meaning form) (P5.meaning form) (P6.meaning form)
+        (P1.leaves_ends form) (P2.leaves_ends form) (P3.leaves_ends form)
+        (P4.leaves_ends form) (P5.leaves_ends form) (P6.leaves_ends form)) (P1.claimed s.0)
+        (P2.claimed s.1) (P3.claimed s.2) (P4.claimed s.3) (P5.claimed s.4) (P6.claimed s.5)
+        (sequence6_said (P1.said s.0) (P2.said s.1) (P3.said s.2) (P4.said s.3) (P5.said s.4)
+        (P6.said s.5)) };
 
     #[inline(always)]
     fn parse_next(&mut self, input: &mut I) -> Result<(O1, O2, O3, O4, O5, O6), E> {

@@ -3,9 +3,9 @@ ghost use Rattle.std.specs.Prelude.{ℕ};
 ghost use Rattle.stream_errors.specs.Form.{modal};
 ghost use Rattle.winnow_core.specs.ByRef.{ByRefRuns};
 ghost use Rattle.winnow_core.specs.ByRef.Laws.{by_ref_exact, by_ref_fails, by_ref_grows};
-ghost use Rattle.winnow_core.specs.Decided.Adapters.{by_ref_decided};
+ghost use Rattle.winnow_core.specs.ByRef.Laws.{by_ref_said};
+ghost use Rattle.winnow_core.specs.Says.Decided.{decided_of};
 ghost use Rattle.winnow_core.specs.Stable.Grows.{grows, stays};
-ghost use Rattle.winnow_core.specs.Says.{nothing_done, nothing_said};
 
 use crate::parser::Parser;
 use crate::stable::Stable;
@@ -36,7 +36,7 @@ impl<'p, P: Parser<I, O, E>, I: Stream, O, E: ParserError<I>> Parser<I, O, E>
 
     ghost meaning = { λ form. ByRefRuns (P.meaning form) };
 
-    ghost says = { λ _. nothing_said };
+    ghost says = { λ s. P.says s.0 };
 
     ghost claim = { λ s. record {
       premise = (P.claim s.0).premise;
@@ -44,19 +44,20 @@ impl<'p, P: Parser<I, O, E>, I: Stream, O, E: ParserError<I>> Parser<I, O, E>
       spares_memory = (P.claim s.0).spares_memory;
       consumes = (P.claim s.0).consumes;
       grammar = (P.claim s.0).grammar;
-      decides = (P.claim s.0).decides;
-      alike = (P.claim s.0).alike;
+      decides = (P.says s.0).premise;
+      alike = (P.says s.0).alike;
     } };
 
     ghost leaves_ends = { λ form s i answer t j r. P.leaves_ends form s.0 i answer t.0 j r.0 };
 
-    ghost said = { λ _. nothing_done };
+    ghost said = { λ s. by_ref_said (P.said s.0) };
 
     ghost claimed = { λ s. record {
       exact = λ form is. by_ref_exact ((P.claimed s.0).exact form is);
       fails = λ form is. by_ref_fails ((P.claimed s.0).fails form is);
       takes = λ is some. (P.claimed s.0).takes is some;
-      decided = λ form is. by_ref_decided ((P.claimed s.0).decided form is);
+      decided = decided_of I.reading (λ form x i answer y j r.
+          P.leaves_ends form x.0 i answer y.0 j r.0) (by_ref_said (P.said s.0));
     } };
 
     #[inline(always)]

@@ -2,12 +2,12 @@
 ghost use Rattle.std.specs.Prelude.{⊤, ◌<◌};
 ghost use Rattle.grammars.specs.Grammar.{NoTokens};
 ghost use Rattle.winnow_core.specs.Eof.{EofRuns};
-ghost use Rattle.winnow_core.specs.Eof.Laws.{eof_decided, eof_ends, eof_exact};
-ghost use Rattle.winnow_core.specs.Eof.Laws.{eof_fails};
+ghost use Rattle.winnow_core.specs.Eof.Laws.{eof_ends, eof_exact, eof_fails};
+ghost use Rattle.winnow_core.specs.Eof.Says.{eof_said, eof_says};
 ghost use Rattle.winnow_core.specs.Exact.Allowed.{backs};
 ghost use Rattle.winnow_core.specs.Literal.Laws.{ShowSame};
 ghost use Rattle.winnow_core.specs.Runs.{Keeps};
-ghost use Rattle.winnow_core.specs.Says.{nothing_done, nothing_said};
+ghost use Rattle.winnow_core.specs.Says.Decided.{decided_of};
 
 use crate::combinator::eof;
 use crate::parser::Parser;
@@ -30,7 +30,7 @@ impl<I: Stream, E: ParserError<I>> Parser<I, I::Slice, E> for Eof {
 
     ghost meaning = { λ _. Keeps (λ _. EofRuns I.reading) };
 
-    ghost says = { λ _. nothing_said };
+    ghost says = { λ _. eof_says I.reading };
 
     ghost claim = { λ s. record {
       premise = ⊤;
@@ -44,13 +44,14 @@ impl<I: Stream, E: ParserError<I>> Parser<I, I::Slice, E> for Eof {
 
     ghost leaves_ends = { λ form x i answer y j r. eof_ends I.reading i answer j r.0 };
 
-    ghost said = { λ _. nothing_done };
+    ghost said = { λ _. eof_said I.reading };
 
     ghost claimed = { λ s. record {
       exact = λ form is. eof_exact I.reading;
       fails = λ form is. backs (eof_fails I.reading);
       takes = λ is never. absurd never;
-      decided = λ form is. eof_decided I.reading;
+      decided = decided_of I.reading (λ form x i answer y j r.
+          eof_ends I.reading i answer j r.0) (eof_said I.reading);
     } };
 
     #[inline(always)]

@@ -1,0 +1,53 @@
+-- What tuples of no and of one parser say that they do.
+use Rattle.std.specs.Prelude.{◌≡◌, ⊤}
+use Rattle.std.proofs.Common.{refl, ap}
+use Rattle.winnow_core.specs.InOrder.Decided.{AlikeOne}
+use Rattle.winnow_core.specs.InOrder.Says.{does_along, last_does}
+use Rattle.winnow_core.specs.Outcome.{as_longer, both, gave, took}
+use Rattle.winnow_core.specs.Runs.{Meaning}
+use Rattle.winnow_core.specs.Says.{Said, Says}
+use Rattle.winnow_core.specs.Says.Leaf.{here_did}
+use Rattle.winnow_core.specs.Sequence.{SequenceRuns0, SequenceRuns1}
+use Rattle.winnow_core.specs.Then.{Then, then_law}
+use Rattle.winnow_core.specs.Then.Steps.{holds_where, meets_where, takes, takes_hold, takes_meet}
+use Rattle.winnow_core.specs.Then.Steps.{where_took}
+
+-- Nothing is taken.
+abbrev pub unit_says : {T : Type 0} → Says T ⊤
+unit_says = record {
+  premise = ⊤;
+  stable = ⊤;
+  does = λ at tokens x. x ≡ took tt tokens;
+  alike = λ (_ _ : ⊤). ⊤;
+}
+
+pub unit_said : {T : Type 0} → Said unit_says tt (λ form. SequenceRuns0 {T = T})
+unit_said = record {
+  runs = λ is. record {
+    did = λ at i answer t j here (e, same). here_did same (gave i.left.tokens e);
+  };
+  law = λ is. record {
+    one = λ at tokens x y e f. both (λ (_ _ : ⊤). ⊤) e f (tt, refl);
+    whole = λ at tokens need place is e. absurd (cc);
+    stays = λ is more flag tokens x final e. as_longer more e;
+  };
+}
+
+-- The output of the one member makes the tuple.
+abbrev pub one_says : {T O : Type 0} → Says T O → Says T (record { 0 : O })
+one_says p = record {
+  premise = p.premise;
+  stable = p.stable;
+  does = Then p.does (where_took (λ o. takes (record { 0 = o })));
+  alike = AlikeOne p.alike;
+}
+
+pub one_said : {S T O : Type 0} {p : Says T O} {s : record { 0 : S }} {meaning : Meaning S T O}
+    → Said p s.0 meaning → Said (one_says p) s (λ form. SequenceRuns1 (meaning form))
+one_said {S} d = record {
+  runs = λ is. does_along (λ (t : record { 0 : S }). t.0)
+      (λ t e. ap (λ (m : S). record { 0 = m }) e) (λ form i answer t j r. r)
+      (last_does (λ o. record { 0 = o }) (d.runs is));
+  law = λ is. then_law (d.law is) (meets_where (λ o p a. takes_meet a))
+      (holds_where (λ o. takes_hold)) (λ stable. stable);
+}
