@@ -6,6 +6,7 @@ use Rattle.winnow_core.specs.Settles.{Settles}
 use Rattle.winnow_core.specs.Runs.{Runs}
 use Rattle.winnow_core.specs.declared.combinator.impls.and_then.AndThen.{AndThen}
 pub mod Decided
+pub mod Says
 
 -- the parser whose output is read
 abbrev pub and_then_outer : {F G I O U E : Type 0} → AndThen F G I O U E → F

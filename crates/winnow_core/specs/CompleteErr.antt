@@ -4,6 +4,7 @@ use Rattle.streams.specs.Kind.{Kind, backtrack, cut, incomplete, memory}
 use Rattle.winnow_core.specs.MakesError.{MakesError}
 use Rattle.winnow_core.specs.Runs.{Runs}
 use Rattle.winnow_core.specs.declared.combinator.impls.complete_err.CompleteErr.{CompleteErr}
+pub mod Says
 
 -- the parser whose errors do not ask for more
 abbrev pub complete_err_parser : {F I O E : Type 0} → CompleteErr F I O E → F

@@ -9,6 +9,7 @@ use Rattle.winnow_core.specs.MakesError.{MakesError}
 use Rattle.winnow_core.specs.Runs.{Runs}
 use Rattle.winnow_core.specs.declared.combinator.impls.context_with.ContextWith.{ContextWith}
 pub mod Laws
+pub mod Says
 
 -- the parser whose errors are told
 abbrev pub context_with_parser : {P I O E F C FI A : Type 0} → ContextWith P I O E F C FI A → P

@@ -7,6 +7,7 @@ use Rattle.winnow_core.specs.Runs.{Runs}
 use Rattle.winnow_core.specs.declared.combinator.impls.flat_map.FlatMap.{FlatMap}
 pub mod Decided
 pub mod Laws
+pub mod Says
 
 -- the parser whose output decides
 abbrev pub flat_map_parser : {F G H I O U E : Type 0} → FlatMap F G H I O U E → F

@@ -6,6 +6,7 @@ use Rattle.stream_errors.specs.Form.{Answer}
 use Rattle.winnow_core.specs.Runs.{Runs}
 pub mod Known
 pub mod Laws
+pub mod Says
 
 -- A run of the child; where it fails, its kind becomes another, and the input stays there. What
 -- changes it may have a state.

@@ -5,6 +5,7 @@ use Rattle.streams.specs.Kind.{Kind}
 use Rattle.stream_errors.specs.Form.{Answer}
 use Rattle.winnow_core.specs.Runs.{Runs}
 pub mod Laws
+pub mod Says
 
 -- A run of the child, and what is made of its output and of where it began and ended.
 abbrev pub MakesOutput : {S T O U : Type 0} → (Input T → O → Input T → U → Type 0) → Runs S T O

@@ -6,6 +6,7 @@ use Rattle.stream_errors.specs.Form.{Answer}
 use Rattle.winnow_core.specs.Runs.{Runs}
 use Rattle.winnow_core.specs.declared.combinator.impls.map.Map.{Map}
 pub mod Laws
+pub mod Says
 
 -- the parser whose output is mapped
 abbrev pub map_parser : {F G I O U E : Type 0} → Map F G I O U E → F

@@ -4,6 +4,7 @@ use Rattle.std.proofs.Common.{refl, sym, subst, ap}
 use Rattle.streams.specs.Input.{Input}
 use Rattle.streams.specs.Kind.{backtrack, cut, incomplete, memory}
 use Rattle.stream_errors.specs.Form.{Answer, ErrorForm, plain, modal}
+pub mod Errors
 
 -- It takes some tokens and returns an output; it fails, and lets other branches be tried or not; it
 -- asks for so much more input, where that is known; or it is out of memory. The list is what is then

@@ -6,6 +6,7 @@ use Rattle.stream_errors.specs.Form.{Answer}
 use Rattle.winnow_core.specs.Settles.{Settles}
 use Rattle.winnow_core.specs.Runs.{Runs}
 use Rattle.winnow_core.specs.declared.combinator.impls.parse_to.ParseTo.{ParseTo}
+pub mod Says
 
 -- the parser whose output is read
 abbrev pub parse_to_parser : {F I O U E : Type 0} → ParseTo F I O U E → F

@@ -7,6 +7,7 @@ use Rattle.winnow_core.specs.Runs.{Runs}
 pub mod Decided
 pub mod Known
 pub mod Laws
+pub mod Says
 
 -- A run of the child, and how its output is settled: into an output, or into an error of some
 -- kind, with the input back at the start. What settles it may have a state.

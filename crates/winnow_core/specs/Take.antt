@@ -7,6 +7,7 @@ use Rattle.stream_errors.specs.Form.{Answer}
 use Rattle.winnow_core.specs.Runs.{Runs}
 use Rattle.winnow_core.specs.declared.combinator.impls.take.Take.{Take}
 pub mod Laws
+pub mod Says
 
 -- the parser whose slice is answered
 abbrev pub take_parser : {F I O E : Type 0} → Take F I O E → F

@@ -8,6 +8,7 @@ use Rattle.winnow_core.specs.Runs.{Runs}
 use Rattle.winnow_core.specs.declared.combinator.impls.try_map.TryMap.{TryMap}
 pub mod Decided
 pub mod Known
+pub mod Says
 
 -- the parser whose output is mapped
 abbrev pub try_map_parser : {F G I O U E R : Type 0} → TryMap F G I O U E R → F

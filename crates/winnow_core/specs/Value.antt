@@ -6,6 +6,7 @@ use Rattle.stream_errors.specs.Form.{Answer}
 use Rattle.winnow_core.specs.Runs.{Runs}
 use Rattle.winnow_core.specs.declared.combinator.impls.value.Value.{Value}
 pub mod Laws
+pub mod Says
 
 -- the parser whose output is replaced
 abbrev pub value_parser : {F I O U E : Type 0} → Value F I O U E → F

@@ -5,6 +5,7 @@ use Rattle.stream_errors.specs.Form.{Answer}
 use Rattle.winnow_core.specs.Settles.{Settles}
 use Rattle.winnow_core.specs.Runs.{Runs}
 use Rattle.winnow_core.specs.declared.combinator.impls.verify.Verify.{Verify}
+pub mod Says
 
 -- the parser whose output is tested
 abbrev pub verify_parser : {F G I O E : Type 0} → Verify F G I O E → F

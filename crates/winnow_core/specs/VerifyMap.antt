@@ -6,6 +6,7 @@ use Rattle.stream_errors.specs.Form.{Answer}
 use Rattle.winnow_core.specs.Runs.{Runs}
 use Rattle.winnow_core.specs.declared.combinator.impls.verify_map.VerifyMap.{VerifyMap}
 pub mod Laws
+pub mod Says
 
 -- the parser whose output is mapped or refused
 abbrev pub verify_map_parser : {F G I O U E : Type 0} → VerifyMap F G I O U E → F

@@ -7,6 +7,7 @@ use Rattle.winnow_core.specs.Runs.{Runs}
 use Rattle.winnow_core.specs.declared.combinator.impls.void.Void.{Void}
 pub mod Known
 pub mod Laws
+pub mod Says
 
 -- the parser whose output is dropped
 abbrev pub void_parser : {F I O E : Type 0} → Void F I O E → F

@@ -5,6 +5,7 @@ use Rattle.winnow_core.specs.MakesOutput.{MakesOutput}
 use Rattle.winnow_core.specs.Runs.{Runs}
 use Rattle.winnow_core.specs.Span.{places}
 use Rattle.winnow_core.specs.declared.combinator.impls.with_span.WithSpan.{WithSpan}
+pub mod Says
 
 -- the parser whose places are answered too
 abbrev pub with_span_parser : {F I O E : Type 0} → WithSpan F I O E → F

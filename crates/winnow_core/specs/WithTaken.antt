@@ -5,6 +5,7 @@ use Rattle.winnow_core.specs.MakesOutput.{MakesOutput}
 use Rattle.winnow_core.specs.Runs.{Runs}
 use Rattle.winnow_core.specs.declared.combinator.impls.with_taken.WithTaken.{WithTaken}
 pub mod Laws
+pub mod Says
 
 -- the parser whose slice is answered too
 abbrev pub with_taken_parser : {F I O E : Type 0} → WithTaken F I O E → F

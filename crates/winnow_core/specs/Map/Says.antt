@@ -1,0 +1,46 @@
+-- What a parser whose output a closure maps says that it does.
+use Rattle.std.specs.Prelude.{Ok, Err}
+use Rattle.std.proofs.Common.{subst, inl, inr}
+use Rattle.streams.specs.Input.{Input}
+use Rattle.stream_errors.specs.Form.{Answer}
+use Rattle.winnow_core.specs.Closures.{Gives, Stays}
+use Rattle.winnow_core.specs.Decided.Made.{OutputsMadeAlike}
+use Rattle.winnow_core.specs.MakesOutput.Says.{gives_one, made, made_law, made_of}
+use Rattle.winnow_core.specs.Map.{MapRuns}
+use Rattle.winnow_core.specs.Outcome.{Setting, gave}
+use Rattle.winnow_core.specs.Runs.{Meaning}
+use Rattle.winnow_core.specs.Says.{Did, EachDoes, IsAt, Said, Says}
+use Rattle.winnow_core.specs.States.{pair_is}
+use Rattle.winnow_core.specs.Then.{Then, did_in}
+use Rattle.winnow_core.specs.Then.Steps.{fails_on}
+
+abbrev pub map_says : {G T O U : Type 0} → (G → O → U → G → Type 0) → G → Says T O → Says T U
+map_says step f p = record {
+  premise = p.premise × Stays step f;
+  stable = p.stable;
+  does = Then p.does (made (λ tokens o rest u. Gives step f o u));
+  alike = OutputsMadeAlike p.alike (Gives step f);
+}
+
+pub map_said : {S G T O U : Type 0} {says : Says T O} {s : S × G} {meaning : Meaning S T O}
+    (step : G → O → U → G → Type 0) → Said says s.0 meaning
+    → Said (map_says step s.1 says) s (λ form. MapRuns (meaning form) step)
+map_said {S} {G} {T} {O} {U} {says} {s} {meaning} step p = record {
+  runs = λ is. record { did = did is.1 (p.runs is.0) };
+  law = λ is. made_law (made_of (Gives step s.1)) (p.law is.0);
+}
+  where
+    did : Stays step s.1 → EachDoes says.does s.0 meaning → (at : Setting) (i : Input T)
+        (answer : Answer U) (t : S × G) (j : Input T) → IsAt at i
+        → MapRuns (meaning at.form) step s i answer t j
+        → Did (Then says.does (made (λ tokens o rest u. Gives step s.1 o u))) at s i answer t j
+    did stays each at i answer t j here (inl (o, u, r, called, e)) =
+        let did = each.did at i (Ok o) t.0 j here r in
+        let kept = stays o u t.1 called in
+        did_in s t (pair_is did.kept kept) did
+        (u, subst (λ h. step s.1 o u h) kept called, gave j.left.tokens e)
+    did stays each at i answer t j here (inr (k, r, kept, e)) =
+        let did = each.did at i (Err k) t.0 j here r in
+        did_in s t (pair_is did.kept kept) did
+        (fails_on (gives_one (λ tokens o rest u. Gives step s.1 o u)) at i.left.tokens
+        j.left.tokens k e)

@@ -1,0 +1,36 @@
+-- What a parser whose output is read as text says that it does.
+use Rattle.std.specs.Prelude.{Option, Some, None}
+use Rattle.std.proofs.Common.{refl, ap, inl, inr}
+use Rattle.stream_errors.specs.Form.Known.{at_output, ok_is_err, same_kind}
+use Rattle.winnow_core.specs.Decided.Adapters.{ReadsSame}
+use Rattle.winnow_core.specs.Decided.Made.{OutputsMadeAlike}
+use Rattle.winnow_core.specs.ParseTo.{ParseToRuns, ParseToSettles}
+use Rattle.winnow_core.specs.Runs.{Meaning}
+use Rattle.winnow_core.specs.Says.{Said, Says}
+use Rattle.winnow_core.specs.Says.Along.{said_along}
+use Rattle.winnow_core.specs.Settles.Says.{Refuses, backtracks_one, settle_says, settles_said}
+
+-- What it reads as is the output; what reads as nothing is refused.
+abbrev pub parse_to_says : {T O U : Type 0} → (O → Option U → Type 0) → Says T O → Says T U
+parse_to_says reads p = settle_says (λ form o u. reads o (Some u))
+    (λ form. Refuses (λ o. reads o None))
+    (p.premise × ReadsSame reads p.alike)
+    (OutputsMadeAlike p.alike (λ o u. reads o (Some u))) p
+
+pub parse_to_said : {S T O U : Type 0} {says : Says T O} {s : S} {meaning : Meaning S T O}
+    (reads : O → Option U → Type 0) → Said says s meaning
+    → Said (parse_to_says reads says) s (λ form. ParseToRuns reads (meaning form))
+parse_to_said {s = s} reads p =
+    said_along (λ t. (t, tt)) (λ t e. ap (λ x. x.0) e) (λ form i answer t j r. r)
+    (settles_said {s = (s, tt)} (λ form o u. reads o (Some u))
+    (λ form. Refuses (λ o. reads o None)) (λ form. ParseToSettles reads) (λ is. is.0)
+    (λ is form o u h it. elim it [
+      | inl (v, read, e) ↦ (refl, at_output (λ z. reads o (Some z)) e read)
+      | inr (read, e) ↦ ok_is_err refl e
+    ])
+    (λ is form o k h it. elim it [
+      | inl (v, read, e) ↦ ok_is_err e refl
+      | inr (read, e) ↦ (refl, (read, same_kind e))
+    ])
+    (λ is. backtracks_one (λ o u. reads o (Some u)) (λ o. reads o None)
+    (λ o q u v like x w. (o, q, like, x, w)) is.1.apart is.1.either) p)
