@@ -34,6 +34,18 @@ cuts_on at tokens place y = y ≡ cuts place
 abbrev pub asks_on : {T U : Type 0} → Option ℕ → Comes T U
 asks_on need at tokens place y = y ≡ asks need place
 
+-- it cuts, and nothing is taken
+abbrev pub cuts_to_start : {T U : Type 0} → Comes T U
+cuts_to_start at tokens place y = y ≡ cuts tokens
+
+-- it asks for more, and nothing is taken
+abbrev pub asks_to_start : {T U : Type 0} → Option ℕ → Comes T U
+asks_to_start need at tokens place y = y ≡ asks need tokens
+
+-- what comes at once, with no part
+abbrev pub at_start : {T U : Type 0} → Comes T U → Does T U
+at_start came at tokens y = came at tokens tokens y
+
 -- another part does what it does, from where the first began
 abbrev pub or_else : {T U : Type 0} → Does T U → Comes T U
 or_else other at tokens place y = other at tokens y
@@ -63,6 +75,14 @@ module _ {T U : Type 0} {beside : U → U → Type 0} where
 
   pub cuts_meet : Meets {T = T} beside cuts_on cuts_on
   cuts_meet = record { one = λ at tokens place y z e f. both beside e f refl }
+
+  pub cuts_meet_start : Meets {T = T} beside cuts_to_start cuts_to_start
+  cuts_meet_start = record { one = λ at tokens place y z e f. both beside e f refl }
+
+  pub asks_meet_start : (need : Option ℕ)
+      → Meets {T = T} beside (asks_to_start need) (asks_to_start need)
+  asks_meet_start need =
+      record { one = λ at tokens place y z e f. both beside e f (refl, refl) }
 
   pub asks_meet : (need : Option ℕ) → Meets {T = T} beside (asks_on need) (asks_on need)
   asks_meet need = record { one = λ at tokens place y z e f. both beside e f (refl, refl) }
@@ -100,6 +120,20 @@ module _ {T U : Type 0} {stable : Type 0} where
   cuts_hold = record {
     whole = λ at tokens place need end is e. absurd (cc);
     stays = λ is more flag tokens place y final e. as_longer more e;
+  }
+
+  pub cuts_hold_start : Holds {T = T} {U = U} stable cuts_to_start
+  cuts_hold_start = record {
+    whole = λ at tokens place need end is e. absurd (cc);
+    stays = λ is more flag tokens place y final e. as_longer more e;
+  }
+
+  pub at_start_law : {alike : U → U → Type 0} {came : Comes T U} → Meets alike came came
+      → Holds stable came → Lawful stable alike (at_start came)
+  at_start_law m h = record {
+    one = λ at tokens y z e f. m.one at tokens tokens y z e f;
+    whole = λ at tokens need end is e. h.whole at tokens tokens need end is e;
+    stays = λ is more flag tokens y final e. h.stays is more flag tokens tokens y final e;
   }
 
   -- what is asked for is not final
