@@ -1,14 +1,14 @@
 -- What a choice says that it does.
-use Rattle.std.specs.Prelude.{◌≡◌, ◌⊎◌, List, Ok, Err}
-use Rattle.std.proofs.Common.{refl, ap, inl, inr, ◌∙◌}
+use Rattle.std.specs.Prelude.{◌≡◌, List, Ok, Err}
+use Rattle.std.proofs.Common.{refl, inl, inr, ◌∙◌}
 use Rattle.streams.specs.Input.{Input, back_at}
-use Rattle.streams.specs.Kind.{Kind, backtrack, cut, incomplete, memory}
+use Rattle.streams.specs.Kind.{backtrack, cut, incomplete, memory}
 use Rattle.stream_errors.specs.Form.{Answer}
-use Rattle.winnow_core.specs.Outcome.{Does, Outcome, Setting, alike_wider, outcome_of, wants}
+use Rattle.winnow_core.specs.Outcome.{Does, Setting, alike_wider, outcome_of}
 use Rattle.winnow_core.specs.Runs.{Meaning}
 use Rattle.winnow_core.specs.Says.{Did, EachDoes, IsAt, Lawful, Said, Says, still_at}
 use Rattle.winnow_core.specs.States.{pair_is}
-use Rattle.winnow_core.specs.Then.{ComesOf, Meets, Next, Then, did_in, then_law}
+use Rattle.winnow_core.specs.Then.{ComesOf, Next, Then, did_in, then_law}
 use Rattle.winnow_core.specs.Then.Steps.{asks_later, asks_meet, asks_on, cuts_hold, cuts_meet}
 use Rattle.winnow_core.specs.Then.Steps.{cuts_on, else_holds, or_else, takes, takes_hold, takes_meet}
 use Rattle.winnow_comb.specs.Alt.{OrElse}

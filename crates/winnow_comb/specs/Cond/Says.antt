@@ -1,6 +1,6 @@
 -- What a part on a condition says that it does.
-use Rattle.std.specs.Prelude.{◌≡◌, Bool, true, false, Option, Some, None, Ok, Err}
-use Rattle.std.proofs.Common.{refl, sym, subst, ap, ◌∙◌, inl, inr}
+use Rattle.std.specs.Prelude.{Bool, true, false, Option, Some, None, Ok, Err}
+use Rattle.std.proofs.Common.{sym, subst, inl, inr}
 use Rattle.streams.specs.Input.{Input}
 use Rattle.stream_errors.specs.Form.{Answer}
 use Rattle.winnow_core.specs.Outcome.{Does, Setting, gave}
@@ -10,8 +10,7 @@ use Rattle.winnow_core.specs.Says.Leaf.{here_did}
 use Rattle.winnow_core.specs.States.{pair_is}
 use Rattle.winnow_core.specs.Then.{Next, Then, did_in, then_law}
 use Rattle.winnow_core.specs.Then.Steps.{at_start, at_start_law, fails_on, holds_where, meets_where}
-use Rattle.winnow_core.specs.Then.Steps.{takes, takes_hold, takes_meet, takes_none, takes_none_hold}
-use Rattle.winnow_core.specs.Then.Steps.{takes_none_meet, where_took}
+use Rattle.winnow_core.specs.Then.Steps.{takes, takes_hold, takes_meet, where_took}
 use Rattle.winnow_comb.specs.Cond.{CondRuns}
 use Rattle.winnow_comb.specs.Opt.Laws.{AlikeOptions}
 

@@ -1,5 +1,5 @@
 -- What a part whose errors cut says that it does.
-use Rattle.std.specs.Prelude.{◌≡◌, ◌⊎◌, List, Ok, Err}
+use Rattle.std.specs.Prelude.{◌≡◌, List, Ok, Err}
 use Rattle.std.proofs.Common.{inl, inr}
 use Rattle.streams.specs.Input.{Input}
 use Rattle.streams.specs.Kind.{Kind, backtrack, cut, incomplete, memory}

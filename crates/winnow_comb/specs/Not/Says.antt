@@ -1,5 +1,5 @@
 -- What a part that is not to stand says that it does.
-use Rattle.std.specs.Prelude.{◌≡◌, ◌⊎◌, ⊤, Ok, Err}
+use Rattle.std.specs.Prelude.{◌≡◌, ⊤, Ok, Err}
 use Rattle.std.proofs.Common.{refl, inl, inr}
 use Rattle.streams.specs.Input.{Input}
 use Rattle.streams.specs.Kind.{Kind, backtrack, cut, incomplete, memory}

@@ -1,8 +1,8 @@
 -- What a part that is only looked at says that it does.
-use Rattle.std.specs.Prelude.{◌≡◌, Ok, Err}
+use Rattle.std.specs.Prelude.{Ok, Err}
 use Rattle.std.proofs.Common.{refl}
 use Rattle.streams.specs.Input.{Input}
-use Rattle.streams.specs.Kind.{Kind, backtrack, cut, incomplete, memory}
+use Rattle.streams.specs.Kind.{backtrack, cut, incomplete, memory}
 use Rattle.stream_errors.specs.Form.{Answer}
 use Rattle.winnow_core.specs.Outcome.{Does, Setting, outcome_of}
 use Rattle.winnow_core.specs.Runs.{Meaning}

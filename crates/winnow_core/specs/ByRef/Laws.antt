@@ -3,7 +3,8 @@ use Rattle.streams.specs.Kind.{Kind}
 use Rattle.streams.specs.Reading.{Reading}
 use Rattle.streams.specs.Following.{Following}
 use Rattle.winnow_core.specs.ByRef.{ByRefRuns}
-use Rattle.winnow_core.specs.Runs.{Runs, LeaveEnds}
+use Rattle.winnow_core.specs.Runs.{Meaning, Runs, LeaveEnds}
+use Rattle.winnow_core.specs.Says.{Said, Says, did_as}
 use Rattle.winnow_core.specs.Stable.Grows.{Grows}
 use Rattle.std.specs.Prelude.{ℕ}
 use Rattle.grammars.specs.Grammar.{Grammar}
@@ -39,3 +40,16 @@ module _ {S T O : Type 0} {run : Runs S T O} where
   pub by_ref_fails : {allowed : Kind → Type 0} {s : S × ℕ} → FailsBy allowed s.0 run
       → FailsBy allowed s (ByRefRuns run)
   by_ref_fails f = record { fails = λ i k t j is (r, same). f.fails i k t.0 j is r }
+
+-- ---- what it says
+
+pub by_ref_said : {S T O : Type 0} {says : Says T O} {s : S × ℕ} {meaning : Meaning S T O}
+    → Said says s.0 meaning → Said says s (λ form. ByRefRuns (meaning form))
+by_ref_said {s = s} p = record {
+  runs = λ is. record {
+    did = λ at i answer t j here (r, kept).
+        let did = (p.runs is).did at i answer t.0 j here r in
+        did_as s t (pair_is did.kept kept) did;
+  };
+  law = p.law;
+}

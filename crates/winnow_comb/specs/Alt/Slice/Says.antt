@@ -1,13 +1,13 @@
 -- What a choice among the items of an array or a slice says that it does.
-use Rattle.std.specs.Prelude.{◌≡◌, ◌⊎◌, false, List, [], ◌∷◌, ℕ, Option, Err}
+use Rattle.std.specs.Prelude.{◌≡◌, ◌⊎◌, List, [], ◌∷◌}
 use Rattle.std.specs.List.{All}
-use Rattle.std.proofs.Common.{refl, sym, subst, ap, inl, inr, ◌∙◌}
+use Rattle.std.proofs.Common.{ap, inl, inr, ◌∙◌}
 use Rattle.std.proofs.lemmas.List.Elements.{All-head, All-tail}
-use Rattle.stream_errors.specs.Form.{ErrorForm, assert_kind, modal, plain}
-use Rattle.winnow_core.specs.Outcome.{Does, Outcome, Setting, alike_wider, as_longer, asks, Alike, both}
-use Rattle.winnow_core.specs.Outcome.{gave, misused, misused_by, outcome_of}
+use Rattle.stream_errors.specs.Form.{assert_kind}
+use Rattle.winnow_core.specs.Outcome.{Does, alike_wider, as_longer, both, misused}
 use Rattle.winnow_core.specs.Runs.{Meaning}
 use Rattle.winnow_core.specs.Says.{EachDoes, Lawful, Said, Says, did_as}
+use Rattle.winnow_core.specs.Says.Lacks.{misused_alike, misused_outcome, misused_whole}
 use Rattle.winnow_core.specs.Says.Leaf.{here_did}
 use Rattle.winnow_core.specs.Then.{Then}
 use Rattle.winnow_comb.specs.Alt.FirstOf.{more_branches, no_item, one_branch}
@@ -34,25 +34,6 @@ choice_says says branches = record {
   alike = AlikeByOne (λ s. (says s).alike) branches;
 }
 
--- ---- without a branch
-
-asserted : {T O : Type 0} (form : ErrorForm) (rest : List T)
-    → outcome_of {O = O} (Err (assert_kind form)) rest ≡ misused_by form rest
-asserted plain rest = refl
-asserted modal rest = refl
-
-misuse_is : {T O : Type 0} (alike : O → O → Type 0) (form : ErrorForm) (tokens : List T)
-    → Alike alike (misused_by form tokens) (misused_by form tokens)
-misuse_is alike plain tokens = refl
-misuse_is alike modal tokens = refl
-
-misuse_asks : {T O : Type 0} (form : ErrorForm) (tokens : List T) (need : Option ℕ)
-    (place : List T) → asks need place ≡ misused_by {O = O} form tokens → ⊥
-misuse_asks plain tokens need place e = absurd (cc)
-misuse_asks modal tokens need place e = absurd (cc)
-
--- ---- with branches
-
 -- a law for less and of more
 lawful_for : {T O : Type 0} {stable also : Type 0} {alike wide : O → O → Type 0}
     {does : Does T O} → (also → stable) → ((o p : O) → alike o p → wide o p)
@@ -69,8 +50,8 @@ module _ {S T O : Type 0} (says : S → Says T O) where
       → Lawful (choice_says says branches).stable (choice_says says branches).alike
       (ChoiceDoes says branches)
   law each [] is = record {
-    one = λ at tokens x y e f. both (λ o p. ⊥) e f (misuse_is (λ o p. ⊥) at.form tokens);
-    whole = λ at tokens need place is e. misuse_asks at.form tokens need place e;
+    one = λ at tokens x y e f. both (λ o p. ⊥) e f (misused_alike (λ o p. ⊥) at tokens);
+    whole = λ at tokens need place is e. misused_whole at tokens need place e;
     stays = λ is more flag tokens x final e. as_longer more e;
   }
   law each (s ∷ []) is = lawful_for
@@ -92,7 +73,7 @@ module _ {S T O : Type 0} (says : S → Says T O) where
   runs each [] is = record {
     did = λ at i answer t j here ran. elim ran [
       | inl (none, kept, e, same) ↦ did_as [] t kept
-          (here_did {S = List S} {s = []} same (gave i.left.tokens e ∙ asserted at.form i.left.tokens))
+          (here_did {S = List S} {s = []} same (misused_outcome at i.left.tokens e))
       | inr (before, x, rest, ran, y, m, old, new, back, r, last) ↦ no_item before x rest old
     ];
   }
