@@ -43,7 +43,12 @@ pub backtrack_err_said : {S T O : Type 0} {says : Says T O} {s : S} {meaning : M
 backtrack_err_said p = record {
   runs = λ is. record { did = did (p.runs is) };
   law = λ is. then_law (p.law is)
-      (record { took = λ o p same. takes_meet same; backs = backs_meet; cuts = backs_meet; asks = asks_meet })
+      (record {
+        took = λ o p same. takes_meet same;
+        backs = backs_meet;
+        cuts = backs_meet;
+        asks = asks_meet;
+      })
       (record { took = λ o. takes_hold; backs = backs_hold; cuts = backs_hold; asks = asks_later })
       (λ is. is);
 }

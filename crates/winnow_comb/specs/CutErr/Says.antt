@@ -42,7 +42,12 @@ pub cut_err_said : {S T O : Type 0} {says : Says T O} {s : S} {meaning : Meaning
 cut_err_said p = record {
   runs = λ is. record { did = did (p.runs is) };
   law = λ is. then_law (p.law is)
-      (record { took = λ o p same. takes_meet same; backs = cuts_meet; cuts = cuts_meet; asks = asks_meet })
+      (record {
+        took = λ o p same. takes_meet same;
+        backs = cuts_meet;
+        cuts = cuts_meet;
+        asks = asks_meet;
+      })
       (record { took = λ o. takes_hold; backs = cuts_hold; cuts = cuts_hold; asks = asks_later })
       (λ is. is);
 }

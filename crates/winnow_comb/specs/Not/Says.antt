@@ -9,8 +9,9 @@ use Rattle.winnow_core.specs.Runs.{Meaning}
 use Rattle.winnow_core.specs.Says.{Did, EachDoes, IsAt, Said, Says}
 use Rattle.winnow_core.specs.Then.{ComesOf, Next, Then, back_then, then_law}
 use Rattle.winnow_core.specs.Then.Steps.{asks_later, asks_meet_start, asks_to_start, backs_to_start}
-use Rattle.winnow_core.specs.Then.Steps.{cuts_hold_start, cuts_meet_start, cuts_to_start, start_holds}
-use Rattle.winnow_core.specs.Then.Steps.{start_meets, takes_none, takes_none_hold, takes_none_meet}
+use Rattle.winnow_core.specs.Then.Steps.{cuts_hold_start, cuts_meet_start, cuts_to_start}
+use Rattle.winnow_core.specs.Then.Steps.{start_holds, start_meets, takes_none, takes_none_hold}
+use Rattle.winnow_core.specs.Then.Steps.{takes_none_meet}
 use Rattle.winnow_comb.specs.Not.{NotRuns}
 
 -- Where the part takes, the whole backs, and the other way round; nothing is taken.
