@@ -4,14 +4,14 @@ use Rattle.std.proofs.Common.{refl, inl, inr, ◌∙◌}
 use Rattle.streams.specs.Input.{Input, back_at}
 use Rattle.streams.specs.Kind.{backtrack, cut, incomplete, memory}
 use Rattle.stream_errors.specs.Form.{Answer}
-use Rattle.winnow_core.specs.Outcome.{Does, Setting, alike_wider, outcome_of}
+use Rattle.winnow_core.specs.Outcome.{Does, Setting, outcome_of}
 use Rattle.winnow_core.specs.Runs.{Meaning}
 use Rattle.winnow_core.specs.Says.{Did, EachDoes, IsAt, Lawful, Said, Says, still_at}
 use Rattle.winnow_core.specs.States.{pair_is}
 use Rattle.winnow_core.specs.Then.{ComesOf, Next, Then, did_in, then_law}
 use Rattle.winnow_core.specs.Then.Steps.{asks_later, asks_meet, asks_on, cuts_hold, cuts_meet}
-use Rattle.winnow_core.specs.Then.Steps.{cuts_on, else_holds, or_else, takes, takes_hold}
-use Rattle.winnow_core.specs.Then.Steps.{takes_meet}
+use Rattle.winnow_core.specs.Then.Steps.{cuts_on, else_holds, else_meets, or_else, takes}
+use Rattle.winnow_core.specs.Then.Steps.{takes_hold, takes_meet}
 use Rattle.winnow_comb.specs.Alt.{OrElse}
 use Rattle.winnow_comb.specs.Alt.Laws.{EitherAlike}
 
@@ -67,10 +67,7 @@ pub or_else_law : {T O : Type 0} {p q : Type 0} {alike also : O → O → Type 0
     → Lawful (p × q) (EitherAlike alike also) (Then first (or_others others))
 or_else_law {also = also} p q = then_law p (record {
   took = λ o p same. takes_meet (inl same);
-  backs = record {
-    one = λ at tokens place y z d e.
-        alike_wider (λ o p same. inr same) y z (q.one at tokens y z d e);
-  };
+  backs = else_meets (λ o p same. inr same) q;
   cuts = cuts_meet;
   asks = asks_meet;
 }) (record {

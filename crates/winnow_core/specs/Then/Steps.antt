@@ -5,7 +5,7 @@ use Rattle.streams.specs.Kind.{Kind}
 use Rattle.stream_errors.specs.Form.{Answer}
 use Rattle.winnow_core.specs.Outcome.{Outcome, took, backs, cuts, asks, Setting, Does, longer, both}
 use Rattle.winnow_core.specs.Outcome.{IsFinal}
-use Rattle.winnow_core.specs.Outcome.{as_longer, final_by, gave, outcome_of}
+use Rattle.winnow_core.specs.Outcome.{alike_wider, as_longer, final_by, gave, outcome_of}
 use Rattle.winnow_core.specs.Says.{Lawful}
 use Rattle.winnow_core.specs.Then.{Comes, ComesOf, Holds, Meets, Next, NextHolds, NextMeets, Then}
 use Rattle.winnow_core.specs.Then.{final_comes, hands_on, one_comes, stays_comes, whole_comes}
@@ -87,9 +87,12 @@ module _ {T U : Type 0} {beside : U → U → Type 0} where
   pub asks_meet : (need : Option ℕ) → Meets {T = T} beside (asks_on need) (asks_on need)
   asks_meet need = record { one = λ at tokens place y z e f. both beside e f (refl, refl) }
 
-  pub else_meets : {stable : Type 0} {other : Does T U} → Lawful stable beside other
+  pub else_meets : {stable : Type 0} {alike : U → U → Type 0} {other : Does T U}
+      → ((o p : U) → alike o p → beside o p) → Lawful stable alike other
       → Meets beside (or_else other) (or_else other)
-  else_meets law = record { one = λ at tokens place y z d e. law.one at tokens y z d e }
+  else_meets wider law = record {
+    one = λ at tokens place y z d e. alike_wider wider y z (law.one at tokens y z d e);
+  }
 
 module _ {T U : Type 0} {stable : Type 0} where
   pub takes_hold : {u : U} → Holds {T = T} stable (takes u)
