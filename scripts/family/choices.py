@@ -37,16 +37,16 @@ def place(n, k):
     return ".1" * (k - 1) + (".0" if k < n else "")
 
 
-def choice_claim(n, member):
-    """What a choice among n claims of its branches' claims, or that it is kept."""
+def of_branches(n, member):
+    """The member `claim`, `claimed`, `says` or `said` of a choice among n, made of its branches'."""
     if n == 1:
         return "P1.%s" % member
-    claim = nested(
+    made = nested(
         lambda k: "(P%d.%s s%s)" % (k, member, place(n, k)),
         n,
         lambda first, rest: "(or_else_%s %s %s)" % (member, first, rest),
     )
-    return "λ s. %s" % claim[1:-1]
+    return "λ s. %s" % made[1:-1]
 
 
 def choice_impl(n):
@@ -64,11 +64,15 @@ def choice_impl(n):
         "",
         "    ghost meaning = { %s };" % meaning,
         "",
-        "    ghost claim = { %s };" % choice_claim(n, "claim"),
+        "    ghost says = { %s };" % of_branches(n, "says"),
+        "",
+        "    ghost claim = { %s };" % of_branches(n, "claim"),
         "",
         "    ghost leaves_ends = { %s };" % ends,
         "",
-        "    ghost claimed = { %s };" % choice_claim(n, "claimed"),
+        "    ghost said = { %s };" % of_branches(n, "said"),
+        "",
+        "    ghost claimed = { %s };" % of_branches(n, "claimed"),
         "",
         "    #[inline(always)]",
         "    fn choice(&mut self, input: &mut I) -> Result<O, E> {",
@@ -92,6 +96,7 @@ ghost use Rattle.stream_errors.specs.Form.{{modal}};
 ghost use Rattle.winnow_comb.specs.Alt.{{OrElse}};
 ghost use Rattle.winnow_comb.specs.Alt.Claim.{{or_else_claim, or_else_claimed}};
 ghost use Rattle.winnow_comb.specs.Alt.Laws.{{or_else_ends, or_else_grows}};
+ghost use Rattle.winnow_comb.specs.Alt.Says.{{or_else_said, or_else_says}};
 ghost use Rattle.winnow_core.specs.Stable.Grows.{{grows, stays}};
 
 use crate::combinator::impls::alt::{{Alt, AltParser, attempt}};

@@ -8,6 +8,7 @@ pub mod Claim
 pub mod FirstOf
 pub mod Known
 pub mod Laws
+pub mod Says
 pub mod Slice
 
 -- the branches

@@ -5,6 +5,7 @@ use Rattle.stream_errors.specs.Mode.{backtrack_of}
 use Rattle.winnow_core.specs.Runs.{Runs}
 use Rattle.winnow_comb.specs.declared.combinator.impls.backtrack_err.BacktrackErr.{BacktrackErr}
 pub mod Laws
+pub mod Says
 
 -- the parser that is run
 abbrev pub backtrack_err_parser : {P I O E : Type 0} → BacktrackErr P I O E → P

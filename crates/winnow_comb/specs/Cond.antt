@@ -4,6 +4,7 @@ use Rattle.streams.specs.Kind.{Kind}
 use Rattle.winnow_core.specs.Runs.{Runs}
 use Rattle.winnow_comb.specs.declared.combinator.impls.cond.Cond.{Cond}
 pub mod Laws
+pub mod Says
 
 -- whether it is run
 abbrev pub cond_condition : {P I O E : Type 0} → Cond P I O E → Bool

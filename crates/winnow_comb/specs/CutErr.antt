@@ -5,6 +5,7 @@ use Rattle.stream_errors.specs.Mode.{cut_of}
 use Rattle.winnow_core.specs.Runs.{Runs}
 use Rattle.winnow_comb.specs.declared.combinator.impls.cut_err.CutErr.{CutErr}
 pub mod Laws
+pub mod Says
 
 -- the parser that is run
 abbrev pub cut_err_parser : {P I O E : Type 0} → CutErr P I O E → P

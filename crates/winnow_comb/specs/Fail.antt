@@ -4,6 +4,7 @@ use Rattle.streams.specs.Input.{Input}
 use Rattle.streams.specs.Kind.{backtrack}
 use Rattle.stream_errors.specs.Form.{Answer}
 pub mod Laws
+pub mod Says
 
 -- A run that backtracks and takes nothing.
 abbrev pub FailRuns : {T O : Type 0} → Input T → Answer O → Input T → Type 0

@@ -56,6 +56,17 @@ still_at did is = record {
   possible = did.possible ∙ is.possible;
 }
 
+-- what a run of the one part does, the whole with a state of its own does
+pub did_as : {S P T O : Type 0} {does : Does T O} {at : Setting} {s t : S} {i j : Input T}
+    {answer : Answer O} (p q : P) → q ≡ p → Did does at s i answer t j
+    → Did does at p i answer q j
+did_as p q kept did = record {
+  kept = kept;
+  status = did.status;
+  possible = did.possible;
+  done = did.done;
+}
+
 -- Each run from the state does so.
 pub record EachDoes {S T O : Type 0} (does : Does T O) (s : S) (meaning : Meaning S T O)
     : Type 0 where

@@ -1,11 +1,13 @@
--- What a choice claims: what the first does, and what the others do where it backtracks.
+-- What a choice claims: what the first does, and what the others do where it backtracks. What one
+-- input decides of it is said by `or_else_says`.
+use Rattle.std.specs.Prelude.{◌≡◌}
 use Rattle.grammars.specs.Grammar.{Either}
 use Rattle.grammars.specs.Grammar.Unique.{either_takes}
 use Rattle.winnow_core.specs.Claim.{Claim, Claimed}
 use Rattle.winnow_core.specs.Exact.Allowed.{fails_as, softly}
 use Rattle.winnow_core.specs.Runs.{Meaning}
 use Rattle.winnow_comb.specs.Alt.{OrElse}
-use Rattle.winnow_comb.specs.Alt.Laws.{EitherAlike, or_else_decided, or_else_exact, or_else_fails}
+use Rattle.winnow_comb.specs.Alt.Laws.{or_else_exact, or_else_fails}
 
 -- one or the other
 abbrev pub or_else_claim : {T O : Type 0} → Claim T O → Claim T O → Claim T O
@@ -15,8 +17,8 @@ or_else_claim first others = record {
   spares_memory = first.spares_memory × others.spares_memory;
   consumes = first.consumes × others.consumes;
   grammar = Either first.grammar others.grammar;
-  decides = first.decides × others.decides;
-  alike = EitherAlike first.alike others.alike;
+  decides = ⊥;
+  alike = λ o p. o ≡ p;
 }
 
 -- that is kept
@@ -30,5 +32,5 @@ or_else_claimed first others = record {
       (fails_as (λ b. is.1) (λ m. m.0) (first.fails form is.0))
       (fails_as (λ b. b) (λ m. m.1) (others.fails form is.2));
   takes = λ is some. either_takes (first.takes is.0 some.0) (others.takes is.2 some.1);
-  decided = λ form is. or_else_decided (first.decided form is.0) (others.decided form is.1);
+  decided = λ form never. absurd never;
 }

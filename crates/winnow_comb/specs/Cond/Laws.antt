@@ -6,17 +6,14 @@ use Rattle.streams.specs.Following.{Following}
 use Rattle.winnow_core.specs.Ends.{same_ends}
 use Rattle.winnow_core.specs.Runs.{Runs, LeaveEnds}
 use Rattle.winnow_comb.specs.Cond.{CondRuns}
-use Rattle.winnow_comb.specs.Opt.Laws.{AlikeOptions}
 use Rattle.winnow_core.specs.Stable.Longer.{same_grows}
 use Rattle.winnow_core.specs.Stable.Grows.{Grows, final_by}
 use Rattle.streams.specs.Equal.{true_is_false}
 use Rattle.streams.specs.Input.{Input}
-use Rattle.streams.specs.Kind.{Kind, backtrack, memory}
+use Rattle.streams.specs.Kind.{Kind, memory}
 use Rattle.grammars.specs.Grammar.{Grammar, IsUnique, NoneStands, When}
 use Rattle.stream_errors.specs.Form.{Answer}
 use Rattle.stream_errors.specs.Form.Known.{at_kind, ok_is_err, same_kind, same_ok}
-use Rattle.winnow_core.specs.Decided.{AlikeAnswers, IsDecided, NotMemory}
-use Rattle.winnow_core.specs.Decided.Inputs.{both_err, both_ok, err_not_memory, ok_not_memory}
 use Rattle.winnow_core.specs.Exact.{FailsBy, IsExact}
 use Rattle.winnow_core.specs.States.{pair_is}
 
@@ -42,54 +39,6 @@ module _ {T : Type 0} {following : Following T} where
   cond_grows child more flag s i answer t j may final (inr (inr (fails, e, stays, same)), kept) =
       let (again, last) = same_grows flag may same in
       ((inr (inr (fails, e, stays, again)), kept), last)
-
--- ---- one state and one input decide it
-
-module _ {S T O : Type 0} {run : Runs S T O} {s : S × Bool} {alike : O → O → Type 0}
-    (c : IsDecided s.0 run alike) where
-  pub cond_decided : IsDecided s (CondRuns run) (AlikeOptions alike)
-  cond_decided = record { kept = kept; decided = meet }
-    where
-      Alike : Answer (Option O) → Answer (Option O) → Type 0
-      Alike a b = AlikeAnswers (AlikeOptions alike) a b
-
-      kept : (i : Input T) (answer : Answer (Option O)) (t : S × Bool) (j : Input T)
-          → NotMemory answer → CondRuns run s i answer t j → (t ≡ s) × (j.status ≡ i.status)
-      kept i answer t j free (inl (o, holds, r, e), flag) =
-          let (same, status) = c.kept i (Ok o) t.0 j ok_not_memory r in
-          (pair_is same flag, status)
-      kept i answer t j free (inr (inl (l, holds, r, e)), flag) =
-          let (same, status) = c.kept i (Err l) t.0 j (err_not_memory e free) r in
-          (pair_is same flag, status)
-      kept i answer t j free (inr (inr (not, e, same, back)), flag) =
-          (pair_is same flag, ap (λ z. z.status) back)
-
-      meet : (i : Input T) (a b : Answer (Option O)) (t u : S × Bool) (j k : Input T)
-          → NotMemory a → NotMemory b → CondRuns run s i a t j → CondRuns run s i b u k
-          → Alike a b × (j ≡ k)
-      meet i a b t u j k na nb (inl (o, holds, r, e), f) (inl (p, also, q, d), g) =
-          let (like, place) =
-          c.decided i (Ok o) (Ok p) t.0 u.0 j k ok_not_memory ok_not_memory r q in
-          (both_ok (AlikeOptions alike) e d like, place)
-      meet i a b t u j k na nb (inl (o, holds, r, e), f) (inr (inl (l, also, q, d)), g) = absurd
-          (c.decided i (Ok o) (Err l) t.0 u.0 j k ok_not_memory (err_not_memory d nb) r q).0
-      meet i a b t u j k na nb (inl (o, holds, r, e), f) (inr (inr (not, d, same, back)), g) =
-          true_is_false (sym holds ∙ not)
-      meet i a b t u j k na nb (inr (inl (l, holds, r, e)), f) (inl (p, also, q, d), g) = absurd
-          (c.decided i (Err l) (Ok p) t.0 u.0 j k (err_not_memory e na) ok_not_memory r q).0
-      meet i a b t u j k na nb (inr (inl (l, holds, r, e)), f) (inr (inl (h, also, q, d)), g) =
-          let (like, place) = c.decided i (Err l) (Err h) t.0 u.0 j k (err_not_memory e na)
-          (err_not_memory d nb) r q in
-          (both_err (AlikeOptions alike) e d like, place)
-      meet i a b t u j k na nb (inr (inl (l, holds, r, e)), f)
-          (inr (inr (not, d, same, back)), g) = true_is_false (sym holds ∙ not)
-      meet i a b t u j k na nb (inr (inr (not, e, same, back)), f)
-          (inl (p, holds, q, d), g) = true_is_false (sym holds ∙ not)
-      meet i a b t u j k na nb (inr (inr (not, e, same, back)), f)
-          (inr (inl (l, holds, q, d)), g) = true_is_false (sym holds ∙ not)
-      meet i a b t u j k na nb (inr (inr (not, e, same, back)), f)
-          (inr (inr (not2, d, same2, back2)), g) =
-          (both_ok (AlikeOptions alike) e d tt, back ∙ sym back2)
 
 -- ---- what it reads
 

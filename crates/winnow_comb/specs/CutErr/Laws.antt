@@ -1,6 +1,6 @@
 -- What holds of the runs of a child whose errors cut.
 use Rattle.std.specs.Prelude.{Ok, Err, ◌≡◌, ◌⊎◌, false}
-use Rattle.std.proofs.Common.{inl, inr, refl, sym, ap, ◌∙◌}
+use Rattle.std.proofs.Common.{inl, inr, refl, ap, ◌∙◌}
 use Rattle.streams.specs.Reading.{Reading}
 use Rattle.streams.specs.Kind.{Kind, backtrack, cut, incomplete, memory}
 use Rattle.stream_errors.specs.Mode.{cut_of}
@@ -11,9 +11,6 @@ use Rattle.winnow_core.specs.Stable.{IsFinalKind}
 use Rattle.winnow_core.specs.Stable.Grows.{Grows, final_by}
 use Rattle.streams.specs.Input.{Input}
 use Rattle.stream_errors.specs.Form.{Answer}
-use Rattle.winnow_core.specs.Decided.{IsDecided, NotMemory}
-use Rattle.winnow_core.specs.Decided.Inputs.{both_err, both_ok}
-use Rattle.winnow_core.specs.Decided.Made.{Carries, made_decided}
 use Rattle.grammars.specs.Grammar.{Grammar, NoneStands}
 use Rattle.stream_errors.specs.Form.Known.{at_kind, at_output, ok_is_err, same_kind}
 use Rattle.winnow_core.specs.Exact.{FailsBy, IsExact}
@@ -41,41 +38,6 @@ module _ {T : Type 0} {following : Following T} where
   cut_err_grows child more flag s i answer t j may final (inr (k, r, e)) =
       let was = cut_of_final k (final_by (Err (cut_of k)) e final) in
       let (q, still) = child more flag s i (Err k) t j may was r in (inr (k, q, e), still)
-
--- ---- one state and one input decide it
-
--- ---- errors that cut
-
-abbrev CutTurns : {T O : Type 0} → Input T → Answer O → Input T → Answer O → Input T → Type 0
-CutTurns i (Ok o) a answer j = (answer ≡ Ok o) × (j ≡ a)
-CutTurns i (Err l) a answer j = (answer ≡ Err (cut_of l)) × (j ≡ a)
-
-cut_carries : {T O : Type 0} (alike : O → O → Type 0) → Carries {T = T} CutTurns alike alike
-cut_carries {T} {O} alike = record {
-  wants = λ i a answer j (e, at). e;
-  status = status;
-  outputs = λ i a o p answer other j k na nb like (e, at) (f, at2).
-      (both_ok alike e f like, at ∙ sym at2);
-  errors = λ i a l answer other j k na nb (e, at) (f, at2).
-      (both_err alike e f refl, at ∙ sym at2);
-}
-  where
-    status : (i a : Input T) (b answer : Answer O) (j : Input T) → NotMemory answer
-        → CutTurns i b a answer j → j.status ≡ a.status
-    status i a (Ok o) answer j free (e, at) = ap (λ z. z.status) at
-    status i a (Err l) answer j free (e, at) = ap (λ z. z.status) at
-
-module _ {S T O : Type 0} {run : Runs S T O} {s : S} {alike : O → O → Type 0} where
-  pub cut_err_decided : IsDecided s run alike → IsDecided s (CutErrRuns run) alike
-  cut_err_decided c = made_decided {becomes = CutTurns} (record { ran = ran })
-      (cut_carries alike) c
-    where
-      ran : (i : Input T) (answer : Answer O) (t : S) (j : Input T) → NotMemory answer
-          → CutErrRuns run s i answer t j
-          → (m : S) × (b : Answer O) × (a : Input T) × run s i b m a × CutTurns i b a answer j
-          × (m ≡ s → t ≡ s)
-      ran i answer t j free (inl (o, r, e)) = (t, Ok o, j, r, (e, refl), λ same. same)
-      ran i answer t j free (inr (k, r, e)) = (t, Err k, j, r, (e, refl), λ same. same)
 
 -- ---- what it reads
 

@@ -3,12 +3,10 @@ use Rattle.winnow_comb.specs.Empty.{EmptyRuns}
 use Rattle.winnow_core.specs.Stable.Longer.{same_more}
 use Rattle.winnow_core.specs.Stable.Grows.{Stays}
 use Rattle.std.specs.Prelude.{⊤}
-use Rattle.std.proofs.Common.{refl, sym, ap, ◌∙◌}
+use Rattle.std.proofs.Common.{refl, ap, ◌∙◌}
 use Rattle.grammars.specs.Grammar.{Nothing}
 use Rattle.grammars.specs.Grammar.Unique.{unique_nothing}
 use Rattle.stream_errors.specs.Form.Known.{ok_is_err, same_ok}
-use Rattle.winnow_core.specs.Decided.{IsDecided}
-use Rattle.winnow_core.specs.Decided.Inputs.{both_ok}
 use Rattle.winnow_core.specs.Exact.{Backtracks, IsExact}
 use Rattle.winnow_core.specs.Runs.{Keeps}
 
@@ -26,13 +24,6 @@ module _ {T : Type 0} where
     stands = λ i o t j is ((e, back), same). (same_ok refl e, ap (λ z. z.left.tokens) back);
     none = λ i k t j is ((e, back), same). ok_is_err e refl;
     unique = unique_nothing tt;
-  }
-
-  pub empty_decided : IsDecided tt (Keeps (λ (_ : ⊤). EmptyRuns {T = T})) (λ (_ _ : ⊤). ⊤)
-  empty_decided = record {
-    kept = λ i answer t j free ((e, back), same). (same, ap (λ z. z.status) back);
-    decided = λ i a b t u j k na nb ((e, back), same) ((d, back2), also).
-        (both_ok (λ (_ _ : ⊤). ⊤) e d tt, back ∙ sym back2);
   }
 
   pub empty_fails : Backtracks tt (Keeps (λ (_ : ⊤). EmptyRuns {T = T}))

@@ -2,12 +2,10 @@
 use Rattle.winnow_comb.specs.Fail.{FailRuns}
 use Rattle.winnow_core.specs.Stable.Longer.{same_more}
 use Rattle.winnow_core.specs.Stable.Grows.{Stays}
-use Rattle.std.specs.Prelude.{◌≡◌, ⊤}
-use Rattle.std.proofs.Common.{refl, sym, ap, inr, ◌∙◌}
+use Rattle.std.specs.Prelude.{⊤}
+use Rattle.std.proofs.Common.{refl, ap, inr, ◌∙◌}
 use Rattle.grammars.specs.Grammar.{Never, TakesTokens}
 use Rattle.stream_errors.specs.Form.Known.{ok_is_err, same_kind}
-use Rattle.winnow_core.specs.Decided.{IsDecided}
-use Rattle.winnow_core.specs.Decided.Inputs.{both_err}
 use Rattle.winnow_core.specs.Exact.{Backtracks, IsExact}
 use Rattle.winnow_core.specs.Runs.{Keeps}
 
@@ -28,14 +26,6 @@ module _ {T : Type 0} where
       ends = λ tokens o rest never. absurd never;
       one = λ tokens o p rest other never too. absurd never;
     };
-  }
-
-  pub fail_decided : {O : Type 0}
-      → IsDecided tt (Keeps (λ (_ : ⊤). FailRuns {T = T} {O = O})) (λ o p. o ≡ p)
-  fail_decided = record {
-    kept = λ i answer t j free ((e, back), same). (same, ap (λ z. z.status) back);
-    decided = λ i a b t u j k na nb ((e, back), same) ((d, back2), also).
-        (both_err (λ o p. o ≡ p) e d refl, back ∙ sym back2);
   }
 
   pub fail_backs : {O : Type 0} → Backtracks tt (Keeps (λ (_ : ⊤). FailRuns {T = T} {O = O}))

@@ -4,16 +4,13 @@ use Rattle.std.proofs.Common.{inl, inr, refl, sym, ap, ◌∙◌}
 use Rattle.streams.specs.Kind.{backtrack, Kind, memory}
 use Rattle.streams.specs.Reading.{Reading}
 use Rattle.streams.specs.Following.{Following}
-use Rattle.streams.specs.Input.{with_more, Input, back_at}
+use Rattle.streams.specs.Input.{with_more, Input}
 use Rattle.winnow_core.specs.Ends.{back_ends}
 use Rattle.winnow_core.specs.Runs.{Runs, LeaveEnds}
 use Rattle.winnow_comb.specs.Not.{NotRuns}
 use Rattle.winnow_core.specs.Stable.Longer.{back_grows}
 use Rattle.winnow_core.specs.Stable.Grows.{Grows, final_by}
 use Rattle.stream_errors.specs.Form.{Answer}
-use Rattle.winnow_core.specs.Decided.{AlikeAnswers, IsDecided, NotMemory}
-use Rattle.winnow_core.specs.Decided.Inputs.{both_err, both_ok, memory_backs}
-use Rattle.winnow_core.specs.Decided.Made.{Carries, made_decided}
 use Rattle.grammars.specs.Grammar.{Grammar, NoneStands, NotAhead}
 use Rattle.stream_errors.specs.Form.Known.{at_kind, ok_is_err, same_kind}
 use Rattle.winnow_core.specs.Exact.{FailsBy, IsExact, IsSoft}
@@ -46,63 +43,6 @@ module _ {T : Type 0} {following : Following T} where
       let (q, still) = child more flag s i (Err k) t m may (final_by (Err k) e final) r in
       let (back, last) = back_grows flag i m may still same in
       (inr (inr (k, with_more m more flag, q, other, e, back)), last)
-
--- ---- one state and one input decide it
-
--- ---- what is not to succeed
-
-abbrev NotTurns : {T O : Type 0} → Input T → Answer O → Input T → Answer ⊤ → Input T → Type 0
-NotTurns i (Ok o) a answer j = (answer ≡ Err backtrack) × (j ≡ back_at i.left a)
-NotTurns i (Err l) a answer j =
-    ((l ≡ backtrack) × (answer ≡ Ok tt) × (j ≡ back_at i.left a))
-    ⊎ ((l ≡ backtrack → ⊥) × (answer ≡ Err l) × (j ≡ back_at i.left a))
-
-not_carries : {T O : Type 0} (alike : O → O → Type 0)
-    → Carries {T = T} NotTurns alike (λ (_ _ : ⊤). ⊤)
-not_carries {T} {O} alike = record {
-  wants = wants;
-  status = status;
-  outputs = λ i a o p answer other j k na nb like (e, at) (f, at2).
-      (both_err (λ (_ _ : ⊤). ⊤) e f refl, at ∙ sym at2);
-  errors = errors;
-}
-  where
-    wants : (i a : Input T) (answer : Answer ⊤) (j : Input T)
-        → NotTurns {O = O} i (Err memory) a answer j → answer ≡ Err memory
-    wants i a answer j (inl (is, e, at)) = memory_backs is
-    wants i a answer j (inr (other, e, at)) = e
-
-    status : (i a : Input T) (b : Answer O) (answer : Answer ⊤) (j : Input T)
-        → NotMemory answer → NotTurns i b a answer j → j.status ≡ a.status
-    status i a (Ok o) answer j free (e, at) = ap (λ z. z.status) at
-    status i a (Err l) answer j free (inl (is, e, at)) = ap (λ z. z.status) at
-    status i a (Err l) answer j free (inr (other, e, at)) = ap (λ z. z.status) at
-
-    errors : (i a : Input T) (l : Kind) (answer other : Answer ⊤) (j k : Input T)
-        → NotMemory answer → NotMemory other → NotTurns {O = O} i (Err l) a answer j
-        → NotTurns {O = O} i (Err l) a other k
-        → AlikeAnswers (λ (_ _ : ⊤). ⊤) answer other × (j ≡ k)
-    errors i a l answer other j k na nb (inl (is, e, at)) (inl (is2, f, at2)) =
-        (both_ok (λ (_ _ : ⊤). ⊤) e f tt, at ∙ sym at2)
-    errors i a l answer other j k na nb (inl (is, e, at)) (inr (not, f, at2)) = absurd (not is)
-    errors i a l answer other j k na nb (inr (not, e, at)) (inl (is, f, at2)) = absurd (not is)
-    errors i a l answer other j k na nb (inr (not, e, at)) (inr (not2, f, at2)) =
-        (both_err (λ (_ _ : ⊤). ⊤) e f refl, at ∙ sym at2)
-
-module _ {S T O : Type 0} {run : Runs S T O} {s : S} {alike : O → O → Type 0} where
-  pub not_decided : IsDecided s run alike → IsDecided s (NotRuns run) (λ (_ _ : ⊤). ⊤)
-  not_decided c = made_decided {becomes = NotTurns} (record { ran = ran }) (not_carries alike) c
-    where
-      ran : (i : Input T) (answer : Answer ⊤) (t : S) (j : Input T) → NotMemory answer
-          → NotRuns run s i answer t j
-          → (m : S) × (b : Answer O) × (a : Input T) × run s i b m a × NotTurns i b a answer j
-          × (m ≡ s → t ≡ s)
-      ran i answer t j free (inl (o, m, r, e, back)) =
-          (t, Ok o, m, r, (e, back), λ same. same)
-      ran i answer t j free (inr (inl (m, r, e, back))) =
-          (t, Err backtrack, m, r, inl (refl, e, back), λ same. same)
-      ran i answer t j free (inr (inr (k, m, r, not, e, back))) =
-          (t, Err k, m, r, inr (not, e, back), λ same. same)
 
 -- ---- what it reads
 

@@ -1,19 +1,16 @@
 -- What holds of the runs of a child that may be left out.
 use Rattle.std.specs.Prelude.{Ok, Err, ◌≡◌, ◌⊎◌, Option, Some, None, ⊤, false}
-use Rattle.std.proofs.Common.{inl, inr, refl, sym, ap, ◌∙◌}
+use Rattle.std.proofs.Common.{inl, inr, refl, ap, ◌∙◌}
 use Rattle.streams.specs.Kind.{backtrack, Kind, memory}
 use Rattle.streams.specs.Reading.{Reading}
 use Rattle.streams.specs.Following.{Following}
-use Rattle.streams.specs.Input.{with_more, Input, back_at}
+use Rattle.streams.specs.Input.{with_more, Input}
 use Rattle.winnow_core.specs.Ends.{back_ends}
 use Rattle.winnow_core.specs.Runs.{Runs, LeaveEnds}
 use Rattle.winnow_comb.specs.Opt.{OptRuns}
 use Rattle.winnow_core.specs.Stable.Longer.{back_grows}
 use Rattle.winnow_core.specs.Stable.Grows.{Grows, final_by}
 use Rattle.stream_errors.specs.Form.{Answer}
-use Rattle.winnow_core.specs.Decided.{AlikeAnswers, IsDecided, NotMemory}
-use Rattle.winnow_core.specs.Decided.Inputs.{both_err, both_ok, memory_backs}
-use Rattle.winnow_core.specs.Decided.Made.{Carries, made_decided}
 use Rattle.grammars.specs.Grammar.{Grammar, NoneStands, Optional}
 use Rattle.grammars.specs.Grammar.Unique.{optional_unique}
 use Rattle.stream_errors.specs.Form.Known.{at_kind, ok_is_err, same_ok, same_kind}
@@ -42,69 +39,12 @@ module _ {T : Type 0} {following : Following T} where
       let (q, still) = child more flag s i (Err k) t j may (final_by (Err k) e final) r in
       (inr (inr (k, q, other, e)), still)
 
--- ---- one state and one input decide it
-
 -- Both are there, and alike, or none is.
 abbrev pub AlikeOptions : {O : Type 0} → (O → O → Type 0) → Option O → Option O → Type 0
 AlikeOptions alike None None = ⊤
 AlikeOptions alike None (Some p) = ⊥
 AlikeOptions alike (Some o) None = ⊥
 AlikeOptions alike (Some o) (Some p) = alike o p
-
--- ---- what may be left out
-
-abbrev OptTurns : {T O : Type 0} → Input T → Answer O → Input T → Answer (Option O) → Input T
-    → Type 0
-OptTurns i (Ok o) a answer j = (answer ≡ Ok (Some o)) × (j ≡ a)
-OptTurns i (Err l) a answer j =
-    ((l ≡ backtrack) × (answer ≡ Ok None) × (j ≡ back_at i.left a))
-    ⊎ ((l ≡ backtrack → ⊥) × (answer ≡ Err l) × (j ≡ a))
-
-opt_carries : {T O : Type 0} (alike : O → O → Type 0)
-    → Carries {T = T} OptTurns alike (AlikeOptions alike)
-opt_carries {T} {O} alike = record {
-  wants = wants;
-  status = status;
-  outputs = λ i a o p answer other j k na nb like (e, at) (f, at2).
-      (both_ok (AlikeOptions alike) e f like, at ∙ sym at2);
-  errors = errors;
-}
-  where
-    wants : (i a : Input T) (answer : Answer (Option O)) (j : Input T)
-        → OptTurns {O = O} i (Err memory) a answer j → answer ≡ Err memory
-    wants i a answer j (inl (is, e, at)) = memory_backs is
-    wants i a answer j (inr (other, e, at)) = e
-
-    status : (i a : Input T) (b : Answer O) (answer : Answer (Option O)) (j : Input T)
-        → NotMemory answer → OptTurns i b a answer j → j.status ≡ a.status
-    status i a (Ok o) answer j free (e, at) = ap (λ z. z.status) at
-    status i a (Err l) answer j free (inl (is, e, at)) = ap (λ z. z.status) at
-    status i a (Err l) answer j free (inr (other, e, at)) = ap (λ z. z.status) at
-
-    errors : (i a : Input T) (l : Kind) (answer other : Answer (Option O)) (j k : Input T)
-        → NotMemory answer → NotMemory other → OptTurns {O = O} i (Err l) a answer j
-        → OptTurns {O = O} i (Err l) a other k
-        → AlikeAnswers (AlikeOptions alike) answer other × (j ≡ k)
-    errors i a l answer other j k na nb (inl (is, e, at)) (inl (is2, f, at2)) =
-        (both_ok (AlikeOptions alike) e f tt, at ∙ sym at2)
-    errors i a l answer other j k na nb (inl (is, e, at)) (inr (not, f, at2)) = absurd (not is)
-    errors i a l answer other j k na nb (inr (not, e, at)) (inl (is, f, at2)) = absurd (not is)
-    errors i a l answer other j k na nb (inr (not, e, at)) (inr (not2, f, at2)) =
-        (both_err (AlikeOptions alike) e f refl, at ∙ sym at2)
-
-module _ {S T O : Type 0} {run : Runs S T O} {s : S} {alike : O → O → Type 0} where
-  pub opt_decided : IsDecided s run alike → IsDecided s (OptRuns run) (AlikeOptions alike)
-  opt_decided c = made_decided {becomes = OptTurns} (record { ran = ran }) (opt_carries alike) c
-    where
-      ran : (i : Input T) (answer : Answer (Option O)) (t : S) (j : Input T)
-          → NotMemory answer → OptRuns run s i answer t j
-          → (m : S) × (b : Answer O) × (a : Input T) × run s i b m a × OptTurns i b a answer j
-          × (m ≡ s → t ≡ s)
-      ran i answer t j free (inl (o, r, e)) = (t, Ok o, j, r, (e, refl), λ same. same)
-      ran i answer t j free (inr (inl (m, r, e, back))) =
-          (t, Err backtrack, m, r, inl (refl, e, back), λ same. same)
-      ran i answer t j free (inr (inr (k, r, not, e))) =
-          (t, Err k, j, r, inr (not, e, refl), λ same. same)
 
 -- ---- what it reads
 

@@ -2,18 +2,13 @@
 use Rattle.streams.specs.Kind.{Kind}
 use Rattle.streams.specs.Reading.{Reading}
 use Rattle.streams.specs.Following.{Following}
-use Rattle.streams.specs.Input.{with_more, Input, back_at}
+use Rattle.streams.specs.Input.{with_more}
 use Rattle.winnow_core.specs.Ends.{back_ends}
 use Rattle.winnow_core.specs.Runs.{Runs, LeaveEnds}
 use Rattle.winnow_comb.specs.Peek.{PeekRuns}
 use Rattle.winnow_core.specs.Stable.Longer.{back_grows}
 use Rattle.winnow_core.specs.Stable.Grows.{Grows}
-use Rattle.std.specs.Prelude.{◌≡◌}
-use Rattle.std.proofs.Common.{refl, sym, ap, ◌∙◌, inl, inr}
-use Rattle.stream_errors.specs.Form.{Answer}
-use Rattle.winnow_core.specs.Decided.{IsDecided}
-use Rattle.winnow_core.specs.Decided.Inputs.{both_err, both_ok}
-use Rattle.winnow_core.specs.Decided.Made.{Carries, made_decided}
+use Rattle.std.proofs.Common.{ap, ◌∙◌, inl, inr}
 use Rattle.grammars.specs.Grammar.{Ahead, Grammar}
 use Rattle.grammars.specs.Grammar.Unique.{ahead_unique}
 use Rattle.winnow_core.specs.Exact.{FailsBy, IsExact}
@@ -32,37 +27,6 @@ module _ {T : Type 0} {following : Following T} where
       let (q, still) = child more flag s i answer t m may final r in
       let (back, last) = back_grows flag i m may still same in
       ((with_more m more flag, q, back), last)
-
--- ---- one state and one input decide it
-
--- ---- what is only looked at
-
-abbrev PeekTurns : {T O : Type 0} → Input T → Answer O → Input T → Answer O → Input T → Type 0
-PeekTurns i b a answer j = (answer ≡ b) × (j ≡ back_at i.left a)
-
-peek_carries : {T O : Type 0} (alike : O → O → Type 0) → Carries {T = T} PeekTurns alike alike
-peek_carries alike = record {
-  wants = λ i a answer j (e, at). e;
-  status = λ i a b answer j free (e, at). ap (λ z. z.status) at;
-  outputs = λ i a o p answer other j k na nb like (e, at) (f, at2).
-      (both_ok alike e f like, at ∙ sym at2);
-  errors = λ i a l answer other j k na nb (e, at) (f, at2).
-      (both_err alike e f refl, at ∙ sym at2);
-}
-
-pub peek_decided : {S T O : Type 0} {run : Runs S T O} {s : S} {alike : O → O → Type 0}
-    → IsDecided s run alike → IsDecided s (PeekRuns run) alike
-peek_decided {alike = alike} c = made_decided {becomes = PeekTurns}
-    (record {
-      ran = λ i answer t j free (m, r, back). (
-        t,
-        answer,
-        m,
-        r,
-        (refl, back),
-        λ same. same,
-      );
-    }) (peek_carries alike) c
 
 -- ---- what it reads
 

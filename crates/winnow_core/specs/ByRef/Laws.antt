@@ -3,8 +3,8 @@ use Rattle.streams.specs.Kind.{Kind}
 use Rattle.streams.specs.Reading.{Reading}
 use Rattle.streams.specs.Following.{Following}
 use Rattle.winnow_core.specs.ByRef.{ByRefRuns}
-use Rattle.winnow_core.specs.Runs.{LeaveEnds, Meaning, Runs}
-use Rattle.winnow_core.specs.Says.{Said, Says}
+use Rattle.winnow_core.specs.Runs.{Meaning, Runs, LeaveEnds}
+use Rattle.winnow_core.specs.Says.{Said, Says, did_as}
 use Rattle.winnow_core.specs.Stable.Grows.{Grows}
 use Rattle.std.specs.Prelude.{ℕ}
 use Rattle.grammars.specs.Grammar.{Grammar}
@@ -43,19 +43,13 @@ module _ {S T O : Type 0} {run : Runs S T O} where
 
 -- ---- what it says
 
--- that of the parser
 pub by_ref_said : {S T O : Type 0} {says : Says T O} {s : S × ℕ} {meaning : Meaning S T O}
     → Said says s.0 meaning → Said says s (λ form. ByRefRuns (meaning form))
-by_ref_said p = record {
+by_ref_said {s = s} p = record {
   runs = λ is. record {
-    did = λ at i answer t j here (r, same).
+    did = λ at i answer t j here (r, kept).
         let did = (p.runs is).did at i answer t.0 j here r in
-        record {
-          kept = pair_is did.kept same;
-          status = did.status;
-          possible = did.possible;
-          done = did.done;
-        };
+        did_as s t (pair_is did.kept kept) did;
   };
   law = p.law;
 }

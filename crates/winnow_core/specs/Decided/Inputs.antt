@@ -93,10 +93,6 @@ decided_as {alike = alike} {also = also} more c = record {
 pub back_not_memory : {O : Type 0} → NotMemory {O = O} (Err backtrack)
 back_not_memory e = cc
 
--- want of memory is no backtrack
-pub memory_backs : {P : Type 0} → memory ≡ backtrack → P
-memory_backs e = absurd (cc)
-
 -- the kind of an error for want of more input is one
 pub one_short : {T : Type 0} (form : ErrorForm) (need : Option ℕ) (i : Input T) (k l : Kind)
     → ShortKind form need i k → ShortKind form need i l → k ≡ l

@@ -5,7 +5,7 @@ use Rattle.streams.specs.Kind.{Kind}
 use Rattle.stream_errors.specs.Form.{Answer}
 use Rattle.winnow_core.specs.Outcome.{Outcome, took, backs, cuts, asks, Setting, Does, longer, both}
 use Rattle.winnow_core.specs.Outcome.{IsFinal}
-use Rattle.winnow_core.specs.Outcome.{as_longer, final_by, gave, outcome_of}
+use Rattle.winnow_core.specs.Outcome.{alike_wider, as_longer, final_by, gave, outcome_of}
 use Rattle.winnow_core.specs.Says.{Lawful}
 use Rattle.winnow_core.specs.Then.{Comes, ComesOf, Holds, Meets, Next, NextHolds, NextMeets, Then}
 use Rattle.winnow_core.specs.Then.{final_comes, hands_on, one_comes, stays_comes, whole_comes}
@@ -33,6 +33,18 @@ cuts_on at tokens place y = y ≡ cuts place
 -- it asks for more where the part did
 abbrev pub asks_on : {T U : Type 0} → Option ℕ → Comes T U
 asks_on need at tokens place y = y ≡ asks need place
+
+-- it cuts, and nothing is taken
+abbrev pub cuts_to_start : {T U : Type 0} → Comes T U
+cuts_to_start at tokens place y = y ≡ cuts tokens
+
+-- it asks for more, and nothing is taken
+abbrev pub asks_to_start : {T U : Type 0} → Option ℕ → Comes T U
+asks_to_start need at tokens place y = y ≡ asks need tokens
+
+-- what comes at once, with no part
+abbrev pub at_start : {T U : Type 0} → Comes T U → Does T U
+at_start came at tokens y = came at tokens tokens y
 
 -- another part does what it does, from where the first began
 abbrev pub or_else : {T U : Type 0} → Does T U → Comes T U
@@ -64,12 +76,23 @@ module _ {T U : Type 0} {beside : U → U → Type 0} where
   pub cuts_meet : Meets {T = T} beside cuts_on cuts_on
   cuts_meet = record { one = λ at tokens place y z e f. both beside e f refl }
 
+  pub cuts_meet_start : Meets {T = T} beside cuts_to_start cuts_to_start
+  cuts_meet_start = record { one = λ at tokens place y z e f. both beside e f refl }
+
+  pub asks_meet_start : (need : Option ℕ)
+      → Meets {T = T} beside (asks_to_start need) (asks_to_start need)
+  asks_meet_start need =
+      record { one = λ at tokens place y z e f. both beside e f (refl, refl) }
+
   pub asks_meet : (need : Option ℕ) → Meets {T = T} beside (asks_on need) (asks_on need)
   asks_meet need = record { one = λ at tokens place y z e f. both beside e f (refl, refl) }
 
-  pub else_meets : {stable : Type 0} {other : Does T U} → Lawful stable beside other
+  pub else_meets : {stable : Type 0} {alike : U → U → Type 0} {other : Does T U}
+      → ((o p : U) → alike o p → beside o p) → Lawful stable alike other
       → Meets beside (or_else other) (or_else other)
-  else_meets law = record { one = λ at tokens place y z d e. law.one at tokens y z d e }
+  else_meets wider law = record {
+    one = λ at tokens place y z d e. alike_wider wider y z (law.one at tokens y z d e);
+  }
 
 module _ {T U : Type 0} {stable : Type 0} where
   pub takes_hold : {u : U} → Holds {T = T} stable (takes u)
@@ -100,6 +123,20 @@ module _ {T U : Type 0} {stable : Type 0} where
   cuts_hold = record {
     whole = λ at tokens place need end is e. absurd (cc);
     stays = λ is more flag tokens place y final e. as_longer more e;
+  }
+
+  pub cuts_hold_start : Holds {T = T} {U = U} stable cuts_to_start
+  cuts_hold_start = record {
+    whole = λ at tokens place need end is e. absurd (cc);
+    stays = λ is more flag tokens place y final e. as_longer more e;
+  }
+
+  pub at_start_law : {alike : U → U → Type 0} {came : Comes T U} → Meets alike came came
+      → Holds stable came → Lawful stable alike (at_start came)
+  at_start_law m h = record {
+    one = λ at tokens y z e f. m.one at tokens tokens y z e f;
+    whole = λ at tokens need end is e. h.whole at tokens tokens need end is e;
+    stays = λ is more flag tokens y final e. h.stays is more flag tokens tokens y final e;
   }
 
   -- what is asked for is not final

@@ -5,7 +5,8 @@ ghost use Rattle.streams.specs.Input.{IsEndOf};
 ghost use Rattle.winnow_comb.specs.Attempt.{AttemptRuns};
 ghost use Rattle.winnow_core.specs.Claim.{Claim, Claimed};
 ghost use Rattle.winnow_core.specs.Runs.{LeaveEnds, Meaning};
-ghost use Rattle.winnow_core.specs.Says.{nothing_done, nothing_said};
+ghost use Rattle.winnow_core.specs.Says.{Said, Says};
+ghost use Rattle.winnow_core.specs.Says.Decided.{decided_of};
 
 mod slices;
 mod tuples;
@@ -36,6 +37,9 @@ pub trait Alt<I: Stream, O, E: ParserError<I>> {
     // What the choice means: by the form of the errors, its runs.
     ghost meaning: { Meaning State I.Seen O };
 
+    // What the choice says that it does with tokens, from a state.
+    ghost says: { State → Says I.Seen O };
+
     // What the choice claims of its runs from a state.
     ghost claim: { State → Claim I.Seen O };
 
@@ -50,6 +54,9 @@ pub trait Alt<I: Stream, O, E: ParserError<I>> {
 
     // Each run leaves an end of its input.
     ghost leaves_ends: { (form : ErrorForm) → LeaveEnds I.reading (meaning form) };
+
+    // Its runs do what is said.
+    ghost said: { (s : State) → Said (says s) s meaning };
 
     // Its runs keep what is claimed.
     ghost claimed: { (s : State) → Claimed (claim s) s meaning };
@@ -78,15 +85,23 @@ impl<A: Alt<I, O, E>, I: Stream, O, E: ParserError<I>> Parser<I, O, E> for AltPa
 
     ghost meaning = { A.meaning };
 
-    ghost says = { λ _. nothing_said };
+    ghost says = { A.says };
 
-    ghost claim = { A.claim };
+    ghost claim = { λ s. record (A.claim s) {
+      decides = (A.says s).premise;
+      alike = (A.says s).alike;
+    } };
 
     ghost leaves_ends = { A.leaves_ends };
 
-    ghost said = { λ _. nothing_done };
+    ghost said = { A.said };
 
-    ghost claimed = { A.claimed };
+    ghost claimed = { λ s. record {
+      exact = λ form is. (A.claimed s).exact form is;
+      fails = λ form is. (A.claimed s).fails form is;
+      takes = λ is some. (A.claimed s).takes is some;
+      decided = λ form is. decided_of I.reading A.leaves_ends (A.said s) form is;
+    } };
 
     #[inline(always)]
     fn parse_next(&mut self, input: &mut I) -> Result<O, E> {

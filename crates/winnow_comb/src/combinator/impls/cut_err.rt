@@ -2,10 +2,11 @@
 ghost use Rattle.stream_errors.specs.Form.{modal};
 ghost use Rattle.winnow_core.specs.Stable.Grows.{grows, stays};
 ghost use Rattle.winnow_comb.specs.CutErr.{CutErrRuns};
-ghost use Rattle.winnow_comb.specs.CutErr.Laws.{cut_err_decided, cut_err_exact, cut_err_fails};
+ghost use Rattle.winnow_comb.specs.CutErr.Laws.{cut_err_exact, cut_err_fails};
 ghost use Rattle.winnow_comb.specs.CutErr.Laws.{cut_err_ends};
 ghost use Rattle.winnow_comb.specs.CutErr.Laws.{cut_err_grows};
-ghost use Rattle.winnow_core.specs.Says.{nothing_done, nothing_said};
+ghost use Rattle.winnow_comb.specs.CutErr.Says.{cut_err_said, cut_err_says};
+ghost use Rattle.winnow_core.specs.Says.Decided.{decided_of};
 
 use std::marker::PhantomData;
 use stream_errors::modal::ModalError;
@@ -38,7 +39,7 @@ impl<P: Parser<I, O, E>, I: Stream, O, E: ParserError<I> + ModalError> Parser<I,
 
     ghost meaning = { λ form. CutErrRuns (P.meaning form) };
 
-    ghost says = { λ _. nothing_said };
+    ghost says = { λ s. cut_err_says (P.says s) };
 
     ghost claim = { λ s. record {
       premise = (P.claim s).premise;
@@ -46,19 +47,21 @@ impl<P: Parser<I, O, E>, I: Stream, O, E: ParserError<I> + ModalError> Parser<I,
       spares_memory = (P.claim s).spares_memory;
       consumes = (P.claim s).consumes;
       grammar = (P.claim s).grammar;
-      decides = (P.claim s).decides;
-      alike = (P.claim s).alike;
+      decides = (P.says s).premise;
+      alike = (P.says s).alike;
     } };
 
     ghost leaves_ends = { λ form. cut_err_ends I.reading (P.meaning form) (P.leaves_ends form) };
 
-    ghost said = { λ _. nothing_done };
+    ghost said = { λ s. cut_err_said (P.said s) };
 
     ghost claimed = { λ s. record {
       exact = λ form is. cut_err_exact ((P.claimed s).exact form is);
       fails = λ form is. cut_err_fails ((P.claimed s).fails form is);
       takes = λ is some. (P.claimed s).takes is some;
-      decided = λ form is. cut_err_decided ((P.claimed s).decided form is);
+      decided = λ form is. decided_of I.reading
+          (λ form. cut_err_ends I.reading (P.meaning form) (P.leaves_ends form))
+          (cut_err_said (P.said s)) form is;
     } };
 
     #[inline(always)]

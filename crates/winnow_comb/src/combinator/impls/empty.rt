@@ -1,14 +1,14 @@
 //! The parser that takes nothing.
 ghost use Rattle.std.specs.Prelude.{⊤, ◌<◌};
 ghost use Rattle.grammars.specs.Grammar.{Nothing};
-ghost use Rattle.winnow_comb.specs.Empty.Laws.{empty_decided};
 ghost use Rattle.winnow_core.specs.Ends.{same_ends};
 ghost use Rattle.winnow_core.specs.Exact.Allowed.{backs};
 ghost use Rattle.winnow_core.specs.Runs.{Keeps};
 ghost use Rattle.winnow_core.specs.Stable.Grows.{leaf_stays};
 ghost use Rattle.winnow_comb.specs.Empty.{EmptyRuns};
 ghost use Rattle.winnow_comb.specs.Empty.Laws.{empty_exact, empty_fails, empty_stays};
-ghost use Rattle.winnow_core.specs.Says.{nothing_done, nothing_said};
+ghost use Rattle.winnow_comb.specs.Empty.Says.{empty_said, empty_says};
+ghost use Rattle.winnow_core.specs.Says.Decided.{decided_of};
 
 use crate::combinator::basic::empty;
 use stream_errors::parser_error::ParserError;
@@ -32,7 +32,7 @@ impl<I: Stream, E: ParserError<I>> Parser<I, (), E> for Empty {
 
     ghost meaning = { λ _. Keeps (λ _. EmptyRuns) };
 
-    ghost says = { λ _. nothing_said };
+    ghost says = { λ _. empty_says };
 
     ghost claim = { λ s. record {
       premise = ⊤;
@@ -46,13 +46,15 @@ impl<I: Stream, E: ParserError<I>> Parser<I, (), E> for Empty {
 
     ghost leaves_ends = { λ form x i answer y j r. same_ends I.reading i j r.0.1 };
 
-    ghost said = { λ _. nothing_done };
+    ghost said = { λ _. empty_said };
 
     ghost claimed = { λ s. record {
       exact = λ form is. empty_exact;
       fails = λ form is. backs (empty_fails);
       takes = λ is never. absurd never;
-      decided = λ form is. empty_decided;
+      decided = λ form is. decided_of I.reading
+          (λ form x i answer y j r. same_ends I.reading i j r.0.1)
+          empty_said form is;
     } };
 
     #[inline(always)]

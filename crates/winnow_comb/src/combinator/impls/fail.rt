@@ -1,14 +1,14 @@
 //! The parser that fails.
 ghost use Rattle.std.specs.Prelude.{⊤, ◌<◌, ◌≡◌};
 ghost use Rattle.grammars.specs.Grammar.{Never};
-ghost use Rattle.winnow_comb.specs.Fail.Laws.{fail_decided};
 ghost use Rattle.winnow_core.specs.Ends.{same_ends};
 ghost use Rattle.winnow_core.specs.Exact.Allowed.{backs};
 ghost use Rattle.winnow_core.specs.Runs.{Keeps};
 ghost use Rattle.winnow_core.specs.Stable.Grows.{leaf_stays};
 ghost use Rattle.winnow_comb.specs.Fail.{FailRuns};
 ghost use Rattle.winnow_comb.specs.Fail.Laws.{fail_exact, fail_backs, never_takes, fail_stays};
-ghost use Rattle.winnow_core.specs.Says.{nothing_done, nothing_said};
+ghost use Rattle.winnow_comb.specs.Fail.Says.{fail_said, fail_says};
+ghost use Rattle.winnow_core.specs.Says.Decided.{decided_of};
 
 use crate::combinator::basic::fail;
 use stream_errors::parser_error::ParserError;
@@ -32,7 +32,7 @@ impl<I: Stream, O, E: ParserError<I>> Parser<I, O, E> for Fail {
 
     ghost meaning = { λ _. Keeps (λ _. FailRuns) };
 
-    ghost says = { λ _. nothing_said };
+    ghost says = { λ _. fail_says };
 
     ghost claim = { λ s. record {
       premise = ⊤;
@@ -46,13 +46,15 @@ impl<I: Stream, O, E: ParserError<I>> Parser<I, O, E> for Fail {
 
     ghost leaves_ends = { λ form x i answer y j r. same_ends I.reading i j r.0.1 };
 
-    ghost said = { λ _. nothing_done };
+    ghost said = { λ _. fail_said };
 
     ghost claimed = { λ s. record {
       exact = λ form is. fail_exact;
       fails = λ form is. backs (fail_backs);
       takes = λ is some. never_takes;
-      decided = λ form is. fail_decided;
+      decided = λ form is. decided_of I.reading
+          (λ form x i answer y j r. same_ends I.reading i j r.0.1)
+          fail_said form is;
     } };
 
     #[inline(always)]

@@ -5,9 +5,10 @@ ghost use Rattle.stream_errors.specs.Form.{modal};
 ghost use Rattle.winnow_core.specs.Exact.Allowed.{fails_as, softly};
 ghost use Rattle.winnow_core.specs.Stable.Grows.{grows, stays};
 ghost use Rattle.winnow_comb.specs.Not.{NotRuns};
-ghost use Rattle.winnow_comb.specs.Not.Laws.{not_decided, not_exact, not_fails, not_ends};
+ghost use Rattle.winnow_comb.specs.Not.Laws.{not_exact, not_fails, not_ends};
 ghost use Rattle.winnow_comb.specs.Not.Laws.{not_grows};
-ghost use Rattle.winnow_core.specs.Says.{nothing_done, nothing_said};
+ghost use Rattle.winnow_comb.specs.Not.Says.{not_said, not_says};
+ghost use Rattle.winnow_core.specs.Says.Decided.{decided_of};
 
 use std::marker::PhantomData;
 use stream_errors::parser_error::ParserError;
@@ -39,7 +40,7 @@ impl<P: Parser<I, O, E>, I: Stream, O: Drop, E: ParserError<I>> Parser<I, (), E>
 
     ghost meaning = { λ form. NotRuns (P.meaning form) };
 
-    ghost says = { λ _. nothing_said };
+    ghost says = { λ s. not_says (P.says s) };
 
     ghost claim = { λ s. record {
       premise = (P.claim s).premise × (P.claim s).backtracks;
@@ -47,20 +48,22 @@ impl<P: Parser<I, O, E>, I: Stream, O: Drop, E: ParserError<I>> Parser<I, (), E>
       spares_memory = (P.claim s).spares_memory;
       consumes = ⊥;
       grammar = NotAhead (P.claim s).grammar;
-      decides = (P.claim s).decides;
+      decides = (P.says s).premise;
       alike = λ o q. ⊤;
     } };
 
     ghost leaves_ends = { λ form. not_ends I.reading (P.meaning form) (P.leaves_ends form) };
 
-    ghost said = { λ _. nothing_done };
+    ghost said = { λ s. not_said (P.said s) };
 
     ghost claimed = { λ s. record {
       exact = λ form is. not_exact ((P.claimed s).exact form is.0)
           (softly is.1 ((P.claimed s).fails form is.0));
       fails = λ form is. not_fails (fails_as (λ b. is.1) (λ m. m) ((P.claimed s).fails form is.0));
       takes = λ is never. absurd never;
-      decided = λ form is. not_decided ((P.claimed s).decided form is);
+      decided = λ form is. decided_of I.reading
+          (λ form. not_ends I.reading (P.meaning form) (P.leaves_ends form))
+          (not_said (P.said s)) form is;
     } };
 
     #[inline(always)]

@@ -3,9 +3,10 @@ ghost use Rattle.grammars.specs.Grammar.{Ahead};
 ghost use Rattle.stream_errors.specs.Form.{modal};
 ghost use Rattle.winnow_core.specs.Stable.Grows.{grows, stays};
 ghost use Rattle.winnow_comb.specs.Peek.{PeekRuns};
-ghost use Rattle.winnow_comb.specs.Peek.Laws.{peek_decided, peek_exact, peek_fails, peek_ends};
+ghost use Rattle.winnow_comb.specs.Peek.Laws.{peek_exact, peek_fails, peek_ends};
 ghost use Rattle.winnow_comb.specs.Peek.Laws.{peek_grows};
-ghost use Rattle.winnow_core.specs.Says.{nothing_done, nothing_said};
+ghost use Rattle.winnow_comb.specs.Peek.Says.{peek_said, peek_says};
+ghost use Rattle.winnow_core.specs.Says.Decided.{decided_of};
 
 use std::marker::PhantomData;
 use stream_errors::parser_error::ParserError;
@@ -36,7 +37,7 @@ impl<P: Parser<I, O, E>, I: Stream, O, E: ParserError<I>> Parser<I, O, E> for Pe
 
     ghost meaning = { λ form. PeekRuns (P.meaning form) };
 
-    ghost says = { λ _. nothing_said };
+    ghost says = { λ s. peek_says (P.says s) };
 
     ghost claim = { λ s. record {
       premise = (P.claim s).premise;
@@ -44,19 +45,21 @@ impl<P: Parser<I, O, E>, I: Stream, O, E: ParserError<I>> Parser<I, O, E> for Pe
       spares_memory = (P.claim s).spares_memory;
       consumes = ⊥;
       grammar = Ahead (P.claim s).grammar;
-      decides = (P.claim s).decides;
-      alike = (P.claim s).alike;
+      decides = (P.says s).premise;
+      alike = (P.says s).alike;
     } };
 
     ghost leaves_ends = { λ form. peek_ends I.reading (P.meaning form) (P.leaves_ends form) };
 
-    ghost said = { λ _. nothing_done };
+    ghost said = { λ s. peek_said (P.said s) };
 
     ghost claimed = { λ s. record {
       exact = λ form is. peek_exact ((P.claimed s).exact form is);
       fails = λ form is. peek_fails ((P.claimed s).fails form is);
       takes = λ is never. absurd never;
-      decided = λ form is. peek_decided ((P.claimed s).decided form is);
+      decided = λ form is. decided_of I.reading
+          (λ form. peek_ends I.reading (P.meaning form) (P.leaves_ends form))
+          (peek_said (P.said s)) form is;
     } };
 
     #[inline(always)]

@@ -4,12 +4,12 @@ ghost use Rattle.grammars.specs.Grammar.{Both};
 ghost use Rattle.stream_errors.specs.Form.{modal};
 ghost use Rattle.winnow_core.specs.Exact.Allowed.{fails_as};
 ghost use Rattle.winnow_core.specs.Exact.Along.{either_way};
-ghost use Rattle.winnow_core.specs.InOrder.Decided.{both_decided};
 ghost use Rattle.winnow_core.specs.InOrder.Exact.{both_exact, both_fails, both_takes};
 ghost use Rattle.winnow_core.specs.InOrder.Laws.{both_ends, both_grows};
+ghost use Rattle.winnow_core.specs.InOrder.Says.{both_said, both_says};
 ghost use Rattle.winnow_core.specs.Stable.Grows.{grows, stays};
 ghost use Rattle.winnow_comb.specs.Preceded.{PrecededRuns};
-ghost use Rattle.winnow_core.specs.Says.{nothing_done, nothing_said};
+ghost use Rattle.winnow_core.specs.Says.Decided.{decided_of};
 
 use std::marker::PhantomData;
 use stream_errors::parser_error::ParserError;
@@ -46,7 +46,8 @@ impl<P1: Parser<I, O1, E>, P2: Parser<I, O2, E>, I: Stream, O1: Drop, O2, E: Par
 
     ghost meaning = { λ form. PrecededRuns (P1.meaning form) (P2.meaning form) };
 
-    ghost says = { λ _. nothing_said };
+    ghost says = { λ s. both_says (λ o1 o2. o2) (P2.says s.1).alike
+        (P1.says s.0) (P2.says s.1) };
 
     ghost claim = { λ s. record {
       premise = (P1.claim s.0).premise × (P2.claim s.1).premise;
@@ -54,14 +55,15 @@ impl<P1: Parser<I, O1, E>, P2: Parser<I, O2, E>, I: Stream, O1: Drop, O2, E: Par
       spares_memory = (P1.claim s.0).spares_memory × (P2.claim s.1).spares_memory;
       consumes = (P1.claim s.0).consumes ⊎ (P2.claim s.1).consumes;
       grammar = Both (λ o1 o2. o2) (P1.claim s.0).grammar (P2.claim s.1).grammar;
-      decides = (P1.claim s.0).decides × (P2.claim s.1).decides;
-      alike = (P2.claim s.1).alike;
+      decides = (P1.says s.0).premise × (P2.says s.1).premise;
+      alike = (P2.says s.1).alike;
     } };
 
     ghost leaves_ends = { λ form. both_ends I.reading (λ o1 o2. o2) (P1.meaning form)
         (P2.meaning form) (P1.leaves_ends form) (P2.leaves_ends form) };
 
-    ghost said = { λ _. nothing_done };
+    ghost said = { λ s. both_said (λ o p q r first second. second)
+        (P1.said s.0) (P2.said s.1) };
 
     ghost claimed = { λ s. record {
       exact = λ form is. both_exact ((P1.claimed s.0).exact form is.0)
@@ -72,8 +74,10 @@ impl<P1: Parser<I, O1, E>, P2: Parser<I, O2, E>, I: Stream, O1: Drop, O2, E: Par
       takes = λ is some. both_takes (λ o1 o2. o2) ((P1.claimed s.0).exact modal is.0)
           ((P2.claimed s.1).exact modal is.1)
           (either_way ((P1.claimed s.0).takes is.0) ((P2.claimed s.1).takes is.1) some);
-      decided = λ form is. both_decided (P2.claim s.1).alike (λ o q r u like other. other)
-          ((P1.claimed s.0).decided form is.0) ((P2.claimed s.1).decided form is.1);
+      decided = λ form is. decided_of I.reading
+          (λ form. both_ends I.reading (λ o1 o2. o2) (P1.meaning form) (P2.meaning form)
+          (P1.leaves_ends form) (P2.leaves_ends form))
+          (both_said (λ o p q r first second. second) (P1.said s.0) (P2.said s.1)) form is;
     } };
 
     #[inline(always)]

@@ -4,12 +4,13 @@ ghost use Rattle.grammars.specs.Grammar.{Three};
 ghost use Rattle.stream_errors.specs.Form.{modal};
 ghost use Rattle.winnow_core.specs.Exact.Allowed.{fails_as};
 ghost use Rattle.winnow_core.specs.Exact.Along.{either_way};
-ghost use Rattle.winnow_core.specs.InOrder.Decided.{AlikePairs, three_decided};
+ghost use Rattle.winnow_core.specs.InOrder.Decided.{AlikePairs};
 ghost use Rattle.winnow_core.specs.InOrder.Laws.{three_ends, three_grow};
 ghost use Rattle.winnow_core.specs.InOrder.Three.{three_exact, three_fails, three_takes};
+ghost use Rattle.winnow_core.specs.InOrder.Says.{three_said, three_says};
 ghost use Rattle.winnow_core.specs.Stable.Grows.{grows, stays};
 ghost use Rattle.winnow_comb.specs.SeparatedPair.{SeparatedPairRuns};
-ghost use Rattle.winnow_core.specs.Says.{nothing_done, nothing_said};
+ghost use Rattle.winnow_core.specs.Says.Decided.{decided_of};
 
 use std::marker::PhantomData;
 use stream_errors::parser_error::ParserError;
@@ -55,7 +56,9 @@ impl<
     ghost meaning = { λ form. SeparatedPairRuns (P1.meaning form) (P2.meaning form)
         (P3.meaning form) };
 
-    ghost says = { λ _. nothing_said };
+    ghost says = { λ s. three_says (λ o1 o2 o3. (o1, o3))
+        (AlikePairs (P1.says s.0).alike (P3.says s.2).alike)
+        (P1.says s.0) (P2.says s.1) (P3.says s.2) };
 
     ghost claim = { λ s. record {
       premise = (P1.claim s.0).premise × (P2.claim s.1).premise × (P3.claim s.2).premise;
@@ -67,15 +70,16 @@ impl<
       consumes = ((P1.claim s.0).consumes ⊎ (P2.claim s.1).consumes) ⊎ (P3.claim s.2).consumes;
       grammar = Three (λ o1 o2 o3. (o1, o3)) (P1.claim s.0).grammar (P2.claim s.1).grammar
           (P3.claim s.2).grammar;
-      decides = (P1.claim s.0).decides × (P2.claim s.1).decides × (P3.claim s.2).decides;
-      alike = AlikePairs (P1.claim s.0).alike (P3.claim s.2).alike;
+      decides = (P1.says s.0).premise × (P2.says s.1).premise × (P3.says s.2).premise;
+      alike = AlikePairs (P1.says s.0).alike (P3.says s.2).alike;
     } };
 
     ghost leaves_ends = { λ form. three_ends I.reading (λ o1 o2 o3. (o1, o3)) (P1.meaning form)
         (P2.meaning form) (P3.meaning form) (P1.leaves_ends form) (P2.leaves_ends form)
         (P3.leaves_ends form) };
 
-    ghost said = { λ _. nothing_done };
+    ghost said = { λ s. three_said (λ o p q r x y first second third. (first, third))
+        (P1.said s.0) (P2.said s.1) (P3.said s.2) };
 
     ghost claimed = { λ s. record {
       exact = λ form is. three_exact ((P1.claimed s.0).exact form is.0)
@@ -90,11 +94,12 @@ impl<
           ((P3.claimed s.2).exact modal is.2)
           (either_way (either_way ((P1.claimed s.0).takes is.0)
           ((P2.claimed s.1).takes is.1)) ((P3.claimed s.2).takes is.2) some);
-      decided = λ form is. three_decided
-          (AlikePairs (P1.claim s.0).alike (P3.claim s.2).alike)
-          (λ o q r u x y first between last. (first, last))
-          ((P1.claimed s.0).decided form is.0) ((P2.claimed s.1).decided form is.1)
-          ((P3.claimed s.2).decided form is.2);
+      decided = λ form is. decided_of I.reading
+          (λ form. three_ends I.reading (λ o1 o2 o3. (o1, o3)) (P1.meaning form)
+          (P2.meaning form) (P3.meaning form) (P1.leaves_ends form)
+          (P2.leaves_ends form) (P3.leaves_ends form))
+          (three_said (λ o p q r x y first second third. (first, third)) (P1.said s.0)
+          (P2.said s.1) (P3.said s.2)) form is;
     } };
 
     #[inline(always)]

@@ -6,15 +6,13 @@ ghost use Rattle.grammars.specs.Grammar.FirstOf.{FirstOf, first_of_takes};
 ghost use Rattle.stream_errors.specs.Form.{answer_by, assert_kind, modal};
 ghost use Rattle.winnow_core.specs.ByRef.{ByRefRuns};
 ghost use Rattle.winnow_core.specs.ByRef.Laws.{by_ref_exact, by_ref_fails, by_ref_ends};
-ghost use Rattle.winnow_core.specs.ByRef.Laws.{by_ref_grows};
-ghost use Rattle.winnow_core.specs.Decided.Adapters.{by_ref_decided};
+ghost use Rattle.winnow_core.specs.ByRef.Laws.{by_ref_grows, by_ref_said};
 ghost use Rattle.winnow_core.specs.Exact.Allowed.{fails_as};
 ghost use Rattle.winnow_core.specs.Stable.Grows.{grows, stays};
 ghost use Rattle.winnow_comb.specs.Alt.FirstOf.{asserts, first_of_exact, first_of_fails};
 ghost use Rattle.winnow_comb.specs.Alt.Slice.{AltSliceRuns};
-ghost use Rattle.winnow_comb.specs.Alt.Slice.Decided.{AlikeByOne, alt_slice_decided};
+ghost use Rattle.winnow_comb.specs.Alt.Slice.Says.{choice_said, choice_says};
 ghost use Rattle.winnow_comb.specs.Alt.Slice.Laws.{alt_slice_ends, alt_slice_grows};
-ghost use Rattle.winnow_core.specs.Says.{nothing_done, nothing_said};
 
 use crate::combinator::impls::alt::{Alt, AltParser, attempt};
 use stream_errors::parser_error::ParserError;
@@ -31,7 +29,7 @@ impl<const N: usize, I: Stream, O, E: ParserError<I>, P: Parser<I, O, E>> Alt<I,
 
     ghost meaning = { λ form. AltSliceRuns (P.meaning form) (assert_kind form) };
 
-    ghost says = { λ _. nothing_said };
+    ghost says = { λ s. choice_says P.says s };
 
     ghost claim = { λ s. record {
       premise = All (λ x. (P.claim x).premise × (P.claim x).backtracks) s;
@@ -39,14 +37,14 @@ impl<const N: usize, I: Stream, O, E: ParserError<I>, P: Parser<I, O, E>> Alt<I,
       spares_memory = All (λ x. (P.claim x).spares_memory) s;
       consumes = All (λ x. (P.claim x).consumes) s;
       grammar = FirstOf (λ x. (P.claim x).grammar) s;
-      decides = All (λ x. (P.claim x).decides) s;
-      alike = AlikeByOne (λ x. (P.claim x).alike) s;
+      decides = ⊥;
+      alike = λ o p. o ≡ p;
     } };
 
     ghost leaves_ends = { λ form. alt_slice_ends I.reading (P.meaning form) (assert_kind form)
         (P.leaves_ends form) };
 
-    ghost said = { λ _. nothing_done };
+    ghost said = { λ s. choice_said P.said s };
 
     ghost claimed = { λ s. record {
       exact = λ form is. first_of_exact (P.meaning form) (assert_kind form)
@@ -62,9 +60,7 @@ impl<const N: usize, I: Stream, O, E: ParserError<I>, P: Parser<I, O, E>> Alt<I,
       takes = λ is some. first_of_takes (λ x. (P.claim x).grammar)
           (λ x. (P.claim x).premise) (λ x. (P.claim x).backtracks)
           (λ x. (P.claim x).consumes) (λ x. (P.claimed x).takes) s is some;
-      decided = λ form is. alt_slice_decided (P.meaning form) (assert_kind form)
-          (λ x. (P.claim x).alike) (λ x. (P.claim x).decides)
-          (λ x k. (P.claimed x).decided form k) s is;
+      decided = λ form never. absurd never;
     } };
 
     #[inline(always)]
@@ -100,7 +96,7 @@ impl<'a, I: Stream, O, E: ParserError<I>, P: Parser<I, O, E>> Alt<I, O, E> for &
 
     ghost meaning = { λ form. ByRefRuns (AltSliceRuns (P.meaning form) (assert_kind form)) };
 
-    ghost says = { λ _. nothing_said };
+    ghost says = { λ s. choice_says P.says s.0 };
 
     ghost claim = { λ s. record {
       premise = All (λ x. (P.claim x).premise × (P.claim x).backtracks) s.0;
@@ -108,15 +104,15 @@ impl<'a, I: Stream, O, E: ParserError<I>, P: Parser<I, O, E>> Alt<I, O, E> for &
       spares_memory = All (λ x. (P.claim x).spares_memory) s.0;
       consumes = All (λ x. (P.claim x).consumes) s.0;
       grammar = FirstOf (λ x. (P.claim x).grammar) s.0;
-      decides = All (λ x. (P.claim x).decides) s.0;
-      alike = AlikeByOne (λ x. (P.claim x).alike) s.0;
+      decides = ⊥;
+      alike = λ o p. o ≡ p;
     } };
 
     ghost leaves_ends = { λ form. by_ref_ends I.reading
         (AltSliceRuns (P.meaning form) (assert_kind form))
         (alt_slice_ends I.reading (P.meaning form) (assert_kind form) (P.leaves_ends form)) };
 
-    ghost said = { λ _. nothing_done };
+    ghost said = { λ s. by_ref_said (choice_said P.said s.0) };
 
     ghost claimed = { λ s. record {
       exact = λ form is. by_ref_exact (first_of_exact (P.meaning form) (assert_kind form)
@@ -133,9 +129,7 @@ impl<'a, I: Stream, O, E: ParserError<I>, P: Parser<I, O, E>> Alt<I, O, E> for &
       takes = λ is some. first_of_takes (λ x. (P.claim x).grammar)
           (λ x. (P.claim x).premise) (λ x. (P.claim x).backtracks)
           (λ x. (P.claim x).consumes) (λ x. (P.claimed x).takes) s.0 is some;
-      decided = λ form is. by_ref_decided (alt_slice_decided (P.meaning form) (assert_kind form)
-          (λ x. (P.claim x).alike) (λ x. (P.claim x).decides)
-          (λ x k. (P.claimed x).decided form k) s.0 is);
+      decided = λ form never. absurd never;
     } };
 
     #[inline(always)]

@@ -5,8 +5,8 @@ ghost use Rattle.stream_errors.specs.Form.{modal};
 ghost use Rattle.winnow_comb.specs.Alt.{OrElse};
 ghost use Rattle.winnow_comb.specs.Alt.Claim.{or_else_claim, or_else_claimed};
 ghost use Rattle.winnow_comb.specs.Alt.Laws.{or_else_ends, or_else_grows};
+ghost use Rattle.winnow_comb.specs.Alt.Says.{or_else_said, or_else_says};
 ghost use Rattle.winnow_core.specs.Stable.Grows.{grows, stays};
-ghost use Rattle.winnow_core.specs.Says.{nothing_done, nothing_said};
 
 use crate::combinator::impls::alt::{Alt, AltParser, attempt};
 use stream_errors::parser_error::ParserError;
@@ -23,13 +23,13 @@ impl<I: Stream, O, E: ParserError<I>, P1: Parser<I, O, E>> Alt<I, O, E> for (P1,
 
     ghost meaning = { P1.meaning };
 
-    ghost says = { λ _. nothing_said };
+    ghost says = { P1.says };
 
     ghost claim = { P1.claim };
 
     ghost leaves_ends = { P1.leaves_ends };
 
-    ghost said = { λ _. nothing_done };
+    ghost said = { P1.said };
 
     ghost claimed = { P1.claimed };
 
@@ -56,14 +56,14 @@ impl<I: Stream, O, E: ParserError<I>, P1: Parser<I, O, E>, P2: Parser<I, O, E>> 
 
     ghost meaning = { λ form. OrElse (P1.meaning form) (P2.meaning form) };
 
-    ghost says = { λ _. nothing_said };
+    ghost says = { λ s. or_else_says (P1.says s.0) (P2.says s.1) };
 
     ghost claim = { λ s. or_else_claim (P1.claim s.0) (P2.claim s.1) };
 
     ghost leaves_ends = { λ form. or_else_ends I.reading (P1.meaning form) (P2.meaning form)
         (P1.leaves_ends form) (P2.leaves_ends form) };
 
-    ghost said = { λ _. nothing_done };
+    ghost said = { λ s. or_else_said (P1.said s.0) (P2.said s.1) };
 
     ghost claimed = { λ s. or_else_claimed (P1.claimed s.0) (P2.claimed s.1) };
 
@@ -103,7 +103,7 @@ impl<
     ghost meaning = { λ form. OrElse (P1.meaning form)
         (OrElse (P2.meaning form) (P3.meaning form)) };
 
-    ghost says = { λ _. nothing_said };
+    ghost says = { λ s. or_else_says (P1.says s.0) (or_else_says (P2.says s.1.0) (P3.says s.1.1)) };
 
     ghost claim = { λ s. or_else_claim (P1.claim s.0)
         (or_else_claim (P2.claim s.1.0) (P3.claim s.1.1)) };
@@ -113,7 +113,7 @@ impl<
         (or_else_ends I.reading (P2.meaning form) (P3.meaning form) (P2.leaves_ends form)
         (P3.leaves_ends form)) };
 
-    ghost said = { λ _. nothing_done };
+    ghost said = { λ s. or_else_said (P1.said s.0) (or_else_said (P2.said s.1.0) (P3.said s.1.1)) };
 
     ghost claimed = { λ s. or_else_claimed (P1.claimed s.0)
         (or_else_claimed (P2.claimed s.1.0) (P3.claimed s.1.1)) };
@@ -166,7 +166,8 @@ impl<
     ghost meaning = { λ form. OrElse (P1.meaning form)
         (OrElse (P2.meaning form) (OrElse (P3.meaning form) (P4.meaning form))) };
 
-    ghost says = { λ _. nothing_said };
+    ghost says = { λ s. or_else_says (P1.says s.0)
+        (or_else_says (P2.says s.1.0) (or_else_says (P3.says s.1.1.0) (P4.says s.1.1.1))) };
 
     ghost claim = { λ s. or_else_claim (P1.claim s.0)
         (or_else_claim (P2.claim s.1.0)
@@ -180,7 +181,8 @@ impl<
         (or_else_ends I.reading (P3.meaning form) (P4.meaning form) (P3.leaves_ends form)
         (P4.leaves_ends form))) };
 
-    ghost said = { λ _. nothing_done };
+    ghost said = { λ s. or_else_said (P1.said s.0)
+        (or_else_said (P2.said s.1.0) (or_else_said (P3.said s.1.1.0) (P4.said s.1.1.1))) };
 
     ghost claimed = { λ s. or_else_claimed (P1.claimed s.0)
         (or_else_claimed (P2.claimed s.1.0)
@@ -242,7 +244,10 @@ impl<
         (OrElse (P2.meaning form)
         (OrElse (P3.meaning form) (OrElse (P4.meaning form) (P5.meaning form)))) };
 
-    ghost says = { λ _. nothing_said };
+    ghost says = { λ s. or_else_says (P1.says s.0)
+        (or_else_says (P2.says s.1.0)
+        (or_else_says (P3.says s.1.1.0)
+        (or_else_says (P4.says s.1.1.1.0) (P5.says s.1.1.1.1)))) };
 
     ghost claim = { λ s. or_else_claim (P1.claim s.0)
         (or_else_claim (P2.claim s.1.0)
@@ -261,7 +266,10 @@ impl<
         (or_else_ends I.reading (P4.meaning form) (P5.meaning form) (P4.leaves_ends form)
         (P5.leaves_ends form)))) };
 
-    ghost said = { λ _. nothing_done };
+    ghost said = { λ s. or_else_said (P1.said s.0)
+        (or_else_said (P2.said s.1.0)
+        (or_else_said (P3.said s.1.1.0)
+        (or_else_said (P4.said s.1.1.1.0) (P5.said s.1.1.1.1)))) };
 
     ghost claimed = { λ s. or_else_claimed (P1.claimed s.0)
         (or_else_claimed (P2.claimed s.1.0)
@@ -336,7 +344,11 @@ impl<
         (OrElse (P3.meaning form)
         (OrElse (P4.meaning form) (OrElse (P5.meaning form) (P6.meaning form))))) };
 
-    ghost says = { λ _. nothing_said };
+    ghost says = { λ s. or_else_says (P1.says s.0)
+        (or_else_says (P2.says s.1.0)
+        (or_else_says (P3.says s.1.1.0)
+        (or_else_says (P4.says s.1.1.1.0)
+        (or_else_says (P5.says s.1.1.1.1.0) (P6.says s.1.1.1.1.1))))) };
 
     ghost claim = { λ s. or_else_claim (P1.claim s.0)
         (or_else_claim (P2.claim s.1.0)
@@ -361,7 +373,11 @@ impl<
         (or_else_ends I.reading (P5.meaning form) (P6.meaning form)
         (P5.leaves_ends form) (P6.leaves_ends form))))) };
 
-    ghost said = { λ _. nothing_done };
+    ghost said = { λ s. or_else_said (P1.said s.0)
+        (or_else_said (P2.said s.1.0)
+        (or_else_said (P3.said s.1.1.0)
+        (or_else_said (P4.said s.1.1.1.0)
+        (or_else_said (P5.said s.1.1.1.1.0) (P6.said s.1.1.1.1.1))))) };
 
     ghost claimed = { λ s. or_else_claimed (P1.claimed s.0)
         (or_else_claimed (P2.claimed s.1.0)

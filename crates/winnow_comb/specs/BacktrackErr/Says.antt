@@ -1,0 +1,54 @@
+-- What a part whose errors let others be tried says that it does.
+use Rattle.std.specs.Prelude.{◌≡◌, List, Ok, Err}
+use Rattle.std.proofs.Common.{inl, inr}
+use Rattle.streams.specs.Input.{Input}
+use Rattle.streams.specs.Kind.{Kind, backtrack, cut, incomplete, memory}
+use Rattle.stream_errors.specs.Form.{Answer}
+use Rattle.stream_errors.specs.Mode.{backtrack_of}
+use Rattle.winnow_core.specs.Outcome.{Does, Setting, gave, outcome_of}
+use Rattle.winnow_core.specs.Runs.{Meaning}
+use Rattle.winnow_core.specs.Says.{Did, EachDoes, IsAt, Said, Says}
+use Rattle.winnow_core.specs.Then.{ComesOf, Next, Then, did_then, then_law}
+use Rattle.winnow_core.specs.Then.Steps.{asks_later, asks_meet, asks_on, backs_hold, backs_meet}
+use Rattle.winnow_core.specs.Then.Steps.{backs_on, takes, takes_hold, takes_meet}
+use Rattle.winnow_comb.specs.BacktrackErr.{BacktrackErrRuns}
+
+-- Where the part cuts, the whole backs.
+abbrev pub let_go : {T O : Type 0} → Next T O O
+let_go = record { on_took = takes; on_backs = backs_on; on_cuts = backs_on; on_asks = asks_on }
+
+abbrev pub backtrack_err_says : {T O : Type 0} → Says T O → Says T O
+backtrack_err_says p = record p { does = Then p.does let_go }
+
+came : {T O : Type 0} (at : Setting) (tokens rest : List T) (k : Kind) {answer : Answer O}
+    → answer ≡ Err (backtrack_of k)
+    → ComesOf let_go at tokens (outcome_of (Err k) rest) (outcome_of answer rest)
+came at tokens rest backtrack e = gave rest e
+came at tokens rest cut e = gave rest e
+came at tokens rest (incomplete need) e = gave rest e
+came at tokens rest memory e = gave rest e
+
+did : {S T O : Type 0} {does : Does T O} {s : S} {meaning : Meaning S T O}
+    → EachDoes does s meaning → (at : Setting) (i : Input T) (answer : Answer O) (t : S)
+    (j : Input T) → IsAt at i → BacktrackErrRuns (meaning at.form) s i answer t j
+    → Did (Then does let_go) at s i answer t j
+did part at i answer t j is (inl (o, r, e)) =
+    did_then (part.did at i (Ok o) t j is r) (gave j.left.tokens e)
+did part at i answer t j is (inr (k, r, e)) =
+    did_then (part.did at i (Err k) t j is r) (came at i.left.tokens j.left.tokens k e)
+
+pub backtrack_err_said : {S T O : Type 0} {says : Says T O} {s : S} {meaning : Meaning S T O}
+    → Said says s meaning
+    → Said (backtrack_err_says says) s (λ form. BacktrackErrRuns (meaning form))
+backtrack_err_said p = record {
+  runs = λ is. record { did = did (p.runs is) };
+  law = λ is. then_law (p.law is)
+      (record {
+        took = λ o p same. takes_meet same;
+        backs = backs_meet;
+        cuts = backs_meet;
+        asks = asks_meet;
+      })
+      (record { took = λ o. takes_hold; backs = backs_hold; cuts = backs_hold; asks = asks_later })
+      (λ is. is);
+}

@@ -1,0 +1,65 @@
+-- What a part on a condition says that it does.
+use Rattle.std.specs.Prelude.{Bool, true, false, Option, Some, None, Ok, Err}
+use Rattle.std.proofs.Common.{sym, subst, inl, inr}
+use Rattle.streams.specs.Input.{Input}
+use Rattle.stream_errors.specs.Form.{Answer}
+use Rattle.winnow_core.specs.Outcome.{Does, Setting, gave}
+use Rattle.winnow_core.specs.Runs.{Meaning}
+use Rattle.winnow_core.specs.Says.{Did, EachDoes, IsAt, Lawful, Said, Says}
+use Rattle.winnow_core.specs.Says.Leaf.{here_did}
+use Rattle.winnow_core.specs.States.{pair_is}
+use Rattle.winnow_core.specs.Then.{Next, Then, did_in, then_law}
+use Rattle.winnow_core.specs.Then.Steps.{at_start, at_start_law, fails_on, holds_where, meets_where}
+use Rattle.winnow_core.specs.Then.Steps.{takes, takes_hold, takes_meet, where_took}
+use Rattle.winnow_comb.specs.Cond.{CondRuns}
+use Rattle.winnow_comb.specs.Opt.Laws.{AlikeOptions}
+
+-- What the part took is there.
+abbrev pub is_there : {T O : Type 0} → Next T O (Option O)
+is_there = where_took (λ o. takes (Some o))
+
+-- The part is run where the condition holds, and else nothing is taken.
+abbrev pub DoesWhen : {T O : Type 0} → Bool → Does T O → Does T (Option O)
+DoesWhen true does = Then does is_there
+DoesWhen false does = at_start (takes None)
+
+abbrev pub cond_says : {T O : Type 0} → Bool → Says T O → Says T (Option O)
+cond_says condition p = record {
+  premise = p.premise;
+  stable = p.stable;
+  does = DoesWhen condition p.does;
+  alike = AlikeOptions p.alike;
+}
+
+module _ {S T O : Type 0} {does : Does T O} {s : S × Bool} {meaning : Meaning S T O}
+    (part : EachDoes does s.0 meaning) where
+  did : (at : Setting) (i : Input T) (answer : Answer (Option O)) (t : S × Bool) (j : Input T)
+      → IsAt at i → CondRuns (meaning at.form) s i answer t j
+      → Did (DoesWhen s.1 does) at s i answer t j
+  did at i answer t j is (inl (o, holds, r, e), kept) =
+      let P : Bool → Type 0 = λ b. Did (DoesWhen b does) at s i answer t j in
+      let did = part.did at i (Ok o) t.0 j is r in
+      subst P (sym holds) (did_in s t (pair_is did.kept kept) did (gave j.left.tokens e))
+  did at i answer t j is (inr (inl (k, holds, r, e)), kept) =
+      let P : Bool → Type 0 = λ b. Did (DoesWhen b does) at s i answer t j in
+      let did = part.did at i (Err k) t.0 j is r in
+      subst P (sym holds) (did_in s t (pair_is did.kept kept) did
+      (fails_on (λ o. takes (Some o)) at i.left.tokens j.left.tokens k e))
+  did at i answer t j is (inr (inr (fails, e, same, back)), kept) =
+      let P : Bool → Type 0 = λ b. Did (DoesWhen b does) at s i answer t j in
+      let Q : S × Bool → Type 0 = λ u. Did (DoesWhen false does) at s i answer u j in
+      subst P (sym fails) (subst Q (sym (pair_is same kept)) (here_did back (gave i.left.tokens e)))
+
+law : {T O : Type 0} (condition : Bool) {stable : Type 0} {alike : O → O → Type 0}
+    {does : Does T O} → Lawful stable alike does
+    → Lawful stable (AlikeOptions alike) (DoesWhen condition does)
+law true p = then_law p (meets_where (λ o p same. takes_meet same))
+    (holds_where (λ o. takes_hold)) (λ is. is)
+law false p = at_start_law (takes_meet tt) takes_hold
+
+pub cond_said : {S T O : Type 0} {says : Says T O} {s : S × Bool} {meaning : Meaning S T O}
+    → Said says s.0 meaning → Said (cond_says s.1 says) s (λ form. CondRuns (meaning form))
+cond_said {s = s} p = record {
+  runs = λ is. record { did = did (p.runs is) };
+  law = λ is. law s.1 (p.law is);
+}
