@@ -6,6 +6,7 @@ use Rattle.stream_errors.specs.Form.{Answer, ErrorForm, modal}
 use Rattle.winnow_core.specs.Outcome.{Outcome, asks, Setting, on_cut, grown, Does, outcome_of, IsFinal}
 use Rattle.winnow_core.specs.Outcome.{longer, Alike}
 use Rattle.winnow_core.specs.Runs.{Meaning}
+pub mod Cases
 pub mod Decided
 pub mod Lacks
 pub mod Leaf
