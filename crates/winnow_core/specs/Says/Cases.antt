@@ -36,6 +36,10 @@ LacksWhere need so at tokens y = so at tokens × (y ≡ lacks at (need tokens) t
 abbrev pub MisusedWhere : {T O : Type 0} → Type 0 → Does T O
 MisusedWhere so at tokens y = so × (y ≡ misused at tokens)
 
+-- What is done where this holds.
+abbrev pub Given : {T O : Type 0} → Type 0 → Does T O → Does T O
+Given so does at tokens y = so × does at tokens y
+
 -- The one case or the other.
 abbrev pub OneCase : {T O : Type 0} → Does T O → Does T O → Does T O
 OneCase first other at tokens y = first at tokens y ⊎ other at tokens y
@@ -123,6 +127,14 @@ module _ {T O : Type 0} {stable : Type 0} {alike : O → O → Type 0} where
     one = λ at tokens x y (a, e) (b, f). both alike e f (one_misused alike at.form tokens);
     whole = λ at tokens need place is (a, e). never_misused at.form need tokens place e;
     stays = λ is more flag tokens x final (a, e). (a, as_longer more e);
+  }
+
+  pub given_law : {so : Type 0} {does : Does T O} → (so → Lawful stable alike does)
+      → Lawful stable alike (Given so does)
+  given_law law = record {
+    one = λ at tokens x y (a, d) (b, e). (law a).one at tokens x y d e;
+    whole = λ at tokens need place is (a, d). (law a).whole at tokens need place is d;
+    stays = λ is more flag tokens x final (a, d). (a, (law a).stays is more flag tokens x final d);
   }
 
   -- cases of which at most one is so

@@ -34,7 +34,7 @@ module _ {T : Type 0} (member : T → Bool → Type 0) (greatest : Option ℕ)
       (subst P (sym (one_longest member greatest once a b)) (sym a.splits ∙ b.splits))
 
   -- all of an input that is open are members, so its longest beginning does not end
-  open_ends : {P : Type 0} (tokens front rest : List T) → IsOpen member greatest tokens
+  pub open_ends : {P : Type 0} (tokens front rest : List T) → IsOpen member greatest tokens
       → IsLongest member greatest tokens front rest → IsEnded member greatest front rest → P
   open_ends tokens front rest (all, below) longest (inr full) =
       let whole = ap length longest.splits in
