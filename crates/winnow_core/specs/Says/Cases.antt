@@ -1,14 +1,11 @@
 -- Parsers with no parts, by cases: what is done in each, and what each owes.
-use Rattle.std.specs.Prelude.{◌≡◌, ◌⊎◌, ℕ, Bool, true, false, List, ◌++◌, Option, Err}
-use Rattle.std.proofs.Common.{refl, sym, ap, inl, inr, ◌∙◌}
-use Rattle.streams.specs.Input.{Input}
-use Rattle.streams.specs.Kind.{Kind}
-use Rattle.stream_errors.specs.Form.{Answer, ErrorForm, assert_kind, incomplete_kind, plain, modal}
+use Rattle.std.specs.Prelude.{◌≡◌, ◌⊎◌, ℕ, Bool, false, List, ◌++◌, Option}
+use Rattle.std.proofs.Common.{refl, inl, inr}
 use Rattle.winnow_core.specs.Outcome.{Outcome, took, backs, asks, Setting, on_cut, grown, Does}
-use Rattle.winnow_core.specs.Outcome.{Alike, IsFinal, lacks, lacks_by, misused, misused_by}
-use Rattle.winnow_core.specs.Outcome.{as_longer, both, final_by, gave, longer, outcome_of}
-use Rattle.winnow_core.specs.Says.{IsAt, Lawful}
-use Rattle.winnow_core.specs.Short.{ShortKind}
+use Rattle.winnow_core.specs.Outcome.{Alike, IsFinal, as_longer, both, final_by, lacks, longer}
+use Rattle.winnow_core.specs.Outcome.{misused}
+use Rattle.winnow_core.specs.Says.{Lawful}
+use Rattle.winnow_core.specs.Says.Lacks.{lacks_alike, lacks_whole, misused_alike, misused_whole}
 
 -- A case: whether it is so, and what is then left.
 abbrev pub Case : Type 0 → Type 1
@@ -43,32 +40,6 @@ Given so does at tokens y = so × does at tokens y
 -- The one case or the other.
 abbrev pub OneCase : {T O : Type 0} → Does T O → Does T O → Does T O
 OneCase first other at tokens y = first at tokens y ⊎ other at tokens y
-
--- ---- what is asked for is not final, and on a whole input nothing is
-
-whole_lacks : {T O P : Type 0} (form : ErrorForm) (more : Bool) (asked need : Option ℕ)
-    (tokens place : List T) → more ≡ false
-    → ◌≡◌ {A = Outcome T O} (asks need place) (lacks_by form more asked tokens) → P
-whole_lacks plain more asked need tokens place is e = absurd (cc)
-whole_lacks modal true asked need tokens place is e = absurd (cc)
-whole_lacks modal false asked need tokens place is e = absurd (cc)
-
-never_misused : {T O P : Type 0} (form : ErrorForm) (need : Option ℕ) (tokens place : List T)
-    → ◌≡◌ {A = Outcome T O} (asks need place) (misused_by form tokens) → P
-never_misused plain need tokens place e = absurd (cc)
-never_misused modal need tokens place e = absurd (cc)
-
-one_misused : {T O : Type 0} (alike : O → O → Type 0) (form : ErrorForm) (tokens : List T)
-    → Alike alike (misused_by form tokens) (misused_by form tokens)
-one_misused alike plain tokens = refl
-one_misused alike modal tokens = refl
-
-one_lacks : {T O : Type 0} (alike : O → O → Type 0) (form : ErrorForm) (more : Bool)
-    (need : Option ℕ) (tokens : List T)
-    → Alike alike (lacks_by form more need tokens) (lacks_by form more need tokens)
-one_lacks alike plain more need tokens = refl
-one_lacks alike modal true need tokens = (refl, refl)
-one_lacks alike modal false need tokens = refl
 
 -- ---- each case is lawful by itself
 
@@ -115,17 +86,17 @@ module _ {T O : Type 0} {stable : Type 0} {alike : O → O → Type 0} where
       → Lawful stable alike (LacksWhere need so)
   lacks_law {need} = record {
     one = λ at tokens x y (a, e) (b, f).
-        both alike e f (one_lacks alike at.form at.more (need tokens) tokens);
-    whole = λ at tokens asked place is (a, e). 
-        whole_lacks at.form at.more (need tokens) asked tokens place is e;
+        both alike e f (lacks_alike alike at (need tokens) tokens);
+    whole = λ at tokens other place is (a, e).
+        lacks_whole at (need tokens) other tokens place is e;
     stays = λ is more flag tokens x final (a, e).
         absurd (final_by {y = asks (need tokens) tokens} e final);
   }
 
   pub misused_law : {so : Type 0} → Lawful {T = T} {O = O} stable alike (MisusedWhere so)
   misused_law = record {
-    one = λ at tokens x y (a, e) (b, f). both alike e f (one_misused alike at.form tokens);
-    whole = λ at tokens need place is (a, e). never_misused at.form need tokens place e;
+    one = λ at tokens x y (a, e) (b, f). both alike e f (misused_alike alike at tokens);
+    whole = λ at tokens need place is (a, e). misused_whole at tokens need place e;
     stays = λ is more flag tokens x final (a, e). (a, as_longer more e);
   }
 
@@ -163,45 +134,3 @@ module _ {T O : Type 0} {stable : Type 0} {alike : O → O → Type 0} where
           → OneCase first other (grown flag) (tokens ++ more) (longer more x)
       stays is more flag tokens x final (inl a) = inl (p.stays is more flag tokens x final a)
       stays is more flag tokens x final (inr b) = inr (q.stays is more flag tokens x final b)
-
--- ---- what runs answer
-
-incomplete_by : {T O : Type 0} (form : ErrorForm) (need : Option ℕ) (tokens : List T)
-    → outcome_of {T = T} {O = O} (Err (incomplete_kind form need)) tokens
-    ≡ lacks_by form true need tokens
-incomplete_by plain need tokens = refl
-incomplete_by modal need tokens = refl
-
-backs_by : {T O : Type 0} (form : ErrorForm) (need : Option ℕ) (tokens : List T)
-    → ◌≡◌ {A = Outcome T O} (backs tokens) (lacks_by form false need tokens)
-backs_by plain need tokens = refl
-backs_by modal need tokens = refl
-
-assert_by : {T O : Type 0} (form : ErrorForm) (tokens : List T)
-    → outcome_of {T = T} {O = O} (Err (assert_kind form)) tokens ≡ misused_by form tokens
-assert_by plain tokens = refl
-assert_by modal tokens = refl
-
-module _ {T O : Type 0} {at : Setting} {answer : Answer O} where
-  -- a cut input is too short
-  pub cut_lacks : {i : Input T} → IsAt at i → (need : Option ℕ) (tokens : List T)
-      → i.status.cut ≡ true → answer ≡ Err (incomplete_kind at.form need)
-      → outcome_of answer tokens ≡ lacks at need tokens
-  cut_lacks here need tokens is e =
-      gave tokens e ∙ incomplete_by at.form need tokens
-      ∙ ap (λ b. lacks_by at.form b need tokens) (sym is ∙ here.more)
-
-  -- an input is too short
-  pub short_lacks : {i : Input T} → IsAt at i → (need : Option ℕ) (tokens : List T) {k : Kind}
-      → ShortKind at.form need i k → answer ≡ Err k
-      → outcome_of answer tokens ≡ lacks at need tokens
-  short_lacks here need tokens (inl (is, kind)) e =
-      cut_lacks here need tokens is (e ∙ ap Err kind)
-  short_lacks here need tokens (inr (whole, kind)) e =
-      gave tokens (e ∙ ap Err kind) ∙ backs_by at.form need tokens
-      ∙ ap (λ b. lacks_by at.form b need tokens) (sym whole ∙ here.more)
-
--- a parser was made or called wrongly
-pub misused_gave : {T O : Type 0} (at : Setting) {answer : Answer O} (tokens : List T)
-    → answer ≡ Err (assert_kind at.form) → outcome_of answer tokens ≡ misused at tokens
-misused_gave at tokens e = gave tokens e ∙ assert_by at.form tokens

@@ -13,19 +13,22 @@ use Rattle.stream_searches.specs.FindSlice.{IsFirstMatch, Stands}
 use Rattle.stream_searches.specs.FirstMatch.{StaysFirst}
 use Rattle.stream_sets.specs.Longest.{within_is}
 use Rattle.stream_sets.specs.Range.{Bounds, IsWithin}
-use Rattle.stream_errors.specs.Form.{Answer}
+use Rattle.stream_errors.specs.Form.{Answer, ErrorForm}
 use Rattle.winnow_core.specs.Decided.Adapters.{as_long_front}
 use Rattle.winnow_core.specs.Literal.Laws.{ShowSame}
+use Rattle.winnow_core.specs.Decided.{IsDecided}
 use Rattle.winnow_core.specs.Outcome.{Does, Outcome, Setting, gave, grown, on_cut}
 use Rattle.winnow_core.specs.Runs.{Keeps}
 use Rattle.winnow_core.specs.Says.{Did, IsAt, Lawful, Said, Says}
 use Rattle.winnow_core.specs.Says.Cases.{Case, FailsWhere, LacksWhere, OneCase, TakesWhere}
-use Rattle.winnow_core.specs.Says.Cases.{cases_law, fails_law, lacks_law, misused_gave}
-use Rattle.winnow_core.specs.Says.Cases.{short_lacks, takes_law}
+use Rattle.winnow_core.specs.Says.Cases.{cases_law, fails_law, lacks_law}
+use Rattle.winnow_core.specs.Says.Cases.{takes_law}
+use Rattle.winnow_core.specs.Says.Decided.{decided_of}
+use Rattle.winnow_core.specs.Says.Lacks.{misused_outcome, short_outcome}
 use Rattle.winnow_core.specs.Says.Leaf.{here_did, leaf_said, takes_did}
 use Rattle.winnow_token.specs.TakeUntil.{TakeUntilRuns}
 use Rattle.winnow_token.specs.TakeUntil.Known.{StandsNowhere}
-use Rattle.winnow_token.specs.TakeUntil.Laws.{match_more}
+use Rattle.winnow_token.specs.TakeUntil.Laws.{match_more, take_until_ends}
 use Rattle.winnow_token.specs.TakeWhile.Says.{InBounds, bounds_law}
 
 -- As many tokens as the bounds say stand before the first match, and a slice shows them.
@@ -160,11 +163,11 @@ module _ {X T L : Type 0} (reading : Reading T L) (sought : X → List T → Typ
           → TakeUntilRuns reading at.form (sought x) (bounds x) i answer j
           → Did (take_until_says reading (sought x) (bounds x)).does at x i answer x j
       did at i answer j here (inl (most, is, below, e, same)) =
-          here_did same (inl ((most, is, below), misused_gave at i.left.tokens e))
+          here_did same (inl ((most, is, below), misused_outcome at i.left.tokens e))
       did at i answer j here (inr (inl (k, within, nowhere, short, e, same))) =
           here_did same (inr (
             within,
-            inl (inl nowhere, short_lacks here None i.left.tokens short e),
+            inl (inl nowhere, short_outcome at i None k i.left.tokens here short e),
           ))
       did at i answer j here (inr (inr (inl (start, end, m, slice, enough, fits, takes, e)))) =
           let before = match_before reading m j.left.tokens takes.passed.tokens in
@@ -191,7 +194,7 @@ module _ {X T L : Type 0} (reading : Reading T L) (sought : X → List T → Typ
           let before = match_before reading m rest m.stands.splits in
           here_did same (inr (within, inl (
             inr (m.front, rest, before, few, most, is),
-            short_lacks here None i.left.tokens short e,
+            short_outcome at i None k i.left.tokens here short e,
           )))
       did at i answer j here (inr (inr (inr (inr (start, end, m, most, is, le, much, e, same))))) =
           let rest = m.found ++ m.rest in
@@ -201,3 +204,14 @@ module _ {X T L : Type 0} (reading : Reading T L) (sought : X → List T → Typ
             (m.front, rest, before, inr (most, is, much)),
             gave i.left.tokens e,
           ))))
+
+-- one state and one input decide their runs
+pub take_until_decided : {X T L : Type 0} (reading : Reading T L) (form : ErrorForm)
+    (sought : X → List T → Type 0) (bounds : X → Bounds) (x : X)
+    → StaysFirst reading.units (sought x)
+    → IsDecided x (Keeps (λ y. TakeUntilRuns reading form (sought y) (bounds y)))
+    (ShowSame reading)
+take_until_decided reading form sought bounds x stays =
+    decided_of reading (λ f y i answer t j r.
+    take_until_ends reading f (sought y) (bounds y) i answer j r.0)
+    (take_until_said reading sought bounds x stays) form tt

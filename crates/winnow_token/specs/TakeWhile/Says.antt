@@ -1,25 +1,30 @@
 -- What takes by set say that they do.
-use Rattle.std.specs.Prelude.{◌≡◌, ◌⊎◌, ◌<◌, ◌≤◌, ⊤, ℕ, Bool, true, false, List, ◌++◌, length}
-use Rattle.std.specs.Prelude.{Option, Some}
-use Rattle.std.proofs.Common.{refl, sym, ap, subst, inl, inr, ◌∙◌, arith}
+use Rattle.std.specs.Prelude.{◌≡◌, ◌⊎◌, ◌<◌, ◌≤◌, ◌+◌, ⊤, ℕ, Bool, true, false, List, [], ◌∷◌}
+use Rattle.std.specs.Prelude.{◌++◌, length, Option, Some}
+use Rattle.std.specs.List.{All}
+use Rattle.std.proofs.Common.{refl, sym, ap, subst, inl, inr, ◌∙◌, arith, length-append}
+use Rattle.std.proofs.lemmas.List.{append_cancel_right}
+use Rattle.std.proofs.lemmas.List.Elements.{All-head, All-tail}
 use Rattle.streams.specs.Equal.{same_rest, true_is_false}
 use Rattle.streams.specs.Input.{Input}
 use Rattle.streams.specs.Reading.{Reading}
 use Rattle.stream_sets.specs.Longest.{IsLongest, one_longest, within_is}
 use Rattle.stream_sets.specs.Once.{TellsOnce}
-use Rattle.stream_sets.specs.Range.{Bounds, IsWithin}
-use Rattle.stream_errors.specs.Form.{Answer}
+use Rattle.stream_sets.specs.Range.{Bounds, IsBelow, IsWithin}
+use Rattle.stream_errors.specs.Form.{Answer, ErrorForm}
 use Rattle.winnow_core.specs.Literal.Laws.{ShowSame}
+use Rattle.winnow_core.specs.Decided.{IsDecided}
 use Rattle.winnow_core.specs.Outcome.{Does, Outcome, Setting, gave, grown, on_cut, took}
 use Rattle.winnow_core.specs.Runs.{Keeps}
 use Rattle.winnow_core.specs.Says.{Did, IsAt, Lawful, Said, Says}
 use Rattle.winnow_core.specs.Says.Cases.{Case, FailsWhere, Given, LacksWhere, MisusedWhere, OneCase}
-use Rattle.winnow_core.specs.Says.Cases.{TakesWhere, cases_law, cut_lacks, fails_law, given_law}
-use Rattle.winnow_core.specs.Says.Cases.{lacks_law, misused_gave, misused_law, takes_law}
+use Rattle.winnow_core.specs.Says.Cases.{TakesWhere, cases_law, fails_law, given_law}
+use Rattle.winnow_core.specs.Says.Cases.{lacks_law, misused_law, takes_law}
+use Rattle.winnow_core.specs.Says.Decided.{decided_of}
+use Rattle.winnow_core.specs.Says.Lacks.{misused_outcome, short_outcome}
 use Rattle.winnow_core.specs.Says.Leaf.{here_did, leaf_said, takes_did}
 use Rattle.winnow_token.specs.TakeWhile.{IsEnded, IsOpen, TakeWhileRuns, missing_of}
-use Rattle.winnow_token.specs.TakeWhile.Decided.{one_beginning, open_ends}
-use Rattle.winnow_token.specs.TakeWhile.Laws.{ended_more, ended_of, longest_more}
+use Rattle.winnow_token.specs.TakeWhile.Laws.{ended_more, ended_of, longest_more, take_while_ends}
 
 -- The greatest number is below the least.
 abbrev pub IsDescending : Bounds → Type 0
@@ -77,6 +82,40 @@ take_while_says reading member bounds = record {
   does = InBounds bounds (TakeWhileDoes reading member bounds);
   alike = ShowSame reading;
 }
+
+below_is : {greatest : Option ℕ} {most n : ℕ} → greatest ≡ Some most → IsBelow greatest n
+    → n < most
+below_is {n = n} e within =
+    let P : Option ℕ → Type 0 = λ g. IsBelow g n in subst P e within
+
+module _ {T : Type 0} (member : T → Bool → Type 0) (greatest : Option ℕ)
+    (once : TellsOnce member) where
+  -- two longest beginnings of members are the same
+  one_beginning : {tokens : List T} (f g : List T) {rest more : List T}
+      → IsLongest member greatest tokens f rest → IsLongest member greatest tokens g more → f ≡ g
+  one_beginning f g {rest} {more} a b =
+      let P : List T → Type 0 = λ l. f ++ rest ≡ g ++ l in
+      append_cancel_right f g rest
+      (subst P (sym (one_longest member greatest once a b)) (sym a.splits ∙ b.splits))
+
+  -- all of an input that is open are members, so its longest beginning does not end
+  open_ends : {P : Type 0} (tokens front rest : List T) → IsOpen member greatest tokens
+      → IsLongest member greatest tokens front rest → IsEnded member greatest front rest → P
+  open_ends tokens front rest (all, below) longest (inr full) =
+      let whole = ap length longest.splits in
+      absurd (omega (arith, below_is full below, whole, length-append front rest))
+  open_ends tokens front rest (all, below) longest (inl (x, more, is, lacks)) =
+      absurd (stands tokens front rest all longest.splits x more is lacks)
+    where
+      stands : (tokens front rest : List T) → All (λ t. member t true) tokens
+          → tokens ≡ front ++ rest → (x : T) (more : List T) → rest ≡ x ∷ more → member x false → ⊥
+      stands tokens [] rest all e x more is lacks =
+          let P : List T → Type 0 = λ l. All (λ t. member t true) l in
+          once x (All-head (λ t. member t true) x more (subst P (e ∙ is) all)) lacks
+      stands tokens (y ∷ f) rest all e x more is lacks =
+          let P : List T → Type 0 = λ l. All (λ t. member t true) l in
+          stands (f ++ rest) f rest (All-tail (λ t. member t true) y (f ++ rest) (subst P e all))
+          refl x more is lacks
 
 module _ {T L : Type 0} (reading : Reading T L) (member : T → Bool → Type 0) (bounds : Bounds)
     (once : TellsOnce member) where
@@ -163,11 +202,11 @@ module _ {X T L : Type 0} (reading : Reading T L) (member : X → T → Bool →
           → TakeWhileRuns reading at.form (member x) (bounds x) i answer j
           → Did (take_while_says reading (member x) (bounds x)).does at x i answer x j
       did at i answer j here (inl (most, is, below, e, same)) =
-          here_did same (inl ((most, is, below), misused_gave at i.left.tokens e))
+          here_did same (inl ((most, is, below), misused_outcome at i.left.tokens e))
       did at i answer j here (inr (inl (within, all, cut, e, same))) =
           here_did same (inr (
             within,
-            inl ((all, sym here.more ∙ cut), cut_lacks here _ i.left.tokens cut e),
+            inl ((all, sym here.more ∙ cut), short_outcome at i _ _ i.left.tokens here (inl (cut, refl)) e),
           ))
       did at i answer j here
           (inr (inr (inl (front, rest, slice, within, longest, ended, enough, takes, e)))) =
@@ -184,3 +223,13 @@ module _ {X T L : Type 0} (reading : Reading T L) (member : X → T → Bool →
             (front, rest, longest, over front rest here ended, few),
             gave i.left.tokens e,
           ))))
+
+-- one state and one input decide their runs
+pub take_while_decided : {X T L : Type 0} (reading : Reading T L) (form : ErrorForm)
+    (member : X → T → Bool → Type 0) (bounds : X → Bounds) (x : X) → TellsOnce (member x)
+    → IsDecided x (Keeps (λ y. TakeWhileRuns reading form (member y) (bounds y)))
+    (ShowSame reading)
+take_while_decided reading form member bounds x once =
+    decided_of reading (λ f y i answer t j r.
+    take_while_ends reading f (member y) (bounds y) i answer j r.0)
+    (take_while_said reading member bounds x) form once
