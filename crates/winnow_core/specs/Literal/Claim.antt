@@ -6,9 +6,10 @@ use Rattle.grammars.specs.Grammar.Unique.{literally_takes}
 use Rattle.winnow_core.specs.Claim.{Claim, Claimed}
 use Rattle.winnow_core.specs.Exact.Allowed.{backs}
 use Rattle.winnow_core.specs.Literal.{LiteralRuns}
-use Rattle.winnow_core.specs.Literal.Laws.{ShowSame, literal_decided, literal_exact}
-use Rattle.winnow_core.specs.Literal.Laws.{literal_fails}
+use Rattle.winnow_core.specs.Literal.Laws.{ShowSame, literal_ends, literal_exact, literal_fails}
+use Rattle.winnow_core.specs.Literal.Says.{literal_said}
 use Rattle.winnow_core.specs.Runs.{Keeps}
+use Rattle.winnow_core.specs.Says.Decided.{decided_of}
 
 -- A literal that stands for the lists `spells`, of which the output is made by `output`.
 abbrev pub literal_claim : {S T L O : Type 0} → Reading T L → (S → List T → Type 0)
@@ -34,6 +35,7 @@ literal_claimed reading spells output alike s same_units shown = record {
   exact = λ form is. literal_exact reading form spells output (λ y. y) s same_units;
   fails = λ form is. backs (literal_fails reading form spells output (λ y. y) s);
   takes = λ is some. literally_takes reading spells output s some;
-  decided = λ form is.
-      literal_decided reading form spells output (λ y. y) alike s same_units shown;
+  decided = decided_of reading (λ form t i answer u j r.
+      literal_ends reading form (spells t) (output t) i answer j r.0)
+      (literal_said reading spells output alike s same_units shown);
 }

@@ -85,7 +85,7 @@ ShowSame {T} reading slice other =
     (front : List T) × reading.shows slice front × reading.shows other front
 
 -- tokens that stand first in some are no longer than these
-not_longer : {P T L : Type 0} (reading : Reading T L) (tokens front rest more : List T) (x : T)
+pub not_longer : {P T L : Type 0} (reading : Reading T L) (tokens front rest more : List T) (x : T)
     → tokens ≡ front ++ rest → reading.units front ≡ reading.units (tokens ++ x ∷ more) → P
 not_longer reading tokens front rest more x e u =
     let whole = ap reading.units e in

@@ -5,9 +5,9 @@ ghost use Rattle.winnow_core.specs.Literal.{LiteralRuns};
 ghost use Rattle.winnow_core.specs.Literal.Claim.{literal_claim, literal_claimed};
 ghost use Rattle.winnow_core.specs.Literal.Laws.{ShowSame, literal_ends};
 ghost use Rattle.winnow_core.specs.Literal.Laws.{literal_stays};
+ghost use Rattle.winnow_core.specs.Literal.Says.{literal_said, literal_says};
 ghost use Rattle.winnow_core.specs.Runs.{Keeps};
 ghost use Rattle.winnow_core.specs.Stable.Grows.{leaf_stays};
-ghost use Rattle.winnow_core.specs.Says.{nothing_done, nothing_said};
 
 use crate::literal::take_literal;
 use crate::parser::Parser;
@@ -28,14 +28,15 @@ impl<I: StreamIsPartial + Compare<u8>, E: ParserError<I>> Parser<I, u8, E> for u
 
     ghost meaning = { λ form. Keeps (λ s. LiteralRuns I.reading form (I.spells s) (λ _. s)) };
 
-    ghost says = { λ _. nothing_said };
+    ghost says = { λ s. literal_says I.reading (I.spells s) (λ _. s) (λ o q. o ≡ q) };
 
     ghost claim = { literal_claim I.reading I.spells (λ s _. s) (λ o q. o ≡ q) };
 
     ghost leaves_ends = { λ form s i answer t j r. literal_ends I.reading form (I.spells s)
         (λ _. s) i answer j r.0 };
 
-    ghost said = { λ _. nothing_done };
+    ghost said = { λ s. literal_said I.reading I.spells (λ s _. s) (λ o q. o ≡ q) s
+        (I.same_units s) (λ slice other shown. refl) };
 
     ghost claimed = { λ s. literal_claimed I.reading I.spells (λ s _. s) (λ o q. o ≡ q) s
         (I.same_units s) (λ slice other shown. refl) };
@@ -64,14 +65,16 @@ impl<'t, I: StreamIsPartial + Compare<&'t [u8]>, E: ParserError<I>> Parser<I, I:
     ghost meaning = { λ form. Keeps
         (λ s. LiteralRuns I.reading form (I.spells s) (λ slice. slice)) };
 
-    ghost says = { λ _. nothing_said };
+    ghost says = { λ s. literal_says I.reading (I.spells s) (λ slice. slice)
+        (ShowSame I.reading) };
 
     ghost claim = { literal_claim I.reading I.spells (λ _ slice. slice) (ShowSame I.reading) };
 
     ghost leaves_ends = { λ form s i answer t j r. literal_ends I.reading form (I.spells s)
         (λ slice. slice) i answer j r.0 };
 
-    ghost said = { λ _. nothing_done };
+    ghost said = { λ s. literal_said I.reading I.spells (λ _ slice. slice)
+        (ShowSame I.reading) s (I.same_units s) (λ slice other shown. shown) };
 
     ghost claimed = { λ s. literal_claimed I.reading I.spells (λ _ slice. slice)
         (ShowSame I.reading) s (I.same_units s) (λ slice other shown. shown) };
@@ -103,14 +106,16 @@ impl<'t, const N: usize, I: StreamIsPartial + Compare<&'t [u8; N]>, E: ParserErr
     ghost meaning = { λ form. Keeps
         (λ s. LiteralRuns I.reading form (I.spells s) (λ slice. slice)) };
 
-    ghost says = { λ _. nothing_said };
+    ghost says = { λ s. literal_says I.reading (I.spells s) (λ slice. slice)
+        (ShowSame I.reading) };
 
     ghost claim = { literal_claim I.reading I.spells (λ _ slice. slice) (ShowSame I.reading) };
 
     ghost leaves_ends = { λ form s i answer t j r. literal_ends I.reading form (I.spells s)
         (λ slice. slice) i answer j r.0 };
 
-    ghost said = { λ _. nothing_done };
+    ghost said = { λ s. literal_said I.reading I.spells (λ _ slice. slice)
+        (ShowSame I.reading) s (I.same_units s) (λ slice other shown. shown) };
 
     ghost claimed = { λ s. literal_claimed I.reading I.spells (λ _ slice. slice)
         (ShowSame I.reading) s (I.same_units s) (λ slice other shown. shown) };
@@ -143,14 +148,15 @@ impl<I: StreamIsPartial + Compare<char>, E: ParserError<I>> Parser<I, char, E> f
 
     ghost meaning = { λ form. Keeps (λ s. LiteralRuns I.reading form (I.spells s) (λ _. s)) };
 
-    ghost says = { λ _. nothing_said };
+    ghost says = { λ s. literal_says I.reading (I.spells s) (λ _. s) (λ o q. o ≡ q) };
 
     ghost claim = { literal_claim I.reading I.spells (λ s _. s) (λ o q. o ≡ q) };
 
     ghost leaves_ends = { λ form s i answer t j r. literal_ends I.reading form (I.spells s)
         (λ _. s) i answer j r.0 };
 
-    ghost said = { λ _. nothing_done };
+    ghost said = { λ s. literal_said I.reading I.spells (λ s _. s) (λ o q. o ≡ q) s
+        (I.same_units s) (λ slice other shown. refl) };
 
     ghost claimed = { λ s. literal_claimed I.reading I.spells (λ s _. s) (λ o q. o ≡ q) s
         (I.same_units s) (λ slice other shown. refl) };
@@ -179,14 +185,16 @@ impl<'t, I: StreamIsPartial + Compare<&'t str>, E: ParserError<I>> Parser<I, I::
     ghost meaning = { λ form. Keeps
         (λ s. LiteralRuns I.reading form (I.spells s) (λ slice. slice)) };
 
-    ghost says = { λ _. nothing_said };
+    ghost says = { λ s. literal_says I.reading (I.spells s) (λ slice. slice)
+        (ShowSame I.reading) };
 
     ghost claim = { literal_claim I.reading I.spells (λ _ slice. slice) (ShowSame I.reading) };
 
     ghost leaves_ends = { λ form s i answer t j r. literal_ends I.reading form (I.spells s)
         (λ slice. slice) i answer j r.0 };
 
-    ghost said = { λ _. nothing_done };
+    ghost said = { λ s. literal_said I.reading I.spells (λ _ slice. slice)
+        (ShowSame I.reading) s (I.same_units s) (λ slice other shown. shown) };
 
     ghost claimed = { λ s. literal_claimed I.reading I.spells (λ _ slice. slice)
         (ShowSame I.reading) s (I.same_units s) (λ slice other shown. shown) };
@@ -215,14 +223,16 @@ impl<'t, I: StreamIsPartial + Compare<Caseless<&'t [u8]>>, E: ParserError<I>> Pa
     ghost meaning = { λ form. Keeps
         (λ s. LiteralRuns I.reading form (I.spells s) (λ slice. slice)) };
 
-    ghost says = { λ _. nothing_said };
+    ghost says = { λ s. literal_says I.reading (I.spells s) (λ slice. slice)
+        (ShowSame I.reading) };
 
     ghost claim = { literal_claim I.reading I.spells (λ _ slice. slice) (ShowSame I.reading) };
 
     ghost leaves_ends = { λ form s i answer t j r. literal_ends I.reading form (I.spells s)
         (λ slice. slice) i answer j r.0 };
 
-    ghost said = { λ _. nothing_done };
+    ghost said = { λ s. literal_said I.reading I.spells (λ _ slice. slice)
+        (ShowSame I.reading) s (I.same_units s) (λ slice other shown. shown) };
 
     ghost claimed = { λ s. literal_claimed I.reading I.spells (λ _ slice. slice)
         (ShowSame I.reading) s (I.same_units s) (λ slice other shown. shown) };
@@ -255,14 +265,16 @@ impl<
     ghost meaning = { λ form. Keeps
         (λ s. LiteralRuns I.reading form (I.spells s) (λ slice. slice)) };
 
-    ghost says = { λ _. nothing_said };
+    ghost says = { λ s. literal_says I.reading (I.spells s) (λ slice. slice)
+        (ShowSame I.reading) };
 
     ghost claim = { literal_claim I.reading I.spells (λ _ slice. slice) (ShowSame I.reading) };
 
     ghost leaves_ends = { λ form s i answer t j r. literal_ends I.reading form (I.spells s)
         (λ slice. slice) i answer j r.0 };
 
-    ghost said = { λ _. nothing_done };
+    ghost said = { λ s. literal_said I.reading I.spells (λ _ slice. slice)
+        (ShowSame I.reading) s (I.same_units s) (λ slice other shown. shown) };
 
     ghost claimed = { λ s. literal_claimed I.reading I.spells (λ _ slice. slice)
         (ShowSame I.reading) s (I.same_units s) (λ slice other shown. shown) };
@@ -295,14 +307,16 @@ impl<'t, I: StreamIsPartial + Compare<Caseless<&'t str>>, E: ParserError<I>> Par
     ghost meaning = { λ form. Keeps
         (λ s. LiteralRuns I.reading form (I.spells s) (λ slice. slice)) };
 
-    ghost says = { λ _. nothing_said };
+    ghost says = { λ s. literal_says I.reading (I.spells s) (λ slice. slice)
+        (ShowSame I.reading) };
 
     ghost claim = { literal_claim I.reading I.spells (λ _ slice. slice) (ShowSame I.reading) };
 
     ghost leaves_ends = { λ form s i answer t j r. literal_ends I.reading form (I.spells s)
         (λ slice. slice) i answer j r.0 };
 
-    ghost said = { λ _. nothing_done };
+    ghost said = { λ s. literal_said I.reading I.spells (λ _ slice. slice)
+        (ShowSame I.reading) s (I.same_units s) (λ slice other shown. shown) };
 
     ghost claimed = { λ s. literal_claimed I.reading I.spells (λ _ slice. slice)
         (ShowSame I.reading) s (I.same_units s) (λ slice other shown. shown) };
