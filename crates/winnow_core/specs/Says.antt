@@ -7,6 +7,7 @@ use Rattle.winnow_core.specs.Outcome.{Outcome, asks, Setting, on_cut, grown, Doe
 use Rattle.winnow_core.specs.Outcome.{longer, Alike}
 use Rattle.winnow_core.specs.Runs.{Meaning}
 pub mod Along
+pub mod Cases
 pub mod Decided
 pub mod Lacks
 pub mod Leaf

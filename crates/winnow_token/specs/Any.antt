@@ -7,6 +7,7 @@ use Rattle.stream_errors.specs.Form.{ErrorForm, Answer}
 use Rattle.winnow_core.specs.Short.{ShortKind}
 pub mod Known
 pub mod Laws
+pub mod Says
 
 -- A run where no token is left: a cut input lacks one unit.
 abbrev pub NoTokenRuns : {T O : Type 0} → ErrorForm → Input T → Answer O → Input T → Type 0

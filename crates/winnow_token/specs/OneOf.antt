@@ -8,6 +8,7 @@ use Rattle.winnow_token.specs.Any.{NoTokenRuns}
 use Rattle.winnow_token.specs.declared.token.impls.one_of.OneOf.{OneOf}
 pub mod Known
 pub mod Laws
+pub mod Says
 
 -- the set of which the token is to be
 abbrev pub one_of_set : {S I E : Type 0} → OneOf S I E → S

@@ -4,6 +4,7 @@ use Rattle.streams.specs.Input.{Input, Takes}
 use Rattle.streams.specs.Reading.{Reading}
 use Rattle.stream_errors.specs.Form.{Answer}
 pub mod Laws
+pub mod Says
 
 -- A run that takes all that is left, whether more may come or not.
 abbrev pub RestRuns : {T S : Type 0} → Reading T S → Input T → Answer S → Input T → Type 0

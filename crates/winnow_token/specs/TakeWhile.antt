@@ -10,10 +10,10 @@ use Rattle.stream_sets.specs.Range.{Bounds, IsBelow, IsWithin}
 use Rattle.stream_sets.specs.declared.range.Range.{Range}
 use Rattle.stream_errors.specs.Form.{ErrorForm, Answer, incomplete_kind, assert_kind}
 use Rattle.winnow_token.specs.declared.token.impls.take_while.TakeWhile.{TakeWhile}
-pub mod Decided
 pub mod Exact
 pub mod Known
 pub mod Laws
+pub mod Says
 
 -- how many tokens are taken
 abbrev pub take_while_occurrences : {S I E : Type 0} → TakeWhile S I E → Range

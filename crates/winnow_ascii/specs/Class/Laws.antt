@@ -13,7 +13,7 @@ use Rattle.streams.specs.Equal.{true_is_false}
 use Rattle.stream_sets.specs.Once.{TellsOnce, SeesApart, holds_once, seen_once}
 use Rattle.winnow_core.specs.Decided.{IsDecided}
 use Rattle.winnow_core.specs.Literal.Laws.{ShowSame}
-use Rattle.winnow_token.specs.TakeWhile.Decided.{take_while_decided}
+use Rattle.winnow_token.specs.TakeWhile.Says.{take_while_decided}
 use Rattle.grammars.specs.Grammar.{Class, InClass, IsUnique, TakesTokens}
 use Rattle.winnow_core.specs.Exact.{Backtracks, IsExact}
 use Rattle.winnow_token.specs.TakeWhile.Exact.{longest_unique, take_while_exact, take_while_fails}

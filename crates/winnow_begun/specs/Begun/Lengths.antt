@@ -27,7 +27,7 @@ use Rattle.winnow_core.specs.Runs.{Keeps, Runs}
 use Rattle.winnow_core.specs.Stable.{IsFinal}
 use Rattle.winnow_core.specs.Stable.Grows.{final_by, not_whole}
 use Rattle.winnow_token.specs.Take.{TakeRuns}
-use Rattle.winnow_token.specs.Take.Laws.{take_count_decided}
+use Rattle.winnow_token.specs.Take.Says.{take_count_decided}
 
 pub length_asks : {S V T N O : Type 0} (number : N → ℕ) {count : Runs S T N}
     {following : ℕ → Runs V T O} {g : Grammar T N} {b : List T → Type 0}

@@ -6,8 +6,8 @@ ghost use Rattle.winnow_begun.specs.Begun.Searches.{take_until_asks};
 ghost use Rattle.winnow_begun.specs.Begun.Words.{BeforeBegun};
 ghost use Rattle.winnow_core.specs.Stable.Grows.{leaf_stays};
 ghost use Rattle.winnow_token.specs.TakeUntil.{take_until_literal, take_until_occurrences};
-ghost use Rattle.winnow_token.specs.TakeUntil.Decided.{take_until_decided};
 ghost use Rattle.winnow_token.specs.TakeUntil.Laws.{take_until_stays};
+ghost use Rattle.winnow_token.specs.TakeUntil.Says.{take_until_decided};
 
 use crate::begun::Begun;
 use stream_errors::parser_error::ParserError;
@@ -30,5 +30,5 @@ impl<T: Copy, I: StreamIsPartial + FindSlice<T>, E: ParserError<I>> Begun<I, I::
     ghost asks = { λ p is. take_until_asks I.reading (λ x. I.sought x.1) (λ x. bounds_of x.0)
         (take_until_occurrences p, take_until_literal p) is
         (take_until_decided I.reading modal (λ x. I.sought x.1) (λ x. bounds_of x.0)
-        (take_until_occurrences p, take_until_literal p)) };
+        (take_until_occurrences p, take_until_literal p) (I.stays_first (take_until_literal p))) };
 }

@@ -10,7 +10,7 @@ use Rattle.winnow_core.specs.Decided.{IsDecided}
 use Rattle.winnow_core.specs.Literal.Laws.{ShowSame}
 use Rattle.winnow_core.specs.Runs.{Keeps, Runs}
 use Rattle.winnow_token.specs.Take.{TakeRuns}
-use Rattle.winnow_token.specs.Take.Laws.{take_count_decided}
+use Rattle.winnow_token.specs.Take.Says.{take_count_decided}
 
 module _ {S T N L : Type 0} (number : N → ℕ) (reading : Reading T L) (form : ErrorForm)
     (counts : Bool) {count : Runs S T N} {s : S} {alike : N → N → Type 0} where

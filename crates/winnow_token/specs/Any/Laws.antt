@@ -90,43 +90,6 @@ pub token_takes : {K T : Type 0} (seen : K → T) → TakesTokens (Token seen)
 unfolding Token
 token_takes seen = record { fewer = λ tokens k rest e. omega (arith, ap (λ l. length l) e) }
 
--- ---- one state and one input decide it
-
 -- Tokens that are seen as the same.
 abbrev pub SeenSame : {K T : Type 0} → (K → T) → K → K → Type 0
 SeenSame seen k l = seen k ≡ seen l
-
-module _ {K T L : Type 0} (seen : K → T) (reading : Reading T L) (form : ErrorForm) where
-  -- two first tokens that are taken
-  pub same_token : (i j k : Input T) (x y : K) → Passes reading (seen x ∷ []) i j
-      → Passes reading (seen y ∷ []) i k → SeenSame seen x y × (j ≡ k)
-  same_token i j k x y p q =
-      let same = same_first (sym p.tokens ∙ q.tokens) in
-      let P : T → Type 0 = λ t. Passes reading (t ∷ []) i k in
-      (same, same_passed (seen x ∷ []) p (subst P (sym same) q))
-
-  pub no_token : {O : Type 0} (alike : O → O → Type 0) (i : Input T) (a b : Answer O)
-      (j k : Input T)
-      → NoTokenRuns form i a j → NoTokenRuns form i b k → AlikeAnswers alike a b × (j ≡ k)
-  no_token alike i a b j k (l, none, short, e, at) (h, none2, short2, f, at2) =
-      (both_err alike e f (one_short form _ i l h short short2), at ∙ sym at2)
-
-  any_meet : (i : Input T) (a b : Answer K) (j k : Input T) → AnyRuns seen reading form i a j
-      → AnyRuns seen reading form i b k → AlikeAnswers (SeenSame seen) a b × (j ≡ k)
-  any_meet i a b j k (inl (x, p, e)) (inl (y, q, f)) =
-      let (same, place) = same_token i j k x y p q in
-      (both_ok (SeenSame seen) e f same, place)
-  any_meet i a b j k (inl (x, p, e)) (inr (l, none, short, f, at)) = first_of_none none p.tokens
-  any_meet i a b j k (inr (l, none, short, e, at)) (inl (y, q, f)) = first_of_none none q.tokens
-  any_meet i a b j k (inr r) (inr q) = no_token (SeenSame seen) i a b j k r q
-
-  pub any_decided : IsDecided tt (Keeps (λ (_ : ⊤). AnyRuns seen reading form)) (SeenSame seen)
-  any_decided = record {
-    kept = λ i answer t j free (r, same). (same, still i answer j r);
-    decided = λ i a b t u j k na nb (r, same) (q, also). any_meet i a b j k r q;
-  }
-    where
-      still : (i : Input T) (answer : Answer K) (j : Input T) → AnyRuns seen reading form i answer j
-          → j.status ≡ i.status
-      still i answer j (inl (x, passes, e)) = passes.status
-      still i answer j (inr (k, nothing, short, e, same)) = ap (λ z. z.status) same

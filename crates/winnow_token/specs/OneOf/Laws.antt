@@ -45,49 +45,6 @@ one_of_stays seen reading member more flag i answer j is_cut final
 one_of_stays seen reading member more flag i answer j is_cut final (inr (inr none)) =
     no_token_final i is_cut final none
 
--- ---- one state and one input decide it
-
-module _ {X K T L : Type 0} (seen : K → T) (reading : Reading T L) (form : ErrorForm)
-    (tells : X → K → Bool → Type 0) (set : X)
-    (once : TellsOnce (AnswersSeen seen (tells set))) where
-  one_of_meet : (i : Input T) (a b : Answer K) (j k : Input T)
-      → OneOfRuns seen reading form (tells set) i a j
-      → OneOfRuns seen reading form (tells set) i b k
-      → AlikeAnswers (SeenSame seen) a b × (j ≡ k)
-  one_of_meet i a b j k (inl (x, p, has, e)) (inl (y, q, too, f)) =
-      let (same, place) = same_token seen reading form i j k x y p q in
-      (both_ok (SeenSame seen) e f same, place)
-  one_of_meet i a b j k (inl (x, p, has, e)) (inr (inl (y, rest, is, lacks, f, at))) =
-      absurd (once (seen x) (x, refl, has) (y, same_first (sym is ∙ p.tokens), lacks))
-  one_of_meet i a b j k (inl (x, p, has, e)) (inr (inr (l, none, short, f, at))) =
-      first_of_none none p.tokens
-  one_of_meet i a b j k (inr (inl (x, rest, is, lacks, e, at))) (inl (y, q, has, f)) =
-      absurd (once (seen y) (y, refl, has) (x, same_first (sym is ∙ q.tokens), lacks))
-  one_of_meet i a b j k (inr (inl (x, rest, is, lacks, e, at)))
-      (inr (inl (y, more, is2, lacks2, f, at2))) =
-      (both_err (SeenSame seen) e f refl, at ∙ sym at2)
-  one_of_meet i a b j k (inr (inl (x, rest, is, lacks, e, at)))
-      (inr (inr (l, none, short, f, at2))) = first_of_none none is
-  one_of_meet i a b j k (inr (inr (l, none, short, e, at))) (inl (y, q, has, f)) =
-      first_of_none none q.tokens
-  one_of_meet i a b j k (inr (inr (l, none, short, e, at)))
-      (inr (inl (y, rest, is, lacks, f, at2))) = first_of_none none is
-  one_of_meet i a b j k (inr (inr r)) (inr (inr q)) =
-      no_token seen reading form (SeenSame seen) i a b j k r q
-
-  pub one_of_decided : IsDecided set (Keeps (λ x. OneOfRuns seen reading form (tells x)))
-      (SeenSame seen)
-  one_of_decided = record {
-    kept = λ i answer t j free (r, same). (same, still i answer j r);
-    decided = λ i a b t u j k na nb (r, same) (q, also). one_of_meet i a b j k r q;
-  }
-    where
-      still : (i : Input T) (answer : Answer K) (j : Input T)
-          → OneOfRuns seen reading form (tells set) i answer j → j.status ≡ i.status
-      still i answer j (inl (x, passes, has, e)) = passes.status
-      still i answer j (inr (inl (x, rest, is, lacks, e, same))) = ap (λ z. z.status) same
-      still i answer j (inr (inr (k, nothing, short, e, same))) = ap (λ z. z.status) same
-
 -- ---- what it reads
 
 module _ {X K T L : Type 0} (seen : K → T) (reading : Reading T L) (form : ErrorForm)

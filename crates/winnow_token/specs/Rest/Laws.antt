@@ -19,26 +19,6 @@ pub rest_ends : {T L : Type 0} (reading : Reading T L) (i : Input T) (answer : A
     (j : Input T) → RestRuns reading i answer j → IsEndOf reading j i
 rest_ends reading i answer j (slice, takes, none, e) = takes_end takes
 
--- ---- one state and one input decide it
-
-module _ {T L : Type 0} (reading : Reading T L) where
-  pub rest_decided : IsDecided tt (Keeps (λ (_ : ⊤). RestRuns reading)) (ShowSame reading)
-  rest_decided = record {
-    kept = λ i answer t j free ((slice, takes, nothing, e), same). (same, takes.passed.status);
-    decided = λ i a b t u j k na nb ((v, takes, none, e), same) ((w, also, never, f), too). (
-      both_ok (ShowSame reading) e f (i.left.tokens, takes.shown, also.shown),
-      same_passed i.left.tokens takes.passed also.passed,
-    );
-  }
-
-  pub rest_len_decided : IsDecided tt (Keeps (λ (_ : ⊤). RestLenRuns reading))
-      (λ (m n : ℕ). m ≡ n)
-  rest_len_decided = record {
-    kept = λ i answer t j free ((e, back), same). (same, ap (λ z. z.status) back);
-    decided = λ i a b t u j k na nb ((e, back), same) ((f, too), also).
-        (both_ok (λ (m n : ℕ). m ≡ n) e f refl, back ∙ sym too);
-  }
-
 -- ---- what it reads
 
 module _ {T L : Type 0} (reading : Reading T L) where

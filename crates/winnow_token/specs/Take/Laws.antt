@@ -36,46 +36,6 @@ take_stays reading counts n more flag i answer j is_cut final (inl (front, slice
 take_stays reading counts n more flag i answer j is_cut final (inr (k, few, short, e, same)) =
     short_final i is_cut short (final_by (Err k) e final)
 
--- ---- one state and one input decide it
-
--- ---- takes by count
-
-module _ {T L : Type 0} (reading : Reading T L) (form : ErrorForm) (counts : Bool) (n : ℕ) where
-  too_few : {P : Type 0} (i j : Input T) (front : List T) (slice : L) → length front ≡ n
-      → Takes reading front i slice j → length i.left.tokens < n → P
-  too_few i j front slice many takes few =
-      let whole = ap length takes.passed.tokens in
-      absurd (omega (arith, many, whole, few, length-append front j.left.tokens))
-
-  take_meet : (i : Input T) (a b : Answer L) (j k : Input T) → TakeRuns reading form counts n i a j
-      → TakeRuns reading form counts n i b k → AlikeAnswers (ShowSame reading) a b × (j ≡ k)
-  take_meet i a b j k (inl (f, v, many, takes, e)) (inl (g, w, too, takes2, d)) =
-      let same = as_long_front g f k.left.tokens j.left.tokens (too ∙ sym many)
-      (sym takes2.passed.tokens ∙ takes.passed.tokens) in
-      let P : List T → Type 0 = λ l. Takes reading l i w k in
-      let there = subst P same takes2 in (
-        both_ok (ShowSame reading) e d (f, takes.shown, there.shown),
-        same_passed f takes.passed there.passed,
-      )
-  take_meet i a b j k (inl (f, v, many, takes, e)) (inr (l, few, short, d, at)) =
-      too_few i j f v many takes few
-  take_meet i a b j k (inr (l, few, short, e, at)) (inl (g, w, many, takes, d)) =
-      too_few i k g w many takes few
-  take_meet i a b j k (inr (l, few, short, e, at)) (inr (h, few2, short2, d, at2)) =
-      (both_err (ShowSame reading) e d (one_short form _ i l h short short2), at ∙ sym at2)
-
-  pub take_count_decided : IsDecided n (Keeps (λ x. TakeRuns reading form counts x))
-      (ShowSame reading)
-  take_count_decided = record {
-    kept = λ i answer t j free (r, same). (same, still i answer j r);
-    decided = λ i a b t u j k na nb (r, same) (q, also). take_meet i a b j k r q;
-  }
-    where
-      still : (i : Input T) (answer : Answer L) (j : Input T)
-          → TakeRuns reading form counts n i answer j → j.status ≡ i.status
-      still i answer j (inl (front, slice, many, takes, e)) = takes.passed.status
-      still i answer j (inr (k, few, short, e, same)) = ap (λ z. z.status) same
-
 -- ---- what it reads
 
 -- after beginnings of as many tokens the same is left

@@ -30,7 +30,7 @@ take_while_ends reading form member bounds i answer j
     same_ends reading i j same
 
 -- what ended is ended in a longer input
-ended_more : {T : Type 0} (member : T → Bool → Type 0) (greatest : Option ℕ)
+pub ended_more : {T : Type 0} (member : T → Bool → Type 0) (greatest : Option ℕ)
     (front rest more : List T) → IsEnded member greatest front rest
     → IsEnded member greatest front (rest ++ more)
 ended_more member greatest front rest more (inl (x, others, is, stranger)) =
@@ -38,7 +38,7 @@ ended_more member greatest front rest more (inl (x, others, is, stranger)) =
 ended_more member greatest front rest more (inr full) = inr full
 
 -- what is longest is so in a longer input
-longest_more : {T : Type 0} (member : T → Bool → Type 0) (greatest : Option ℕ)
+pub longest_more : {T : Type 0} (member : T → Bool → Type 0) (greatest : Option ℕ)
     (tokens front rest more : List T) → IsEnded member greatest front rest
     → IsLongest member greatest tokens front rest
     → IsLongest member greatest (tokens ++ more) front (rest ++ more)
@@ -55,7 +55,7 @@ longest_more member greatest tokens front rest more ended longest = record {
 }
 
 -- on a cut input it is ended
-ended_of : {T : Type 0} (member : T → Bool → Type 0) (greatest : Option ℕ) (front rest : List T)
+pub ended_of : {T : Type 0} (member : T → Bool → Type 0) (greatest : Option ℕ) (front rest : List T)
     {flag : Bool} → flag ≡ true → IsEnded member greatest front rest ⊎ (flag ≡ false)
     → IsEnded member greatest front rest
 ended_of member greatest front rest is_cut (inl ended) = ended

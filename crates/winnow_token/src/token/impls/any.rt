@@ -6,8 +6,8 @@ ghost use Rattle.winnow_core.specs.Runs.{Keeps};
 ghost use Rattle.winnow_core.specs.Stable.Grows.{leaf_stays};
 ghost use Rattle.winnow_token.specs.Any.{AnyRuns};
 ghost use Rattle.winnow_token.specs.Any.Laws.{any_exact, any_fails, token_takes};
-ghost use Rattle.winnow_token.specs.Any.Laws.{any_ends, any_stays, SeenSame, any_decided};
-ghost use Rattle.winnow_core.specs.Says.{nothing_done, nothing_said};
+ghost use Rattle.winnow_token.specs.Any.Laws.{any_ends, any_stays, SeenSame};
+ghost use Rattle.winnow_token.specs.Any.Says.{any_decided, any_said, any_says};
 
 use crate::token::any;
 use stream_errors::parser_error::ParserError;
@@ -31,7 +31,7 @@ impl<I: StreamIsPartial, E: ParserError<I>> Parser<I, I::Token, E> for Any {
 
     ghost meaning = { λ form. Keeps (λ _. AnyRuns I.seen_as I.reading form) };
 
-    ghost says = { λ _. nothing_said };
+    ghost says = { λ _. any_says I.seen_as };
 
     ghost claim = { λ s. record {
       premise = ⊤;
@@ -46,7 +46,7 @@ impl<I: StreamIsPartial, E: ParserError<I>> Parser<I, I::Token, E> for Any {
     ghost leaves_ends = { λ form x i answer y j r. any_ends I.seen_as I.reading form i answer j
         r.0 };
 
-    ghost said = { λ _. nothing_done };
+    ghost said = { λ _. any_said I.seen_as I.reading };
 
     ghost claimed = { λ s. record {
       exact = λ form is. any_exact I.seen_as I.reading form;

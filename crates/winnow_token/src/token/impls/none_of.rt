@@ -8,10 +8,10 @@ ghost use Rattle.winnow_core.specs.Runs.{Keeps};
 ghost use Rattle.winnow_core.specs.Stable.Grows.{leaf_stays};
 ghost use Rattle.winnow_token.specs.OneOf.{OneOfRuns};
 ghost use Rattle.winnow_token.specs.Any.Laws.{SeenSame};
-ghost use Rattle.winnow_token.specs.OneOf.Laws.{one_of_decided, one_of_exact, one_of_fails};
+ghost use Rattle.winnow_token.specs.OneOf.Laws.{one_of_exact, one_of_fails};
 ghost use Rattle.winnow_token.specs.OneOf.Laws.{token_of_takes, one_of_ends};
 ghost use Rattle.winnow_token.specs.OneOf.Laws.{one_of_stays};
-ghost use Rattle.winnow_core.specs.Says.{nothing_done, nothing_said};
+ghost use Rattle.winnow_token.specs.OneOf.Says.{one_of_decided, one_of_said, one_of_says};
 
 use crate::token::members::Others;
 use crate::token::one::take_member;
@@ -49,7 +49,7 @@ where
     ghost meaning = { λ form. Keeps
         (λ x. OneOfRuns I.seen_as I.reading form (λ k b. S.tells x k (not b))) };
 
-    ghost says = { λ _. nothing_said };
+    ghost says = { λ s. one_of_says I.seen_as (Others S.tells s) };
 
     ghost claim = { λ s. record {
       premise = S.decides s × SeesApart I.seen_as;
@@ -64,7 +64,7 @@ where
     ghost leaves_ends = { λ form x i answer y j r. one_of_ends I.seen_as I.reading form
         (λ k b. S.tells x k (not b)) i answer j r.0 };
 
-    ghost said = { λ _. nothing_done };
+    ghost said = { λ s. one_of_said I.seen_as I.reading (Others S.tells) s };
 
     ghost claimed = { λ s. record {
       exact = λ form is. one_of_exact I.seen_as I.reading form (Others S.tells) s

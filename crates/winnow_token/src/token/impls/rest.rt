@@ -5,9 +5,9 @@ ghost use Rattle.winnow_core.specs.Exact.Allowed.{backs};
 ghost use Rattle.winnow_core.specs.Literal.Laws.{ShowSame};
 ghost use Rattle.winnow_core.specs.Runs.{Keeps};
 ghost use Rattle.winnow_token.specs.Rest.{RestRuns};
-ghost use Rattle.winnow_token.specs.Rest.Laws.{rest_decided, rest_ends};
+ghost use Rattle.winnow_token.specs.Rest.Laws.{rest_ends};
 ghost use Rattle.winnow_token.specs.Rest.Laws.{rest_exact, rest_fails};
-ghost use Rattle.winnow_core.specs.Says.{nothing_done, nothing_said};
+ghost use Rattle.winnow_token.specs.Rest.Says.{rest_decided, rest_said, rest_says};
 
 use crate::token::rest;
 use stream_errors::parser_error::ParserError;
@@ -30,7 +30,7 @@ impl<I: Stream, E: ParserError<I>> Parser<I, I::Slice, E> for Rest {
 
     ghost meaning = { λ _. Keeps (λ _. RestRuns I.reading) };
 
-    ghost says = { λ _. nothing_said };
+    ghost says = { λ _. rest_says I.reading };
 
     ghost claim = { λ s. record {
       premise = ⊤;
@@ -44,7 +44,7 @@ impl<I: Stream, E: ParserError<I>> Parser<I, I::Slice, E> for Rest {
 
     ghost leaves_ends = { λ form x i answer y j r. rest_ends I.reading i answer j r.0 };
 
-    ghost said = { λ _. nothing_done };
+    ghost said = { λ _. rest_said I.reading };
 
     ghost claimed = { λ s. record {
       exact = λ form is. rest_exact I.reading;

@@ -5,9 +5,8 @@ ghost use Rattle.winnow_core.specs.Ends.{same_ends};
 ghost use Rattle.winnow_core.specs.Exact.Allowed.{backs};
 ghost use Rattle.winnow_core.specs.Runs.{Keeps};
 ghost use Rattle.winnow_token.specs.Rest.{RestLenRuns};
-ghost use Rattle.winnow_token.specs.Rest.Laws.{rest_len_decided};
 ghost use Rattle.winnow_token.specs.Rest.Laws.{rest_len_exact, rest_len_fails};
-ghost use Rattle.winnow_core.specs.Says.{nothing_done, nothing_said};
+ghost use Rattle.winnow_token.specs.Rest.Says.{rest_len_decided, rest_len_said, rest_len_says};
 
 use crate::token::rest_len;
 use stream_errors::parser_error::ParserError;
@@ -30,7 +29,7 @@ impl<I: Stream, E: ParserError<I>> Parser<I, usize, E> for RestLen {
 
     ghost meaning = { λ _. Keeps (λ _. RestLenRuns I.reading) };
 
-    ghost says = { λ _. nothing_said };
+    ghost says = { λ _. rest_len_says I.reading };
 
     ghost claim = { λ s. record {
       premise = ⊤;
@@ -44,7 +43,7 @@ impl<I: Stream, E: ParserError<I>> Parser<I, usize, E> for RestLen {
 
     ghost leaves_ends = { λ form x i answer y j r. same_ends I.reading i j r.0.1 };
 
-    ghost said = { λ _. nothing_done };
+    ghost said = { λ _. rest_len_said I.reading };
 
     ghost claimed = { λ s. record {
       exact = λ form is. rest_len_exact I.reading;

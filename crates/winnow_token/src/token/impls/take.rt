@@ -6,9 +6,9 @@ ghost use Rattle.winnow_core.specs.Literal.Laws.{ShowSame};
 ghost use Rattle.winnow_core.specs.Runs.{Keeps};
 ghost use Rattle.winnow_core.specs.Stable.Grows.{leaf_stays};
 ghost use Rattle.winnow_token.specs.Take.{TakeRuns};
-ghost use Rattle.winnow_token.specs.Take.Laws.{take_count_decided, counted_takes, take_exact};
+ghost use Rattle.winnow_token.specs.Take.Laws.{counted_takes, take_exact};
 ghost use Rattle.winnow_token.specs.Take.Laws.{take_fails, take_ends, take_stays};
-ghost use Rattle.winnow_core.specs.Says.{nothing_done, nothing_said};
+ghost use Rattle.winnow_token.specs.Take.Says.{take_count_decided, take_said, take_says};
 
 use std::marker::PhantomData;
 use stream_errors::parser_error::ParserError;
@@ -37,7 +37,7 @@ impl<I: StreamIsPartial, E: ParserError<I>> Parser<I, I::Slice, E> for Take<I, E
 
     ghost meaning = { λ form. Keeps (λ x. TakeRuns I.reading form I.counts_missing x) };
 
-    ghost says = { λ _. nothing_said };
+    ghost says = { λ s. take_says I.reading I.counts_missing s };
 
     ghost claim = { λ s. record {
       premise = ⊤;
@@ -52,7 +52,7 @@ impl<I: StreamIsPartial, E: ParserError<I>> Parser<I, I::Slice, E> for Take<I, E
     ghost leaves_ends = { λ form x i answer y j r. take_ends I.reading form I.counts_missing x i
         answer j r.0 };
 
-    ghost said = { λ _. nothing_done };
+    ghost said = { λ s. take_said I.reading I.counts_missing s };
 
     ghost claimed = { λ s. record {
       exact = λ form is. take_exact I.reading form I.counts_missing s;

@@ -10,12 +10,12 @@ ghost use Rattle.winnow_core.specs.Literal.Laws.{ShowSame};
 ghost use Rattle.winnow_core.specs.Runs.{Keeps};
 ghost use Rattle.winnow_core.specs.Stable.Grows.{leaf_stays};
 ghost use Rattle.winnow_token.specs.TakeWhile.{TakeWhileRuns};
-ghost use Rattle.winnow_token.specs.TakeWhile.Decided.{take_while_decided};
 ghost use Rattle.winnow_token.specs.TakeWhile.Exact.{longest_takes, take_while_exact};
 ghost use Rattle.winnow_token.specs.TakeWhile.Exact.{take_while_fails};
 ghost use Rattle.winnow_token.specs.TakeWhile.Laws.{take_while_ends};
 ghost use Rattle.winnow_token.specs.TakeWhile.Laws.{take_while_stays};
-ghost use Rattle.winnow_core.specs.Says.{nothing_done, nothing_said};
+ghost use Rattle.winnow_token.specs.TakeWhile.Says.{take_while_decided, take_while_said};
+ghost use Rattle.winnow_token.specs.TakeWhile.Says.{take_while_says};
 
 use crate::token::members::{Others, take_members};
 use std::marker::PhantomData;
@@ -52,7 +52,8 @@ impl<S: ContainsToken<I::Token>, I: StreamIsPartial, E: ParserError<I>> Parser<I
         (λ x. TakeWhileRuns I.reading form
         (AnswersSeen I.seen_as (λ k b. S.tells x.1 k (not b))) (bounds_of x.0)) };
 
-    ghost says = { λ _. nothing_said };
+    ghost says = { λ s. take_while_says I.reading
+        (AnswersSeen I.seen_as (Others S.tells s.1)) (bounds_of s.0) };
 
     ghost claim = { λ s. record {
       premise = S.decides s.1 × SeesApart I.seen_as
@@ -68,7 +69,8 @@ impl<S: ContainsToken<I::Token>, I: StreamIsPartial, E: ParserError<I>> Parser<I
     ghost leaves_ends = { λ form x i answer y j r. take_while_ends I.reading form
         (AnswersSeen I.seen_as (λ k b. S.tells x.1 k (not b))) (bounds_of x.0) i answer j r.0 };
 
-    ghost said = { λ _. nothing_done };
+    ghost said = { λ s. take_while_said I.reading
+        (λ x. AnswersSeen I.seen_as (Others S.tells x.1)) (λ x. bounds_of x.0) s };
 
     ghost claimed = { λ s. record {
       exact = λ form is. take_while_exact I.reading form I.seen_as (Others S.tells) (λ x. x.1)

@@ -9,11 +9,11 @@ ghost use Rattle.winnow_core.specs.Literal.Laws.{ShowSame};
 ghost use Rattle.winnow_core.specs.Runs.{Keeps};
 ghost use Rattle.winnow_core.specs.Stable.Grows.{leaf_stays};
 ghost use Rattle.winnow_token.specs.TakeUntil.{TakeUntilRuns};
-ghost use Rattle.winnow_token.specs.TakeUntil.Decided.{take_until_decided};
 ghost use Rattle.winnow_token.specs.TakeUntil.Laws.{take_until_exact, take_until_fails};
 ghost use Rattle.winnow_token.specs.TakeUntil.Laws.{take_until_ends};
 ghost use Rattle.winnow_token.specs.TakeUntil.Laws.{take_until_stays};
-ghost use Rattle.winnow_core.specs.Says.{nothing_done, nothing_said};
+ghost use Rattle.winnow_token.specs.TakeUntil.Says.{take_until_decided, take_until_said};
+ghost use Rattle.winnow_token.specs.TakeUntil.Says.{take_until_says};
 
 use crate::token::until::take_before;
 use std::marker::PhantomData;
@@ -47,7 +47,7 @@ impl<T: Copy, I: StreamIsPartial + FindSlice<T>, E: ParserError<I>> Parser<I, I:
     ghost meaning = { λ form. Keeps
         (λ x. TakeUntilRuns I.reading form (I.sought x.1) (bounds_of x.0)) };
 
-    ghost says = { λ _. nothing_said };
+    ghost says = { λ s. take_until_says I.reading (I.sought s.1) (bounds_of s.0) };
 
     ghost claim = { λ s. record {
       premise = IsWithin (bounds_of s.0).greatest (bounds_of s.0).least;
@@ -63,7 +63,8 @@ impl<T: Copy, I: StreamIsPartial + FindSlice<T>, E: ParserError<I>> Parser<I, I:
         (bounds_of x.0) i answer j
         r.0 };
 
-    ghost said = { λ _. nothing_done };
+    ghost said = { λ s. take_until_said I.reading (λ x. I.sought x.1) (λ x. bounds_of x.0) s
+        (I.stays_first s.1) };
 
     ghost claimed = { λ s. record {
       exact = λ form is. take_until_exact I.reading form (λ x. I.sought x.1)
@@ -72,7 +73,7 @@ impl<T: Copy, I: StreamIsPartial + FindSlice<T>, E: ParserError<I>> Parser<I, I:
           (λ x. bounds_of x.0) s is);
       takes = λ is some. before_takes I.reading (I.sought s.1) (bounds_of s.0) some;
       decided = λ form is. take_until_decided I.reading form (λ x. I.sought x.1)
-          (λ x. bounds_of x.0) s;
+          (λ x. bounds_of x.0) s (I.stays_first s.1);
     } };
 
     #[inline(always)]

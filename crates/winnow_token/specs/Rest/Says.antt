@@ -1,0 +1,62 @@
+-- What the parsers of all that is left say that they do.
+use Rattle.std.specs.Prelude.{◌≡◌, ⊤, ℕ, List, []}
+use Rattle.std.proofs.Common.{refl, sym, ◌∙◌}
+use Rattle.streams.specs.Input.{Input}
+use Rattle.streams.specs.Reading.{Reading}
+use Rattle.stream_errors.specs.Form.{Answer, plain}
+use Rattle.winnow_core.specs.Ends.{same_ends}
+use Rattle.winnow_core.specs.Literal.Laws.{ShowSame}
+use Rattle.winnow_core.specs.Decided.{IsDecided}
+use Rattle.winnow_core.specs.Outcome.{Setting, gave}
+use Rattle.winnow_core.specs.Runs.{Keeps}
+use Rattle.winnow_core.specs.Says.{Did, IsAt, Said, Says}
+use Rattle.winnow_core.specs.Says.Cases.{TakesWhere, takes_law}
+use Rattle.winnow_core.specs.Says.Decided.{decided_of}
+use Rattle.winnow_core.specs.Says.Leaf.{here_did, leaf_said, takes_did}
+use Rattle.winnow_token.specs.Rest.{RestLenRuns, RestRuns}
+use Rattle.winnow_token.specs.Rest.Laws.{rest_ends}
+
+-- All tokens are taken.
+abbrev pub rest_says : {T L : Type 0} → Reading T L → Says T L
+rest_says reading = record {
+  premise = ⊤;
+  stable = ⊥;
+  does = TakesWhere (λ slice at tokens rest. reading.shows slice tokens × (rest ≡ []));
+  alike = ShowSame reading;
+}
+
+-- None is taken, and their units are counted.
+abbrev pub rest_len_says : {T L : Type 0} → Reading T L → Says T ℕ
+rest_len_says reading = record {
+  premise = ⊤;
+  stable = ⊥;
+  does = TakesWhere (λ n at tokens rest. (n ≡ reading.units tokens) × (rest ≡ tokens));
+  alike = λ m n. m ≡ n;
+}
+
+module _ {T L : Type 0} (reading : Reading T L) where
+  pub rest_said : Said (rest_says reading) tt (λ form. Keeps (λ (_ : ⊤). RestRuns reading))
+  rest_said = leaf_said (λ form _. RestRuns reading)
+      (λ is at i answer j here (slice, takes, none, e). takes_did takes
+      (slice, j.left.tokens, (takes.shown, none), gave j.left.tokens e))
+      (λ is. takes_law
+      (λ at tokens v w rest end (shown, e) (shows, f). ((tokens, shown, shows), e ∙ sym f))
+      (λ never. absurd never))
+
+  pub rest_len_said : Said (rest_len_says reading) tt
+      (λ form. Keeps (λ (_ : ⊤). RestLenRuns reading))
+  rest_len_said = leaf_said (λ form _. RestLenRuns reading)
+      (λ is at i answer j here (e, same). here_did same
+      (reading.units i.left.tokens, i.left.tokens, (refl, refl), gave i.left.tokens e))
+      (λ is. takes_law (λ at tokens m n rest end (e, f) (g, h). (e ∙ sym g, f ∙ sym h))
+      (λ never. absurd never))
+
+  -- one state and one input decide their runs
+  pub rest_decided : IsDecided tt (Keeps (λ (_ : ⊤). RestRuns reading)) (ShowSame reading)
+  rest_decided =
+      decided_of reading (λ f s i answer t j r. rest_ends reading i answer j r.0) rest_said plain tt
+
+  pub rest_len_decided : IsDecided tt (Keeps (λ (_ : ⊤). RestLenRuns reading))
+      (λ (m n : ℕ). m ≡ n)
+  rest_len_decided =
+      decided_of reading (λ f s i answer t j r. same_ends reading i j r.0.1) rest_len_said plain tt
