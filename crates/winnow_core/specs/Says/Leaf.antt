@@ -1,10 +1,10 @@
 -- Parsers with no parts: what their runs do.
-use Rattle.std.specs.Prelude.{◌≡◌, Bool, true, false, List, ℕ, Option, Err}
-use Rattle.std.proofs.Common.{refl, sym, subst, ap, ◌∙◌}
+use Rattle.std.specs.Prelude.{◌≡◌, List}
+use Rattle.std.proofs.Common.{refl, sym, subst, ap}
 use Rattle.streams.specs.Input.{Input, Passes, Takes}
 use Rattle.streams.specs.Reading.{Reading}
-use Rattle.stream_errors.specs.Form.{Answer, ErrorForm, incomplete_kind, modal, plain}
-use Rattle.winnow_core.specs.Outcome.{Alike, Does, Setting, gave, lacks, lacks_by, outcome_of}
+use Rattle.stream_errors.specs.Form.{Answer, ErrorForm}
+use Rattle.winnow_core.specs.Outcome.{Does, Setting, outcome_of}
 use Rattle.winnow_core.specs.Runs.{Keeps}
 use Rattle.winnow_core.specs.Says.{Did, IsAt, Lawful, Said, Says}
 
@@ -49,29 +49,3 @@ here_did {does = does} {at} {s} {answer} {i} same done = record {
   done = subst (λ l. does at i.left.tokens (outcome_of answer l))
       (sym (ap (λ z. z.left.tokens) same)) done;
 }
-
--- ---- where there are too few tokens
-
--- it is the same outcome again
-pub same_lack : {T O : Type 0} (alike : O → O → Type 0) (at : Setting) (need : Option ℕ)
-    (tokens : List T) → Alike alike (lacks at need tokens) (lacks at need tokens)
-same_lack {T} alike at need tokens = by at.form at.more
-  where
-    by : (form : ErrorForm) (more : Bool)
-        → Alike alike (lacks_by {T = T} form more need tokens) (lacks_by form more need tokens)
-    by modal true = (refl, refl)
-    by modal false = refl
-    by plain more = refl
-
--- the error for want of more on a cut input
-pub lacked : {T O : Type 0} (at : Setting) (need : Option ℕ) (tokens : List T) → at.more ≡ true
-    → {answer : Answer O} → answer ≡ Err (incomplete_kind at.form need)
-    → outcome_of answer tokens ≡ lacks at need tokens
-lacked {T} {O} at need tokens more e = gave tokens e ∙ by at.form at.more more
-  where
-    by : (form : ErrorForm) (more : Bool) → more ≡ true
-        → outcome_of {O = O} (Err (incomplete_kind form need)) tokens
-        ≡ lacks_by {T = T} form more need tokens
-    by modal true is = refl
-    by modal false is = absurd (cc)
-    by plain more is = refl
