@@ -37,8 +37,12 @@ pub errors_said : {S G T O : Type 0} {says : Says T O} {s : S × G} {meaning : M
     → (premise → (k l : Kind) (h : G) → becomes s.1 k l h → (h ≡ s.1)
     × ((at : Setting) (tokens rest : List T) (y : Outcome T O) → y ≡ outcome_of (Err l) rest
     → ComesOf next at tokens (outcome_of (Err k) rest) y)) → Said says s.0 meaning
-    → Said (record { premise = premise; stable = stable; does = Then says.does next;
-    alike = says.alike }) s (λ form. MakesError becomes (meaning form))
+    → Said (record {
+      premise = premise;
+      stable = stable;
+      does = Then says.does next;
+      alike = says.alike;
+    }) s (λ form. MakesError becomes (meaning form))
 errors_said {S} {G} {T} {O} {says} {s} {meaning} {premise} {stable} {next} becomes of law took came
     p = record { runs = λ is. record { did = did is (p.runs (of is)) }; law = law }
   where

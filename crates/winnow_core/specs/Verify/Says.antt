@@ -22,14 +22,24 @@ verify_said {G = G} {O = O} {says = says} {s = s} tests p =
     settles_said (λ form. Finds tests s.1) (λ form. Refuses (λ o. tests s.1 o false s.1))
     (λ form. VerifySettles tests) (λ is. is.0)
     (λ is form o u h it. elim it [
-      | inl (found, e) ↦ (is.1 o true h found, (kept o true (is.1 o true h found) found,
-          same_output e))
+      | inl (found, e) ↦ (
+        is.1 o true h found,
+        (
+          kept o true (is.1 o true h found) found,
+          same_output e,
+        ),
+      )
       | inr (found, e) ↦ ok_is_err refl e
     ])
     (λ is form o k h it. elim it [
       | inl (found, e) ↦ ok_is_err e refl
-      | inr (found, e) ↦ (is.1 o false h found, (kept o false (is.1 o false h found) found,
-          same_kind e))
+      | inr (found, e) ↦ (
+        is.1 o false h found,
+        (
+          kept o false (is.1 o false h found) found,
+          same_kind e,
+        ),
+      )
     ])
     (λ is. backtracks_one (Finds tests s.1) (λ o. tests s.1 o false s.1)
     (λ o q u v like x w. subst (λ z. says.alike z v) (sym x.1)

@@ -45,8 +45,7 @@ module _ {T L : Type 0} (reading : Reading T L) (counts : Bool) (n : ℕ) where
       → tokens ≡ g ++ end → ShowSame reading v w × (rest ≡ end)
   one_taken tokens v w rest end f g many too shown shows e d =
       let same = as_long_front g f end rest (too ∙ sym many) (sym d ∙ e) in
-      let P : List T → Type 0 = λ l. reading.shows w l in
-      (
+      let P : List T → Type 0 = λ l. reading.shows w l in (
         (f, shown, subst P same shows),
         same_rest f rest end (sym e ∙ d ∙ ap (λ l. l ++ end) same),
       )

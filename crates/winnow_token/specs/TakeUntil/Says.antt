@@ -184,26 +184,35 @@ module _ {X T L : Type 0} (reading : Reading T L) (sought : X → List T → Typ
           (inr (inr (inr (inl (start, end, m, k, within, few, inl (none, back), e, same))))) =
           let rest = m.found ++ m.rest in
           let before = match_before reading m rest m.stands.splits in
-          here_did same (inr (within, inr (inr (
-            (m.front, rest, before, inl (few, none)),
-            gave i.left.tokens (e ∙ ap Err back),
-          ))))
+          here_did same (inr (
+            within,
+            inr (inr (
+              (m.front, rest, before, inl (few, none)),
+              gave i.left.tokens (e ∙ ap Err back),
+            )),
+          ))
       did at i answer j here
           (inr (inr (inr (inl (start, end, m, k, within, few, inr (most, is, short), e, same))))) =
           let rest = m.found ++ m.rest in
           let before = match_before reading m rest m.stands.splits in
-          here_did same (inr (within, inl (
-            inr (m.front, rest, before, few, most, is),
-            short_outcome at i None k i.left.tokens here short e,
-          )))
+          here_did same (inr (
+            within,
+            inl (
+              inr (m.front, rest, before, few, most, is),
+              short_outcome at i None k i.left.tokens here short e,
+            ),
+          ))
       did at i answer j here (inr (inr (inr (inr (start, end, m, most, is, le, much, e, same))))) =
           let rest = m.found ++ m.rest in
           let before = match_before reading m rest m.stands.splits in
           let P : Option ℕ → Type 0 = λ g. IsWithin g (bounds x).least in
-          here_did same (inr (subst P (sym is) le, inr (inr (
-            (m.front, rest, before, inr (most, is, much)),
-            gave i.left.tokens e,
-          ))))
+          here_did same (inr (
+            subst P (sym is) le,
+            inr (inr (
+              (m.front, rest, before, inr (most, is, much)),
+              gave i.left.tokens e,
+            )),
+          ))
 
 -- one state and one input decide their runs
 pub take_until_decided : {X T L : Type 0} (reading : Reading T L) (form : ErrorForm)

@@ -139,8 +139,12 @@ module _ {T L : Type 0} (reading : Reading T L) (member : T → Bool → Type 0)
   few_enough : (at : Setting) (tokens : List T) (v : L) (rest : List T)
       → HasEnough reading member bounds v at tokens rest → HasTooFew member bounds at tokens → ⊥
   few_enough at tokens v rest (f, longest, over, enough, shown) (g, end, also, too, few) =
-      omega (arith, enough, few,
-      ap (λ l. length l) (one_beginning member bounds.greatest once g f also longest))
+      omega (
+        arith,
+        enough,
+        few,
+        ap (λ l. length l) (one_beginning member bounds.greatest once g f also longest),
+      )
 
   -- what is over stays so
   over_more : (more : List T) (flag : Bool) (tokens front rest : List T)
@@ -210,19 +214,25 @@ module _ {X T L : Type 0} (reading : Reading T L) (member : X → T → Bool →
           ))
       did at i answer j here
           (inr (inr (inl (front, rest, slice, within, longest, ended, enough, takes, e)))) =
-          takes_did takes (inr (within, inr (inl (
-            slice,
-            rest,
-            (front, longest, over front rest here ended, enough, takes.shown),
-            gave j.left.tokens e ∙ ap (λ l. took slice l)
-                (same_rest front j.left.tokens rest (sym takes.passed.tokens ∙ longest.splits)),
-          ))))
+          takes_did takes (inr (
+            within,
+            inr (inl (
+              slice,
+              rest,
+              (front, longest, over front rest here ended, enough, takes.shown),
+              gave j.left.tokens e ∙ ap (λ l. took slice l)
+                  (same_rest front j.left.tokens rest (sym takes.passed.tokens ∙ longest.splits)),
+            )),
+          ))
       did at i answer j here
           (inr (inr (inr (front, rest, within, longest, ended, few, e, same)))) =
-          here_did same (inr (within, inr (inr (
-            (front, rest, longest, over front rest here ended, few),
-            gave i.left.tokens e,
-          ))))
+          here_did same (inr (
+            within,
+            inr (inr (
+              (front, rest, longest, over front rest here ended, few),
+              gave i.left.tokens e,
+            )),
+          ))
 
 -- one state and one input decide their runs
 pub take_while_decided : {X T L : Type 0} (reading : Reading T L) (form : ErrorForm)
