@@ -5,7 +5,6 @@ use Rattle.stream_errors.specs.Form.{Answer}
 use Rattle.winnow_core.specs.Settles.{Settles}
 use Rattle.winnow_core.specs.Runs.{Runs}
 use Rattle.winnow_core.specs.declared.combinator.impls.and_then.AndThen.{AndThen}
-pub mod Decided
 pub mod Says
 
 -- the parser whose output is read

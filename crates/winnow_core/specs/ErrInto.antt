@@ -5,6 +5,7 @@ use Rattle.winnow_core.specs.MakesError.{MakesError}
 use Rattle.winnow_core.specs.Runs.{Runs}
 use Rattle.winnow_core.specs.declared.combinator.impls.err_into.ErrInto.{ErrInto}
 pub mod Laws
+pub mod Says
 
 -- the parser whose errors are converted
 abbrev pub err_into_parser : {F I O E D : Type 0} → ErrInto F I O E D → F

@@ -5,7 +5,6 @@ use Rattle.streams.specs.Kind.{Kind}
 use Rattle.stream_errors.specs.Form.{Answer}
 use Rattle.winnow_core.specs.Runs.{Runs}
 use Rattle.winnow_core.specs.declared.combinator.impls.flat_map.FlatMap.{FlatMap}
-pub mod Decided
 pub mod Laws
 pub mod Says
 

@@ -4,7 +4,6 @@ use Rattle.streams.specs.Input.{Input, back_at}
 use Rattle.streams.specs.Kind.{Kind}
 use Rattle.stream_errors.specs.Form.{Answer}
 use Rattle.winnow_core.specs.Runs.{Runs}
-pub mod Decided
 pub mod Known
 pub mod Laws
 pub mod Says

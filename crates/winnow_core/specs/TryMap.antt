@@ -6,7 +6,6 @@ use Rattle.stream_errors.specs.Given.{Keeping, KindGiven}
 use Rattle.winnow_core.specs.Settles.{Settles}
 use Rattle.winnow_core.specs.Runs.{Runs}
 use Rattle.winnow_core.specs.declared.combinator.impls.try_map.TryMap.{TryMap}
-pub mod Decided
 pub mod Known
 pub mod Says
 

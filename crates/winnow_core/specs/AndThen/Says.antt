@@ -5,12 +5,15 @@ use Rattle.streams.specs.Input.{Input}
 use Rattle.streams.specs.Kind.{Kind, backtrack, cut, incomplete, memory}
 use Rattle.stream_errors.specs.Form.{Answer, ErrorForm}
 use Rattle.winnow_core.specs.AndThen.{AndThenRuns, AndThenSettles, completed}
-use Rattle.winnow_core.specs.AndThen.Decided.{OneInput}
 use Rattle.winnow_core.specs.Outcome.{Alike, Does, Setting, outcome_of}
 use Rattle.winnow_core.specs.Outcome.Errors.{OneKind}
 use Rattle.winnow_core.specs.Runs.{Meaning}
 use Rattle.winnow_core.specs.Says.{Lawful, Said, Says}
 use Rattle.winnow_core.specs.Settles.Says.{SettlesOne, settle_says, settles_said}
+
+-- Outputs that are alike are one input.
+abbrev pub OneInput : {O V : Type 0} → (O → Input V) → (O → O → Type 0) → Type 0
+OneInput {O} view alike = (o p : O) → alike o p → view o ≡ view p
 
 -- an output as an input to which no more comes
 abbrev pub whole_of : {V : Type 0} → ErrorForm → Input V → Setting

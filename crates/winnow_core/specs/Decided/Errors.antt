@@ -28,21 +28,6 @@ pub record TurnsKinds {G : Type 0} (becomes : G → Kind → Kind → G → Type
   pub same : (k l m : Kind) (g h : G) → (l ≡ memory → ⊥) → (m ≡ memory → ⊥) → becomes f k l g
       → becomes f k m h → l ≡ m
 
--- a kind that stays, or becomes want of memory, is one
-kept_turns : {G : Type 0} {becomes : G → Kind → Kind → G → Type 0} {f : G}
-    → KeepsKinds becomes f → TurnsKinds becomes f
-kept_turns keeps = record {
-  stays = keeps.stays;
-  wants = λ l h is. elim (keeps.kind memory l h is) [ inl e ↦ e | inr e ↦ e ];
-  same = λ k l m g h not_l not_m x y. elim (keeps.kind k l g x) [
-    | inl e ↦ elim (keeps.kind k m h y) [
-      | inl d ↦ e ∙ sym d
-      | inr d ↦ absurd (not_m d)
-    ]
-    | inr e ↦ absurd (not_l e)
-  ];
-}
-
 -- An output stays; of an error's kind another one becomes.
 abbrev ErrorTurns : {G T O : Type 0} → (G → Kind → Kind → G → Type 0) → G → Input T → Answer O
     → Input T → Answer O → Input T → Type 0
@@ -97,39 +82,6 @@ errors_decided {S} {G} {T} {O} {run} {s} {alike} becomes turns c =
       (l, t.1, made, e, refl),
       λ is. pair_is is (turns.stays k l t.1 made),
     )
-
--- errors that keep a context
-pub context_decided : {S T O C : Type 0} {run : Runs S T O} {s : S × (C × (C → Keeping))}
-    {alike : O → O → Type 0} (is_clone : C → C → Type 0) (clones : C → Type 0)
-    → IsDecided s.0 run alike → IsDecided s (ContextRuns is_clone clones run) alike
-context_decided is_clone clones c =
-    errors_decided _ (kept_turns (context_keeps_kinds is_clone clones)) c
-
--- errors that are converted
-pub err_into_decided : {S T O E D : Type 0} {run : Runs S T O} {s : S} {alike : O → O → Type 0}
-    (kind : E → Kind) (new_kind : D → Kind) (converts : E → D → Type 0)
-    → SameKinds kind new_kind converts → IsDecided s run alike
-    → IsDecided s (ErrIntoRuns kind new_kind converts run) alike
-err_into_decided kind new_kind converts same c =
-    decided_along (λ t. (t, tt)) (λ t e. ap (λ x. x.0) e)
-    (λ i answer t j r. r)
-    (errors_decided _ (kept_turns (err_into_keeps kind new_kind converts same)) c)
-
--- errors that a closure makes of errors
-pub map_err_decided : {S G T O E D : Type 0} {run : Runs S T O} {s : S × G}
-    {alike : O → O → Type 0} (kind : E → Kind) (new_kind : D → Kind)
-    (step : G → E → D → G → Type 0) → KeepsEachKind kind new_kind step
-    → ((o : E) (u : D) (h : G) → step s.1 o u h → h ≡ s.1) → IsDecided s.0 run alike
-    → IsDecided s (MapErrRuns kind new_kind step run) alike
-map_err_decided kind new_kind step keeps stays c =
-    errors_decided _ (kept_turns (map_err_keeps kind new_kind step keeps stays)) c
-
-pub map_err_kept_decided : {S G T O E D : Type 0} {run : Runs S T O} {s : S × G}
-    {alike : O → O → Type 0} (kind : E → Kind) (new_kind : D → Kind)
-    (step : G → E → D → G → Type 0) → ((o : E) (u : D) (h : G) → step s.1 o u h → h ≡ s.1)
-    → IsDecided s.0 run alike → IsDecided s (MapErrKeptRuns kind new_kind step run) alike
-map_err_kept_decided kind new_kind step stays c =
-    errors_decided _ (kept_turns (map_err_kept_keeps kind new_kind step stays)) c
 
 -- errors that ask for no more
 pub complete_err_decided : {S T O : Type 0} {run : Runs S T O} {s : S} {alike : O → O → Type 0}

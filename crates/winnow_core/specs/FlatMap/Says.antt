@@ -6,13 +6,23 @@ use Rattle.grammars.specs.Grammar.Decided.{EachMade}
 use Rattle.stream_errors.specs.Form.{Answer}
 use Rattle.winnow_core.specs.Closures.{Gives, Stays}
 use Rattle.winnow_core.specs.FlatMap.{FlatMapRuns}
-use Rattle.winnow_core.specs.FlatMap.Decided.{AlikeByMade, MakesOne}
 use Rattle.winnow_core.specs.Outcome.{Setting, alike_wider}
 use Rattle.winnow_core.specs.Runs.{Meaning}
 use Rattle.winnow_core.specs.Says.{Did, EachDoes, IsAt, Said, Says, still_at}
 use Rattle.winnow_core.specs.States.{pair_is}
 use Rattle.winnow_core.specs.Then.{Comes, Then, did_in, then_law}
 use Rattle.winnow_core.specs.Then.Steps.{fails_on, holds_where, meets_where, where_took}
+
+-- Of outputs that are alike parsers of one state are made.
+abbrev pub MakesOne : {G O H V : Type 0} → (G → O → H → G → Type 0) → G → (H → V)
+    → (O → O → Type 0) → Type 0
+MakesOne {O = O} {H = H} step f state alike =
+    (o p : O) (m n : H) → alike o p → Gives step f o m → Gives step f p n → state m ≡ state n
+
+-- Alike as a parser says that the closure makes.
+abbrev pub AlikeByMade : {G O H U : Type 0} → (G → O → H → G → Type 0) → G
+    → (H → U → U → Type 0) → U → U → Type 0
+AlikeByMade {O = O} {H = H} step f also u v = (o : O) × (m : H) × Gives step f o m × also m u v
 
 -- A parser that the output makes does what it does, from where the first ended.
 abbrev pub made_next : {T O U H : Type 0} → (O → H → Type 0) → (H → Says T U) → O → Comes T U

@@ -3,7 +3,6 @@ use Rattle.std.specs.Prelude.{◌≡◌, List, ◌++◌, Ok, Err}
 use Rattle.std.proofs.Common.{refl, inl, inr}
 use Rattle.streams.specs.Input.{Input}
 use Rattle.stream_errors.specs.Form.{Answer}
-use Rattle.winnow_core.specs.Decided.Made.{OutputsMadeAlike}
 use Rattle.winnow_core.specs.MakesOutput.{MakesOutput}
 use Rattle.winnow_core.specs.Outcome.{Does, Setting, as_longer, both, gave, took}
 use Rattle.winnow_core.specs.Runs.{Meaning}
@@ -26,13 +25,19 @@ pub record MakesAlike {T O U : Type 0} (gives : List T → O → List T → U �
   pub stays : (more tokens rest : List T) (o : O) (u : U) → gives tokens o rest u
       → gives (tokens ++ more) o (rest ++ more) u
 
--- what is made of no more than an output: any two that are made of outputs that are alike
-pub made_of : {T O U : Type 0} {alike : O → O → Type 0} (makes : O → U → Type 0)
-    → MakesAlike {T = T} (λ tokens o rest u. makes o u) alike (OutputsMadeAlike alike makes)
-made_of makes = record {
-  one = λ tokens rest o p u v like x y. (o, p, like, x, y);
+-- what is made of no more than an output
+pub made_of : {T O U : Type 0} {alike : O → O → Type 0} {also : U → U → Type 0}
+    (makes : O → U → Type 0)
+    → ((o p : O) (u v : U) → alike o p → makes o u → makes p v → also u v)
+    → MakesAlike {T = T} (λ tokens o rest u. makes o u) alike also
+made_of makes one = record {
+  one = λ tokens rest. one;
   stays = λ more tokens rest o u x. x;
 }
+
+-- what is made of outputs that are alike
+abbrev pub OutputsMadeAlike : {O U : Type 0} → (O → O → Type 0) → (O → U → Type 0) → U → U → Type 0
+OutputsMadeAlike {O = O} alike makes u v = (o : O) × (p : O) × alike o p × makes o u × makes p v
 
 abbrev pub output_says : {T O U : Type 0} → (List T → O → List T → U → Type 0)
     → (U → U → Type 0) → Says T O → Says T U
@@ -79,3 +84,18 @@ output_said {S} {T} {O} {U} {says} {s} {meaning} gives {makes} given alike p = r
     did each at i answer t j is (inr (k, r, e)) =
         did_then (each.did at i (Err k) t j is r)
         (fails_on (gives_one gives) at i.left.tokens j.left.tokens k e)
+
+-- ---- outputs made of no more than an output
+
+abbrev pub of_output_says : {T O U : Type 0} → (O → U → Type 0) → (U → U → Type 0) → Says T O
+    → Says T U
+of_output_says makes also p = output_says (λ tokens o rest u. makes o u) also p
+
+pub of_output_said : {S T O U : Type 0} {says : Says T O} {s : S} {meaning : Meaning S T O}
+    {also : U → U → Type 0} (makes : O → U → Type 0)
+    → ((o p : O) (u v : U) → says.alike o p → makes o u → makes p v → also u v)
+    → Said says s meaning
+    → Said (of_output_says makes also says) s
+    (λ form. MakesOutput (λ i o j u. makes o u) (meaning form))
+of_output_said makes one p =
+    output_said (λ tokens o rest u. makes o u) (λ i o j u x. x) (made_of makes one) p

@@ -4,8 +4,7 @@ use Rattle.std.proofs.Common.{subst, inl, inr}
 use Rattle.streams.specs.Input.{Input}
 use Rattle.stream_errors.specs.Form.{Answer}
 use Rattle.winnow_core.specs.Closures.{Gives, Stays}
-use Rattle.winnow_core.specs.Decided.Made.{OutputsMadeAlike}
-use Rattle.winnow_core.specs.MakesOutput.Says.{gives_one, made, made_law, made_of}
+use Rattle.winnow_core.specs.MakesOutput.Says.{OutputsMadeAlike, gives_one, made, made_law, made_of}
 use Rattle.winnow_core.specs.Map.{MapRuns}
 use Rattle.winnow_core.specs.Outcome.{Setting, gave}
 use Rattle.winnow_core.specs.Runs.{Meaning}
@@ -27,7 +26,7 @@ pub map_said : {S G T O U : Type 0} {says : Says T O} {s : S × G} {meaning : Me
     → Said (map_says step s.1 says) s (λ form. MapRuns (meaning form) step)
 map_said {S} {G} {T} {O} {U} {says} {s} {meaning} step p = record {
   runs = λ is. record { did = did is.1 (p.runs is.0) };
-  law = λ is. made_law (made_of (Gives step s.1)) (p.law is.0);
+  law = λ is. made_law (made_of (Gives step s.1) (λ o q u v like x y. (o, q, like, x, y))) (p.law is.0);
 }
   where
     did : Stays step s.1 → EachDoes says.does s.0 meaning → (at : Setting) (i : Input T)

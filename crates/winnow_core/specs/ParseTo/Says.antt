@@ -2,13 +2,18 @@
 use Rattle.std.specs.Prelude.{Option, Some, None}
 use Rattle.std.proofs.Common.{refl, ap, inl, inr}
 use Rattle.stream_errors.specs.Form.Known.{at_output, ok_is_err, same_kind}
-use Rattle.winnow_core.specs.Decided.Adapters.{ReadsSame}
-use Rattle.winnow_core.specs.Decided.Made.{OutputsMadeAlike}
 use Rattle.winnow_core.specs.ParseTo.{ParseToRuns, ParseToSettles}
+use Rattle.winnow_core.specs.MakesOutput.Says.{OutputsMadeAlike}
 use Rattle.winnow_core.specs.Runs.{Meaning}
 use Rattle.winnow_core.specs.Says.{Said, Says}
 use Rattle.winnow_core.specs.Says.Along.{said_along}
 use Rattle.winnow_core.specs.Settles.Says.{Refuses, backtracks_one, settle_says, settles_said}
+
+-- Outputs that are alike read as something both or not at all.
+pub record ReadsSame {O U : Type 0} (reads : O → Option U → Type 0) (alike : O → O → Type 0)
+    : Type 0 where
+  pub apart : (o p : O) (u : U) → alike o p → reads o (Some u) → reads p None → ⊥
+  pub either : (o p : O) (u : U) → alike o p → reads o None → reads p (Some u) → ⊥
 
 -- What it reads as is the output; what reads as nothing is refused.
 abbrev pub parse_to_says : {T O U : Type 0} → (O → Option U → Type 0) → Says T O → Says T U

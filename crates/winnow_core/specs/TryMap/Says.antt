@@ -5,15 +5,20 @@ use Rattle.streams.specs.Kind.{Kind, backtrack}
 use Rattle.stream_errors.specs.Form.Known.{at_kind, at_output, ok_is_err}
 use Rattle.stream_errors.specs.Given.{Keeping, KindGiven}
 use Rattle.winnow_core.specs.Closures.{Stays}
-use Rattle.winnow_core.specs.Decided.Made.{OutputsMadeAlike}
 use Rattle.winnow_core.specs.Exact.Settled.{GivesOk}
 use Rattle.winnow_core.specs.Outcome.Errors.{OneKind}
+use Rattle.winnow_core.specs.MakesOutput.Says.{OutputsMadeAlike}
 use Rattle.winnow_core.specs.Runs.{Meaning}
 use Rattle.winnow_core.specs.Says.{Said, Says}
 use Rattle.winnow_core.specs.Settles.Says.{SettlesOne, settle_says, settles_said}
 use Rattle.winnow_core.specs.States.{pair_is}
 use Rattle.winnow_core.specs.TryMap.{TryMapRuns, TryMapSettles}
-use Rattle.winnow_core.specs.TryMap.Decided.{TriesSame}
+
+-- Of outputs that are alike it makes something both or fails at both.
+pub record TriesSame {G O U R : Type 0} (step : G → O → Result U R → G → Type 0) (f : G)
+    (alike : O → O → Type 0) : Type 0 where
+  pub apart : (o p : O) (u : U) (r : R) → alike o p → step f o (Ok u) f → step f p (Err r) f → ⊥
+  pub either : (o p : O) (u : U) (r : R) → alike o p → step f o (Err r) f → step f p (Ok u) f → ⊥
 
 -- The closure fails, and its error is made one that backtracks, or is refused memory.
 abbrev pub FailsBy : {G O U R : Type 0} → (G → O → Result U R → G → Type 0) → G × (R → Keeping)

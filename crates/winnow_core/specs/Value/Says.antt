@@ -4,7 +4,6 @@ use Rattle.std.proofs.Common.{refl, inl, inr}
 use Rattle.streams.specs.Input.{Input}
 use Rattle.streams.specs.Kind.{memory}
 use Rattle.stream_errors.specs.Form.{Answer}
-use Rattle.winnow_core.specs.Decided.Adapters.{BothClones}
 use Rattle.winnow_core.specs.Outcome.{Setting, gave}
 use Rattle.winnow_core.specs.Runs.{Meaning}
 use Rattle.winnow_core.specs.Says.{Did, EachDoes, IsAt, Said, Says}
@@ -13,6 +12,10 @@ use Rattle.winnow_core.specs.States.{pair_is}
 use Rattle.winnow_core.specs.Then.{did_in}
 use Rattle.winnow_core.specs.Then.Steps.{fails_on}
 use Rattle.winnow_core.specs.Value.{ValueRuns}
+
+-- Both are clones of a value.
+abbrev pub BothClones : {U : Type 0} → (U → U → Type 0) → U → U → U → Type 0
+BothClones is_clone value u v = is_clone value u × is_clone value v
 
 -- The value is cloned, or memory is refused to the clone.
 abbrev pub value_says : {T O U : Type 0} → (U → U → Type 0) → (U → Type 0) → U → Says T O

@@ -5,13 +5,18 @@ use Rattle.streams.specs.Kind.{backtrack}
 use Rattle.stream_errors.specs.Form.{Answer}
 use Rattle.stream_errors.specs.Form.Known.{at_output, ok_is_err, same_kind}
 use Rattle.winnow_core.specs.Closures.{GivesSome, Stays}
-use Rattle.winnow_core.specs.Decided.Adapters.{RefusesSame}
-use Rattle.winnow_core.specs.Decided.Made.{OutputsMadeAlike}
+use Rattle.winnow_core.specs.MakesOutput.Says.{OutputsMadeAlike}
 use Rattle.winnow_core.specs.Runs.{Meaning}
 use Rattle.winnow_core.specs.Says.{Said, Says}
 use Rattle.winnow_core.specs.Says.Along.{said_along}
 use Rattle.winnow_core.specs.Settles.Says.{Refuses, backtracks_one, settle_says, settles_said}
 use Rattle.winnow_core.specs.VerifyMap.{VerifyMapRuns}
+
+-- Of outputs that are alike it refuses both or none.
+pub record RefusesSame {G O U : Type 0} (step : G → O → Option U → G → Type 0) (f : G)
+    (alike : O → O → Type 0) : Type 0 where
+  pub apart : (o p : O) (u : U) → alike o p → step f o (Some u) f → step f p None f → ⊥
+  pub either : (o p : O) (u : U) → alike o p → step f o None f → step f p (Some u) f → ⊥
 
 -- What the closure gives is the output; where it gives none, it is refused.
 abbrev pub verify_map_says : {G T O U : Type 0} → (G → O → Option U → G → Type 0) → G → Says T O

@@ -1,23 +1,19 @@
 -- What a parser whose output is dropped says that it does.
 use Rattle.std.specs.Prelude.{⊤}
 use Rattle.std.proofs.Common.{inl, inr}
-use Rattle.winnow_core.specs.MakesOutput.Says.{output_said, output_says}
+use Rattle.winnow_core.specs.MakesOutput.Says.{of_output_said, of_output_says}
 use Rattle.winnow_core.specs.Runs.{Meaning}
 use Rattle.winnow_core.specs.Says.{Said, Says}
 use Rattle.winnow_core.specs.Says.Along.{said_along}
 use Rattle.winnow_core.specs.Void.{VoidRuns}
 
 abbrev pub void_says : {T O : Type 0} → Says T O → Says T (Unit {0})
-void_says {O = O} p = output_says (λ tokens (o : O) rest u. ⊤) (λ u v. ⊤) p
+void_says p = of_output_says (λ o u. ⊤) (λ u v. ⊤) p
 
 pub void_said : {S T O : Type 0} {says : Says T O} {s : S} {meaning : Meaning S T O}
     → Said says s meaning → Said (void_says says) s (λ form. VoidRuns (meaning form))
-void_said {O = O} p =
+void_said p =
     said_along (λ t. t) (λ t e. e) (λ form i answer t j ran. elim ran [
       | inl (o, r, e) ↦ inl (o, tt, r, tt, e)
       | inr failed ↦ inr failed
-    ])
-    (output_said (λ tokens (o : O) rest u. ⊤) {makes = λ i o j u. ⊤} (λ i o j u x. tt) (record {
-      one = λ tokens rest o p u v like x w. tt;
-      stays = λ more tokens rest o u x. tt;
-    }) p)
+    ]) (of_output_said (λ o u. ⊤) (λ o q u v like x w. tt) p)

@@ -6,13 +6,13 @@ ghost use Rattle.grammars.specs.Grammar.Unique.{made_of_takes};
 ghost use Rattle.stream_errors.specs.Form.{modal};
 ghost use Rattle.winnow_core.specs.AndThen.{AndThenSettles, AndThenRuns, and_then_inner};
 ghost use Rattle.winnow_core.specs.AndThen.{and_then_outer};
-ghost use Rattle.winnow_core.specs.AndThen.Decided.{OneInput, and_then_decided};
 ghost use Rattle.winnow_core.specs.Exact.Allowed.{fails_as, softly};
 ghost use Rattle.winnow_core.specs.Exact.Settled.{NoneWithin, ReadsWithin, and_then_exact};
 ghost use Rattle.winnow_core.specs.Exact.Settled.{and_then_fails};
 ghost use Rattle.winnow_core.specs.Settles.Laws.{settles_ends, settles_grows};
 ghost use Rattle.winnow_core.specs.Stable.Grows.{grows, stays};
-ghost use Rattle.winnow_core.specs.Says.{nothing_done, nothing_said};
+ghost use Rattle.winnow_core.specs.AndThen.Says.{and_then_said, and_then_says};
+ghost use Rattle.winnow_core.specs.Says.Decided.{decided_of};
 
 use crate::parser::Parser;
 use crate::stable::Stable;
@@ -63,7 +63,7 @@ impl<
 
     ghost meaning = { λ form. AndThenRuns O.view (F.meaning form) (G.meaning form) };
 
-    ghost says = { λ _. nothing_said };
+    ghost says = { λ s. and_then_says O.view (F.says s.0) (G.says s.1) };
 
     ghost claim = { λ s. record {
       premise = (F.claim s.0).premise × (G.claim s.1).premise × (G.claim s.1).backtracks
@@ -73,16 +73,15 @@ impl<
       spares_memory = (F.claim s.0).spares_memory × (G.claim s.1).spares_memory;
       consumes = (F.claim s.0).consumes;
       grammar = Made (ReadsWithin O.view (G.claim s.1).grammar) tt (F.claim s.0).grammar;
-      decides = (F.claim s.0).decides × OneInput O.view (F.claim s.0).alike
-          × (G.claim s.1).decides;
-      alike = (G.claim s.1).alike;
+      decides = (says s).premise;
+      alike = (says s).alike;
     } };
 
     ghost leaves_ends = { λ form. settles_ends I.reading
         (AndThenSettles O.view (G.meaning form)) (F.meaning form)
         (F.leaves_ends form) };
 
-    ghost said = { λ _. nothing_done };
+    ghost said = { λ s. and_then_said O.view (F.said s.0) (G.said s.1) };
 
     ghost claimed = { λ s. record {
       exact = λ form is. and_then_exact O.view is.3 ((F.claimed s.0).exact form is.0)
@@ -93,8 +92,7 @@ impl<
           (fails_as (λ b. is.2) (λ m. m.1) ((G.claimed s.1).fails form is.1));
       takes = λ is some. made_of_takes (ReadsWithin O.view (G.claim s.1).grammar) tt
           ((F.claimed s.0).takes is.0 some);
-      decided = λ form is. and_then_decided O.view is.1 ((F.claimed s.0).decided form is.0)
-          ((G.claimed s.1).decided form is.2);
+      decided = λ form is. decided_of I.reading leaves_ends (said s) form is;
     } };
 
     #[inline]

@@ -2,10 +2,10 @@
 ghost use Rattle.std.specs.Prelude.{◌≡◌};
 ghost use Rattle.winnow_core.specs.CompleteErr.{CompleteErrBecomes, CompleteErrRuns};
 ghost use Rattle.winnow_core.specs.CompleteErr.{complete_err_parser};
-ghost use Rattle.winnow_core.specs.Decided.Errors.{complete_err_decided};
 ghost use Rattle.winnow_core.specs.Exact.Errors.{complete_err_exact, complete_err_fails};
 ghost use Rattle.winnow_core.specs.MakesError.Laws.{makes_error_ends};
-ghost use Rattle.winnow_core.specs.Says.{nothing_done, nothing_said};
+ghost use Rattle.winnow_core.specs.CompleteErr.Says.{complete_err_said, complete_err_says};
+ghost use Rattle.winnow_core.specs.Says.Decided.{decided_of};
 
 use crate::parser::Parser;
 use std::marker::PhantomData;
@@ -47,7 +47,7 @@ impl<F: Parser<I, O, E>, I: Stream, O, E: ParserError<I>> Parser<I, O, E>
 
     ghost meaning = { λ form. CompleteErrRuns (F.meaning form) };
 
-    ghost says = { λ _. nothing_said };
+    ghost says = { λ s. complete_err_says (F.says s) };
 
     ghost claim = { λ s. record {
       premise = (F.claim s).premise;
@@ -55,21 +55,21 @@ impl<F: Parser<I, O, E>, I: Stream, O, E: ParserError<I>> Parser<I, O, E>
       spares_memory = (F.claim s).spares_memory;
       consumes = (F.claim s).consumes;
       grammar = (F.claim s).grammar;
-      decides = (F.claim s).decides;
-      alike = (F.claim s).alike;
+      decides = (says s).premise;
+      alike = (says s).alike;
     } };
 
     ghost leaves_ends = { λ form s i answer t j ran. makes_error_ends I.reading
         CompleteErrBecomes (F.meaning form)
         (F.leaves_ends form) _ i answer _ j ran };
 
-    ghost said = { λ _. nothing_done };
+    ghost said = { λ s. complete_err_said (F.said s) };
 
     ghost claimed = { λ s. record {
       exact = λ form is. complete_err_exact ((F.claimed s).exact form is);
       fails = λ form is. complete_err_fails ((F.claimed s).fails form is);
       takes = λ is some. (F.claimed s).takes is some;
-      decided = λ form is. complete_err_decided ((F.claimed s).decided form is);
+      decided = λ form is. decided_of I.reading leaves_ends (said s) form is;
     } };
 
     #[inline]

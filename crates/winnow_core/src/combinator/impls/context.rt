@@ -5,13 +5,13 @@ ghost use Rattle.stream_errors.specs.Given.{Keeping};
 ghost use Rattle.winnow_core.specs.Context.{ContextBecomes, ContextRuns, context_parser};
 ghost use Rattle.winnow_core.specs.Context.{context_told};
 ghost use Rattle.winnow_core.specs.Context.Laws.{context_keeps};
-ghost use Rattle.winnow_core.specs.Decided.Errors.{context_decided};
 ghost use Rattle.winnow_core.specs.Exact.Allowed.{fails_as, wanted};
 ghost use Rattle.winnow_core.specs.Exact.Errors.{NeverRefused, context_fails};
 ghost use Rattle.winnow_core.specs.Exact.Errors.{context_keeps_kinds, errors_exact};
 ghost use Rattle.winnow_core.specs.MakesError.Laws.{makes_error_ends, makes_error_grows};
 ghost use Rattle.winnow_core.specs.Stable.Grows.{grows, stays};
-ghost use Rattle.winnow_core.specs.Says.{nothing_done, nothing_said};
+ghost use Rattle.winnow_core.specs.MakesError.Says.{turned_said, turned_says};
+ghost use Rattle.winnow_core.specs.Says.Decided.{decided_of};
 
 use crate::parser::Parser;
 use crate::stable::Stable;
@@ -70,7 +70,8 @@ impl<
 
     ghost meaning = { λ form. ContextRuns C.is_clone C.is_infallible (F.meaning form) };
 
-    ghost says = { λ _. nothing_said };
+    ghost says = { λ s. turned_says (ContextBecomes C.is_clone C.is_infallible) s.1
+        (F.says s.0).premise (F.says s.0) };
 
     ghost claim = { λ s. record {
       premise = (F.claim s.0).premise;
@@ -79,15 +80,16 @@ impl<
           (F.claim s.0).spares_memory × C.is_infallible s.1.0 × NeverRefused C.is_clone s.1;
       consumes = (F.claim s.0).consumes;
       grammar = (F.claim s.0).grammar;
-      decides = (F.claim s.0).decides;
-      alike = (F.claim s.0).alike;
+      decides = (says s).premise;
+      alike = (says s).alike;
     } };
 
     ghost leaves_ends = { λ form. makes_error_ends I.reading
         (ContextBecomes C.is_clone C.is_infallible) (F.meaning form)
         (F.leaves_ends form) };
 
-    ghost said = { λ _. nothing_done };
+    ghost said = { λ s. turned_said (ContextBecomes C.is_clone C.is_infallible) (λ is. is)
+        (λ is. context_keeps_kinds C.is_clone C.is_infallible) (F.said s.0) };
 
     ghost claimed = { λ s. record {
       exact = λ form is. errors_exact (context_keeps_kinds C.is_clone C.is_infallible)
@@ -97,8 +99,7 @@ impl<
           (λ copy cloned refused. wanted (λ m. m.2 copy cloned refused))
           (fails_as (λ b. b) (λ m. m.0) ((F.claimed s.0).fails form is));
       takes = λ is some. (F.claimed s.0).takes is some;
-      decided = λ form is. context_decided C.is_clone C.is_infallible
-          ((F.claimed s.0).decided form is);
+      decided = λ form is. decided_of I.reading leaves_ends (said s) form is;
     } };
 
     #[inline]

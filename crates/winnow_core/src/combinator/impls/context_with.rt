@@ -9,7 +9,8 @@ ghost use Rattle.winnow_core.specs.ContextWith.Laws.{context_with_keeps};
 ghost use Rattle.winnow_core.specs.MakesError.Laws.{makes_error_ends, makes_error_grows};
 ghost use Rattle.winnow_core.specs.Stable.Grows.{grows, stays};
 ghost use Rattle.winnow_core.specs.Claim.{no_claim, nothing_claimed};
-ghost use Rattle.winnow_core.specs.Says.{nothing_done, nothing_said};
+ghost use Rattle.winnow_core.specs.MakesError.Says.{turned_said, turned_says};
+ghost use Rattle.winnow_core.specs.ContextWith.Says.{context_with_kinds};
 
 use crate::parser::Parser;
 use crate::stable::Stable;
@@ -72,7 +73,8 @@ impl<
 
     ghost meaning = { λ form. ContextWithRuns F.post FI.next_gives (P.meaning form) };
 
-    ghost says = { λ _. nothing_said };
+    ghost says = { λ s. turned_says (ContextWithBecomes F.post FI.next_gives) s.1
+        (P.says s.0).premise (P.says s.0) };
 
     ghost claim = { λ _. no_claim };
 
@@ -80,7 +82,8 @@ impl<
         (ContextWithBecomes F.post FI.next_gives) (P.meaning form)
         (P.leaves_ends form) };
 
-    ghost said = { λ _. nothing_done };
+    ghost said = { λ s. turned_said (ContextWithBecomes F.post FI.next_gives) (λ is. is)
+        (λ is. context_with_kinds F.post FI.next_gives) (P.said s.0) };
 
     ghost claimed = { λ _. nothing_claimed };
 

@@ -1,13 +1,13 @@
 //! Errors that are converted.
 ghost use Rattle.std.specs.Prelude.{◌≡◌};
-ghost use Rattle.winnow_core.specs.Decided.Errors.{err_into_decided};
 ghost use Rattle.winnow_core.specs.ErrInto.{ErrIntoBecomes, ErrIntoRuns, err_into_parser};
 ghost use Rattle.winnow_core.specs.ErrInto.Laws.{err_into_keeps};
 ghost use Rattle.winnow_core.specs.Exact.Errors.{ConvertsSparing, SameKinds, err_into_exact};
 ghost use Rattle.winnow_core.specs.Exact.Errors.{err_into_fails};
 ghost use Rattle.winnow_core.specs.MakesError.Laws.{makes_error_ends, makes_error_grows};
 ghost use Rattle.winnow_core.specs.Stable.Grows.{grows_at, stays_beside};
-ghost use Rattle.winnow_core.specs.Says.{nothing_done, nothing_said};
+ghost use Rattle.winnow_core.specs.ErrInto.Says.{err_into_said, err_into_says};
+ghost use Rattle.winnow_core.specs.Says.Decided.{decided_of};
 
 use crate::parser::Parser;
 use crate::stable::{KeepsKinds, Stable};
@@ -52,7 +52,7 @@ impl<F: Parser<I, O, E>, I: Stream, O, E: ParserError<I>, E2: ParserError<I> + F
 
     ghost meaning = { λ _. ErrIntoRuns E.kind E2.kind E2.from_gives (F.meaning E.form) };
 
-    ghost says = { λ _. nothing_said };
+    ghost says = { λ s. err_into_says E.form E.kind E2.kind E2.from_gives (F.says s) };
 
     ghost claim = { λ s. record {
       premise = (F.claim s).premise × SameKinds E.kind E2.kind E2.from_gives;
@@ -61,15 +61,15 @@ impl<F: Parser<I, O, E>, I: Stream, O, E: ParserError<I>, E2: ParserError<I> + F
           (F.claim s).spares_memory × ConvertsSparing E.kind E2.kind E2.from_gives;
       consumes = (F.claim s).consumes;
       grammar = (F.claim s).grammar;
-      decides = (F.claim s).decides × SameKinds E.kind E2.kind E2.from_gives;
-      alike = (F.claim s).alike;
+      decides = (says s).premise;
+      alike = (says s).alike;
     } };
 
     ghost leaves_ends = { λ _ s i answer t j ran. makes_error_ends I.reading
         (ErrIntoBecomes E.kind E2.kind E2.from_gives) (F.meaning E.form)
         (F.leaves_ends E.form) _ i answer _ j ran };
 
-    ghost said = { λ _. nothing_done };
+    ghost said = { λ s. err_into_said E.form E.kind E2.kind E2.from_gives (F.said s) };
 
     ghost claimed = { λ s. record {
       exact = λ form is. err_into_exact E.kind E2.kind E2.from_gives is.1
@@ -77,8 +77,7 @@ impl<F: Parser<I, O, E>, I: Stream, O, E: ParserError<I>, E2: ParserError<I> + F
       fails = λ form is. err_into_fails E.kind E2.kind E2.from_gives is.1 (λ m. m.0)
           (λ m. m.1) ((F.claimed s).fails E.form is.0);
       takes = λ is some. (F.claimed s).takes is.0 some;
-      decided = λ form is. err_into_decided E.kind E2.kind E2.from_gives is.1
-          ((F.claimed s).decided E.form is.0);
+      decided = λ form is. decided_of I.reading leaves_ends (said s) form is;
     } };
 
     #[inline]

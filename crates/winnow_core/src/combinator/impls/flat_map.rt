@@ -8,11 +8,11 @@ ghost use Rattle.winnow_core.specs.Exact.Allowed.{fails_as};
 ghost use Rattle.winnow_core.specs.Exact.Along.{either_way};
 ghost use Rattle.winnow_core.specs.FlatMap.{FlatMapRuns, MakesParsers, flat_map_closure};
 ghost use Rattle.winnow_core.specs.FlatMap.{flat_map_parser};
-ghost use Rattle.winnow_core.specs.FlatMap.Decided.{AlikeByMade, MakesOne, flat_map_decided};
 ghost use Rattle.winnow_core.specs.FlatMap.Laws.{flat_map_exact, flat_map_fails, flat_map_ends};
 ghost use Rattle.winnow_core.specs.FlatMap.Laws.{flat_map_grows};
 ghost use Rattle.winnow_core.specs.Stable.Grows.{grows, stays};
-ghost use Rattle.winnow_core.specs.Says.{nothing_done, nothing_said};
+ghost use Rattle.winnow_core.specs.FlatMap.Says.{flat_map_said, flat_map_says};
+ghost use Rattle.winnow_core.specs.Says.Decided.{decided_of};
 
 use crate::parser::Parser;
 use crate::stable::Stable;
@@ -66,7 +66,7 @@ impl<
 
     ghost meaning = { λ form. FlatMapRuns G.step H.state (F.meaning form) (H.meaning form) };
 
-    ghost says = { λ _. nothing_said };
+    ghost says = { λ s. flat_map_says G.step s.1 H.state H.says (F.says s.0) };
 
     ghost claim = { λ s. record {
       premise = (F.claim s.0).premise × Stays G.step s.1
@@ -83,16 +83,14 @@ impl<
           ⊎ EachMade (Gives G.step) s.1 (λ m. (H.claim (H.state m)).consumes);
       grammar = FlatMapped (Gives G.step) s.1 (λ m. (H.claim (H.state m)).grammar)
           (F.claim s.0).grammar;
-      decides = (F.claim s.0).decides × Stays G.step s.1
-          × MakesOne G.step s.1 H.state (F.claim s.0).alike
-          × EachMade (Gives G.step) s.1 (λ m. (H.claim (H.state m)).decides);
-      alike = AlikeByMade G.step s.1 (λ m. (H.claim (H.state m)).alike);
+      decides = (says s).premise;
+      alike = (says s).alike;
     } };
 
     ghost leaves_ends = { λ form. flat_map_ends I.reading G.step H.state (F.meaning form)
         (H.meaning form) (F.leaves_ends form) (H.leaves_ends form) };
 
-    ghost said = { λ _. nothing_done };
+    ghost said = { λ s. flat_map_said G.step H.state H.says (F.said s.0) H.said };
 
     ghost claimed = { λ s. record {
       exact = λ form is. flat_map_exact G.step H.state (λ m. (H.claim (H.state m)).grammar)
@@ -109,9 +107,7 @@ impl<
           (either_way ((F.claimed s.0).takes is.0)
           (λ each o made m. (H.claimed (H.state made)).takes (is.2 o made m)
           (each o made m)) some);
-      decided = λ form is. flat_map_decided G.step H.state (λ m. (H.claim (H.state m)).alike) is.1
-          is.2 (λ o made m. (H.claimed (H.state made)).decided form (is.3 o made m))
-          ((F.claimed s.0).decided form is.0);
+      decided = λ form is. decided_of I.reading leaves_ends (said s) form is;
     } };
 
     #[inline]

@@ -4,13 +4,12 @@ ghost use Rattle.grammars.specs.Grammar.{Made};
 ghost use Rattle.grammars.specs.Grammar.Unique.{made_of_takes};
 ghost use Rattle.stream_errors.specs.Form.{modal};
 ghost use Rattle.winnow_core.specs.Closures.{Gives, Stays};
-ghost use Rattle.winnow_core.specs.Decided.Adapters.{map_decided};
-ghost use Rattle.winnow_core.specs.Decided.Made.{OutputsMadeAlike};
 ghost use Rattle.winnow_core.specs.Exact.Adapters.{map_exact, map_fails};
 ghost use Rattle.winnow_core.specs.Map.{MapRuns, map_parser, map_closure};
 ghost use Rattle.winnow_core.specs.Map.Laws.{map_ends, map_grows};
 ghost use Rattle.winnow_core.specs.Stable.Grows.{grows, stays};
-ghost use Rattle.winnow_core.specs.Says.{nothing_done, nothing_said};
+ghost use Rattle.winnow_core.specs.Map.Says.{map_said, map_says};
+ghost use Rattle.winnow_core.specs.Says.Decided.{decided_of};
 
 use crate::parser::Parser;
 use crate::stable::Stable;
@@ -55,7 +54,7 @@ impl<F: Parser<I, O, E>, G: FnMut(O) -> O2, I: Stream, O, O2, E: ParserError<I>>
 
     ghost meaning = { λ form. MapRuns (F.meaning form) G.step };
 
-    ghost says = { λ _. nothing_said };
+    ghost says = { λ s. map_says G.step s.1 (F.says s.0) };
 
     ghost claim = { λ s. record {
       premise = (F.claim s.0).premise × Stays G.step s.1;
@@ -63,19 +62,19 @@ impl<F: Parser<I, O, E>, G: FnMut(O) -> O2, I: Stream, O, O2, E: ParserError<I>>
       spares_memory = (F.claim s.0).spares_memory;
       consumes = (F.claim s.0).consumes;
       grammar = Made (Gives G.step) s.1 (F.claim s.0).grammar;
-      decides = (F.claim s.0).decides × Stays G.step s.1;
-      alike = OutputsMadeAlike (F.claim s.0).alike (Gives G.step s.1);
+      decides = (says s).premise;
+      alike = (says s).alike;
     } };
 
     ghost leaves_ends = { λ form. map_ends I.reading (F.meaning form) G.step (F.leaves_ends form) };
 
-    ghost said = { λ _. nothing_done };
+    ghost said = { λ s. map_said G.step (F.said s.0) };
 
     ghost claimed = { λ s. record {
       exact = λ form is. map_exact G.step is.1 ((F.claimed s.0).exact form is.0);
       fails = λ form is. map_fails G.step is.1 ((F.claimed s.0).fails form is.0);
       takes = λ is some. made_of_takes (Gives G.step) s.1 ((F.claimed s.0).takes is.0 some);
-      decided = λ form is. map_decided G.step is.1 ((F.claimed s.0).decided form is.0);
+      decided = λ form is. decided_of I.reading leaves_ends (said s) form is;
     } };
 
     #[inline(always)]

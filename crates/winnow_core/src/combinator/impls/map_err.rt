@@ -1,13 +1,15 @@
 //! Errors made of errors by a closure.
 ghost use Rattle.std.specs.Prelude.{◌≡◌};
 ghost use Rattle.winnow_core.specs.Closures.{Stays};
-ghost use Rattle.winnow_core.specs.Decided.Errors.{map_err_decided};
 ghost use Rattle.winnow_core.specs.Exact.Errors.{map_err_exact, map_err_fails};
 ghost use Rattle.winnow_core.specs.MakesError.Laws.{makes_error_ends};
 ghost use Rattle.winnow_core.specs.MapErr.{MapErrBecomes, MapErrRuns, map_err_closure};
 ghost use Rattle.winnow_core.specs.MapErr.{map_err_parser};
 ghost use Rattle.winnow_core.specs.MapErrKept.{KeepsEachKind};
-ghost use Rattle.winnow_core.specs.Says.{nothing_done, nothing_said};
+ghost use Rattle.winnow_core.specs.MakesError.Says.{turned_said, turned_says};
+ghost use Rattle.winnow_core.specs.Exact.Errors.{map_err_keeps};
+ghost use Rattle.winnow_core.specs.Says.Along.{in_form, in_form_said};
+ghost use Rattle.winnow_core.specs.Says.Decided.{decided_of};
 
 use crate::parser::Parser;
 use std::marker::PhantomData;
@@ -58,7 +60,9 @@ impl<
 
     ghost meaning = { λ _. MapErrRuns E.kind E2.kind G.step (F.meaning E.form) };
 
-    ghost says = { λ _. nothing_said };
+    ghost says = { λ s. turned_says (MapErrBecomes E.kind E2.kind G.step) s.1
+        ((F.says s.0).premise × Stays G.step s.1 × KeepsEachKind E.kind E2.kind G.step)
+        (in_form E.form (F.says s.0)) };
 
     ghost claim = { λ s. record {
       premise = (F.claim s.0).premise × Stays G.step s.1 × KeepsEachKind E.kind E2.kind G.step;
@@ -66,15 +70,17 @@ impl<
       spares_memory = (F.claim s.0).spares_memory;
       consumes = (F.claim s.0).consumes;
       grammar = (F.claim s.0).grammar;
-      decides = (F.claim s.0).decides × Stays G.step s.1 × KeepsEachKind E.kind E2.kind G.step;
-      alike = (F.claim s.0).alike;
+      decides = (says s).premise;
+      alike = (says s).alike;
     } };
 
     ghost leaves_ends = { λ _. makes_error_ends I.reading (MapErrBecomes E.kind E2.kind G.step)
         (F.meaning E.form)
         (F.leaves_ends E.form) };
 
-    ghost said = { λ _. nothing_done };
+    ghost said = { λ s. turned_said (MapErrBecomes E.kind E2.kind G.step) (λ is. is.0)
+        (λ is. map_err_keeps E.kind E2.kind G.step is.2 is.1)
+        (in_form_said E.form (F.said s.0)) };
 
     ghost claimed = { λ s. record {
       exact = λ form is. map_err_exact E.kind E2.kind G.step is.2 is.1
@@ -82,8 +88,7 @@ impl<
       fails = λ form is. map_err_fails E.kind E2.kind G.step is.2
           ((F.claimed s.0).fails E.form is.0);
       takes = λ is some. (F.claimed s.0).takes is.0 some;
-      decided = λ form is. map_err_decided E.kind E2.kind G.step is.2 is.1
-          ((F.claimed s.0).decided E.form is.0);
+      decided = λ form is. decided_of I.reading leaves_ends (said s) form is;
     } };
 
     #[inline]

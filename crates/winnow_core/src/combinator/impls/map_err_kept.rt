@@ -2,14 +2,15 @@
 ghost use Rattle.std.specs.Prelude.{◌≡◌};
 ghost use Rattle.stream_errors.specs.Form.{modal};
 ghost use Rattle.winnow_core.specs.Closures.{Stays};
-ghost use Rattle.winnow_core.specs.Decided.Errors.{map_err_kept_decided};
 ghost use Rattle.winnow_core.specs.Exact.Errors.{map_err_kept_exact, map_err_kept_fails};
 ghost use Rattle.winnow_core.specs.MakesError.Laws.{makes_error_ends, makes_error_grows};
 ghost use Rattle.winnow_core.specs.MapErrKept.{KeepsEachKind, MapErrKeptBecomes, MapErrKeptRuns};
 ghost use Rattle.winnow_core.specs.MapErrKept.{map_err_kept_closure, map_err_kept_keeps};
 ghost use Rattle.winnow_core.specs.MapErrKept.{map_err_kept_parser};
 ghost use Rattle.winnow_core.specs.Stable.Grows.{grows, stays};
-ghost use Rattle.winnow_core.specs.Says.{nothing_done, nothing_said};
+ghost use Rattle.winnow_core.specs.MakesError.Says.{turned_said, turned_says};
+ghost use Rattle.winnow_core.specs.Exact.Errors.{map_err_kept_keeps};
+ghost use Rattle.winnow_core.specs.Says.Decided.{decided_of};
 
 use crate::parser::Parser;
 use crate::stable::Stable;
@@ -65,7 +66,8 @@ impl<
 
     ghost meaning = { λ form. MapErrKeptRuns E.kind E2.kind G.step (F.meaning form) };
 
-    ghost says = { λ _. nothing_said };
+    ghost says = { λ s. turned_says (MapErrKeptBecomes E.kind E2.kind G.step) s.1
+        ((F.says s.0).premise × Stays G.step s.1) (F.says s.0) };
 
     ghost claim = { λ s. record {
       premise = (F.claim s.0).premise × Stays G.step s.1;
@@ -73,14 +75,15 @@ impl<
       spares_memory = (F.claim s.0).spares_memory;
       consumes = (F.claim s.0).consumes;
       grammar = (F.claim s.0).grammar;
-      decides = (F.claim s.0).decides × Stays G.step s.1;
-      alike = (F.claim s.0).alike;
+      decides = (says s).premise;
+      alike = (says s).alike;
     } };
 
     ghost leaves_ends = { λ form. makes_error_ends I.reading
         (MapErrKeptBecomes E.kind E2.kind G.step) (F.meaning form) (F.leaves_ends form) };
 
-    ghost said = { λ _. nothing_done };
+    ghost said = { λ s. turned_said (MapErrKeptBecomes E.kind E2.kind G.step) (λ is. is.0)
+        (λ is. map_err_kept_keeps E.kind E2.kind G.step is.1) (F.said s.0) };
 
     ghost claimed = { λ s. record {
       exact = λ form is. map_err_kept_exact E.kind E2.kind G.step is.1
@@ -88,8 +91,7 @@ impl<
       fails = λ form is. map_err_kept_fails E.kind E2.kind G.step
           ((F.claimed s.0).fails form is.0);
       takes = λ is some. (F.claimed s.0).takes is.0 some;
-      decided = λ form is. map_err_kept_decided E.kind E2.kind G.step is.1
-          ((F.claimed s.0).decided form is.0);
+      decided = λ form is. decided_of I.reading leaves_ends (said s) form is;
     } };
 
     #[inline]

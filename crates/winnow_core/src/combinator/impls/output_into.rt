@@ -3,14 +3,13 @@ ghost use Rattle.std.specs.Prelude.{◌≡◌};
 ghost use Rattle.grammars.specs.Grammar.{Made};
 ghost use Rattle.grammars.specs.Grammar.Unique.{made_of_takes};
 ghost use Rattle.stream_errors.specs.Form.{modal};
-ghost use Rattle.winnow_core.specs.Decided.Adapters.{output_decided};
-ghost use Rattle.winnow_core.specs.Decided.Made.{OutputsMadeAlike};
 ghost use Rattle.winnow_core.specs.Exact.Adapters.{output_exact, output_fails};
 ghost use Rattle.winnow_core.specs.MakesOutput.Laws.{makes_output_ends, made_of_output};
 ghost use Rattle.winnow_core.specs.MakesOutput.Laws.{makes_output_grows};
 ghost use Rattle.winnow_core.specs.OutputInto.{OutputIntoRuns, output_into_parser};
 ghost use Rattle.winnow_core.specs.Stable.Grows.{grows, stays};
-ghost use Rattle.winnow_core.specs.Says.{nothing_done, nothing_said};
+ghost use Rattle.winnow_core.specs.MakesOutput.Says.{OutputsMadeAlike, of_output_said, of_output_says};
+ghost use Rattle.winnow_core.specs.Says.Decided.{decided_of};
 
 use crate::parser::Parser;
 use crate::stable::Stable;
@@ -52,7 +51,8 @@ impl<F: Parser<I, O, E>, I: Stream, O, O2: From<O>, E: ParserError<I>> Parser<I,
 
     ghost meaning = { λ form. OutputIntoRuns O2.from_gives (F.meaning form) };
 
-    ghost says = { λ _. nothing_said };
+    ghost says = { λ s. of_output_says (λ o u. O2.from_gives o u)
+        (OutputsMadeAlike (F.says s).alike (λ o u. O2.from_gives o u)) (F.says s) };
 
     ghost claim = { λ s. record {
       premise = (F.claim s).premise;
@@ -60,14 +60,15 @@ impl<F: Parser<I, O, E>, I: Stream, O, O2: From<O>, E: ParserError<I>> Parser<I,
       spares_memory = (F.claim s).spares_memory;
       consumes = (F.claim s).consumes;
       grammar = Made (λ (_ : Unit {0}) o u. O2.from_gives o u) tt (F.claim s).grammar;
-      decides = (F.claim s).decides;
-      alike = OutputsMadeAlike (F.claim s).alike (λ o u. O2.from_gives o u);
+      decides = (says s).premise;
+      alike = (says s).alike;
     } };
 
     ghost leaves_ends = { λ form. makes_output_ends I.reading _ (F.meaning form)
         (F.leaves_ends form) };
 
-    ghost said = { λ _. nothing_done };
+    ghost said = { λ s. of_output_said (λ o u. O2.from_gives o u)
+        (λ o p u v like x y. (o, p, like, x, y)) (F.said s) };
 
     ghost claimed = { λ s. record {
       exact = λ form is. output_exact (λ (_ : Unit {0}) o u. O2.from_gives o u) tt
@@ -76,8 +77,7 @@ impl<F: Parser<I, O, E>, I: Stream, O, O2: From<O>, E: ParserError<I>> Parser<I,
           ((F.claimed s).fails form is);
       takes = λ is some. made_of_takes (λ (_ : Unit {0}) o u. O2.from_gives o u) tt
           ((F.claimed s).takes is some);
-      decided = λ form is. output_decided (λ i o j u. O2.from_gives o u)
-          (λ i a o p u v like x y. (o, p, like, x, y)) ((F.claimed s).decided form is);
+      decided = λ form is. decided_of I.reading leaves_ends (said s) form is;
     } };
 
     #[inline]

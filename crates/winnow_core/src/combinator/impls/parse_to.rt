@@ -4,14 +4,13 @@ ghost use Rattle.grammars.specs.Grammar.{Made};
 ghost use Rattle.grammars.specs.Grammar.Outputs.{RejectsAll};
 ghost use Rattle.grammars.specs.Grammar.Unique.{made_of_takes};
 ghost use Rattle.stream_errors.specs.Form.{modal};
-ghost use Rattle.winnow_core.specs.Decided.Adapters.{ReadsSame, parse_to_decided};
-ghost use Rattle.winnow_core.specs.Decided.Made.{OutputsMadeAlike};
 ghost use Rattle.winnow_core.specs.Exact.Settled.{ReadsNone, ReadsSome, parse_to_exact};
 ghost use Rattle.winnow_core.specs.Exact.Settled.{parse_to_fails};
 ghost use Rattle.winnow_core.specs.ParseTo.{ParseToSettles, ParseToRuns, parse_to_parser};
 ghost use Rattle.winnow_core.specs.Settles.Laws.{settles_ends, settles_grows};
 ghost use Rattle.winnow_core.specs.Stable.Grows.{grows, stays_beside};
-ghost use Rattle.winnow_core.specs.Says.{nothing_done, nothing_said};
+ghost use Rattle.winnow_core.specs.ParseTo.Says.{parse_to_said, parse_to_says};
+ghost use Rattle.winnow_core.specs.Says.Decided.{decided_of};
 
 use crate::parser::Parser;
 use crate::stable::Stable;
@@ -57,7 +56,7 @@ impl<F: Parser<I, O, E>, I: Stream, O: ParseSlice<O2> + Drop, O2, E: ParserError
 
     ghost meaning = { λ form. ParseToRuns O.reads (F.meaning form) };
 
-    ghost says = { λ _. nothing_said };
+    ghost says = { λ s. parse_to_says O.reads (F.says s) };
 
     ghost claim = { λ s. record {
       premise = (F.claim s).premise
@@ -66,21 +65,21 @@ impl<F: Parser<I, O, E>, I: Stream, O: ParseSlice<O2> + Drop, O2, E: ParserError
       spares_memory = (F.claim s).spares_memory;
       consumes = (F.claim s).consumes;
       grammar = Made (ReadsSome O.reads) tt (F.claim s).grammar;
-      decides = (F.claim s).decides × ReadsSame O.reads (F.claim s).alike;
-      alike = OutputsMadeAlike (F.claim s).alike (λ o u. O.reads o (Some u));
+      decides = (says s).premise;
+      alike = (says s).alike;
     } };
 
     ghost leaves_ends = { λ form s i answer t j ran. settles_ends I.reading
         (ParseToSettles O.reads) (F.meaning form)
         (F.leaves_ends form) _ i answer _ j ran };
 
-    ghost said = { λ _. nothing_done };
+    ghost said = { λ s. parse_to_said O.reads (F.said s) };
 
     ghost claimed = { λ s. record {
       exact = λ form is. parse_to_exact O.reads is.1 ((F.claimed s).exact form is.0);
       fails = λ form is. parse_to_fails O.reads ((F.claimed s).fails form is.0);
       takes = λ is some. made_of_takes (ReadsSome O.reads) tt ((F.claimed s).takes is.0 some);
-      decided = λ form is. parse_to_decided O.reads is.1 ((F.claimed s).decided form is.0);
+      decided = λ form is. decided_of I.reading leaves_ends (said s) form is;
     } };
 
     #[inline]

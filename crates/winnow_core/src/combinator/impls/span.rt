@@ -8,7 +8,7 @@ ghost use Rattle.winnow_core.specs.Exact.Adapters.{AnyPlaces, span_exact, span_f
 ghost use Rattle.winnow_core.specs.MakesOutput.Laws.{makes_output_ends, makes_output_grows};
 ghost use Rattle.winnow_core.specs.Span.{SpanRuns, span_parser, places};
 ghost use Rattle.winnow_core.specs.Stable.Grows.{grows, stays};
-ghost use Rattle.winnow_core.specs.Says.{nothing_done, nothing_said};
+ghost use Rattle.winnow_core.specs.WithSpan.Says.{span_said, span_says};
 
 use crate::parser::Parser;
 use crate::stable::Stable;
@@ -52,7 +52,7 @@ impl<F: Parser<I, O, E>, I: Location, O: Drop, E: ParserError<I>> Parser<I, Rang
 
     ghost meaning = { λ form. SpanRuns (F.meaning form) };
 
-    ghost says = { λ _. nothing_said };
+    ghost says = { λ s. span_says (F.says s) };
 
     ghost claim = { λ s. record {
       premise = (F.claim s).premise;
@@ -67,7 +67,7 @@ impl<F: Parser<I, O, E>, I: Location, O: Drop, E: ParserError<I>> Parser<I, Rang
     ghost leaves_ends = { λ form. makes_output_ends I.reading _ (F.meaning form)
         (F.leaves_ends form) };
 
-    ghost said = { λ _. nothing_done };
+    ghost said = { λ s. span_said (F.said s) };
 
     ghost claimed = { λ s. record {
       exact = λ form is. span_exact (F.meaning form) (s) ((F.claimed s).exact form is);

@@ -3,13 +3,12 @@ ghost use Rattle.std.specs.Prelude.{◌≡◌, List, ◌++◌};
 ghost use Rattle.streams.specs.Input.{Ends};
 ghost use Rattle.grammars.specs.Grammar.{Taken};
 ghost use Rattle.stream_errors.specs.Form.{modal};
-ghost use Rattle.winnow_core.specs.Decided.Adapters.{take_decided};
 ghost use Rattle.winnow_core.specs.Exact.Adapters.{take_exact, take_fails, taken_takes};
-ghost use Rattle.winnow_core.specs.Literal.Laws.{ShowSame};
 ghost use Rattle.winnow_core.specs.Stable.Grows.{grows, stays};
 ghost use Rattle.winnow_core.specs.Take.{TakeRuns, take_parser};
 ghost use Rattle.winnow_core.specs.Take.Laws.{take_ends, take_adapter_grows};
-ghost use Rattle.winnow_core.specs.Says.{nothing_done, nothing_said};
+ghost use Rattle.winnow_core.specs.Take.Says.{take_said, take_says};
+ghost use Rattle.winnow_core.specs.Says.Decided.{decided_of};
 
 use crate::parser::Parser;
 use crate::stable::Stable;
@@ -51,7 +50,7 @@ impl<F: Parser<I, O, E>, I: Stream, O: Drop, E: ParserError<I>> Parser<I, I::Sli
 
     ghost meaning = { λ form. TakeRuns I.reading (F.meaning form) };
 
-    ghost says = { λ _. nothing_said };
+    ghost says = { λ s. take_says I.reading (F.says s) };
 
     ghost claim = { λ s. record {
       premise = (F.claim s).premise;
@@ -59,19 +58,19 @@ impl<F: Parser<I, O, E>, I: Stream, O: Drop, E: ParserError<I>> Parser<I, I::Sli
       spares_memory = (F.claim s).spares_memory;
       consumes = (F.claim s).consumes;
       grammar = Taken I.reading (F.claim s).grammar;
-      decides = (F.claim s).decides;
-      alike = ShowSame I.reading;
+      decides = (says s).premise;
+      alike = (says s).alike;
     } };
 
     ghost leaves_ends = { λ form. take_ends I.reading (F.meaning form) (F.leaves_ends form) };
 
-    ghost said = { λ _. nothing_done };
+    ghost said = { λ s. take_said I.reading (F.said s) };
 
     ghost claimed = { λ s. record {
       exact = λ form is. take_exact I.reading ((F.claimed s).exact form is);
       fails = λ form is. take_fails I.reading ((F.claimed s).fails form is);
       takes = λ is some. taken_takes I.reading ((F.claimed s).takes is some);
-      decided = λ form is. take_decided I.reading ((F.claimed s).decided form is);
+      decided = λ form is. decided_of I.reading leaves_ends (said s) form is;
     } };
 
     #[inline]

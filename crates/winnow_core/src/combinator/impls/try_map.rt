@@ -6,7 +6,6 @@ ghost use Rattle.grammars.specs.Grammar.Unique.{made_of_takes};
 ghost use Rattle.stream_errors.specs.Form.{modal};
 ghost use Rattle.stream_errors.specs.Given.{Keeping};
 ghost use Rattle.winnow_core.specs.Closures.{Stays};
-ghost use Rattle.winnow_core.specs.Decided.Made.{OutputsMadeAlike};
 ghost use Rattle.winnow_core.specs.Exact.Allowed.{fails_as};
 ghost use Rattle.winnow_core.specs.Exact.Settled.{ErrorsKept, GivesErr, GivesOk, try_map_exact};
 ghost use Rattle.winnow_core.specs.Exact.Settled.{try_map_fails};
@@ -14,8 +13,8 @@ ghost use Rattle.winnow_core.specs.Settles.Laws.{settles_ends, settles_grows};
 ghost use Rattle.winnow_core.specs.Stable.Grows.{grows, stays};
 ghost use Rattle.winnow_core.specs.TryMap.{TryMapSettles, TryMapRuns, try_map_closure};
 ghost use Rattle.winnow_core.specs.TryMap.{try_map_parser};
-ghost use Rattle.winnow_core.specs.TryMap.Decided.{TriesSame, try_map_decided};
-ghost use Rattle.winnow_core.specs.Says.{nothing_done, nothing_said};
+ghost use Rattle.winnow_core.specs.TryMap.Says.{try_map_said, try_map_says};
+ghost use Rattle.winnow_core.specs.Says.Decided.{decided_of};
 
 use crate::parser::Parser;
 use crate::stable::Stable;
@@ -68,7 +67,7 @@ impl<
 
     ghost meaning = { λ form. TryMapRuns G.step (F.meaning form) };
 
-    ghost says = { λ _. nothing_said };
+    ghost says = { λ s. try_map_says G.step s.1 (F.says s.0) };
 
     ghost claim = { λ s. record {
       premise = (F.claim s.0).premise × Stays G.step s.1.0
@@ -77,23 +76,22 @@ impl<
       spares_memory = (F.claim s.0).spares_memory × ErrorsKept s.1.1;
       consumes = (F.claim s.0).consumes;
       grammar = Made (GivesOk G.step) s.1.0 (F.claim s.0).grammar;
-      decides = (F.claim s.0).decides × Stays G.step s.1.0
-          × TriesSame G.step s.1.0 (F.claim s.0).alike;
-      alike = OutputsMadeAlike (F.claim s.0).alike (GivesOk G.step s.1.0);
+      decides = (says s).premise;
+      alike = (says s).alike;
     } };
 
     ghost leaves_ends = { λ form. settles_ends I.reading
         (TryMapSettles G.step) (F.meaning form)
         (F.leaves_ends form) };
 
-    ghost said = { λ _. nothing_done };
+    ghost said = { λ s. try_map_said G.step (F.said s.0) };
 
     ghost claimed = { λ s. record {
       exact = λ form is. try_map_exact G.step is.1 is.2 ((F.claimed s.0).exact form is.0);
       fails = λ form is. try_map_fails G.step is.1 (λ m. m.1)
           (fails_as (λ b. b) (λ m. m.0) ((F.claimed s.0).fails form is.0));
       takes = λ is some. made_of_takes (GivesOk G.step) s.1.0 ((F.claimed s.0).takes is.0 some);
-      decided = λ form is. try_map_decided G.step is.1 is.2 ((F.claimed s.0).decided form is.0);
+      decided = λ form is. decided_of I.reading leaves_ends (said s) form is;
     } };
 
     #[inline]

@@ -3,13 +3,13 @@ ghost use Rattle.std.specs.Prelude.{◌≡◌};
 ghost use Rattle.grammars.specs.Grammar.{Made};
 ghost use Rattle.grammars.specs.Grammar.Unique.{made_of_takes};
 ghost use Rattle.stream_errors.specs.Form.{modal};
-ghost use Rattle.winnow_core.specs.Decided.Adapters.{BothClones, value_decided};
 ghost use Rattle.winnow_core.specs.Exact.Adapters.{value_exact, value_fails};
 ghost use Rattle.winnow_core.specs.Exact.Allowed.{fails_as, wanted};
 ghost use Rattle.winnow_core.specs.Stable.Grows.{grows, stays};
 ghost use Rattle.winnow_core.specs.Value.{ValueRuns, value_kept, value_parser};
 ghost use Rattle.winnow_core.specs.Value.Laws.{value_ends, value_grows};
-ghost use Rattle.winnow_core.specs.Says.{nothing_done, nothing_said};
+ghost use Rattle.winnow_core.specs.Value.Says.{value_said, value_says};
+ghost use Rattle.winnow_core.specs.Says.Decided.{decided_of};
 
 use crate::parser::Parser;
 use crate::stable::Stable;
@@ -53,7 +53,7 @@ impl<F: Parser<I, O, E>, I: Stream, O: Drop, O2: Clone, E: ParserError<I>> Parse
 
     ghost meaning = { λ form. ValueRuns O2.is_clone O2.is_infallible (F.meaning form) };
 
-    ghost says = { λ _. nothing_said };
+    ghost says = { λ s. value_says O2.is_clone O2.is_infallible s.1 (F.says s.0) };
 
     ghost claim = { λ s. record {
       premise = (F.claim s.0).premise;
@@ -61,14 +61,14 @@ impl<F: Parser<I, O, E>, I: Stream, O: Drop, O2: Clone, E: ParserError<I>> Parse
       spares_memory = (F.claim s.0).spares_memory × O2.is_infallible s.1;
       consumes = (F.claim s.0).consumes;
       grammar = Made (λ v o u. O2.is_clone v u) s.1 (F.claim s.0).grammar;
-      decides = (F.claim s.0).decides;
-      alike = BothClones O2.is_clone s.1;
+      decides = (says s).premise;
+      alike = (says s).alike;
     } };
 
     ghost leaves_ends = { λ form. value_ends I.reading O2.is_clone O2.is_infallible
         (F.meaning form) (F.leaves_ends form) };
 
-    ghost said = { λ _. nothing_done };
+    ghost said = { λ s. value_said O2.is_clone O2.is_infallible (F.said s.0) };
 
     ghost claimed = { λ s. record {
       exact = λ form is. value_exact O2.is_clone O2.is_infallible ((F.claimed s.0).exact form is);
@@ -77,8 +77,7 @@ impl<F: Parser<I, O, E>, I: Stream, O: Drop, O2: Clone, E: ParserError<I>> Parse
           (fails_as (λ b. b) (λ m. m.0) ((F.claimed s.0).fails form is));
       takes = λ is some. made_of_takes (λ v o u. O2.is_clone v u) s.1
           ((F.claimed s.0).takes is some);
-      decided = λ form is. value_decided O2.is_clone O2.is_infallible
-          ((F.claimed s.0).decided form is);
+      decided = λ form is. decided_of I.reading leaves_ends (said s) form is;
     } };
 
     #[inline]

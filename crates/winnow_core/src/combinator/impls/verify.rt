@@ -6,14 +6,14 @@ ghost use Rattle.grammars.specs.Grammar.Outputs.{RejectsAll};
 ghost use Rattle.grammars.specs.Grammar.Unique.{made_of_takes};
 ghost use Rattle.stream_errors.specs.Form.{modal};
 ghost use Rattle.winnow_core.specs.Closures.{Stays, Finds};
-ghost use Rattle.winnow_core.specs.Decided.Adapters.{FindsSame, verify_decided};
 ghost use Rattle.winnow_core.specs.Exact.Settled.{Misses, settled_exact, verify_fails};
 ghost use Rattle.winnow_core.specs.Exact.Settled.{verify_settler};
 ghost use Rattle.winnow_core.specs.Settles.Laws.{settles_ends, settles_grows};
 ghost use Rattle.winnow_core.specs.Stable.Grows.{grows, stays};
 ghost use Rattle.winnow_core.specs.Verify.{VerifySettles, VerifyRuns, verify_closure};
 ghost use Rattle.winnow_core.specs.Verify.{verify_parser};
-ghost use Rattle.winnow_core.specs.Says.{nothing_done, nothing_said};
+ghost use Rattle.winnow_core.specs.Verify.Says.{verify_said, verify_says};
+ghost use Rattle.winnow_core.specs.Says.Decided.{decided_of};
 
 use crate::parser::Parser;
 use crate::stable::Stable;
@@ -61,7 +61,7 @@ impl<F: Parser<I, O, E>, G: FnMut(&O) -> bool, I: Stream, O: Drop, E: ParserErro
 
     ghost meaning = { λ form. VerifyRuns (CalledAt G.FnMut) (F.meaning form) };
 
-    ghost says = { λ _. nothing_said };
+    ghost says = { λ s. verify_says (CalledAt G.FnMut) s.1 (F.says s.0) };
 
     ghost claim = { λ s. record {
       premise = (F.claim s.0).premise × Stays (CalledAt G.FnMut) s.1
@@ -71,16 +71,15 @@ impl<F: Parser<I, O, E>, G: FnMut(&O) -> bool, I: Stream, O: Drop, E: ParserErro
       spares_memory = (F.claim s.0).spares_memory;
       consumes = (F.claim s.0).consumes;
       grammar = Made (Finds (CalledAt G.FnMut)) s.1 (F.claim s.0).grammar;
-      decides = (F.claim s.0).decides × Stays (CalledAt G.FnMut) s.1
-          × FindsSame (CalledAt G.FnMut) s.1 (F.claim s.0).alike;
-      alike = (F.claim s.0).alike;
+      decides = (says s).premise;
+      alike = (says s).alike;
     } };
 
     ghost leaves_ends = { λ form. settles_ends I.reading (VerifySettles (CalledAt G.FnMut))
         (F.meaning form)
         (F.leaves_ends form) };
 
-    ghost said = { λ _. nothing_done };
+    ghost said = { λ s. verify_said (CalledAt G.FnMut) (F.said s.0) };
 
     ghost claimed = { λ s. record {
       exact = λ form is. settled_exact (verify_settler (CalledAt G.FnMut) is.1) is.2
@@ -89,8 +88,7 @@ impl<F: Parser<I, O, E>, G: FnMut(&O) -> bool, I: Stream, O: Drop, E: ParserErro
           ((F.claimed s.0).fails form is.0);
       takes = λ is some. made_of_takes (Finds (CalledAt G.FnMut)) s.1
           ((F.claimed s.0).takes is.0 some);
-      decided = λ form is. verify_decided (CalledAt G.FnMut) is.1 is.2
-          ((F.claimed s.0).decided form is.0);
+      decided = λ form is. decided_of I.reading leaves_ends (said s) form is;
     } };
 
     #[inline]

@@ -3,12 +3,12 @@ ghost use Rattle.std.specs.Prelude.{◌≡◌, ⊤};
 ghost use Rattle.grammars.specs.Grammar.{Made};
 ghost use Rattle.grammars.specs.Grammar.Unique.{made_of_takes};
 ghost use Rattle.stream_errors.specs.Form.{modal};
-ghost use Rattle.winnow_core.specs.Decided.Adapters.{void_decided};
 ghost use Rattle.winnow_core.specs.Exact.Adapters.{void_exact, void_fails};
 ghost use Rattle.winnow_core.specs.Stable.Grows.{grows, stays};
 ghost use Rattle.winnow_core.specs.Void.{VoidRuns, void_parser};
 ghost use Rattle.winnow_core.specs.Void.Laws.{void_ends, void_grows};
-ghost use Rattle.winnow_core.specs.Says.{nothing_done, nothing_said};
+ghost use Rattle.winnow_core.specs.Void.Says.{void_said, void_says};
+ghost use Rattle.winnow_core.specs.Says.Decided.{decided_of};
 
 use crate::parser::Parser;
 use crate::stable::Stable;
@@ -49,7 +49,7 @@ impl<F: Parser<I, O, E>, I: Stream, O: Drop, E: ParserError<I>> Parser<I, (), E>
 
     ghost meaning = { λ form. VoidRuns (F.meaning form) };
 
-    ghost says = { λ _. nothing_said };
+    ghost says = { λ s. void_says (F.says s) };
 
     ghost claim = { λ s. record {
       premise = (F.claim s).premise;
@@ -57,20 +57,20 @@ impl<F: Parser<I, O, E>, I: Stream, O: Drop, E: ParserError<I>> Parser<I, (), E>
       spares_memory = (F.claim s).spares_memory;
       consumes = (F.claim s).consumes;
       grammar = Made (λ (_ : Unit {0}) o (u : Unit {0}). ⊤) tt (F.claim s).grammar;
-      decides = (F.claim s).decides;
-      alike = λ o q. ⊤;
+      decides = (says s).premise;
+      alike = (says s).alike;
     } };
 
     ghost leaves_ends = { λ form. void_ends I.reading (F.meaning form) (F.leaves_ends form) };
 
-    ghost said = { λ _. nothing_done };
+    ghost said = { λ s. void_said (F.said s) };
 
     ghost claimed = { λ s. record {
       exact = λ form is. void_exact ((F.claimed s).exact form is);
       fails = λ form is. void_fails ((F.claimed s).fails form is);
       takes = λ is some. made_of_takes (λ (_ : Unit {0}) o (u : Unit {0}). ⊤) tt
           ((F.claimed s).takes is some);
-      decided = λ form is. void_decided ((F.claimed s).decided form is);
+      decided = λ form is. decided_of I.reading leaves_ends (said s) form is;
     } };
 
     #[inline(always)]

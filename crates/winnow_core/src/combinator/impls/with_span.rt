@@ -9,7 +9,7 @@ ghost use Rattle.winnow_core.specs.MakesOutput.Laws.{makes_output_ends, makes_ou
 ghost use Rattle.winnow_core.specs.Span.{places};
 ghost use Rattle.winnow_core.specs.Stable.Grows.{grows, stays};
 ghost use Rattle.winnow_core.specs.WithSpan.{WithSpanRuns, with_span_parser};
-ghost use Rattle.winnow_core.specs.Says.{nothing_done, nothing_said};
+ghost use Rattle.winnow_core.specs.WithSpan.Says.{with_span_said, with_span_says};
 
 use crate::parser::Parser;
 use crate::stable::Stable;
@@ -53,7 +53,7 @@ impl<F: Parser<I, O, E>, I: Location, O, E: ParserError<I>> Parser<I, (O, Range<
 
     ghost meaning = { λ form. WithSpanRuns (F.meaning form) };
 
-    ghost says = { λ _. nothing_said };
+    ghost says = { λ s. with_span_says (F.says s) };
 
     ghost claim = { λ s. record {
       premise = (F.claim s).premise;
@@ -68,7 +68,7 @@ impl<F: Parser<I, O, E>, I: Location, O, E: ParserError<I>> Parser<I, (O, Range<
     ghost leaves_ends = { λ form. makes_output_ends I.reading _ (F.meaning form)
         (F.leaves_ends form) };
 
-    ghost said = { λ _. nothing_done };
+    ghost said = { λ s. with_span_said (F.said s) };
 
     ghost claimed = { λ s. record {
       exact = λ form is. with_span_exact (F.meaning form) (s) ((F.claimed s).exact form is);

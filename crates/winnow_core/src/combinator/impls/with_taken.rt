@@ -2,16 +2,14 @@
 ghost use Rattle.std.specs.Prelude.{◌≡◌};
 ghost use Rattle.grammars.specs.Grammar.{AndTaken};
 ghost use Rattle.stream_errors.specs.Form.{modal};
-ghost use Rattle.winnow_core.specs.Decided.Adapters.{with_taken_decided};
 ghost use Rattle.winnow_core.specs.Exact.Adapters.{and_taken_takes, with_taken_exact};
 ghost use Rattle.winnow_core.specs.Exact.Adapters.{with_taken_fails};
-ghost use Rattle.winnow_core.specs.InOrder.Decided.{AlikePairs};
-ghost use Rattle.winnow_core.specs.Literal.Laws.{ShowSame};
 ghost use Rattle.winnow_core.specs.MakesOutput.Laws.{makes_output_ends, makes_output_grows};
 ghost use Rattle.winnow_core.specs.Stable.Grows.{grows, stays};
 ghost use Rattle.winnow_core.specs.WithTaken.{WithTakenRuns, with_taken_parser};
 ghost use Rattle.winnow_core.specs.WithTaken.Laws.{made_with_taken};
-ghost use Rattle.winnow_core.specs.Says.{nothing_done, nothing_said};
+ghost use Rattle.winnow_core.specs.WithTaken.Says.{with_taken_said, with_taken_says};
+ghost use Rattle.winnow_core.specs.Says.Decided.{decided_of};
 
 use crate::combinator::impls::take::slice_from;
 use crate::parser::Parser;
@@ -54,7 +52,7 @@ impl<F: Parser<I, O, E>, I: Stream, O, E: ParserError<I>> Parser<I, (O, I::Slice
 
     ghost meaning = { λ form. WithTakenRuns I.reading (F.meaning form) };
 
-    ghost says = { λ _. nothing_said };
+    ghost says = { λ s. with_taken_says I.reading (F.says s) };
 
     ghost claim = { λ s. record {
       premise = (F.claim s).premise;
@@ -62,20 +60,20 @@ impl<F: Parser<I, O, E>, I: Stream, O, E: ParserError<I>> Parser<I, (O, I::Slice
       spares_memory = (F.claim s).spares_memory;
       consumes = (F.claim s).consumes;
       grammar = AndTaken I.reading (F.claim s).grammar;
-      decides = (F.claim s).decides;
-      alike = AlikePairs (F.claim s).alike (ShowSame I.reading);
+      decides = (says s).premise;
+      alike = (says s).alike;
     } };
 
     ghost leaves_ends = { λ form. makes_output_ends I.reading _ (F.meaning form)
         (F.leaves_ends form) };
 
-    ghost said = { λ _. nothing_done };
+    ghost said = { λ s. with_taken_said I.reading (F.said s) };
 
     ghost claimed = { λ s. record {
       exact = λ form is. with_taken_exact I.reading ((F.claimed s).exact form is);
       fails = λ form is. with_taken_fails I.reading ((F.claimed s).fails form is);
       takes = λ is some. and_taken_takes I.reading ((F.claimed s).takes is some);
-      decided = λ form is. with_taken_decided I.reading ((F.claimed s).decided form is);
+      decided = λ form is. decided_of I.reading leaves_ends (said s) form is;
     } };
 
     #[inline]
