@@ -66,18 +66,18 @@ pub then_meet : {T O U : Type 0} {stable : Type 0} {alike : O → O → Type 0}
 then_meet p m at tokens y z (x, d, c) (w, e, k) =
     one_comes m at tokens x w y z (p.one at tokens x w d e) c k
 
-pub then_whole : {T O U : Type 0} {stable : Type 0} {alike : O → O → Type 0} {does : Does T O}
-    {next : Next T O U} → Lawful stable alike does → NextHolds stable next
+pub then_whole : {T O U : Type 0} {stable held : Type 0} {alike : O → O → Type 0}
+    {does : Does T O} {next : Next T O U} → Lawful held alike does → NextHolds stable next
     → Whole (Then does next)
 then_whole {does = does} p h at tokens need place is (x, d, c) =
     whole_comes h does p.whole at tokens need place is x d c
 
-pub then_stay : {T O U : Type 0} {stable : Type 0} {alike : O → O → Type 0} {does : Does T O}
-    {next : Next T O U} → Lawful stable alike does → NextHolds stable next
-    → Stay stable (Then does next)
-then_stay p h is more flag tokens y final (x, d, c) = (
+pub then_stay : {T O U : Type 0} {stable held : Type 0} {alike : O → O → Type 0}
+    {does : Does T O} {next : Next T O U} → (stable → held) → Lawful held alike does
+    → NextHolds stable next → Stay stable (Then does next)
+then_stay with_part p h is more flag tokens y final (x, d, c) = (
   longer more x,
-  p.stays is more flag tokens x (final_comes h is tokens x y final c) d,
+  p.stays (with_part is) more flag tokens x (final_comes h is tokens x y final c) d,
   stays_comes h is more flag tokens x y final c,
 )
 
@@ -222,7 +222,7 @@ module _ {T O C : Type 0} {stable : Type 0} {alike : O → O → Type 0} {does :
     items_stay before = chained_stay (item_law p) bounds.greatest (Gives into before)
         (λ os. Then does (last_item into bounds.least before os))
         (λ os is more flag tokens y final (all, taken, e). (all, taken, as_longer more e))
-        (λ os. then_stay p (last_holds bounds.least before os))
+        (λ os. then_stay (λ is. is) p (last_holds bounds.least before os))
 
 -- ---- runs do so
 

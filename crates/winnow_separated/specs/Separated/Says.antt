@@ -1,92 +1,35 @@
 -- What elements with separators between them say that they do.
-use Rattle.std.specs.Prelude.{◌≡◌, ◌⊎◌, ◌<◌, ◌≤◌, ℕ, Bool, List, ◌∷◌, ◌++◌, length, Option, Some}
-use Rattle.std.specs.Prelude.{false, Ok, Err}
-use Rattle.std.proofs.Common.{refl, sym, ap, subst, inl, inr, ◌∙◌, arith}
+use Rattle.std.specs.Prelude.{◌≡◌, ◌<◌, List, length}
+use Rattle.std.specs.Prelude.{Ok, Err}
+use Rattle.std.proofs.Common.{refl, ap, subst, inl, inr, ◌∙◌, arith}
 use Rattle.streams.specs.Input.{Input}
 use Rattle.streams.specs.Kind.{backtrack}
 use Rattle.stream_errors.specs.Form.{Answer, assert_kind}
 use Rattle.stream_sets.specs.Accumulator.{Accumulator}
 use Rattle.stream_sets.specs.Accumulator.Holds.{Holds}
-use Rattle.stream_sets.specs.Range.{Bounds, IsBelow, bounds_of}
+use Rattle.stream_sets.specs.Range.{Bounds, bounds_of}
 use Rattle.stream_sets.specs.declared.range.Range.{Range}
-use Rattle.winnow_core.specs.Outcome.{Outcome, took, backs, cuts, asks, wants, Setting, grown, Does}
-use Rattle.winnow_core.specs.Outcome.{Alike, IsFinal, alike_wants, as_longer, both, final_by, gave}
-use Rattle.winnow_core.specs.Outcome.{longer, misused, on_cut, outcome_of}
-use Rattle.winnow_core.specs.Runs.{Meaning, Runs}
-use Rattle.winnow_core.specs.Says.{Did, EachDoes, IsAt, Lawful, Said, Says, still_at}
-use Rattle.winnow_core.specs.Says.Lacks.{misused_alike, misused_outcome, misused_whole}
+use Rattle.winnow_core.specs.Outcome.{Outcome, Setting, Does}
+use Rattle.winnow_core.specs.Outcome.{both, gave}
+use Rattle.winnow_core.specs.Runs.{Meaning}
+use Rattle.winnow_core.specs.Says.{Did, EachDoes, IsAt, Said, Says, still_at}
+use Rattle.winnow_core.specs.Says.Lacks.{misused_outcome}
 use Rattle.winnow_core.specs.Says.Leaf.{here_did}
 use Rattle.winnow_core.specs.States.{pair_is}
-use Rattle.winnow_core.specs.Then.{ComesOf, Next, NextHolds, NextMeets, Then, back_in, did_in}
-use Rattle.winnow_core.specs.Then.{hands_on, then_law}
-use Rattle.winnow_core.specs.Then.Steps.{asks_later, asks_meet, asks_on, cuts_hold, cuts_meet}
-use Rattle.winnow_core.specs.Then.Steps.{cuts_on, fails_on, holds_where, meets_where, where_took}
-use Rattle.winnow_repeat.specs.Chain.Bounded.{Bounded, HeldAlike, bounded_did, bounded_law}
-use Rattle.winnow_repeat.specs.Chain.Items.{Gathers, Gives, gives_meet, ends_did, last_holds}
-use Rattle.winnow_repeat.specs.Chain.Items.{last_item, last_meets, last_stops, then_meet, then_stay}
-use Rattle.winnow_repeat.specs.Chain.Items.{then_whole, with_state}
-use Rattle.winnow_repeat.specs.Chain.Says.{AlikeLists, Chained, Ends, ItemOf, Meet, Stay, Stops}
-use Rattle.winnow_repeat.specs.Chain.Says.{Whole, chain_at, chained_did, chained_meet, chained_stay}
-use Rattle.winnow_repeat.specs.Chain.Says.{chained_whole, did_beside, did_wider, full_is_below}
-use Rattle.winnow_repeat.specs.Chain.Says.{item_law, items_did, nor_less, still_less}
-use Rattle.winnow_repeat.specs.Repeat.{capacity_of}
+use Rattle.winnow_core.specs.Then.{back_in, did_in}
+use Rattle.winnow_core.specs.Then.{hands_on}
+use Rattle.winnow_core.specs.Then.Steps.{fails_on}
+use Rattle.winnow_repeat.specs.Chain.Bounded.{Bounded, HeldAlike, bounded_did}
+use Rattle.winnow_repeat.specs.Chain.Items.{ItemsDo, items_run_did}
+use Rattle.winnow_repeat.specs.Chain.Items.{with_state}
+use Rattle.winnow_repeat.specs.Chain.Says.{chain_at, chained_did}
+use Rattle.winnow_repeat.specs.Chain.Says.{did_beside, did_wider}
+use Rattle.winnow_repeat.specs.Chain.Says.{items_did}
 use Rattle.winnow_separated.specs.Link.{LinkRuns, SeparatesNothing}
-use Rattle.winnow_separated.specs.Separated.{ElementsRun, LinksRun, RangedElements, SeparatedRuns}
+use Rattle.winnow_separated.specs.Separated.{ElementsRun, LinksRun, RangedElements}
 use Rattle.winnow_separated.specs.Separated.{links_within}
-
--- Behind a separator that takes something, the element does what it does.
-abbrev pub Behind : {T O : Type 0} → Does T O → List T → Does T O
-Behind element mid at tokens y = (length mid < length tokens) × element at mid y
-
--- A link: a separator that takes something, and the element after it, whose output is the link's.
-abbrev pub LinkDoes : {T O D : Type 0} → Does T O → Does T D → Does T O
-LinkDoes element separator =
-    Then separator (where_took (λ d at tokens mid y. Behind element mid at tokens y))
-
--- A separator that takes nothing: no link, and the parser is made wrongly.
-abbrev pub NothingBetween : {T D U : Type 0} → Does T D → Does T U
-NothingBetween {T} {D} separator at tokens y =
-    (d : D) × (mid : List T) × separator at tokens (took d mid)
-    × (length mid < length tokens → ⊥) × (y ≡ misused at mid)
-
--- What ends the links after some, where there may be one more.
-abbrev pub LastLink : {T O D C : Type 0} → Does T O → Does T D → Accumulator C O → ℕ → C → List O
-    → Does T C
-LastLink element separator into least before outputs at tokens y =
-    Then (LinkDoes element separator) (last_item into least before outputs) at tokens y
-    ⊎ NothingBetween separator at tokens y
-
--- Links that take something, and what ends them.
-abbrev pub LinksDo : {T O D C : Type 0} → Does T O → Does T D → Accumulator C O → Bounds → C
-    → Does T C
-LinksDo element separator into bounds before =
-    Chained (ItemOf (LinkDoes element separator)) bounds.greatest (Gives into before)
-    (LastLink element separator into bounds.least before)
-
--- What comes of the first element, which may take nothing.
-abbrev pub first_element : {T O D C : Type 0} → Does T O → Does T D → Accumulator C O → Bounds → C
-    → Next T O C
-first_element {C = C} element separator into bounds empty = record {
-  -- there is no memory for it, or links follow it
-  on_took = λ o at tokens rest y.
-      (into.grows empty o × (y ≡ wants))
-      ⊎ ((one : C) × into.takes empty o one
-      × LinksDo element separator into (links_within bounds) one at rest y);
-  -- none is needed, or one is
-  on_backs = λ at tokens place y.
-      ((bounds.least ≡ 0) × (y ≡ took empty tokens))
-      ⊎ ((0 < bounds.least) × (y ≡ backs place));
-  on_cuts = cuts_on;
-  on_asks = asks_on;
-}
-
--- Elements within the bounds: none where none is wanted, or the first and links.
-abbrev pub ElementsDo : {T O D C : Type 0} → Does T O → Does T D → Accumulator C O → Bounds → C
-    → Does T C
-ElementsDo element separator into bounds empty at tokens y =
-    ((bounds.greatest ≡ Some 0) × (y ≡ took empty tokens))
-    ⊎ (IsBelow bounds.greatest 0
-    × Then element (first_element element separator into bounds empty) at tokens y)
+use Rattle.winnow_separated.specs.Separated.Does.{Behind, LinkDoes, LinksDo, first_element, ElementsDo}
+use Rattle.winnow_separated.specs.Separated.Does.Laws.{separated_law}
 
 -- elements into an accumulator, of which this is held
 abbrev pub separated_says : {T O D C : Type 0} → Accumulator C O → (C → List O → Type 0) → Bounds
@@ -98,116 +41,139 @@ separated_says into holds bounds p q = record {
   alike = HeldAlike holds p.alike;
 }
 
--- ---- laws of links
+-- ---- runs do so
 
-module _ {T O D : Type 0} {first other : Type 0} {alike : O → O → Type 0}
-    {between : D → D → Type 0} {element : Does T O} {separator : Does T D}
-    (p : Lawful first alike element) (q : Lawful other between separator) where
-  link_law : Lawful (first × other) alike (LinkDoes element separator)
-  link_law = then_law q (meets_where (λ d e same. record {
-    one = λ at tokens mid y z (less, x) (fewer, w). p.one at mid y z x w;
-  })) (holds_where (λ d. record {
-    whole = λ at tokens mid need end is (less, x). p.whole at mid need end is x;
-    stays = λ is more flag tokens mid y final (less, x). (
-      still_less more mid tokens less,
-      p.stays is.0 more flag mid y final x,
-    );
-  })) (λ is. is.1)
-
-  -- where a separator takes nothing there is no link
-  no_link : {U : Type 0} (at : Setting) (tokens : List T) (y : Outcome T U) (x : Outcome T O)
-      → NothingBetween separator at tokens y → LinkDoes element separator at tokens x → x ≡ wants
-  no_link at tokens y x (d, mid, r, (none, e)) (w, s, c) =
-      by w (q.one at tokens w (took d mid) s r) c
+module _ {S W T O D : Type 0} {element : Does T O} {separator : Does T D} {s : S × W}
+    {meaning : Meaning S T O} {between : Meaning W T D} (part : EachDoes element s.0 meaning)
+    (mid : EachDoes separator s.1 between) where
+  -- a link
+  link_each : EachDoes (LinkDoes element separator) s
+      (λ form. LinkRuns (meaning form) (between form))
+  link_each = record { did = did }
     where
-      by : (w : Outcome T D) → Alike between w (took d mid)
-          → ComesOf (where_took (λ d at tokens mid y. Behind element mid at tokens y)) at tokens w
-          x → x ≡ wants
-      by (took e end) (like, same) (less, z) =
-          absurd (none (subst (λ l. length l < length tokens) same less))
-      by (backs place) like z = absurd like
-      by (cuts place) like z = absurd like
-      by (asks need place) like z = absurd like
-      by wants like z = z
+      behind : (at : Setting) (i : Input T) (answer : Answer O) (t : S × W) (m j : Input T) (d : D)
+          → IsAt at i → between at.form s.1 i (Ok d) t.1 m
+          → length m.left.tokens < length i.left.tokens → meaning at.form s.0 m answer t.0 j
+          → Did (LinkDoes element separator) at s i answer t j
+      behind at i answer t m j d is r less x =
+          let did = mid.did at i (Ok d) t.1 m is r in
+          let then = part.did at m answer t.0 j (still_at did is) x in
+          record {
+            kept = pair_is then.kept did.kept;
+            status = then.status ∙ did.status;
+            possible = then.possible ∙ did.possible;
+            done = (_, did.done, (less, then.done));
+          }
 
-  module _ {C : Type 0} (into : Accumulator C O) (beside : C → C → Type 0) where
-    nothing_last : (least : ℕ) (before : C) (os : List O) (at : Setting) (tokens : List T)
-        (y z : Outcome T C) → NothingBetween separator at tokens y
-        → Then (LinkDoes element separator) (last_item into least before os) at tokens z
-        → z ≡ wants
-    nothing_last least before os at tokens y z nothing (x, d, c) =
-        let P : Outcome T O → Type 0 =
-        λ x. ComesOf (last_item into least before os) at tokens x z in
-        subst P (no_link at tokens y x nothing d) c
+      did : (at : Setting) (i : Input T) (answer : Answer O) (t : S × W) (j : Input T) → IsAt at i
+          → LinkRuns (meaning at.form) (between at.form) s i answer t j
+          → Did (LinkDoes element separator) at s i answer t j
+      did at i (Ok o) t j is (d, m, r, less, x) = behind at i (Ok o) t m j d is r less x
+      did at i (Err k) t j is (inr (d, m, r, less, x)) = behind at i (Err k) t m j d is r less x
+      did at i (Err k) t j is (inl (r, same)) =
+          let did = mid.did at i (Err k) t.1 j is r in
+          did_in s t (pair_is same did.kept) did
+          (fails_on (λ d at tokens mid y. Behind element mid at tokens y) at i.left.tokens
+          j.left.tokens k refl)
 
-    last_link_meets : (least : ℕ) (before bare : C)
-        → Gathers {T = T} {alike = alike} link_law into beside before bare → (os ps : List O)
-        → AlikeLists alike os ps
-        → Meet beside (LastLink element separator into least before os)
-        (LastLink element separator into least bare ps)
-    last_link_meets least before bare gathers os ps like at tokens y z (inl d) (inl e) =
-        then_meet link_law (last_meets link_law into beside least before bare gathers os ps like)
-        at tokens y z d e
-    last_link_meets least before bare gathers os ps like at tokens y z (inl d) (inr n) =
-        both beside {u = wants} {v = z} (nothing_last least before os at tokens z y n d) refl tt
-    last_link_meets least before bare gathers os ps like at tokens y z (inr n) (inl e) =
-        both beside {u = y} {v = wants} refl (nothing_last least bare ps at tokens y z n e)
-        (alike_wants beside y)
-    last_link_meets least before bare gathers os ps like at tokens y z
-        (inr (d, mid, r, (none, e))) (inr (b, end, s, (none2, f))) =
-        let same = q.one at tokens (took d mid) (took b end) r s in
-        both beside e (f ∙ ap (λ l. misused at l) (sym same.1)) (misused_alike beside at mid)
+  module _ {C : Type 0} (into : Accumulator C O) (at : Setting) where
+    links_did : (bounds : Bounds) (before : C) (i : Input T) (answer : Answer C) (t : S × W)
+        (j : Input T) → IsAt at i
+        → LinksRun (meaning at.form) (between at.form) into (assert_kind at.form) bounds before
+        s i answer t j
+        → Did (LinksDo element separator into bounds before) at s i answer t j
+    links_did bounds before i answer t j is (inl items) =
+        did_wider (λ y d. links y d)
+        (items_run_did link_each into at bounds before i answer t j is items)
+      where
+        links : (y : Outcome T C)
+            → ItemsDo (LinkDoes element separator) into bounds before at i.left.tokens y
+            → LinksDo element separator into bounds before at i.left.tokens y
+        links y (os, end, steps, inl full) = (os, end, steps, inl full)
+        links y (os, end, steps, inr (below, d)) = (os, end, steps, inr (below, inl d))
+    links_did bounds before i answer t j is
+        (inr (outputs, u, m, some, chain, below, taken, ended, e)) =
+        let did = items_did (LinkRuns (meaning at.form) (between at.form)) at
+        (λ i answer t j is r. link_each.did at i answer t j is r) outputs i u m is chain.runs in
+        let P : S × W → Type 0 = λ x. SeparatesNothing (between at.form) x m t j in
+        let (d, r, nothing, same) : SeparatesNothing (between at.form) s m t j =
+        subst P did.kept ended in
+        let last = mid.did at m (Ok d) t.1 j (chain_at did is) r in
+        let as_many = ap length nothing in
+        chained_did outputs did (record {
+          kept = pair_is same last.kept;
+          status = last.status;
+          possible = last.possible;
+          done = inr (below, inr (d, j.left.tokens, last.done,
+              λ less. absurd (omega (arith, as_many, less)),
+              misused_outcome at j.left.tokens e));
+        })
 
-    last_link_stops : (least : ℕ) (before : C)
-        → Stops (ItemOf (LinkDoes element separator))
-        (LastLink element separator into least before)
-    last_link_stops least before os at tokens y o rest (inl d) item =
-        last_stops link_law into beside least before os at tokens y o rest d item
-    last_link_stops least before os at tokens y o rest (inr n) (d, less) =
-        let e = no_link at tokens y (took o rest) n d in absurd (cc)
+    elements_did : (bounds : Bounds) (empty : C) (i : Input T) (answer : Answer C) (t : S × W)
+        (j : Input T) → IsAt at i
+        → ElementsRun (meaning at.form) (between at.form) into (assert_kind at.form) bounds empty
+        s i answer t j
+        → Did (ElementsDo element separator into bounds empty) at s i answer t j
+    elements_did bounds empty i answer t j is (inl (none, e, kept, same)) =
+        with_state kept (here_did same (inl (none, gave i.left.tokens e)))
+    elements_did bounds empty i answer t j is
+        (inr (inl (x, below, none, r, kept, e, same))) =
+        let did = part.did at i (Err backtrack) t.0 x is r in
+        did_wider (λ y d. inr (below, d))
+        (back_in {next = first_element element separator into bounds empty} s t
+        (pair_is did.kept kept) did same (inl (none, gave i.left.tokens e)))
+    elements_did bounds empty i answer t j is
+        (inr (inr (inl (k, below, r, kept, few, e)))) =
+        let did = part.did at i (Err k) t.0 j is r in
+        did_wider (λ y d. inr (below, d))
+        (did_in {next = first_element element separator into bounds empty} s t
+        (pair_is did.kept kept) did
+        (hands_on (first_element element separator into bounds empty) at i.left.tokens
+        j.left.tokens k (λ y is e. inr (few is, e)) (λ y is e. e) (λ y need is e. e) e))
+    elements_did bounds empty i answer t j is
+        (inr (inr (inr (inl (o, below, r, kept, grows, e))))) =
+        let did = part.did at i (Ok o) t.0 j is r in
+        did_wider (λ y d. inr (below, d))
+        (did_in {next = first_element element separator into bounds empty} s t
+        (pair_is did.kept kept) did (inl (grows, gave j.left.tokens e)))
+    elements_did bounds empty i answer t j is
+        (inr (inr (inr (inr (o, v, n, one, below, r, kept, links))))) =
+        let did = part.did at i (Ok o) v n is r in
+        let P : S → Type 0 = λ x. LinksRun (meaning at.form) (between at.form) into
+        (assert_kind at.form) (links_within bounds) one (x, s.1) n answer t j in
+        let then = links_did (links_within bounds) one n answer t j (still_at did is)
+        (subst P did.kept links) in
+        record {
+          kept = then.kept;
+          status = then.status ∙ did.status;
+          possible = then.possible ∙ did.possible;
+          done = inr (below, (_, did.done, inr (one, kept, then.done)));
+        }
 
-    last_link_whole : (least : ℕ) (before : C) (os : List O)
-        → Whole (LastLink element separator into least before os)
-    last_link_whole least before os at tokens need end is (inl d) =
-        then_whole link_law (last_holds link_law into beside least before os) at tokens need end is
-        d
-    last_link_whole least before os at tokens need end is (inr (d, mid, r, (none, e))) =
-        misused_whole at mid need end e
+-- triples of which the parts are the same
+triple_is : {A B X : Type 0} {t s : A × B × X} → ◌≡◌ {A = A × B} (t.0, t.1) (s.0, s.1)
+    → t.2 ≡ s.2 → t ≡ s
+triple_is {t = t} {s = s} e f =
+    ap (λ x. (x.0, x.1, t.2)) e ∙ ap (λ z. (s.0, s.1, z)) f
 
-    last_link_stays : (least : ℕ) (before : C) (os : List O)
-        → Stay (first × other) (LastLink element separator into least before os)
-    last_link_stays least before os is more flag tokens y final (inl d) =
-        inl (then_stay link_law (last_holds link_law into beside least before os) is more flag
-        tokens y final d)
-    last_link_stays least before os is more flag tokens y final
-        (inr (d, mid, r, (none, e))) =
-        inr (d, mid ++ more, q.stays is.1 more flag tokens (took d mid) tt r,
-        nor_less more mid tokens none, as_longer more e)
-
-    module _ (bounds : Bounds) where
-      links_meet : (before bare : C)
-          → Gathers {T = T} {alike = alike} link_law into beside before bare
-          → Meet beside (LinksDo element separator into bounds before)
-          (LinksDo element separator into bounds bare)
-      links_meet before bare gathers =
-          chained_meet (item_law link_law) bounds.greatest beside (Gives into before)
-          (Gives into bare) (LastLink element separator into bounds.least before)
-          (LastLink element separator into bounds.least bare)
-          (gives_meet link_law into beside before bare gathers)
-          (last_link_meets bounds.least before bare gathers)
-          (last_link_stops bounds.least before) (last_link_stops bounds.least bare)
-
-      links_whole : (before : C) → Whole (LinksDo element separator into bounds before)
-      links_whole before =
-          chained_whole (ItemOf (LinkDoes element separator)) bounds.greatest (Gives into before)
-          (LastLink element separator into bounds.least before)
-          (λ os at tokens need place is (all, taken, e). absurd (cc))
-          (last_link_whole bounds.least before)
-
-      links_stay : (before : C)
-          → Stay (first × other) (LinksDo element separator into bounds before)
-      links_stay before =
-          chained_stay (item_law link_law) bounds.greatest (Gives into before)
-          (LastLink element separator into bounds.least before)
-          (λ os is more flag tokens y final (all, taken, e). (all, taken, as_longer more e))
-          (last_link_stays bounds.least before)
+pub separated_said : {S W T O D C : Type 0} {says : Says T O} {also : Says T D}
+    {meaning : Meaning S T O} {between : Meaning W T D} (into : Accumulator C O)
+    (holds : C → List O → Type 0) → Holds into holds → (s : S × W × Range)
+    → Said says s.0 meaning → Said also s.1 between
+    → Said (separated_says into holds (bounds_of s.2) says also) s
+    (λ form. RangedElements (meaning form) (between form) into (assert_kind form))
+separated_said {S} {W} {says = says} {also} {meaning} {between} into holds keeps s p q = record {
+  runs = λ is. record {
+    did = λ at i answer t j here (r, kept).
+        let both : S × W = (s.0, s.1) in
+        let did = bounded_did into (bounds_of s.2)
+        (ElementsDo says.does also.does into (bounds_of s.2))
+        (λ empty. ElementsRun (meaning at.form) (between at.form) into (assert_kind at.form)
+        (bounds_of s.2) empty both i answer (t.0, t.1) j)
+        (λ empty ran. elements_did {s = both} (p.runs is.0) (q.runs is.1) into at (bounds_of s.2)
+        empty i answer (t.0, t.1) j here ran) r in
+        did_beside s t (triple_is did.kept kept) did;
+  };
+  law = λ is.
+      separated_law (p.law is.0) (q.law is.1) into holds keeps (bounds_of s.2);
+}
