@@ -311,3 +311,14 @@ did_wider wider did = record {
   possible = did.possible;
   done = wider _ did.done;
 }
+
+-- what a thing did in a whole that has other parts of its state too
+pub did_beside : {P S T U : Type 0} {does : Does T U} {at : Setting} {s t : S} {i j : Input T}
+    {answer : Answer U} (p q : P) → q ≡ p → Did does at s i answer t j
+    → Did does at p i answer q j
+did_beside p q kept did = record {
+  kept = kept;
+  status = did.status;
+  possible = did.possible;
+  done = did.done;
+}

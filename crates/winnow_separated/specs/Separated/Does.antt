@@ -1,0 +1,68 @@
+-- What elements with separators between them do with tokens.
+use Rattle.std.specs.Prelude.{◌≡◌, ◌⊎◌, ◌<◌, ℕ, List, length, Some}
+use Rattle.stream_sets.specs.Accumulator.{Accumulator}
+use Rattle.stream_sets.specs.Range.{Bounds, IsBelow}
+use Rattle.winnow_core.specs.Outcome.{took, backs, wants, Does}
+use Rattle.winnow_core.specs.Outcome.{misused}
+use Rattle.winnow_core.specs.Then.{Next, Then}
+use Rattle.winnow_core.specs.Then.Steps.{asks_on}
+use Rattle.winnow_core.specs.Then.Steps.{cuts_on, where_took}
+use Rattle.winnow_repeat.specs.Chain.Items.{Gives}
+use Rattle.winnow_repeat.specs.Chain.Items.{last_item}
+use Rattle.winnow_repeat.specs.Chain.Says.{Chained, ItemOf}
+use Rattle.winnow_separated.specs.Separated.{links_within}
+pub mod Laws
+
+-- Behind a separator that takes something, the element does what it does.
+abbrev pub Behind : {T O : Type 0} → Does T O → List T → Does T O
+Behind element mid at tokens y = (length mid < length tokens) × element at mid y
+
+-- A link: a separator that takes something, and the element after it, whose output is the link's.
+abbrev pub LinkDoes : {T O D : Type 0} → Does T O → Does T D → Does T O
+LinkDoes element separator =
+    Then separator (where_took (λ d at tokens mid y. Behind element mid at tokens y))
+
+-- A separator that takes nothing: no link, and the parser is made wrongly.
+abbrev pub NothingBetween : {T D U : Type 0} → Does T D → Does T U
+NothingBetween {T} {D} separator at tokens y =
+    (d : D) × (mid : List T) × separator at tokens (took d mid)
+    × (length mid < length tokens → ⊥) × (y ≡ misused at mid)
+
+-- What ends the links after some, where there may be one more.
+abbrev pub LastLink : {T O D C : Type 0} → Does T O → Does T D → Accumulator C O → ℕ → C → List O
+    → Does T C
+LastLink element separator into least before outputs at tokens y =
+    Then (LinkDoes element separator) (last_item into least before outputs) at tokens y
+    ⊎ NothingBetween separator at tokens y
+
+-- Links that take something, and what ends them.
+abbrev pub LinksDo : {T O D C : Type 0} → Does T O → Does T D → Accumulator C O → Bounds → C
+    → Does T C
+LinksDo element separator into bounds before =
+    Chained (ItemOf (LinkDoes element separator)) bounds.greatest (Gives into before)
+    (LastLink element separator into bounds.least before)
+
+-- What comes of the first element, which may take nothing.
+abbrev pub first_element : {T O D C : Type 0} → Does T O → Does T D → Accumulator C O → Bounds → C
+    → Next T O C
+first_element {C = C} element separator into bounds empty = record {
+  -- there is no memory for it, or links follow it
+  on_took = λ o at tokens rest y.
+      (into.grows empty o × (y ≡ wants))
+      ⊎ ((one : C) × into.takes empty o one
+      × LinksDo element separator into (links_within bounds) one at rest y);
+  -- none is needed, or one is
+  on_backs = λ at tokens place y.
+      ((bounds.least ≡ 0) × (y ≡ took empty tokens))
+      ⊎ ((0 < bounds.least) × (y ≡ backs place));
+  on_cuts = cuts_on;
+  on_asks = asks_on;
+}
+
+-- Elements within the bounds: none where none is wanted, or the first and links.
+abbrev pub ElementsDo : {T O D C : Type 0} → Does T O → Does T D → Accumulator C O → Bounds → C
+    → Does T C
+ElementsDo element separator into bounds empty at tokens y =
+    ((bounds.greatest ≡ Some 0) × (y ≡ took empty tokens))
+    ⊎ (IsBelow bounds.greatest 0
+    × Then element (first_element element separator into bounds empty) at tokens y)

@@ -1,0 +1,179 @@
+-- What elements with separators between them say that they do.
+use Rattle.std.specs.Prelude.{◌≡◌, ◌<◌, List, length}
+use Rattle.std.specs.Prelude.{Ok, Err}
+use Rattle.std.proofs.Common.{refl, ap, subst, inl, inr, ◌∙◌, arith}
+use Rattle.streams.specs.Input.{Input}
+use Rattle.streams.specs.Kind.{backtrack}
+use Rattle.stream_errors.specs.Form.{Answer, assert_kind}
+use Rattle.stream_sets.specs.Accumulator.{Accumulator}
+use Rattle.stream_sets.specs.Accumulator.Holds.{Holds}
+use Rattle.stream_sets.specs.Range.{Bounds, bounds_of}
+use Rattle.stream_sets.specs.declared.range.Range.{Range}
+use Rattle.winnow_core.specs.Outcome.{Outcome, Setting, Does}
+use Rattle.winnow_core.specs.Outcome.{both, gave}
+use Rattle.winnow_core.specs.Runs.{Meaning}
+use Rattle.winnow_core.specs.Says.{Did, EachDoes, IsAt, Said, Says, still_at}
+use Rattle.winnow_core.specs.Says.Lacks.{misused_outcome}
+use Rattle.winnow_core.specs.Says.Leaf.{here_did}
+use Rattle.winnow_core.specs.States.{pair_is}
+use Rattle.winnow_core.specs.Then.{back_in, did_in}
+use Rattle.winnow_core.specs.Then.{hands_on}
+use Rattle.winnow_core.specs.Then.Steps.{fails_on}
+use Rattle.winnow_repeat.specs.Chain.Bounded.{Bounded, HeldAlike, bounded_did}
+use Rattle.winnow_repeat.specs.Chain.Items.{ItemsDo, items_run_did}
+use Rattle.winnow_repeat.specs.Chain.Items.{with_state}
+use Rattle.winnow_repeat.specs.Chain.Says.{chain_at, chained_did}
+use Rattle.winnow_repeat.specs.Chain.Says.{did_beside, did_wider}
+use Rattle.winnow_repeat.specs.Chain.Says.{items_did}
+use Rattle.winnow_separated.specs.Link.{LinkRuns, SeparatesNothing}
+use Rattle.winnow_separated.specs.Separated.{ElementsRun, LinksRun, RangedElements}
+use Rattle.winnow_separated.specs.Separated.{links_within}
+use Rattle.winnow_separated.specs.Separated.Does.{Behind, LinkDoes, LinksDo, first_element, ElementsDo}
+use Rattle.winnow_separated.specs.Separated.Does.Laws.{separated_law}
+
+-- elements into an accumulator, of which this is held
+abbrev pub separated_says : {T O D C : Type 0} → Accumulator C O → (C → List O → Type 0) → Bounds
+    → Says T O → Says T D → Says T C
+separated_says into holds bounds p q = record {
+  premise = p.premise × q.premise;
+  stable = p.stable × q.stable;
+  does = Bounded into bounds (ElementsDo p.does q.does into bounds);
+  alike = HeldAlike holds p.alike;
+}
+
+-- ---- runs do so
+
+module _ {S W T O D : Type 0} {element : Does T O} {separator : Does T D} {s : S × W}
+    {meaning : Meaning S T O} {between : Meaning W T D} (part : EachDoes element s.0 meaning)
+    (mid : EachDoes separator s.1 between) where
+  -- a link
+  link_each : EachDoes (LinkDoes element separator) s
+      (λ form. LinkRuns (meaning form) (between form))
+  link_each = record { did = did }
+    where
+      behind : (at : Setting) (i : Input T) (answer : Answer O) (t : S × W) (m j : Input T) (d : D)
+          → IsAt at i → between at.form s.1 i (Ok d) t.1 m
+          → length m.left.tokens < length i.left.tokens → meaning at.form s.0 m answer t.0 j
+          → Did (LinkDoes element separator) at s i answer t j
+      behind at i answer t m j d is r less x =
+          let did = mid.did at i (Ok d) t.1 m is r in
+          let then = part.did at m answer t.0 j (still_at did is) x in
+          record {
+            kept = pair_is then.kept did.kept;
+            status = then.status ∙ did.status;
+            possible = then.possible ∙ did.possible;
+            done = (_, did.done, (less, then.done));
+          }
+
+      did : (at : Setting) (i : Input T) (answer : Answer O) (t : S × W) (j : Input T) → IsAt at i
+          → LinkRuns (meaning at.form) (between at.form) s i answer t j
+          → Did (LinkDoes element separator) at s i answer t j
+      did at i (Ok o) t j is (d, m, r, less, x) = behind at i (Ok o) t m j d is r less x
+      did at i (Err k) t j is (inr (d, m, r, less, x)) = behind at i (Err k) t m j d is r less x
+      did at i (Err k) t j is (inl (r, same)) =
+          let did = mid.did at i (Err k) t.1 j is r in
+          did_in s t (pair_is same did.kept) did
+          (fails_on (λ d at tokens mid y. Behind element mid at tokens y) at i.left.tokens
+          j.left.tokens k refl)
+
+  module _ {C : Type 0} (into : Accumulator C O) (at : Setting) where
+    links_did : (bounds : Bounds) (before : C) (i : Input T) (answer : Answer C) (t : S × W)
+        (j : Input T) → IsAt at i
+        → LinksRun (meaning at.form) (between at.form) into (assert_kind at.form) bounds before
+        s i answer t j
+        → Did (LinksDo element separator into bounds before) at s i answer t j
+    links_did bounds before i answer t j is (inl items) =
+        did_wider (λ y d. links y d)
+        (items_run_did link_each into at bounds before i answer t j is items)
+      where
+        links : (y : Outcome T C)
+            → ItemsDo (LinkDoes element separator) into bounds before at i.left.tokens y
+            → LinksDo element separator into bounds before at i.left.tokens y
+        links y (os, end, steps, inl full) = (os, end, steps, inl full)
+        links y (os, end, steps, inr (below, d)) = (os, end, steps, inr (below, inl d))
+    links_did bounds before i answer t j is
+        (inr (outputs, u, m, some, chain, below, taken, ended, e)) =
+        let did = items_did (LinkRuns (meaning at.form) (between at.form)) at
+        (λ i answer t j is r. link_each.did at i answer t j is r) outputs i u m is chain.runs in
+        let P : S × W → Type 0 = λ x. SeparatesNothing (between at.form) x m t j in
+        let (d, r, nothing, same) : SeparatesNothing (between at.form) s m t j =
+        subst P did.kept ended in
+        let last = mid.did at m (Ok d) t.1 j (chain_at did is) r in
+        let as_many = ap length nothing in
+        chained_did outputs did (record {
+          kept = pair_is same last.kept;
+          status = last.status;
+          possible = last.possible;
+          done = inr (below, inr (d, j.left.tokens, last.done,
+              λ less. absurd (omega (arith, as_many, less)),
+              misused_outcome at j.left.tokens e));
+        })
+
+    elements_did : (bounds : Bounds) (empty : C) (i : Input T) (answer : Answer C) (t : S × W)
+        (j : Input T) → IsAt at i
+        → ElementsRun (meaning at.form) (between at.form) into (assert_kind at.form) bounds empty
+        s i answer t j
+        → Did (ElementsDo element separator into bounds empty) at s i answer t j
+    elements_did bounds empty i answer t j is (inl (none, e, kept, same)) =
+        with_state kept (here_did same (inl (none, gave i.left.tokens e)))
+    elements_did bounds empty i answer t j is
+        (inr (inl (x, below, none, r, kept, e, same))) =
+        let did = part.did at i (Err backtrack) t.0 x is r in
+        did_wider (λ y d. inr (below, d))
+        (back_in {next = first_element element separator into bounds empty} s t
+        (pair_is did.kept kept) did same (inl (none, gave i.left.tokens e)))
+    elements_did bounds empty i answer t j is
+        (inr (inr (inl (k, below, r, kept, few, e)))) =
+        let did = part.did at i (Err k) t.0 j is r in
+        did_wider (λ y d. inr (below, d))
+        (did_in {next = first_element element separator into bounds empty} s t
+        (pair_is did.kept kept) did
+        (hands_on (first_element element separator into bounds empty) at i.left.tokens
+        j.left.tokens k (λ y is e. inr (few is, e)) (λ y is e. e) (λ y need is e. e) e))
+    elements_did bounds empty i answer t j is
+        (inr (inr (inr (inl (o, below, r, kept, grows, e))))) =
+        let did = part.did at i (Ok o) t.0 j is r in
+        did_wider (λ y d. inr (below, d))
+        (did_in {next = first_element element separator into bounds empty} s t
+        (pair_is did.kept kept) did (inl (grows, gave j.left.tokens e)))
+    elements_did bounds empty i answer t j is
+        (inr (inr (inr (inr (o, v, n, one, below, r, kept, links))))) =
+        let did = part.did at i (Ok o) v n is r in
+        let P : S → Type 0 = λ x. LinksRun (meaning at.form) (between at.form) into
+        (assert_kind at.form) (links_within bounds) one (x, s.1) n answer t j in
+        let then = links_did (links_within bounds) one n answer t j (still_at did is)
+        (subst P did.kept links) in
+        record {
+          kept = then.kept;
+          status = then.status ∙ did.status;
+          possible = then.possible ∙ did.possible;
+          done = inr (below, (_, did.done, inr (one, kept, then.done)));
+        }
+
+-- triples of which the parts are the same
+triple_is : {A B X : Type 0} {t s : A × B × X} → ◌≡◌ {A = A × B} (t.0, t.1) (s.0, s.1)
+    → t.2 ≡ s.2 → t ≡ s
+triple_is {t = t} {s = s} e f =
+    ap (λ x. (x.0, x.1, t.2)) e ∙ ap (λ z. (s.0, s.1, z)) f
+
+pub separated_said : {S W T O D C : Type 0} {says : Says T O} {also : Says T D}
+    {meaning : Meaning S T O} {between : Meaning W T D} (into : Accumulator C O)
+    (holds : C → List O → Type 0) → Holds into holds → (s : S × W × Range)
+    → Said says s.0 meaning → Said also s.1 between
+    → Said (separated_says into holds (bounds_of s.2) says also) s
+    (λ form. RangedElements (meaning form) (between form) into (assert_kind form))
+separated_said {S} {W} {says = says} {also} {meaning} {between} into holds keeps s p q = record {
+  runs = λ is. record {
+    did = λ at i answer t j here (r, kept).
+        let both : S × W = (s.0, s.1) in
+        let did = bounded_did into (bounds_of s.2)
+        (ElementsDo says.does also.does into (bounds_of s.2))
+        (λ empty. ElementsRun (meaning at.form) (between at.form) into (assert_kind at.form)
+        (bounds_of s.2) empty both i answer (t.0, t.1) j)
+        (λ empty ran. elements_did {s = both} (p.runs is.0) (q.runs is.1) into at (bounds_of s.2)
+        empty i answer (t.0, t.1) j here ran) r in
+        did_beside s t (triple_is did.kept kept) did;
+  };
+  law = λ is.
+      separated_law (p.law is.0) (q.law is.1) into holds keeps (bounds_of s.2);
+}
