@@ -4,7 +4,7 @@ use Rattle.streams.specs.Input.{Input}
 use Rattle.streams.specs.Kind.{Kind}
 use Rattle.stream_errors.specs.Form.{Answer}
 use Rattle.winnow_core.specs.Runs.{Runs}
-pub mod Decided
+pub mod Says
 pub mod Laws
 
 -- A run of the parser of a length, and one of what follows it, by that length.

@@ -10,7 +10,7 @@ use Rattle.winnow_binary.specs.declared.binary.impls.length_and_then.LengthAndTh
 use Rattle.winnow_core.specs.CompleteErr.{CompleteErrRuns}
 use Rattle.winnow_core.specs.Runs.{Runs}
 use Rattle.winnow_core.specs.Short.{ShortKind}
-pub mod Decided
+pub mod Says
 pub mod Laws
 
 -- the parser of the length

@@ -7,7 +7,7 @@ use Rattle.winnow_binary.specs.Length.{LengthRuns}
 use Rattle.winnow_binary.specs.declared.binary.impls.length_repeat.LengthRepeat.{LengthRepeat}
 use Rattle.winnow_core.specs.Runs.{Runs}
 use Rattle.winnow_repeat.specs.Repeat.{RepeatManyRuns}
-pub mod Decided
+pub mod Says
 pub mod Laws
 
 -- the parser of the length

@@ -6,7 +6,7 @@ use Rattle.winnow_binary.specs.Length.{LengthRuns}
 use Rattle.winnow_binary.specs.declared.binary.impls.length_take.LengthTake.{LengthTake}
 use Rattle.winnow_core.specs.Runs.{Keeps, Runs}
 use Rattle.winnow_token.specs.Take.{TakeRuns}
-pub mod Decided
+pub mod Says
 pub mod Laws
 pub mod Reads
 

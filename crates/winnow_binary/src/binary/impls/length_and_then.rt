@@ -5,14 +5,14 @@ ghost use Rattle.stream_errors.specs.Form.{answer_by, modal};
 ghost use Rattle.winnow_core.specs.CompleteErr.{CompleteErrRuns};
 ghost use Rattle.winnow_core.specs.Exact.Allowed.{fails_as};
 ghost use Rattle.winnow_core.specs.Stable.Grows.{grows, stays};
-ghost use Rattle.winnow_binary.specs.Length.Decided.{OneLength};
 ghost use Rattle.winnow_binary.specs.LengthAndThen.{LengthAndThenRuns, TakenRuns};
-ghost use Rattle.winnow_binary.specs.LengthAndThen.Decided.{length_and_then_decided};
 ghost use Rattle.winnow_binary.specs.LengthAndThen.Laws.{length_and_then_exact};
 ghost use Rattle.winnow_binary.specs.LengthAndThen.Laws.{length_and_then_fails};
 ghost use Rattle.winnow_binary.specs.LengthAndThen.Laws.{length_and_then_ends};
 ghost use Rattle.winnow_binary.specs.LengthAndThen.Laws.{length_and_then_grows};
-ghost use Rattle.winnow_core.specs.Says.{nothing_done, nothing_said};
+ghost use Rattle.winnow_core.specs.Says.Decided.{decided_of};
+ghost use Rattle.winnow_binary.specs.LengthAndThen.Says.{length_and_then_said};
+ghost use Rattle.winnow_binary.specs.LengthAndThen.Says.{length_and_then_says};
 
 use std::marker::PhantomData;
 use stream_errors::parser_error::ParserError;
@@ -53,7 +53,7 @@ impl<
     ghost meaning = { λ form. LengthAndThenRuns N.number I.reading form I.counts_missing
         (P.meaning form) (G.meaning form) };
 
-    ghost says = { λ _. nothing_said };
+    ghost says = { λ s. length_and_then_says N.number I.counts_missing (P.says s.0) (G.says s.1) };
 
     ghost claim = { λ s. record {
       premise = (P.claim s.0).premise × SaysOne N.number (P.claim s.0).grammar
@@ -62,15 +62,14 @@ impl<
       spares_memory = (P.claim s.0).spares_memory × (G.claim s.1).spares_memory;
       consumes = (P.claim s.0).consumes;
       grammar = Sized N.number (Inside (G.claim s.1).grammar) (P.claim s.0).grammar;
-      decides = (P.claim s.0).decides × OneLength N.number (P.claim s.0).alike
-          × (G.claim s.1).decides;
-      alike = (G.claim s.1).alike;
+      decides = (says s).premise;
+      alike = (says s).alike;
     } };
 
     ghost leaves_ends = { λ form. length_and_then_ends N.number I.reading form I.counts_missing
         (P.meaning form) (G.meaning form) (P.leaves_ends form) };
 
-    ghost said = { λ _. nothing_done };
+    ghost said = { λ s. length_and_then_said N.number I.reading I.counts_missing (P.said s.0) (G.said s.1) };
 
     ghost claimed = { λ s. record {
       exact = λ form is. length_and_then_exact N.number I.reading form I.counts_missing is.1
@@ -81,8 +80,7 @@ impl<
           (fails_as (λ b. b.1) (λ m. m.1) ((G.claimed s.1).fails form is.2));
       takes = λ is some. sized_inside_takes N.number (G.claim s.1).grammar
           ((P.claimed s.0).exact modal is.0).unique ((P.claimed s.0).takes is.0 some);
-      decided = λ form is. length_and_then_decided N.number I.reading form I.counts_missing is.1
-          ((P.claimed s.0).decided form is.0) ((G.claimed s.1).decided form is.2);
+      decided = λ form is. decided_of I.reading leaves_ends (said s) form is;
     } };
 
     #[inline]

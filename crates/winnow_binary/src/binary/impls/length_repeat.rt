@@ -3,13 +3,12 @@ ghost use Rattle.grammars.specs.Grammar.Lengths.{SaysOne, Sized, Times, sized_ti
 ghost use Rattle.stream_errors.specs.Form.{assert_kind, modal};
 ghost use Rattle.winnow_core.specs.Exact.Allowed.{fails_as, wanted, softly};
 ghost use Rattle.winnow_core.specs.Stable.Grows.{grows, stays};
-ghost use Rattle.winnow_binary.specs.Length.Decided.{OneLength};
 ghost use Rattle.winnow_binary.specs.LengthRepeat.{LengthRepeatRuns};
-ghost use Rattle.winnow_binary.specs.LengthRepeat.Decided.{length_repeat_decided};
 ghost use Rattle.winnow_binary.specs.LengthRepeat.Laws.{length_repeat_exact, length_repeat_fails};
 ghost use Rattle.winnow_binary.specs.LengthRepeat.Laws.{length_repeat_ends, length_repeat_grows};
-ghost use Rattle.winnow_repeat.specs.Repeat.Decided.{HeldAlike};
-ghost use Rattle.winnow_core.specs.Says.{nothing_done, nothing_said};
+ghost use Rattle.winnow_core.specs.Says.Decided.{decided_of};
+ghost use Rattle.winnow_binary.specs.LengthRepeat.Says.{length_repeat_said};
+ghost use Rattle.winnow_binary.specs.LengthRepeat.Says.{length_repeat_says};
 
 use std::alloc::Allocator;
 use std::marker::PhantomData;
@@ -55,7 +54,7 @@ impl<
     ghost meaning = { λ form. LengthRepeatRuns N.number C.accumulator (assert_kind form)
         (P.meaning form) (G.meaning form) };
 
-    ghost says = { λ _. nothing_said };
+    ghost says = { λ s. length_repeat_says N.number C.accumulator C.holds (P.says s.0) (G.says s.1) };
 
     ghost claim = { λ s. record {
       premise = (P.claim s.0).premise × SaysOne N.number (P.claim s.0).grammar
@@ -65,16 +64,15 @@ impl<
           (P.claim s.0).spares_memory × (G.claim s.1).spares_memory × C.spares_memory;
       consumes = (P.claim s.0).consumes;
       grammar = Sized N.number (Times C.holds (G.claim s.1).grammar) (P.claim s.0).grammar;
-      decides = (P.claim s.0).decides × OneLength N.number (P.claim s.0).alike
-          × (G.claim s.1).decides;
-      alike = HeldAlike C.holds (G.claim s.1).alike;
+      decides = (says s).premise;
+      alike = (says s).alike;
     } };
 
     ghost leaves_ends = { λ form. length_repeat_ends I.reading N.number C.accumulator
         (assert_kind form) (P.meaning form) (G.meaning form) (P.leaves_ends form)
         (G.leaves_ends form) };
 
-    ghost said = { λ _. nothing_done };
+    ghost said = { λ s. length_repeat_said N.number C.accumulator C.holds C.gathers (P.said s.0) (G.said s.1) };
 
     ghost claimed = { λ s. record {
       exact = λ form is. length_repeat_exact N.number C.accumulator (assert_kind form) s
@@ -90,8 +88,7 @@ impl<
       takes = λ is some. sized_times_takes N.number C.holds
           ((G.claimed s.1).exact modal is.2).unique
           ((P.claimed s.0).exact modal is.0).unique ((P.claimed s.0).takes is.0 some);
-      decided = λ form is. length_repeat_decided N.number C.accumulator (assert_kind form) C.holds
-          C.gathers is.1 ((P.claimed s.0).decided form is.0) ((G.claimed s.1).decided form is.2);
+      decided = λ form is. decided_of I.reading leaves_ends (said s) form is;
     } };
 
     fn parse_next(&mut self, input: &mut I) -> Result<C, E> {

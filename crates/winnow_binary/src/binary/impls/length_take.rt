@@ -2,15 +2,13 @@
 ghost use Rattle.grammars.specs.Grammar.{Counted};
 ghost use Rattle.grammars.specs.Grammar.Lengths.{SaysOne, Sized};
 ghost use Rattle.stream_errors.specs.Form.{modal};
-ghost use Rattle.winnow_core.specs.Literal.Laws.{ShowSame};
 ghost use Rattle.winnow_core.specs.Stable.Grows.{grows};
-ghost use Rattle.winnow_binary.specs.Length.Decided.{OneLength};
 ghost use Rattle.winnow_binary.specs.LengthTake.{LengthTakeRuns};
-ghost use Rattle.winnow_binary.specs.LengthTake.Decided.{length_take_decided};
 ghost use Rattle.winnow_binary.specs.LengthTake.Laws.{length_take_exact, length_take_fails};
 ghost use Rattle.winnow_binary.specs.LengthTake.Laws.{length_take_takes};
 ghost use Rattle.winnow_binary.specs.LengthTake.Laws.{length_take_ends, length_take_stays};
-ghost use Rattle.winnow_core.specs.Says.{nothing_done, nothing_said};
+ghost use Rattle.winnow_core.specs.Says.Decided.{decided_of};
+ghost use Rattle.winnow_binary.specs.LengthTake.Says.{length_take_said, length_take_says};
 
 use std::marker::PhantomData;
 use stream_errors::parser_error::ParserError;
@@ -47,7 +45,7 @@ impl<P: Parser<I, N, E>, I: StreamIsPartial, N: ToUsize + Drop, E: ParserError<I
     ghost meaning = { λ form. LengthTakeRuns N.number I.reading form I.counts_missing
         (P.meaning form) };
 
-    ghost says = { λ _. nothing_said };
+    ghost says = { λ s. length_take_says N.number I.reading I.counts_missing (P.says s) };
 
     ghost claim = { λ s. record {
       premise = (P.claim s).premise × SaysOne N.number (P.claim s).grammar;
@@ -55,14 +53,14 @@ impl<P: Parser<I, N, E>, I: StreamIsPartial, N: ToUsize + Drop, E: ParserError<I
       spares_memory = (P.claim s).spares_memory;
       consumes = (P.claim s).consumes;
       grammar = Sized N.number (Counted I.reading) (P.claim s).grammar;
-      decides = (P.claim s).decides × OneLength N.number (P.claim s).alike;
-      alike = ShowSame I.reading;
+      decides = (says s).premise;
+      alike = (says s).alike;
     } };
 
     ghost leaves_ends = { λ form. length_take_ends N.number I.reading form I.counts_missing
         (P.meaning form) (P.leaves_ends form) };
 
-    ghost said = { λ _. nothing_done };
+    ghost said = { λ s. length_take_said N.number I.reading I.counts_missing (P.said s) };
 
     ghost claimed = { λ s. record {
       exact = λ form is. length_take_exact N.number I.reading form I.counts_missing is.1
@@ -71,8 +69,7 @@ impl<P: Parser<I, N, E>, I: StreamIsPartial, N: ToUsize + Drop, E: ParserError<I
           ((P.claimed s).exact form is.0) ((P.claimed s).fails form is.0);
       takes = λ is some. length_take_takes N.number I.reading ((P.claimed s).exact modal is.0)
           ((P.claimed s).takes is.0 some);
-      decided = λ form is. length_take_decided N.number I.reading form I.counts_missing is.1
-          ((P.claimed s).decided form is.0);
+      decided = λ form is. decided_of I.reading leaves_ends (said s) form is;
     } };
 
     #[inline]
