@@ -11,6 +11,7 @@ ghost use Rattle.winnow_binary.specs.LengthAndThen.Laws.{length_and_then_fails};
 ghost use Rattle.winnow_binary.specs.LengthAndThen.Laws.{length_and_then_ends};
 ghost use Rattle.winnow_binary.specs.LengthAndThen.Laws.{length_and_then_grows};
 ghost use Rattle.winnow_core.specs.Says.Decided.{decided_of};
+ghost use Rattle.winnow_binary.specs.Length.Says.{OneLength};
 ghost use Rattle.winnow_binary.specs.LengthAndThen.Says.{length_and_then_said};
 ghost use Rattle.winnow_binary.specs.LengthAndThen.Says.{length_and_then_says};
 
@@ -62,8 +63,9 @@ impl<
       spares_memory = (P.claim s.0).spares_memory × (G.claim s.1).spares_memory;
       consumes = (P.claim s.0).consumes;
       grammar = Sized N.number (Inside (G.claim s.1).grammar) (P.claim s.0).grammar;
-      decides = (says s).premise;
-      alike = (says s).alike;
+      decides = (P.says s.0).premise × OneLength N.number (P.says s.0).alike
+          × (G.says s.1).premise;
+      alike = (G.says s.1).alike;
     } };
 
     ghost leaves_ends = { λ form. length_and_then_ends N.number I.reading form I.counts_missing

@@ -6,7 +6,9 @@ ghost use Rattle.winnow_core.specs.Stable.Grows.{grows, stays};
 ghost use Rattle.winnow_binary.specs.LengthRepeat.{LengthRepeatRuns};
 ghost use Rattle.winnow_binary.specs.LengthRepeat.Laws.{length_repeat_exact, length_repeat_fails};
 ghost use Rattle.winnow_binary.specs.LengthRepeat.Laws.{length_repeat_ends, length_repeat_grows};
+ghost use Rattle.winnow_repeat.specs.Chain.Bounded.{HeldAlike};
 ghost use Rattle.winnow_core.specs.Says.Decided.{decided_of};
+ghost use Rattle.winnow_binary.specs.Length.Says.{OneLength};
 ghost use Rattle.winnow_binary.specs.LengthRepeat.Says.{length_repeat_said};
 ghost use Rattle.winnow_binary.specs.LengthRepeat.Says.{length_repeat_says};
 
@@ -64,8 +66,9 @@ impl<
           (P.claim s.0).spares_memory × (G.claim s.1).spares_memory × C.spares_memory;
       consumes = (P.claim s.0).consumes;
       grammar = Sized N.number (Times C.holds (G.claim s.1).grammar) (P.claim s.0).grammar;
-      decides = (says s).premise;
-      alike = (says s).alike;
+      decides = (P.says s.0).premise × OneLength N.number (P.says s.0).alike
+          × (G.says s.1).premise;
+      alike = HeldAlike C.holds (G.says s.1).alike;
     } };
 
     ghost leaves_ends = { λ form. length_repeat_ends I.reading N.number C.accumulator

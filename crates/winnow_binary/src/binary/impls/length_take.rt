@@ -7,7 +7,9 @@ ghost use Rattle.winnow_binary.specs.LengthTake.{LengthTakeRuns};
 ghost use Rattle.winnow_binary.specs.LengthTake.Laws.{length_take_exact, length_take_fails};
 ghost use Rattle.winnow_binary.specs.LengthTake.Laws.{length_take_takes};
 ghost use Rattle.winnow_binary.specs.LengthTake.Laws.{length_take_ends, length_take_stays};
+ghost use Rattle.winnow_core.specs.Literal.Laws.{ShowSame};
 ghost use Rattle.winnow_core.specs.Says.Decided.{decided_of};
+ghost use Rattle.winnow_binary.specs.Length.Says.{OneLength};
 ghost use Rattle.winnow_binary.specs.LengthTake.Says.{length_take_said, length_take_says};
 
 use std::marker::PhantomData;
@@ -53,8 +55,8 @@ impl<P: Parser<I, N, E>, I: StreamIsPartial, N: ToUsize + Drop, E: ParserError<I
       spares_memory = (P.claim s).spares_memory;
       consumes = (P.claim s).consumes;
       grammar = Sized N.number (Counted I.reading) (P.claim s).grammar;
-      decides = (says s).premise;
-      alike = (says s).alike;
+      decides = (P.says s).premise × OneLength N.number (P.says s).alike;
+      alike = ShowSame I.reading;
     } };
 
     ghost leaves_ends = { λ form. length_take_ends N.number I.reading form I.counts_missing
