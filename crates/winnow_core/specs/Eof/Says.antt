@@ -43,9 +43,9 @@ module _ {T L : Type 0} (reading : Reading T L) where
       whole at tokens need place is (inl (v, nothing, shown, a)) = absurd (cc)
       whole at tokens need place is (inr (some, a)) = absurd (cc)
 
-  did : (at : Setting) (i : Input T) (answer : Answer L) (j : Input T)
-      → EofRuns reading i answer j → Did (EofDoes reading) at tt i answer tt j
-  did at i answer j (inl (slice, nothing, takes, e)) =
+  did : (at : Setting) (s : ⊤) (i : Input T) (answer : Answer L) (j : Input T)
+      → EofRuns reading i answer j → Did (EofDoes reading) at s i answer s j
+  did at s i answer j (inl (slice, nothing, takes, e)) =
       let none = sym takes.passed.tokens ∙ nothing in
       takes_did takes (inl (
         slice,
@@ -53,8 +53,8 @@ module _ {T L : Type 0} (reading : Reading T L) where
         takes.shown,
         gave j.left.tokens e ∙ ap (λ l. took slice l) none,
       ))
-  did at i answer j (inr (some, e, same)) = here_did same (inr (some, gave i.left.tokens e))
+  did at s i answer j (inr (some, e, same)) = here_did same (inr (some, gave i.left.tokens e))
 
   pub eof_said : Said (eof_says reading) tt (λ form. Keeps (λ (_ : ⊤). EofRuns reading))
   eof_said = leaf_said (λ form (_ : ⊤). EofRuns reading)
-      (λ is at i answer j here r. did at i answer j r) (λ is. law)
+      (λ is at i answer j here r. did at tt i answer j r) (λ is. law)
