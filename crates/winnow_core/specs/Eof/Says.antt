@@ -1,21 +1,23 @@
 -- What the parser of the end of the input says that it does.
-use Rattle.std.specs.Prelude.{◌≡◌, ◌⊎◌, ⊤, false, List, [], ℕ, Option}
-use Rattle.std.proofs.Common.{refl, sym, ap, ◌∙◌, inl, inr}
+use Rattle.std.specs.Prelude.{◌≡◌, ⊤, []}
+use Rattle.std.proofs.Common.{sym, ◌∙◌, inl, inr}
 use Rattle.stream_errors.specs.Form.{Answer}
 use Rattle.streams.specs.Input.{Input}
 use Rattle.streams.specs.Reading.{Reading}
 use Rattle.winnow_core.specs.Eof.{EofRuns}
 use Rattle.winnow_core.specs.Literal.Laws.{ShowSame}
-use Rattle.winnow_core.specs.Outcome.{Alike, Does, Outcome, Setting, asks, backs, both, gave, took}
+use Rattle.winnow_core.specs.Outcome.{Does, Setting, gave}
 use Rattle.winnow_core.specs.Runs.{Keeps}
-use Rattle.winnow_core.specs.Says.{Did, Lawful, Said, Says}
+use Rattle.winnow_core.specs.Says.{Did, Said, Says}
+use Rattle.winnow_core.specs.Says.Cases.{FailsWhere, OneCase, TakesWhere, cases_law, fails_law}
+use Rattle.winnow_core.specs.Says.Cases.{takes_law}
 use Rattle.winnow_core.specs.Says.Leaf.{here_did, leaf_said, takes_did}
 
 -- Nothing is left, and a slice of nothing is taken; or something is.
 abbrev pub EofDoes : {T L : Type 0} → Reading T L → Does T L
-EofDoes {T} {L} reading at tokens x =
-    ((slice : L) × (tokens ≡ []) × reading.shows slice [] × (x ≡ took slice []))
-    ⊎ ((tokens ≡ [] → ⊥) × (x ≡ backs tokens))
+EofDoes reading = OneCase
+    (TakesWhere (λ o at tokens rest. (tokens ≡ []) × (rest ≡ []) × reading.shows o []))
+    (FailsWhere (λ at tokens. tokens ≡ [] → ⊥))
 
 -- What is taken at an end may stand before more tokens.
 abbrev pub eof_says : {T L : Type 0} → Reading T L → Says T L
@@ -26,35 +28,24 @@ eof_says reading = record {
   alike = ShowSame reading;
 }
 
-module _ {T L : Type 0} (reading : Reading T L) where
-  law : Lawful ⊥ (ShowSame reading) (EofDoes reading)
-  law = record { one = one; whole = whole; stays = λ never. absurd never }
-    where
-      one : (at : Setting) (tokens : List T) (x y : Outcome T L) → EofDoes reading at tokens x
-          → EofDoes reading at tokens y → Alike (ShowSame reading) x y
-      one at tokens x y (inl (v, nothing, shown, a)) (inl (w, none, too, b)) =
-          both (ShowSame reading) a b (([], shown, too), refl)
-      one at tokens x y (inl (v, nothing, shown, a)) (inr (some, b)) = absurd (some nothing)
-      one at tokens x y (inr (some, a)) (inl (v, nothing, shown, b)) = absurd (some nothing)
-      one at tokens x y (inr (some, a)) (inr (more, b)) = both (ShowSame reading) a b refl
+did : {T L : Type 0} (reading : Reading T L) (at : Setting) (s : ⊤) (i : Input T)
+    (answer : Answer L) (j : Input T) → EofRuns reading i answer j
+    → Did (EofDoes reading) at s i answer s j
+did reading at s i answer j (inl (slice, nothing, takes, e)) = takes_did takes (inl (
+  slice,
+  j.left.tokens,
+  (nothing, sym takes.passed.tokens ∙ nothing, takes.shown),
+  gave j.left.tokens e,
+))
+did reading at s i answer j (inr (some, e, same)) =
+    here_did same (inr (some, gave i.left.tokens e))
 
-      whole : (at : Setting) (tokens : List T) (need : Option ℕ) (place : List T)
-          → at.more ≡ false → EofDoes reading at tokens (asks need place) → ⊥
-      whole at tokens need place is (inl (v, nothing, shown, a)) = absurd (cc)
-      whole at tokens need place is (inr (some, a)) = absurd (cc)
-
-  did : (at : Setting) (i : Input T) (answer : Answer L) (j : Input T)
-      → EofRuns reading i answer j → Did (EofDoes reading) at tt i answer tt j
-  did at i answer j (inl (slice, nothing, takes, e)) =
-      let none = sym takes.passed.tokens ∙ nothing in
-      takes_did takes (inl (
-        slice,
-        nothing,
-        takes.shown,
-        gave j.left.tokens e ∙ ap (λ l. took slice l) none,
-      ))
-  did at i answer j (inr (some, e, same)) = here_did same (inr (some, gave i.left.tokens e))
-
-  pub eof_said : Said (eof_says reading) tt (λ form. Keeps (λ (_ : ⊤). EofRuns reading))
-  eof_said = leaf_said (λ form (_ : ⊤). EofRuns reading)
-      (λ is at i answer j here r. did at i answer j r) (λ is. law)
+pub eof_said : {T L : Type 0} (reading : Reading T L)
+    → Said (eof_says reading) tt (λ form. Keeps (λ (_ : ⊤). EofRuns reading))
+eof_said reading = leaf_said (λ form (_ : ⊤). EofRuns reading)
+    (λ is at i answer j here r. did reading at tt i answer j r)
+    (λ is. cases_law
+    (takes_law
+    (λ at tokens o p rest end (nothing, a, shown) (none, b, too). (([], shown, too), a ∙ sym b))
+    (λ never. absurd never)) (fails_law (λ never. absurd never))
+    (λ at tokens x y (o, rest, (nothing, a, shown), e) (some, f). some nothing))

@@ -1,5 +1,5 @@
 -- What literals say that they do.
-use Rattle.std.specs.Prelude.{◌≡◌, ◌⊎◌, ⊤, false, true, List, ◌∷◌, ◌++◌, None, ℕ, Option}
+use Rattle.std.specs.Prelude.{◌≡◌, ⊤, true, false, List, ◌∷◌, ◌++◌, None}
 use Rattle.std.proofs.Common.{refl, sym, ◌∙◌, inl, inr, append_assoc, subst, ap}
 use Rattle.grammars.specs.Grammar.Unique.{one_front}
 use Rattle.stream_errors.specs.Form.{Answer, incomplete_kind}
@@ -7,25 +7,26 @@ use Rattle.stream_searches.specs.Compare.{IsShort, StandsFirst}
 use Rattle.streams.specs.Equal.{true_is_false}
 use Rattle.streams.specs.Input.{Input}
 use Rattle.streams.specs.Reading.{Reading}
+use Rattle.winnow_core.specs.Decided.Inputs.{same_front}
 use Rattle.winnow_core.specs.Literal.{LiteralRuns}
 use Rattle.winnow_core.specs.Literal.Laws.{ShowSame, not_longer, still_not_first, still_not_short}
-use Rattle.winnow_core.specs.Outcome.{Alike, Does, IsFinal, Outcome, Setting, as_longer, asks, backs}
-use Rattle.winnow_core.specs.Outcome.{both, final_by, gave, grown, lacks, longer, on_cut, took}
-use Rattle.winnow_core.specs.Decided.Inputs.{same_front}
-use Rattle.winnow_core.specs.Says.{Did, IsAt, Lawful, Said, Says}
-use Rattle.winnow_core.specs.Says.Lacks.{lacks_alike, short_outcome}
-use Rattle.winnow_core.specs.Says.Leaf.{here_did, leaf_said, takes_did}
+use Rattle.winnow_core.specs.Outcome.{Does, Outcome, Setting, gave}
 use Rattle.winnow_core.specs.Runs.{Keeps}
+use Rattle.winnow_core.specs.Says.{Did, IsAt, Lawful, Said, Says}
+use Rattle.winnow_core.specs.Says.Cases.{FailsWhere, LacksWhere, OneCase, TakesWhere, cases_law}
+use Rattle.winnow_core.specs.Says.Cases.{fails_law, lacks_law, takes_law}
+use Rattle.winnow_core.specs.Says.Lacks.{short_outcome}
+use Rattle.winnow_core.specs.Says.Leaf.{here_did, leaf_said, takes_did}
 
 -- It stands first, and a slice of it is taken; or a cut input is too short to tell; or it does not
 -- stand first, and no more input could change that.
 abbrev pub LiteralDoes : {T L O : Type 0} → Reading T L → (List T → Type 0) → (L → O) → Does T O
-LiteralDoes {T} {L} reading spelled output at tokens x =
-    ((front : List T) × (slice : L) × (rest : List T) × spelled front
-    × reading.shows slice front × (tokens ≡ front ++ rest) × (x ≡ took (output slice) rest))
-    ⊎ ((IsShort spelled tokens × (at.more ≡ true) × (x ≡ lacks at None tokens))
-    ⊎ ((StandsFirst spelled tokens → ⊥) × (IsShort spelled tokens → at.more ≡ false)
-    × (x ≡ backs tokens)))
+LiteralDoes {L = L} reading spelled output =
+    OneCase (TakesWhere (λ o at tokens rest. (front : _) × (slice : L) × spelled front
+    × reading.shows slice front × (tokens ≡ front ++ rest) × (o ≡ output slice)))
+    (OneCase (LacksWhere (λ _. None) (λ at tokens. IsShort spelled tokens × (at.more ≡ true)))
+    (FailsWhere (λ at tokens. (StandsFirst spelled tokens → ⊥)
+    × (IsShort spelled tokens → at.more ≡ false))))
 
 abbrev pub literal_says : {T L O : Type 0} → Reading T L → (List T → Type 0) → (L → O)
     → (O → O → Type 0) → Says T O
@@ -41,69 +42,44 @@ module _ {T L O : Type 0} (reading : Reading T L) (spelled : List T → Type 0) 
     (same_units : (xs ys : List T) → spelled xs → spelled ys → reading.units xs ≡ reading.units ys)
     (shown : (slice other : L) → ShowSame reading slice other
     → alike (output slice) (output other)) where
-  -- what is short does not stand first
-  short_is_none : {P : Type 0} (tokens front rest : List T) → spelled front
-      → tokens ≡ front ++ rest → IsShort spelled tokens → P
-  short_is_none tokens front rest is splits (y, more, other) =
-      not_longer reading tokens front rest more y splits
-      (same_units front (tokens ++ y ∷ more) is other)
-
-  one : (at : Setting) (tokens : List T) (x y : Outcome T O)
-      → LiteralDoes reading spelled output at tokens x
-      → LiteralDoes reading spelled output at tokens y → Alike alike x y
-  one at tokens x y (inl (f, v, r, is, there, e, a)) (inl (g, w, q, also, here, d, b)) =
-      let units = same_units f g is also in
-      let rest = one_front reading f g r q (sym e ∙ d) units in
-      let front = same_front reading g f q r (sym d ∙ e) (sym units) in
-      both alike a b
-      (shown v w (f, there, subst (λ l. reading.shows w l) front here), rest)
-  one at tokens x y (inl (f, v, r, is, there, e, a)) (inr (inl (short, more, b))) =
-      short_is_none tokens f r is e short
-  one at tokens x y (inl (f, v, r, is, there, e, a)) (inr (inr (none, whole, b))) =
-      absurd (none (f, r, is, e))
-  one at tokens x y (inr (inl (short, more, a))) (inl (f, v, r, is, there, e, b)) =
-      short_is_none tokens f r is e short
-  one at tokens x y (inr (inl (short, more, a))) (inr (inl (other, also, b))) =
-      both alike a b (lacks_alike alike at None tokens)
-  one at tokens x y (inr (inl (short, more, a))) (inr (inr (none, whole, b))) =
-      true_is_false (sym more ∙ whole short)
-  one at tokens x y (inr (inr (none, whole, a))) (inl (f, v, r, is, there, e, b)) =
-      absurd (none (f, r, is, e))
-  one at tokens x y (inr (inr (none, whole, a))) (inr (inl (short, more, b))) =
-      true_is_false (sym more ∙ whole short)
-  one at tokens x y (inr (inr (none, whole, a))) (inr (inr (never, also, b))) =
-      both alike a b refl
-
   law : Lawful ⊤ alike (LiteralDoes reading spelled output)
-  law = record { one = one; whole = whole; stays = stays }
+  law = cases_law (takes_law taken (λ is more flag tokens o rest (f, v, s, shows, e, a).
+      (f, v, s, shows, ap (λ l. l ++ more) e ∙ append_assoc f rest more, a)))
+      (cases_law lacks_law (fails_law (λ is more flag tokens (none, told).
+      let not_short : IsShort spelled tokens → ⊥ = λ short. true_is_false (told short) in (
+        still_not_first spelled tokens more none not_short,
+        λ short. absurd (still_not_short spelled tokens more not_short short),
+      )))
+      (λ at tokens x y ((short, cut), e) ((none, told), f). true_is_false (sym cut ∙ told short)))
+      apart
     where
-      whole : (at : Setting) (tokens : List T) (need : Option ℕ) (place : List T)
-          → at.more ≡ false → LiteralDoes reading spelled output at tokens (asks need place) → ⊥
-      whole at tokens need place is (inl (f, v, r, s, there, e, a)) = absurd (cc)
-      whole at tokens need place is (inr (inl (short, more, a))) = true_is_false (sym more ∙ is)
-      whole at tokens need place is (inr (inr (none, told, a))) = absurd (cc)
+      Taken : O → List T → List T → Type 0
+      Taken o tokens rest =
+          (front : List T) × (slice : L) × spelled front × reading.shows slice front
+          × (tokens ≡ front ++ rest) × (o ≡ output slice)
 
-      stays : ⊤ → (more : List T) (flag : Bool) (tokens : List T) (x : Outcome T O) → IsFinal x
-          → LiteralDoes reading spelled output on_cut tokens x
-          → LiteralDoes reading spelled output (grown flag) (tokens ++ more) (longer more x)
-      stays is more flag tokens x final (inl (f, v, r, s, there, e, a)) = inl (
-        f,
-        v,
-        r ++ more,
-        s,
-        there,
-        ap (λ l. l ++ more) e ∙ append_assoc f r more,
-        as_longer more a,
-      )
-      stays is more flag tokens x final (inr (inl (short, cut, a))) = absurd (final_by a final)
-      stays is more flag tokens x final (inr (inr (none, told, a))) =
-          let not_short : IsShort spelled tokens → ⊥ =
-          λ short. true_is_false (told short) in
-          inr (inr (
-            still_not_first spelled tokens more none not_short,
-            (λ short. absurd (still_not_short spelled tokens more not_short short)),
-            as_longer more a,
-          ))
+      taken : (at : Setting) (tokens : List T) (o p : O) (rest end : List T) → Taken o tokens rest
+          → Taken p tokens end → alike o p × (rest ≡ end)
+      taken at tokens o p rest end (f, v, s, there, e, a) (g, w, t, here, d, b) =
+          let units = same_units f g s t in
+          let front = same_front reading g f end rest (sym d ∙ e) (sym units) in
+          let same = shown v w (f, there, subst (λ l. reading.shows w l) front here) in (
+            subst (λ q. alike q p) (sym a) (subst (λ q. alike (output v) q) (sym b) same),
+            one_front reading f g rest end (sym e ∙ d) units,
+          )
+
+      -- what stands first is not short
+      apart : (at : Setting) (tokens : List T) (x y : Outcome T O)
+          → TakesWhere (λ o at tokens rest. Taken o tokens rest) at tokens x
+          → OneCase
+          (LacksWhere (λ _. None) (λ at tokens. IsShort spelled tokens × (at.more ≡ true)))
+          (FailsWhere (λ at tokens. (StandsFirst spelled tokens → ⊥)
+          × (IsShort spelled tokens → at.more ≡ false))) at tokens y
+          → ⊥
+      apart at tokens x y (o, rest, (f, v, s, there, e, a), q) (inl (((z, more, other), cut), p)) =
+          not_longer reading tokens f rest more z e (same_units f (tokens ++ z ∷ more) s other)
+      apart at tokens x y (o, rest, (f, v, s, there, e, a), q) (inr ((none, told), p)) =
+          none (f, rest, s, e)
 
 did : {S T L O : Type 0} (reading : Reading T L) (spelled : List T → Type 0) (output : L → O)
     (at : Setting) (s : S) (i : Input T) (answer : Answer O) (j : Input T) → IsAt at i
@@ -111,23 +87,19 @@ did : {S T L O : Type 0} (reading : Reading T L) (spelled : List T → Type 0) (
     → Did (LiteralDoes reading spelled output) at s i answer s j
 did reading spelled output at s i answer j here (inl (front, slice, is, takes, e)) =
     takes_did takes (inl (
-      front,
-      slice,
+      output slice,
       j.left.tokens,
-      is,
-      takes.shown,
-      takes.passed.tokens,
+      (front, slice, is, takes.shown, takes.passed.tokens, refl),
       gave j.left.tokens e,
     ))
 did reading spelled output at s i answer j here (inr (inl (short, cut, e, same))) =
     here_did same (inr (inl (
-      short,
-      sym here.more ∙ cut,
+      (short, sym here.more ∙ cut),
       short_outcome at i None (incomplete_kind at.form None) i.left.tokens here (inl (cut, refl)) e,
     )))
 did reading spelled output at s i answer j here (inr (inr (none, whole, e, same))) =
     here_did same
-    (inr (inr (none, λ short. sym here.more ∙ whole short, gave i.left.tokens e)))
+    (inr (inr ((none, λ short. sym here.more ∙ whole short), gave i.left.tokens e)))
 
 -- A literal whose state is the value that it stands for.
 pub literal_said : {S T L O : Type 0} (reading : Reading T L) (spells : S → List T → Type 0)
