@@ -1,5 +1,5 @@
 -- What literals say that they do.
-use Rattle.std.specs.Prelude.{◌≡◌, ◌⊎◌, ⊤, false, true, List, ◌∷◌, ◌++◌, None, ℕ, Option}
+use Rattle.std.specs.Prelude.{◌≡◌, ◌⊎◌, ⊤, Bool, false, true, List, ◌∷◌, ◌++◌, None, ℕ, Option}
 use Rattle.std.proofs.Common.{refl, sym, ◌∙◌, inl, inr, append_assoc, subst, ap}
 use Rattle.grammars.specs.Grammar.Unique.{one_front}
 use Rattle.stream_errors.specs.Form.{Answer, incomplete_kind}
