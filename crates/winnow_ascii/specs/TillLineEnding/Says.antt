@@ -29,7 +29,8 @@ use Rattle.winnow_core.specs.Says.Leaf.{here_did, leaf_said, takes_did}
 use Rattle.winnow_core.specs.Short.{ShortKind}
 use Rattle.winnow_core.specs.Stable.Longer.{one_beginning}
 use Rattle.winnow_ascii.specs.TillLineEnding.{LineRuns, SeeksSome, SpellsOne, TillLineEndingRuns}
-use Rattle.winnow_ascii.specs.TillLineEnding.Laws.{nothing_first, stands_more, till_line_ending_ends}
+use Rattle.winnow_ascii.specs.TillLineEnding.Laws.{nothing_first, stands_more}
+use Rattle.winnow_ascii.specs.TillLineEnding.Laws.{till_line_ending_ends}
 use Rattle.winnow_token.specs.TakeUntil.Says.{before_more}
 
 -- No more is asked for: nothing more comes, or errors have no kind for it.
@@ -287,7 +288,9 @@ module _ {T L : Type 0} (spells : Bor (List ℕ) → List T → Type 0)
             gave j.left.tokens e,
           )))
       did alike at i answer j here
-          (inr (inr (inl (slice, return, both, k, it, they, ran, first, (x, more, is), none, short, e)))) =
+          (inr (inr (inl
+                      (slice, return, both, k, it, they, ran, first, (x, more, is), none, short,
+                      e)))) =
           let (front, line, takes) = line_taken here slice j ran in
           takes_did takes (inr (inr (inl (
             j.left.tokens,

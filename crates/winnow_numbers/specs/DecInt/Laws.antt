@@ -70,8 +70,10 @@ module _ {N K T L : Type 0} (number : N → ℤ) (fits : ℤ → Type 0) (seen :
       → DecIntRuns number fits seen code reading form i answer j → j.status ≡ i.status
   dec_int_status i answer j (inl (sign, digits, n, p, fit, is, e)) =
       numeral_status seen code reading true i sign digits j p
-  dec_int_status i answer j (inr (inl (sign, digits, a, p, misfit, e, same))) = ap (λ z. z.status) same
-  dec_int_status i answer j (inr (inr (k, none, e))) = none_status seen code reading form true i k j none
+  dec_int_status i answer j (inr (inl (sign, digits, a, p, misfit, e, same))) =
+      ap (λ z. z.status) same
+  dec_int_status i answer j (inr (inr (k, none, e))) =
+      none_status seen code reading form true i k j none
 
   module _ (once : SeenOnce seen code) where
     -- a numeral, and one that stands there too, have one number

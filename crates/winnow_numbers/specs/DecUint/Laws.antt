@@ -76,7 +76,8 @@ module _ {N K T L : Type 0} (number : N → ℕ) (bound : ℕ) (seen : K → T) 
   dec_uint_status i answer j (inl (digits, n, p, fits, is, e)) =
       numeral_status seen code reading _ i _ digits j p
   dec_uint_status i answer j (inr (inl (digits, a, p, large, e, same))) = ap (λ z. z.status) same
-  dec_uint_status i answer j (inr (inr (k, none, e))) = none_status seen code reading form _ i k j none
+  dec_uint_status i answer j (inr (inr (k, none, e))) =
+      none_status seen code reading form _ i k j none
 
   pub dec_uint_decided : SeenOnce seen code
       → IsDecided tt (Keeps (λ (_ : ⊤). DecUintRuns number bound seen code reading form))

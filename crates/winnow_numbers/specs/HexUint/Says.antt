@@ -61,24 +61,24 @@ module _ {N K T L : Type 0} (number : N → ℕ) (most : ℕ) (seen : K → T) (
       (plain_at at rest)
   to at tokens y
       (inl (n, rest, (front, digits, splits, chars, are, some, few, stops, whole, is), e)) = (
-    Ok n,
-    rest,
-    e,
-    inl (
-      front,
-      digits,
-      n,
-      plain_passes reading at splits,
-      chars,
-      are,
-      some,
-      few,
-      stops,
-      whole,
-      is,
-      refl,
-    ),
-  )
+        Ok n,
+        rest,
+        e,
+        inl (
+          front,
+          digits,
+          n,
+          plain_passes reading at splits,
+          chars,
+          are,
+          some,
+          few,
+          stops,
+          whole,
+          is,
+          refl,
+        ),
+      )
   to at tokens y (inr (inl ((are, few, more), e))) = (
     Err (incomplete_kind at.form (Some 1)),
     tokens,
@@ -89,7 +89,8 @@ module _ {N K T L : Type 0} (number : N → ℕ) (most : ℕ) (seen : K → T) (
   to at tokens y (inr (inr (inl (none, whole), e))) =
       (Err backtrack, tokens, e, inr (inr (inl (none, whole, refl, refl))))
   to at tokens y (inr (inr (inr (front, t, rest, splits, are, many, is), e))) =
-      (Err backtrack, tokens, e, inr (inr (inr (front, t, rest, splits, are, many, is, refl, refl))))
+      (Err backtrack, tokens, e,
+            inr (inr (inr (front, t, rest, splits, are, many, is, refl, refl))))
 
   of : (r : Reading T L) (at : Setting) (i : Input T) (answer : Answer N) (j : Input T)
       → IsAt at i → HexUintRuns number most seen code r at.form i answer j
@@ -97,22 +98,22 @@ module _ {N K T L : Type 0} (number : N → ℕ) (most : ℕ) (seen : K → T) (
       (outcome_of answer j.left.tokens)
   of r at i answer j here
       (inl (front, digits, n, p, chars, are, some, few, stops, whole, is, e)) = inl (
-    n,
-    j.left.tokens,
-    (
-      front,
-      digits,
-      p.tokens,
-      chars,
-      are,
-      some,
-      few,
-      stops,
-      (λ nothing. sym here.more ∙ ap (λ z. z.cut) (sym p.status) ∙ whole nothing),
-      is,
-    ),
-    gave j.left.tokens e,
-  )
+        n,
+        j.left.tokens,
+        (
+          front,
+          digits,
+          p.tokens,
+          chars,
+          are,
+          some,
+          few,
+          stops,
+          (λ nothing. sym here.more ∙ ap (λ z. z.cut) (sym p.status) ∙ whole nothing),
+          is,
+        ),
+        gave j.left.tokens e,
+      )
   of r at i answer j here (inr (inl (are, few, cuts, e, same))) =
       let there = ap (λ z. z.left.tokens) same in inr (inl (
         (are, few, sym here.more ∙ cuts),

@@ -112,7 +112,8 @@ module _ {K T : Type 0} (seen : K → T) (code : K → ℕ) where
     lacks_to : (at : Setting) (tokens rest : List T) → LacksMore tokens rest
         → LacksDigits seen code (no_places reading) (plain_at at tokens) (plain_at at rest)
     lacks_to at tokens rest (inl (none, e)) = inl (none, ap (λ l. plain_at at l) e)
-    lacks_to at tokens rest (inr (x, leads, e, are)) = inr (x, leads, plain_passes reading at e, are)
+    lacks_to at tokens rest (inr (x, leads, e, are)) =
+        inr (x, leads, plain_passes reading at e, are)
 
     left_plain : (at : Setting) (form : ErrorForm) (tokens passed : List T)
         → plain_at at (left_for form tokens passed)
@@ -177,17 +178,17 @@ module _ {K T : Type 0} (seen : K → T) (code : K → ℕ) where
         inl (x, may, is, p.tokens, d)
     digits_of_run at zero i digits j here
         (inr (front, first, others, d, leads, are, p, chars, stops, whole)) = inr (
-      front,
-      first,
-      others,
-      d,
-      leads,
-      are,
-      p.tokens,
-      chars,
-      stops,
-      λ nothing. sym here ∙ ap (λ z. z.cut) (sym p.status) ∙ whole nothing,
-    )
+          front,
+          first,
+          others,
+          d,
+          leads,
+          are,
+          p.tokens,
+          chars,
+          stops,
+          λ nothing. sym here ∙ ap (λ z. z.cut) (sym p.status) ∙ whole nothing,
+        )
 
     -- an input is cut as it was before a sign
     still_cut : (at : Setting) (signed : Bool) (i : Input T) (sign : List ℕ) (a : Input T)
