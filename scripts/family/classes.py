@@ -98,7 +98,7 @@ def class_claims(is_member, least):
         "exact": "λ form is. class_exact %s form is" % parts,
         "fails": "λ form is. backs (class_fails %s form)" % parts,
         "takes": "λ is some. class_takes %s one_is_some" % parts if least else NEVER_TAKES,
-        "decided": "λ form is. class_decided %s form is" % parts,
+        "decided": "λ form is. decided_of I.reading leaves_ends (said s) form is",
     }
     return {"claim": record("claim", claim), "claimed": record("claimed", claimed)}
 
@@ -112,11 +112,12 @@ ghost use Rattle.stream_sets.specs.Once.{{SeesApart}};
 ghost use Rattle.stream_sets.specs.Range.{{from_to}};
 ghost use Rattle.grammars.specs.Grammar.{{Class}};
 ghost use Rattle.winnow_ascii.specs.Class.{{ClassRuns}};
-ghost use Rattle.winnow_ascii.specs.Class.Laws.{{SeenOnce, class_decided, class_exact, class_fails}};
-ghost use Rattle.winnow_ascii.specs.Class.Laws.{{{laws}}};
+ghost use Rattle.winnow_ascii.specs.Class.Laws.{{class_exact, class_fails, {laws}}};
+ghost use Rattle.winnow_ascii.specs.Class.Says.{{SeenOnce, class_said, class_says}};
 ghost use Rattle.winnow_core.specs.Exact.Allowed.{{backs}};
 ghost use Rattle.winnow_core.specs.Literal.Laws.{{ShowSame}};
 ghost use Rattle.winnow_core.specs.Runs.{{Keeps}};
+ghost use Rattle.winnow_core.specs.Says.Decided.{{decided_of}};
 ghost use Rattle.winnow_core.specs.Stable.Grows.{{leaf_stays}};
 ghost use Rattle.winnow_token.specs.TakeWhile.Laws.{{take_while_stays}};
 
@@ -145,9 +146,13 @@ where
 
     ghost meaning = {{ λ form. Keeps (λ _. ClassRuns {member} {least} I.Token.code I.seen_as I.reading form) }};
 
+    ghost says = {{ λ _. class_says {member} {least} I.Token.code I.seen_as I.reading }};
+
 {claim}
 
     ghost leaves_ends = {{ λ form x i answer y j r. class_ends {member} {least} I.Token.code I.seen_as I.reading form i answer j r.0 }};
+
+    ghost said = {{ λ _. class_said {member} {least} I.Token.code I.seen_as I.reading }};
 
 {claimed}
 

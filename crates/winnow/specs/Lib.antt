@@ -173,6 +173,7 @@ pub use Rattle.winnow_ascii.specs.Newline
 pub use Rattle.winnow_ascii.specs.Tab
 pub use Rattle.winnow_ascii.specs.TillLineEnding
 -- The parsers of numbers as text, as ASCII digits.
+pub use Rattle.winnow_numbers.specs.ByRuns
 pub use Rattle.winnow_numbers.specs.DecInt
 pub use Rattle.winnow_numbers.specs.DecUint
 pub use Rattle.winnow_numbers.specs.Decimal

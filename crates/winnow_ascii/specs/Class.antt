@@ -7,6 +7,7 @@ use Rattle.streams.specs.Stream.{AnswersSeen}
 use Rattle.stream_errors.specs.Form.{ErrorForm, Answer}
 use Rattle.winnow_token.specs.TakeWhile.{TakeWhileRuns}
 pub mod Laws
+pub mod Says
 
 -- A run of a take of the characters of a class, of at least `least` and with no greatest number.
 -- The tokens have the numbers `code`, and are seen by `seen`.

@@ -9,10 +9,10 @@ use Rattle.stream_searches.specs.Compare.{IsShort, StandsFirst}
 use Rattle.stream_searches.specs.FindSlice.{IsFirstMatch}
 use Rattle.stream_errors.specs.Form.{ErrorForm, Answer}
 use Rattle.winnow_core.specs.Short.{ShortKind}
-pub mod Decided
 pub mod Exact
 pub mod Known
 pub mod Laws
+pub mod Says
 
 -- A line is taken: what stands before the first carriage return or line feed; or all that is left,
 -- where there is neither and an error for want of more input backtracks.

@@ -8,6 +8,7 @@ use Rattle.winnow_numbers.specs.DecimalText.{signed_value}
 use Rattle.winnow_numbers.specs.Numeral.{NumeralRuns, NoNumeral}
 pub mod Known
 pub mod Laws
+pub mod Says
 
 -- A run of the parser of a decimal signed number. Values of its type have the numbers `number`,
 -- of which those that `fits` says are there.

@@ -8,6 +8,7 @@ use Rattle.winnow_numbers.specs.Digits.{value_in}
 use Rattle.winnow_numbers.specs.Numeral.{NumeralRuns, NoNumeral}
 pub mod Known
 pub mod Laws
+pub mod Says
 
 -- A run of the parser of a decimal unsigned number. Values of its type have the numbers `number`,
 -- all below `bound`.

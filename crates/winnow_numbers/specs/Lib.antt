@@ -1,4 +1,5 @@
 -- Written by scripts/registries.py: do not edit.
+pub mod ByRuns
 pub mod DecInt
 pub mod DecUint
 pub mod Decimal

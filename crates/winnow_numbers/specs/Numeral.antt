@@ -13,6 +13,7 @@ pub mod Grammar
 pub mod Known
 pub mod Laws
 pub mod Once
+pub mod Says
 
 -- a sign: '+' or '-'
 abbrev pub IsSign : ℕ → Type 0

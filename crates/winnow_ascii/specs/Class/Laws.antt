@@ -27,30 +27,6 @@ class_ends class least code seen reading form i answer j r =
     take_while_ends reading form (AnswersSeen seen (λ t b. IsTrue b ↔ class (code t)))
     (from_to least None) i answer j r
 
--- ---- one state and one input decide it
-
--- Tokens that are seen as the same are one character.
-abbrev pub SeenOnce : {K T : Type 0} → (K → T) → (K → ℕ) → Type 0
-SeenOnce {K} seen code = (k l : K) → seen k ≡ seen l → code k ≡ code l
-
-class_once : {K T : Type 0} (class : ℕ → Type 0) (code : K → ℕ) (seen : K → T)
-    → SeenOnce seen code
-    → TellsOnce (AnswersSeen seen (λ t b. IsTrue b ↔ class (code t)))
-class_once {K} class code seen once x (t, is, has) (u, was, lacks) =
-    let same : code t ≡ code u = once t u (is ∙ sym was) in
-    let P : ℕ → Type 0 = λ n. class n in
-    true_is_false (sym (lacks.1 (subst P same (has.0 refl))))
-
--- The characters of a class, at least that many.
-pub class_decided : {K T L : Type 0} (class : ℕ → Type 0) (least : ℕ) (code : K → ℕ) (seen : K → T)
-    (reading : Reading T L) (form : ErrorForm) → SeenOnce seen code
-    → IsDecided tt (Keeps (λ (_ : ⊤). ClassRuns class least code seen reading form))
-    (ShowSame reading)
-class_decided class least code seen reading form once =
-    take_while_decided reading form
-    (λ (_ : ⊤). AnswersSeen seen (λ t b. IsTrue b ↔ class (code t)))
-    (λ _. from_to least None) tt (class_once class code seen once)
-
 -- ---- what it reads
 
 -- The characters of a class, at least that many.

@@ -106,45 +106,6 @@ module _ {T L : Type 0} (reading : Reading T L) (form : ErrorForm)
             ])
           ]
 
-  pub line_ending_decided : IsDecided tt
-      (Keeps (λ (_ : ⊤). LineEndingRuns spells reading form)) (ShowSame reading)
-  line_ending_decided = record {
-    kept = λ i answer t j free (r, same). (same, still i answer j free r);
-    decided = λ i a b t u j k na nb (r, same) (q, also). meet i a b j k na nb r q;
-  }
-    where
-      of : (bytes : List ℕ)
-          → IsDecided tt (Keeps (λ (_ : ⊤). TextRuns reading spells bytes form)) (ShowSame reading)
-      of = text_decided reading form spells alike same_units
-
-      still : (i : Input T) (answer : Answer L) (j : Input T) → NotMemory answer
-          → LineEndingRuns spells reading form i answer j → j.status ≡ i.status
-      still i answer j free (inl (text, here, r, other)) =
-          ((of (10 ∷ [])).kept i answer tt j free ((text, here, r), refl)).1
-      still i answer j free (inr (text, here, r, more)) =
-          ((of (13 ∷ 10 ∷ [])).kept i answer tt j free (more, refl)).1
-
-      -- what is alike to a backtrack is one
-      backs : {P : Type 0} (a : Answer L) → (a ≡ Err backtrack → ⊥)
-          → AlikeAnswers (ShowSame reading) a (Err backtrack) → P
-      backs (Ok o) other like = absurd like
-      backs (Err k) other like = absurd (other (ap Err like))
-
-      meet : (i : Input T) (a b : Answer L) (j k : Input T) → NotMemory a → NotMemory b
-          → LineEndingRuns spells reading form i a j → LineEndingRuns spells reading form i b k
-          → AlikeAnswers (ShowSame reading) a b × (j ≡ k)
-      meet i a b j k na nb (inl (text, here, r, other)) (inl (text2, here2, q, other2)) =
-          (of (10 ∷ [])).decided i a b tt tt j k na nb ((text, here, r), refl)
-          ((text2, here2, q), refl)
-      meet i a b j k na nb (inl (text, here, r, other)) (inr (text2, here2, q, more)) =
-          backs a other ((of (10 ∷ [])).decided i a (Err backtrack) tt tt j i na back_not_memory
-          ((text, here, r), refl) ((text2, here2, q), refl)).0
-      meet i a b j k na nb (inr (text, here, r, more)) (inl (text2, here2, q, other)) =
-          backs b other ((of (10 ∷ [])).decided i b (Err backtrack) tt tt k i nb back_not_memory
-          ((text2, here2, q), refl) ((text, here, r), refl)).0
-      meet i a b j k na nb (inr (text, here, r, more)) (inr (text2, here2, q, more2)) =
-          (of (13 ∷ 10 ∷ [])).decided i a b tt tt j k na nb (more, refl) (more2, refl)
-
   pub line_ending_fails : Backtracks tt (Keeps (λ (_ : ⊤). LineEndingRuns spells reading form))
   line_ending_fails = record { fails = λ i k t j is (r, kept). fails i k j is r }
     where

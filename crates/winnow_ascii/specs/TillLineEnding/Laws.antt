@@ -44,12 +44,12 @@ till_line_ending_ends spells sought reading form i answer j
     (inr (inr (inr (inr (k, lacks, e))))) = same_ends reading i j lacks.3
 
 -- a list that more stand after stands first still
-stands_more : {T : Type 0} (spelled : List T → Type 0) (tokens more : List T)
+pub stands_more : {T : Type 0} (spelled : List T → Type 0) (tokens more : List T)
     → StandsFirst spelled tokens → StandsFirst spelled (tokens ++ more)
 stands_more spelled tokens more (front, rest, is, splits) =
     (front, rest ++ more, is, ap (λ l. l ++ more) splits ∙ append_assoc front rest more)
 
-nothing_first : {T : Type 0} (xs ys : List T) → xs ++ ys ≡ [] → xs ≡ []
+pub nothing_first : {T : Type 0} (xs ys : List T) → xs ++ ys ≡ [] → xs ≡ []
 nothing_first [] ys e = refl
 nothing_first (x ∷ xs) ys e = absurd (cc)
 

@@ -17,7 +17,7 @@ use Rattle.winnow_core.specs.Literal.{LiteralRuns}
 use Rattle.winnow_core.specs.Runs.{Keeps, Runs}
 use Rattle.winnow_core.specs.Stable.{IsFinal, IsFinalKind}
 use Rattle.winnow_ascii.specs.Class.{ClassRuns}
-use Rattle.winnow_ascii.specs.Class.Laws.{class_decided}
+use Rattle.winnow_ascii.specs.Class.Says.{class_decided}
 use Rattle.winnow_begun.specs.Begun.{AsksWhere}
 use Rattle.winnow_begun.specs.Begun.Words.{Fewer, NeverBegun, NoneLeft}
 use Rattle.winnow_integers.specs.Integer.{IntegerRuns}

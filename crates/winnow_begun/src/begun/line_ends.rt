@@ -7,9 +7,10 @@ ghost use Rattle.stream_errors.specs.Form.{modal};
 ghost use Rattle.stream_searches.specs.Compare.{IsShort};
 ghost use Rattle.streams.specs.Following.{none_follows};
 ghost use Rattle.winnow_ascii.specs.Crlf.Laws.{crlf_stays};
-ghost use Rattle.winnow_ascii.specs.LineEnding.Laws.{line_ending_decided, line_ending_stays};
-ghost use Rattle.winnow_ascii.specs.TillLineEnding.Decided.{till_line_ending_decided};
+ghost use Rattle.winnow_ascii.specs.LineEnding.Laws.{line_ending_stays};
+ghost use Rattle.winnow_ascii.specs.LineEnding.Says.{line_ending_decided};
 ghost use Rattle.winnow_ascii.specs.TillLineEnding.Laws.{till_line_ending_stays};
+ghost use Rattle.winnow_ascii.specs.TillLineEnding.Says.{till_line_ending_decided};
 ghost use Rattle.winnow_begun.specs.Begun.Leaves.{literal_asks};
 ghost use Rattle.winnow_begun.specs.Begun.Lines.{till_line_ending_asks};
 ghost use Rattle.winnow_begun.specs.Begun.Searches.{crlf_asks, line_ending_asks};
@@ -74,7 +75,7 @@ impl<I: StreamIsPartial + Compare<&'static str>, E: ParserError<I>> Begun<I, I::
     ghost ended = { leaf_stays none_follows _ (λ _. line_ending_stays I.spells I.reading) };
 
     ghost asks = { λ p is. line_ending_asks I.spells I.reading
-        (line_ending_decided I.reading modal I.spells is I.same_units) };
+        (line_ending_decided I.spells I.reading I.same_units modal is) };
 }
 
 /// It asks for more where no line end stands, or a carriage return is the last token.
@@ -88,5 +89,5 @@ impl<I: LineEnds, E: ParserError<I>> Begun<I, I::Slice, E> for TillLineEnding {
         I.seeks_some I.spells_one) };
 
     ghost asks = { λ p is. till_line_ending_asks I.spells I.sought I.reading
-        (till_line_ending_decided I.reading modal I.spells is I.sought) };
+        (till_line_ending_decided I.spells I.sought I.reading (I.stays_first (13, 10)) modal is) };
 }

@@ -1,10 +1,11 @@
 -- Parsers with no parts, by cases: what is done in each, and what each owes.
 use Rattle.std.specs.Prelude.{◌≡◌, ◌⊎◌, ℕ, Bool, false, List, ◌++◌, Option}
-use Rattle.std.proofs.Common.{refl, inl, inr}
+use Rattle.std.proofs.Common.{refl, sym, ap, ◌∙◌, inl, inr}
 use Rattle.winnow_core.specs.Outcome.{Outcome, took, backs, asks, Setting, on_cut, grown, Does}
 use Rattle.winnow_core.specs.Outcome.{Alike, IsFinal, as_longer, both, final_by, lacks, longer}
 use Rattle.winnow_core.specs.Outcome.{misused}
-use Rattle.winnow_core.specs.Says.{Lawful}
+use Rattle.winnow_core.specs.Runs.{Meaning}
+use Rattle.winnow_core.specs.Says.{Lawful, Said, Says}
 use Rattle.winnow_core.specs.Says.Lacks.{lacks_alike, lacks_whole, misused_alike, misused_whole}
 
 -- A case: whether it is so, and what is then left.
@@ -28,6 +29,11 @@ FailsWhere so at tokens y = so at tokens × (y ≡ backs tokens)
 abbrev pub LacksWhere : {T O : Type 0} → (List T → Option ℕ) → (Setting → List T → Type 0)
     → Does T O
 LacksWhere need so at tokens y = so at tokens × (y ≡ lacks at (need tokens) tokens)
+
+-- There are too few after those that are left here.
+abbrev pub LacksAfter : {T O : Type 0} → Option ℕ → Case T → Does T O
+LacksAfter {T} need so at tokens y =
+    (place : List T) × so at tokens place × (y ≡ lacks at need place)
 
 -- It was made or called wrongly.
 abbrev pub MisusedWhere : {T O : Type 0} → Type 0 → Does T O
@@ -93,6 +99,19 @@ module _ {T O : Type 0} {stable : Type 0} {alike : O → O → Type 0} where
         absurd (final_by {y = asks (need tokens) tokens} e final);
   }
 
+  pub after_law : {need : Option ℕ} {so : Case T}
+      → ((at : Setting) (tokens place end : List T) → so at tokens place → so at tokens end
+      → place ≡ end)
+      → Lawful stable alike (LacksAfter need so)
+  after_law {need} one = record {
+    one = λ at tokens x y (place, a, e) (end, b, f).
+        both alike e (f ∙ ap (λ l. lacks at need l) (sym (one at tokens place end a b)))
+        (lacks_alike alike at need place);
+    whole = λ at tokens other end is (place, a, e). lacks_whole at need other place end is e;
+    stays = λ is more flag tokens x final (place, a, e).
+        absurd (final_by {y = asks need place} e final);
+  }
+
   pub misused_law : {so : Type 0} → Lawful {T = T} {O = O} stable alike (MisusedWhere so)
   misused_law = record {
     one = λ at tokens x y (a, e) (b, f). both alike e f (misused_alike alike at tokens);
@@ -134,3 +153,9 @@ module _ {T O : Type 0} {stable : Type 0} {alike : O → O → Type 0} where
           → OneCase first other (grown flag) (tokens ++ more) (longer more x)
       stays is more flag tokens x final (inl a) = inl (p.stays is more flag tokens x final a)
       stays is more flag tokens x final (inr b) = inr (q.stays is more flag tokens x final b)
+
+-- what suffices for a premise may be asked in its place
+pub under : {S T O : Type 0} {says : Says T O} {s : S} {meaning : Meaning S T O} {also : Type 0}
+    → (also → says.premise) → Said says s meaning
+    → Said (record says { premise = also }) s meaning
+under by said = record { runs = λ is. said.runs (by is); law = λ is. said.law (by is) }

@@ -66,12 +66,14 @@ module _ {K T L : Type 0} (seen : K → T) (code : K → ℕ) (reading : Reading
 
 module _ {N K T L : Type 0} (number : N → ℤ) (fits : ℤ → Type 0) (seen : K → T) (code : K → ℕ)
     (reading : Reading T L) (form : ErrorForm) where
-  still : (i : Input T) (answer : Answer N) (j : Input T)
+  pub dec_int_status : (i : Input T) (answer : Answer N) (j : Input T)
       → DecIntRuns number fits seen code reading form i answer j → j.status ≡ i.status
-  still i answer j (inl (sign, digits, n, p, fit, is, e)) =
+  dec_int_status i answer j (inl (sign, digits, n, p, fit, is, e)) =
       numeral_status seen code reading true i sign digits j p
-  still i answer j (inr (inl (sign, digits, a, p, misfit, e, same))) = ap (λ z. z.status) same
-  still i answer j (inr (inr (k, none, e))) = none_status seen code reading form true i k j none
+  dec_int_status i answer j (inr (inl (sign, digits, a, p, misfit, e, same))) =
+      ap (λ z. z.status) same
+  dec_int_status i answer j (inr (inr (k, none, e))) =
+      none_status seen code reading form true i k j none
 
   module _ (once : SeenOnce seen code) where
     -- a numeral, and one that stands there too, have one number
@@ -91,7 +93,7 @@ module _ {N K T L : Type 0} (number : N → ℤ) (fits : ℤ → Type 0) (seen :
     fits_or_not i sign other xs ys a b p q fit misfit =
         misfit (subst fits (one_value i sign other xs ys a b p q).0 fit)
 
-    meet : (i : Input T) (a b : Answer N) (j k : Input T)
+    pub meet : (i : Input T) (a b : Answer N) (j k : Input T)
         → DecIntRuns number fits seen code reading form i a j
         → DecIntRuns number fits seen code reading form i b k
         → AlikeAnswers (OneNumber number) a b × (j ≡ k)
@@ -121,6 +123,6 @@ module _ {N K T L : Type 0} (number : N → ℤ) (fits : ℤ → Type 0) (seen :
       → IsDecided tt (Keeps (λ (_ : ⊤). DecIntRuns number fits seen code reading form))
       (OneNumber number)
   dec_int_decided once = record {
-    kept = λ i answer t j free (r, same). (same, still i answer j r);
+    kept = λ i answer t j free (r, same). (same, dec_int_status i answer j r);
     decided = λ i a b t u j k na nb (r, same) (q, also). meet once i a b j k r q;
   }

@@ -62,7 +62,7 @@ module _ {K T L : Type 0} (seen : K → T) (code : K → ℕ) (reading : Reading
 abbrev pub OneNumber : {N V : Type 0} → (N → V) → N → N → Type 0
 OneNumber number m n = number m ≡ number n
 
-same_alike : {N V : Type 0} (number : N → V) (a b : Answer N) → AnswersSame number a b
+pub same_alike : {N V : Type 0} (number : N → V) (a b : Answer N) → AnswersSame number a b
     → AlikeAnswers (OneNumber number) a b
 same_alike number (Ok m) (Ok n) same = same
 same_alike number (Ok m) (Err l) same = same
@@ -71,18 +71,19 @@ same_alike number (Err k) (Err l) same = same
 
 module _ {N K T L : Type 0} (number : N → ℕ) (bound : ℕ) (seen : K → T) (code : K → ℕ)
     (reading : Reading T L) (form : ErrorForm) where
-  still : (i : Input T) (answer : Answer N) (j : Input T)
+  pub dec_uint_status : (i : Input T) (answer : Answer N) (j : Input T)
       → DecUintRuns number bound seen code reading form i answer j → j.status ≡ i.status
-  still i answer j (inl (digits, n, p, fits, is, e)) =
+  dec_uint_status i answer j (inl (digits, n, p, fits, is, e)) =
       numeral_status seen code reading _ i _ digits j p
-  still i answer j (inr (inl (digits, a, p, large, e, same))) = ap (λ z. z.status) same
-  still i answer j (inr (inr (k, none, e))) = none_status seen code reading form _ i k j none
+  dec_uint_status i answer j (inr (inl (digits, a, p, large, e, same))) = ap (λ z. z.status) same
+  dec_uint_status i answer j (inr (inr (k, none, e))) =
+      none_status seen code reading form _ i k j none
 
   pub dec_uint_decided : SeenOnce seen code
       → IsDecided tt (Keeps (λ (_ : ⊤). DecUintRuns number bound seen code reading form))
       (OneNumber number)
   dec_uint_decided once = record {
-    kept = λ i answer t j free (r, same). (same, still i answer j r);
+    kept = λ i answer t j free (r, same). (same, dec_uint_status i answer j r);
     decided = λ i a b t u j k na nb (r, same) (q, also).
         let (like, place) =
         dec_uint_once number bound seen code reading form once i a b j k r q in

@@ -190,13 +190,14 @@ module _ {K T L : Type 0} (seen : K → T) (code : K → ℕ) (reading : Reading
 
 module _ {N K T L : Type 0} (number : N → ℕ) (most : ℕ) (seen : K → T) (code : K → ℕ)
     (reading : Reading T L) (form : ErrorForm) where
-  still : (i : Input T) (answer : Answer N) (j : Input T)
+  pub hex_uint_status : (i : Input T) (answer : Answer N) (j : Input T)
       → HexUintRuns number most seen code reading form i answer j → j.status ≡ i.status
-  still i answer j (inl (front, digits, n, p, chars, are, some, few, stops, ended, is, e)) =
+  hex_uint_status i answer j
+        (inl (front, digits, n, p, chars, are, some, few, stops, ended, is, e)) =
       p.status
-  still i answer j (inr (inl (all, few, cut, e, same))) = ap (λ z. z.status) same
-  still i answer j (inr (inr (inl (none, ended, e, same)))) = ap (λ z. z.status) same
-  still i answer j (inr (inr (inr (front, t, rest, split, all, many, is, e, same)))) =
+  hex_uint_status i answer j (inr (inl (all, few, cut, e, same))) = ap (λ z. z.status) same
+  hex_uint_status i answer j (inr (inr (inl (none, ended, e, same)))) = ap (λ z. z.status) same
+  hex_uint_status i answer j (inr (inr (inr (front, t, rest, split, all, many, is, e, same)))) =
       ap (λ z. z.status) same
 
   module _ (once : SeenOnce seen code) where
@@ -214,7 +215,7 @@ module _ {N K T L : Type 0} (number : N → ℕ) (most : ℕ) (seen : K → T) (
     few_or_more tokens front t rest split few many =
         omega (arith, ap (λ l. length l) split, length-append front (t ∷ rest), few, many)
 
-    meet : (i : Input T) (a b : Answer N) (j k : Input T)
+    pub meet : (i : Input T) (a b : Answer N) (j k : Input T)
         → HexUintRuns number most seen code reading form i a j
         → HexUintRuns number most seen code reading form i b k
         → AlikeAnswers (OneNumber number) a b × (j ≡ k)
@@ -261,6 +262,6 @@ module _ {N K T L : Type 0} (number : N → ℕ) (most : ℕ) (seen : K → T) (
       → IsDecided tt (Keeps (λ (_ : ⊤). HexUintRuns number most seen code reading form))
       (OneNumber number)
   hex_uint_decided once = record {
-    kept = λ i answer t j free (r, same). (same, still i answer j r);
+    kept = λ i answer t j free (r, same). (same, hex_uint_status i answer j r);
     decided = λ i a b t u j k na nb (r, same) (q, also). meet once i a b j k r q;
   }

@@ -138,7 +138,8 @@ module _ {T L : Type 0} (reading : Reading T L) (sought : List T → Type 0) (bo
           → LacksWhere (λ tokens. None) (LacksMatch sought bounds) at tokens x
           → OneCase (TakesWhere (StandsBefore reading sought bounds))
           (FailsWhere (StandsWrongly sought bounds)) at tokens y → ⊥
-      apart within at tokens x y (inl nowhere, e) (inl (v, rest, (f, before, enough, fits, shown), d)) =
+      apart within at tokens x y (inl nowhere, e)
+            (inl (v, rest, (f, before, enough, fits, shown), d)) =
           let (hit, behind, there) = stands_behind before in nowhere f hit behind there
       apart within at tokens x y (inl nowhere, e) (inr ((f, rest, before, why), d)) =
           let (hit, behind, there) = stands_behind before in nowhere f hit behind there

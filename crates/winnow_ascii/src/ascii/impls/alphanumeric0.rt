@@ -7,14 +7,14 @@ ghost use Rattle.stream_sets.specs.Once.{SeesApart};
 ghost use Rattle.stream_sets.specs.Range.{from_to};
 ghost use Rattle.grammars.specs.Grammar.{Class};
 ghost use Rattle.winnow_ascii.specs.Class.{ClassRuns};
-ghost use Rattle.winnow_ascii.specs.Class.Laws.{SeenOnce, class_decided, class_exact, class_fails};
-ghost use Rattle.winnow_ascii.specs.Class.Laws.{class_ends};
+ghost use Rattle.winnow_ascii.specs.Class.Laws.{class_exact, class_fails, class_ends};
+ghost use Rattle.winnow_ascii.specs.Class.Says.{SeenOnce, class_said, class_says};
 ghost use Rattle.winnow_core.specs.Exact.Allowed.{backs};
 ghost use Rattle.winnow_core.specs.Literal.Laws.{ShowSame};
 ghost use Rattle.winnow_core.specs.Runs.{Keeps};
+ghost use Rattle.winnow_core.specs.Says.Decided.{decided_of};
 ghost use Rattle.winnow_core.specs.Stable.Grows.{leaf_stays};
 ghost use Rattle.winnow_token.specs.TakeWhile.Laws.{take_while_stays};
-ghost use Rattle.winnow_core.specs.Says.{nothing_done, nothing_said};
 
 use crate::ascii::alphanumeric0;
 use stream_errors::parser_error::ParserError;
@@ -42,7 +42,7 @@ where
     ghost meaning = { λ form. Keeps
         (λ _. ClassRuns IsAlphanum 0 I.Token.code I.seen_as I.reading form) };
 
-    ghost says = { λ _. nothing_said };
+    ghost says = { λ _. class_says IsAlphanum 0 I.Token.code I.seen_as I.reading };
 
     ghost claim = { λ s. record {
       premise = SeesApart I.seen_as;
@@ -57,13 +57,13 @@ where
     ghost leaves_ends = { λ form x i answer y j r. class_ends IsAlphanum 0 I.Token.code
         I.seen_as I.reading form i answer j r.0 };
 
-    ghost said = { λ _. nothing_done };
+    ghost said = { λ _. class_said IsAlphanum 0 I.Token.code I.seen_as I.reading };
 
     ghost claimed = { λ s. record {
       exact = λ form is. class_exact IsAlphanum 0 I.Token.code I.seen_as I.reading form is;
       fails = λ form is. backs (class_fails IsAlphanum 0 I.Token.code I.seen_as I.reading form);
       takes = λ is never. absurd never;
-      decided = λ form is. class_decided IsAlphanum 0 I.Token.code I.seen_as I.reading form is;
+      decided = λ form is. decided_of I.reading leaves_ends (said s) form is;
     } };
 
     #[inline(always)]

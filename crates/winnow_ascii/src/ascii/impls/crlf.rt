@@ -4,13 +4,14 @@ ghost use Rattle.grammars.specs.Grammar.{SpelledBy};
 ghost use Rattle.grammars.specs.Grammar.Searches.{LiterallyBytes};
 ghost use Rattle.grammars.specs.Grammar.Unique.{literally_takes};
 ghost use Rattle.winnow_core.specs.Exact.Allowed.{backs};
-ghost use Rattle.winnow_core.specs.Literal.Laws.{ShowSame, text_decided};
+ghost use Rattle.winnow_core.specs.Literal.Laws.{ShowSame};
 ghost use Rattle.winnow_core.specs.Literal.Laws.{SpellsByText, text_exact, text_fails};
 ghost use Rattle.winnow_core.specs.Runs.{Keeps};
 ghost use Rattle.winnow_core.specs.Stable.Grows.{leaf_stays};
 ghost use Rattle.winnow_ascii.specs.Crlf.{CrlfRuns};
 ghost use Rattle.winnow_ascii.specs.Crlf.Laws.{crlf_ends, crlf_stays};
-ghost use Rattle.winnow_core.specs.Says.{nothing_done, nothing_said};
+ghost use Rattle.winnow_ascii.specs.Crlf.Says.{text_said, text_says};
+ghost use Rattle.winnow_core.specs.Says.Decided.{decided_of};
 
 use crate::ascii::crlf;
 use stream_errors::parser_error::ParserError;
@@ -35,7 +36,7 @@ impl<I: StreamIsPartial + Compare<&'static str>, E: ParserError<I>> Parser<I, I:
 
     ghost meaning = { λ form. Keeps (λ _. CrlfRuns I.spells I.reading form) };
 
-    ghost says = { λ _. nothing_said };
+    ghost says = { λ _. text_says I.reading I.spells (13 ∷ 10 ∷ []) };
 
     ghost claim = { λ s. record {
       premise = SpellsByText I.spells;
@@ -50,15 +51,14 @@ impl<I: StreamIsPartial + Compare<&'static str>, E: ParserError<I>> Parser<I, I:
     ghost leaves_ends = { λ form x i answer y j r. crlf_ends I.spells I.reading form i answer j
         r.0 };
 
-    ghost said = { λ _. nothing_done };
+    ghost said = { λ _. text_said I.reading I.spells I.same_units (13 ∷ 10 ∷ []) };
 
     ghost claimed = { λ s. record {
       exact = λ form is. text_exact I.reading form I.spells is I.same_units (13 ∷ 10 ∷ []);
       fails = λ form is. backs (text_fails I.reading form I.spells is I.same_units (13 ∷ 10 ∷ []));
       takes = λ is some. literally_takes I.reading (SpelledBy I.spells) (λ _ slice. slice)
           (13 ∷ 10 ∷ []) some;
-      decided = λ form is. text_decided I.reading form I.spells is I.same_units
-          (13 ∷ 10 ∷ []);
+      decided = λ form is. decided_of I.reading leaves_ends (said s) form is;
     } };
 
     #[inline(always)]

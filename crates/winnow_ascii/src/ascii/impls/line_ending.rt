@@ -3,7 +3,6 @@ ghost use Rattle.std.specs.Prelude.{⊤, ◌<◌, ◌∷◌, []};
 ghost use Rattle.grammars.specs.Grammar.{SpelledBy};
 ghost use Rattle.grammars.specs.Grammar.Searches.{LineEnd};
 ghost use Rattle.grammars.specs.Grammar.Unique.{either_takes, literally_takes};
-ghost use Rattle.winnow_ascii.specs.LineEnding.Laws.{line_ending_decided};
 ghost use Rattle.winnow_core.specs.Exact.Allowed.{backs};
 ghost use Rattle.winnow_core.specs.Literal.Laws.{ShowSame};
 ghost use Rattle.winnow_core.specs.Literal.Laws.{SpellsByText};
@@ -13,7 +12,8 @@ ghost use Rattle.winnow_ascii.specs.LineEnding.{LineEndingRuns};
 ghost use Rattle.winnow_ascii.specs.LineEnding.Laws.{line_ending_exact, line_ending_fails};
 ghost use Rattle.winnow_ascii.specs.LineEnding.Laws.{line_ending_ends};
 ghost use Rattle.winnow_ascii.specs.LineEnding.Laws.{line_ending_stays};
-ghost use Rattle.winnow_core.specs.Says.{nothing_done, nothing_said};
+ghost use Rattle.winnow_ascii.specs.LineEnding.Says.{line_ending_said, line_ending_says};
+ghost use Rattle.winnow_core.specs.Says.Decided.{decided_of};
 
 use crate::ascii::line_ending;
 use stream_errors::parser_error::ParserError;
@@ -38,7 +38,7 @@ impl<I: StreamIsPartial + Compare<&'static str>, E: ParserError<I>> Parser<I, I:
 
     ghost meaning = { λ form. Keeps (λ _. LineEndingRuns I.spells I.reading form) };
 
-    ghost says = { λ _. nothing_said };
+    ghost says = { λ _. line_ending_says I.spells I.reading };
 
     ghost claim = { λ s. record {
       premise = SpellsByText I.spells;
@@ -54,7 +54,7 @@ impl<I: StreamIsPartial + Compare<&'static str>, E: ParserError<I>> Parser<I, I:
     ghost leaves_ends = { λ form x i answer y j r. line_ending_ends I.spells I.reading form i
         answer j r.0 };
 
-    ghost said = { λ _. nothing_done };
+    ghost said = { λ _. line_ending_said I.spells I.reading I.same_units };
 
     ghost claimed = { λ s. record {
       exact = λ form is. line_ending_exact I.reading form I.spells is I.same_units;
@@ -63,7 +63,7 @@ impl<I: StreamIsPartial + Compare<&'static str>, E: ParserError<I>> Parser<I, I:
           (literally_takes I.reading (SpelledBy I.spells) (λ _ slice. slice) (10 ∷ [])
           some.0) (literally_takes I.reading (SpelledBy I.spells) (λ _ slice. slice)
           (13 ∷ 10 ∷ []) some.1);
-      decided = λ form is. line_ending_decided I.reading form I.spells is I.same_units;
+      decided = λ form is. decided_of I.reading leaves_ends (said s) form is;
     } };
 
     #[inline(always)]

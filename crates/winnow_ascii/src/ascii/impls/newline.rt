@@ -4,13 +4,14 @@ ghost use Rattle.std.proofs.Common.{refl};
 ghost use Rattle.grammars.specs.Grammar.{Literally};
 ghost use Rattle.grammars.specs.Grammar.Unique.{literally_takes};
 ghost use Rattle.winnow_core.specs.Exact.Allowed.{backs};
-ghost use Rattle.winnow_core.specs.Literal.Laws.{literal_decided, literal_exact, literal_fails};
+ghost use Rattle.winnow_core.specs.Literal.Laws.{literal_exact, literal_fails};
 ghost use Rattle.winnow_core.specs.Literal.Laws.{literal_stays};
 ghost use Rattle.winnow_core.specs.Runs.{Keeps};
 ghost use Rattle.winnow_core.specs.Stable.Grows.{leaf_stays};
 ghost use Rattle.winnow_ascii.specs.Newline.{NewlineRuns};
 ghost use Rattle.winnow_ascii.specs.Newline.Laws.{newline_ends};
-ghost use Rattle.winnow_core.specs.Says.{nothing_done, nothing_said};
+ghost use Rattle.winnow_core.specs.Literal.Says.{literal_said, literal_says};
+ghost use Rattle.winnow_core.specs.Says.Decided.{decided_of};
 
 use crate::ascii::newline;
 use stream_errors::parser_error::ParserError;
@@ -34,7 +35,7 @@ impl<I: StreamIsPartial + Compare<char>, E: ParserError<I>> Parser<I, char, E> f
 
     ghost meaning = { λ form. Keeps (λ _. NewlineRuns I.spells I.reading form) };
 
-    ghost says = { λ _. nothing_said };
+    ghost says = { λ _. literal_says I.reading (I.spells 10) (λ _. 10) (λ o p. o ≡ p) };
 
     ghost claim = { λ s. record {
       premise = ⊤;
@@ -49,15 +50,15 @@ impl<I: StreamIsPartial + Compare<char>, E: ParserError<I>> Parser<I, char, E> f
     ghost leaves_ends = { λ form x i answer y j r. newline_ends I.spells I.reading form i answer
         j r.0 };
 
-    ghost said = { λ _. nothing_done };
+    ghost said = { λ s. literal_said I.reading (λ (_ : ⊤). I.spells 10) (λ _ _. 10) (λ o p. o ≡ p)
+        s (I.same_units 10) (λ slice other shown. refl) };
 
     ghost claimed = { λ s. record {
       exact = λ form is. literal_exact I.reading form I.spells (λ s _. s) (λ _. 10) tt
           (I.same_units 10);
       fails = λ form is. backs (literal_fails I.reading form I.spells (λ s _. s) (λ _. 10) tt);
       takes = λ is some. literally_takes I.reading I.spells (λ s _. s) 10 some;
-      decided = λ form is. literal_decided I.reading form I.spells (λ s _. s) (λ _. 10)
-          (λ o q. o ≡ q) tt (I.same_units 10) (λ slice other shown. refl);
+      decided = λ form is. decided_of I.reading leaves_ends (said s) form is;
     } };
 
     #[inline(always)]

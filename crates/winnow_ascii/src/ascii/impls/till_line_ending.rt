@@ -6,12 +6,13 @@ ghost use Rattle.winnow_core.specs.Literal.Laws.{ShowSame, SpellsByText};
 ghost use Rattle.winnow_core.specs.Runs.{Keeps};
 ghost use Rattle.winnow_core.specs.Stable.Grows.{leaf_stays};
 ghost use Rattle.winnow_ascii.specs.TillLineEnding.{TillLineEndingRuns};
-ghost use Rattle.winnow_ascii.specs.TillLineEnding.Decided.{till_line_ending_decided};
 ghost use Rattle.winnow_ascii.specs.TillLineEnding.Exact.{till_line_ending_exact};
 ghost use Rattle.winnow_ascii.specs.TillLineEnding.Exact.{till_line_ending_fails};
 ghost use Rattle.winnow_ascii.specs.TillLineEnding.Laws.{till_line_ending_ends};
 ghost use Rattle.winnow_ascii.specs.TillLineEnding.Laws.{till_line_ending_stays};
-ghost use Rattle.winnow_core.specs.Says.{nothing_done, nothing_said};
+ghost use Rattle.winnow_ascii.specs.TillLineEnding.Says.{till_line_ending_said};
+ghost use Rattle.winnow_ascii.specs.TillLineEnding.Says.{till_line_ending_says};
+ghost use Rattle.winnow_core.specs.Says.Decided.{decided_of};
 
 use crate::ascii::till_line_ending;
 use crate::stable::LineEnds;
@@ -40,7 +41,7 @@ impl<
 
     ghost meaning = { λ form. Keeps (λ _. TillLineEndingRuns I.spells I.sought I.reading form) };
 
-    ghost says = { λ _. nothing_said };
+    ghost says = { λ _. till_line_ending_says I.spells I.sought I.reading };
 
     ghost claim = { λ s. record {
       premise = SpellsByText I.spells;
@@ -55,13 +56,14 @@ impl<
     ghost leaves_ends = { λ form x i answer y j r. till_line_ending_ends I.spells I.sought
         I.reading form i answer j r.0 };
 
-    ghost said = { λ _. nothing_done };
+    ghost said = { λ _. till_line_ending_said I.spells I.sought I.reading
+        (I.stays_first (13, 10)) };
 
     ghost claimed = { λ s. record {
       exact = λ form is. till_line_ending_exact I.reading form I.spells is I.sought;
       fails = λ form is. backs (till_line_ending_fails I.reading form I.spells is I.sought);
       takes = λ is never. absurd never;
-      decided = λ form is. till_line_ending_decided I.reading form I.spells is I.sought;
+      decided = λ form is. decided_of I.reading leaves_ends (said s) form is;
     } };
 
     #[inline(always)]

@@ -5,12 +5,12 @@ ghost use Rattle.winnow_core.specs.Exact.Allowed.{backs};
 ghost use Rattle.winnow_core.specs.Runs.{Keeps};
 ghost use Rattle.winnow_core.specs.Stable.Grows.{leaf_stays};
 ghost use Rattle.winnow_numbers.specs.DecInt.{DecIntRuns};
-ghost use Rattle.winnow_numbers.specs.DecInt.Laws.{dec_int_decided};
 ghost use Rattle.winnow_numbers.specs.DecInt.Laws.{dec_int_ends, dec_int_stays};
 ghost use Rattle.winnow_numbers.specs.DecUint.Laws.{OneNumber};
 ghost use Rattle.winnow_numbers.specs.Numeral.Exact.{dec_int_exact, dec_int_fails, signed_takes};
 ghost use Rattle.winnow_numbers.specs.Numeral.Grammar.{SignedDecimal};
-ghost use Rattle.winnow_core.specs.Says.{nothing_done, nothing_said};
+ghost use Rattle.winnow_numbers.specs.DecInt.Says.{dec_int_said, dec_int_says};
+ghost use Rattle.winnow_core.specs.Says.Decided.{decided_of};
 
 use crate::ascii::{Int, dec_int};
 use stream_errors::parser_error::ParserError;
@@ -40,7 +40,7 @@ where
     ghost meaning = { λ form. Keeps
         (λ _. DecIntRuns O.number O.fits I.seen_as I.Token.code I.reading form) };
 
-    ghost says = { λ _. nothing_said };
+    ghost says = { λ _. dec_int_says O.number O.fits I.seen_as I.Token.code };
 
     ghost claim = { λ s. record {
       premise = SeesApart I.seen_as;
@@ -55,15 +55,15 @@ where
     ghost leaves_ends = { λ form x i answer y j r. dec_int_ends O.number O.fits I.seen_as
         I.Token.code I.reading form i answer j r.0 };
 
-    ghost said = { λ _. nothing_done };
+    ghost said = { λ _. dec_int_said O.number O.fits I.seen_as I.Token.code I.reading
+        I.one_code };
 
     ghost claimed = { λ s. record {
       exact = λ form is. dec_int_exact I.seen_as I.Token.code I.reading O.number O.fits form is;
       fails = λ form is. backs
           (dec_int_fails I.seen_as I.Token.code I.reading O.number O.fits form);
       takes = λ is some. signed_takes I.seen_as I.Token.code I.reading O.number O.fits;
-      decided = λ form is. dec_int_decided O.number O.fits I.seen_as I.Token.code I.reading form
-          I.one_code;
+      decided = λ form is. decided_of I.reading leaves_ends (said s) form is;
     } };
 
     #[inline(always)]

@@ -5,11 +5,12 @@ ghost use Rattle.winnow_core.specs.Exact.Allowed.{backs};
 ghost use Rattle.winnow_core.specs.Runs.{Keeps};
 ghost use Rattle.winnow_core.specs.Stable.Grows.{leaf_stays};
 ghost use Rattle.winnow_numbers.specs.DecUint.{DecUintRuns};
-ghost use Rattle.winnow_numbers.specs.DecUint.Laws.{OneNumber, dec_uint_decided};
+ghost use Rattle.winnow_numbers.specs.DecUint.Laws.{OneNumber};
 ghost use Rattle.winnow_numbers.specs.DecUint.Laws.{dec_uint_ends, dec_uint_stays};
 ghost use Rattle.winnow_numbers.specs.Numeral.Exact.{dec_uint_exact, dec_uint_fails, decimal_takes};
 ghost use Rattle.winnow_numbers.specs.Numeral.Grammar.{Decimal};
-ghost use Rattle.winnow_core.specs.Says.{nothing_done, nothing_said};
+ghost use Rattle.winnow_numbers.specs.DecUint.Says.{dec_uint_said, dec_uint_says};
+ghost use Rattle.winnow_core.specs.Says.Decided.{decided_of};
 
 use crate::ascii::{Uint, dec_uint};
 use stream_errors::parser_error::ParserError;
@@ -39,7 +40,7 @@ where
     ghost meaning = { λ form. Keeps
         (λ _. DecUintRuns O.number O.bound I.seen_as I.Token.code I.reading form) };
 
-    ghost says = { λ _. nothing_said };
+    ghost says = { λ _. dec_uint_says O.number O.bound I.seen_as I.Token.code };
 
     ghost claim = { λ s. record {
       premise = SeesApart I.seen_as;
@@ -54,15 +55,15 @@ where
     ghost leaves_ends = { λ form x i answer y j r. dec_uint_ends O.number O.bound I.seen_as
         I.Token.code I.reading form i answer j r.0 };
 
-    ghost said = { λ _. nothing_done };
+    ghost said = { λ _. dec_uint_said O.number O.bound I.seen_as I.Token.code I.reading
+        I.one_code };
 
     ghost claimed = { λ s. record {
       exact = λ form is. dec_uint_exact I.seen_as I.Token.code I.reading O.number O.bound form is;
       fails = λ form is. backs
           (dec_uint_fails I.seen_as I.Token.code I.reading O.number O.bound form);
       takes = λ is some. decimal_takes I.seen_as I.Token.code I.reading O.number O.bound;
-      decided = λ form is. dec_uint_decided O.number O.bound I.seen_as I.Token.code I.reading
-          form I.one_code;
+      decided = λ form is. decided_of I.reading leaves_ends (said s) form is;
     } };
 
     #[inline(always)]

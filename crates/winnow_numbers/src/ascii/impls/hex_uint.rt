@@ -9,10 +9,10 @@ ghost use Rattle.winnow_numbers.specs.DecUint.Laws.{OneNumber};
 ghost use Rattle.winnow_numbers.specs.HexUint.{HexUintRuns};
 ghost use Rattle.winnow_numbers.specs.HexUint.Laws.{hex_uint_exact, hex_uint_fails};
 ghost use Rattle.winnow_numbers.specs.HexUint.Laws.{hexadecimal_takes};
-ghost use Rattle.winnow_numbers.specs.HexUint.Laws.{hex_uint_decided};
 ghost use Rattle.winnow_numbers.specs.HexUint.Laws.{hex_uint_ends, hex_uint_stays};
 ghost use Rattle.winnow_numbers.specs.Numeral.Grammar.{Hexadecimal};
-ghost use Rattle.winnow_core.specs.Says.{nothing_done, nothing_said};
+ghost use Rattle.winnow_numbers.specs.HexUint.Says.{hex_uint_said, hex_uint_says};
+ghost use Rattle.winnow_core.specs.Says.Decided.{decided_of};
 
 use crate::ascii::hex_uint;
 use crate::ascii::impls::hex_uint::sealed::SealedMarker;
@@ -200,7 +200,7 @@ where
     ghost meaning = { λ form. Keeps
         (λ _. HexUintRuns O.number O.nibbles I.seen_as I.Token.code I.reading form) };
 
-    ghost says = { λ _. nothing_said };
+    ghost says = { λ _. hex_uint_says O.number O.nibbles I.seen_as I.Token.code };
 
     ghost claim = { λ s. record {
       premise = SeesApart I.seen_as;
@@ -215,7 +215,8 @@ where
     ghost leaves_ends = { λ form x i answer y j r. hex_uint_ends O.number O.nibbles I.seen_as
         I.Token.code I.reading form i answer j r.0 };
 
-    ghost said = { λ _. nothing_done };
+    ghost said = { λ _. hex_uint_said O.number O.nibbles I.seen_as I.Token.code I.reading
+        I.one_code };
 
     ghost claimed = { λ s. record {
       exact = λ form is. hex_uint_exact I.seen_as I.Token.code I.reading O.number O.nibbles
@@ -223,8 +224,7 @@ where
       fails = λ form is. backs (hex_uint_fails I.seen_as I.Token.code I.reading O.number O.nibbles
           form);
       takes = λ is some. hexadecimal_takes I.seen_as I.Token.code I.reading O.number O.nibbles;
-      decided = λ form is. hex_uint_decided O.number O.nibbles I.seen_as I.Token.code I.reading
-          form I.one_code;
+      decided = λ form is. decided_of I.reading leaves_ends (said s) form is;
     } };
 
     #[inline(always)]

@@ -4,12 +4,13 @@ ghost use Rattle.grammars.specs.Grammar.{Literally};
 ghost use Rattle.grammars.specs.Grammar.Unique.{literally_takes};
 ghost use Rattle.winnow_core.specs.Exact.Allowed.{backs};
 ghost use Rattle.winnow_core.specs.Literal.{LiteralRuns};
-ghost use Rattle.winnow_core.specs.Literal.Laws.{ShowSame, literal_decided, literal_exact};
+ghost use Rattle.winnow_core.specs.Literal.Laws.{ShowSame, literal_exact};
 ghost use Rattle.winnow_core.specs.Literal.Laws.{literal_fails, literal_ends};
 ghost use Rattle.winnow_core.specs.Literal.Laws.{literal_stays};
 ghost use Rattle.winnow_core.specs.Runs.{Keeps};
 ghost use Rattle.winnow_core.specs.Stable.Grows.{leaf_stays};
-ghost use Rattle.winnow_core.specs.Says.{nothing_done, nothing_said};
+ghost use Rattle.winnow_core.specs.Literal.Says.{literal_said, literal_says};
+ghost use Rattle.winnow_core.specs.Says.Decided.{decided_of};
 
 use std::marker::PhantomData;
 use stream_errors::parser_error::ParserError;
@@ -41,7 +42,7 @@ impl<T: Copy, I: StreamIsPartial + Compare<T>, E: ParserError<I>> Parser<I, I::S
     ghost meaning = { λ form. Keeps
         (λ x. LiteralRuns I.reading form (I.spells x) (λ slice. slice)) };
 
-    ghost says = { λ _. nothing_said };
+    ghost says = { λ s. literal_says I.reading (I.spells s) (λ slice. slice) (ShowSame I.reading) };
 
     ghost claim = { λ s. record {
       premise = ⊤;
@@ -56,7 +57,8 @@ impl<T: Copy, I: StreamIsPartial + Compare<T>, E: ParserError<I>> Parser<I, I::S
     ghost leaves_ends = { λ form x i answer y j r. literal_ends I.reading form (I.spells x)
         (λ slice. slice) i answer j r.0 };
 
-    ghost said = { λ _. nothing_done };
+    ghost said = { λ s. literal_said I.reading I.spells (λ _ slice. slice) (ShowSame I.reading) s
+        (I.same_units s) (λ slice other shown. shown) };
 
     ghost claimed = { λ s. record {
       exact = λ form is. literal_exact I.reading form I.spells (λ _ slice. slice) (λ s. s) s
@@ -64,8 +66,7 @@ impl<T: Copy, I: StreamIsPartial + Compare<T>, E: ParserError<I>> Parser<I, I::S
       fails = λ form is. backs
           (literal_fails I.reading form I.spells (λ _ slice. slice) (λ s. s) s);
       takes = λ is some. literally_takes I.reading I.spells (λ _ slice. slice) s some;
-      decided = λ form is. literal_decided I.reading form I.spells (λ _ slice. slice) (λ s. s)
-          (ShowSame I.reading) s (I.same_units s) (λ slice other shown. shown);
+      decided = λ form is. decided_of I.reading leaves_ends (said s) form is;
     } };
 
     #[inline(always)]

@@ -1,0 +1,54 @@
+-- What takes of the characters of a class say that they do.
+use Rattle.std.specs.Prelude.{◌≡◌, ◌↔◌, ⊤, ℕ, IsTrue, None}
+use Rattle.std.proofs.Common.{refl, sym, subst, ◌∙◌}
+use Rattle.streams.specs.Equal.{true_is_false}
+use Rattle.streams.specs.Reading.{Reading}
+use Rattle.streams.specs.Stream.{AnswersSeen}
+use Rattle.stream_errors.specs.Form.{ErrorForm}
+use Rattle.stream_sets.specs.Once.{TellsOnce}
+use Rattle.stream_sets.specs.Range.{from_to}
+use Rattle.winnow_core.specs.Decided.{IsDecided}
+use Rattle.winnow_core.specs.Literal.Laws.{ShowSame}
+use Rattle.winnow_core.specs.Runs.{Keeps}
+use Rattle.winnow_core.specs.Says.{Said, Says}
+use Rattle.winnow_core.specs.Says.Cases.{under}
+use Rattle.winnow_core.specs.Says.Decided.{decided_of}
+use Rattle.winnow_token.specs.TakeWhile.Says.{take_while_said, take_while_says}
+use Rattle.winnow_ascii.specs.Class.{ClassRuns}
+use Rattle.winnow_ascii.specs.Class.Laws.{class_ends}
+
+-- Tokens that are seen as the same are one character.
+abbrev pub SeenOnce : {K T : Type 0} → (K → T) → (K → ℕ) → Type 0
+SeenOnce {K} seen code = (k l : K) → seen k ≡ seen l → code k ≡ code l
+
+-- The longest beginning of characters of the class is taken, of at least that many.
+abbrev pub class_says : {K T L : Type 0} → (ℕ → Type 0) → ℕ → (K → ℕ) → (K → T) → Reading T L
+    → Says T L
+class_says class least code seen reading =
+    record (take_while_says reading (AnswersSeen seen (λ k b. IsTrue b ↔ class (code k)))
+    (from_to least None)) {
+      premise = SeenOnce seen code;
+    }
+
+module _ {K T L : Type 0} (class : ℕ → Type 0) (least : ℕ) (code : K → ℕ) (seen : K → T)
+    (reading : Reading T L) where
+  class_once : SeenOnce seen code
+      → TellsOnce (AnswersSeen seen (λ k b. IsTrue b ↔ class (code k)))
+  class_once once x (k, is, has) (l, was, lacks) =
+      let P : ℕ → Type 0 = λ n. class n in
+      true_is_false (sym (lacks.1 (subst P (once k l (is ∙ sym was)) (has.0 refl))))
+
+  pub class_said : Said (class_says class least code seen reading) tt
+      (λ form. Keeps (λ (_ : ⊤). ClassRuns class least code seen reading form))
+  class_said = under class_once
+      (take_while_said reading (λ (_ : ⊤). AnswersSeen seen (λ k b. IsTrue b ↔ class (code k)))
+      (λ _. from_to least None) tt)
+
+  -- one input decides their runs
+  pub class_decided : (form : ErrorForm) → SeenOnce seen code
+      → IsDecided tt (Keeps (λ (_ : ⊤). ClassRuns class least code seen reading form))
+      (ShowSame reading)
+  class_decided form once =
+      decided_of reading (λ f s i answer t j r.
+      class_ends class least code seen reading f i answer j r.0)
+      class_said form once
