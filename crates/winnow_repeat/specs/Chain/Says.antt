@@ -1,6 +1,6 @@
 -- What chains do with tokens: steps one after the other, and what ends them.
-use Rattle.std.specs.Prelude.{◌≡◌, ◌⊎◌, ◌<◌, ◌+◌, ℕ, Bool, List, [], ◌∷◌, ◌++◌, length, Option, Some}
-use Rattle.std.specs.Prelude.{None, false, Ok, ⊤}
+use Rattle.std.specs.Prelude.{◌≡◌, ◌⊎◌, ◌<◌, ◌+◌, ℕ, Bool, List, [], ◌∷◌, ◌++◌, length, Option}
+use Rattle.std.specs.Prelude.{Some, None, false, Ok, ⊤}
 use Rattle.std.specs.List.{FoldsTo}
 use Rattle.std.proofs.Common.{refl, sym, ap, subst, inl, inr, ◌∙◌, arith, length-append}
 use Rattle.streams.specs.Input.{Input}
@@ -8,7 +8,7 @@ use Rattle.stream_errors.specs.Form.{Answer}
 use Rattle.stream_sets.specs.Range.{IsBelow}
 use Rattle.winnow_core.specs.Chain.{IsItem}
 use Rattle.winnow_core.specs.Outcome.{Outcome, took, asks, wants, Setting, on_cut, grown, Does}
-use Rattle.winnow_core.specs.Outcome.{IsFinal, longer, Alike, alike_wants, both, outcome_of}
+use Rattle.winnow_core.specs.Outcome.{IsFinal, longer, Alike, alike_wants, both}
 use Rattle.winnow_core.specs.Runs.{Runs}
 use Rattle.winnow_core.specs.Says.{Did, IsAt, Lawful}
 

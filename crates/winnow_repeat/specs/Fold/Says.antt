@@ -1,8 +1,6 @@
 -- What folds say that they do: a fold is a repetition into the value.
-use Rattle.std.specs.Prelude.{◌≡◌}
 use Rattle.std.proofs.Common.{ap}
-use Rattle.streams.specs.Input.{Input}
-use Rattle.stream_errors.specs.Form.{Answer, assert_kind}
+use Rattle.stream_errors.specs.Form.{assert_kind}
 use Rattle.stream_sets.specs.Range.{bounds_of}
 use Rattle.stream_sets.specs.declared.range.Range.{Range}
 use Rattle.grammars.specs.Grammar.Folded.{FoldOf, StaysFolding, StaysMaking}

@@ -1,5 +1,5 @@
 -- What repetitions up to a terminator say that they do.
-use Rattle.std.specs.Prelude.{◌≡◌, ◌⊎◌, ◌<◌, ◌≤◌, ℕ, List, length, Option, Some, None, Ok, Err}
+use Rattle.std.specs.Prelude.{◌≡◌, ◌⊎◌, ◌<◌, ℕ, List, length, Option, Some, None, Ok, Err}
 use Rattle.std.proofs.Common.{refl, sym, ap, subst, inl, inr, ◌∙◌, arith}
 use Rattle.std.proofs.Math.Nat.{eq-or-lt_of_le}
 use Rattle.streams.specs.Input.{Input, back_at}
@@ -16,14 +16,13 @@ use Rattle.winnow_core.specs.Runs.{Meaning}
 use Rattle.winnow_core.specs.Says.{Did, EachDoes, IsAt, Said, Says}
 use Rattle.winnow_core.specs.Says.Lacks.{misused_outcome}
 use Rattle.winnow_core.specs.States.{pair_is}
-use Rattle.winnow_core.specs.Then.{ComesOf, Then, did_in, did_then, hands_on}
+use Rattle.winnow_core.specs.Then.{ComesOf, Then, did_in, hands_on}
 use Rattle.winnow_core.specs.Then.Steps.{fails_on, where_took}
 use Rattle.winnow_repeat.specs.Chain.{IsSuccess, Successes}
-use Rattle.winnow_repeat.specs.Chain.Bounded.{Bounded, HeldAlike, bounded_did}
-use Rattle.winnow_repeat.specs.Chain.Items.{IsRefused, with_state}
-use Rattle.winnow_repeat.specs.Chain.Says.{ChainDid, Ends, ItemOf, chain_at, chained_did, did_beside, did_wider}
-use Rattle.winnow_repeat.specs.Chain.Says.{full_is_below, items_did, steps_did}
-use Rattle.winnow_repeat.specs.Repeat.{capacity_of}
+use Rattle.winnow_repeat.specs.Chain.Bounded.{HeldAlike, bounded_did}
+use Rattle.winnow_repeat.specs.Chain.Items.{IsRefused}
+use Rattle.winnow_repeat.specs.Chain.Says.{ChainDid, Ends, chain_at, chained_did, did_beside}
+use Rattle.winnow_repeat.specs.Chain.Says.{did_wider, full_is_below, items_did, steps_did}
 use Rattle.winnow_repeat.specs.RepeatTill.{LeastItemsRun, RangedTillRuns, RepeatTillRuns, TurnRuns}
 use Rattle.winnow_repeat.specs.RepeatTill.{TurnsEnd, TurnsRun, room_behind}
 use Rattle.winnow_repeat.specs.RepeatTill.Does.{ItemsTillDo, RepeatTillDo, SomeItem, TurnDoes}

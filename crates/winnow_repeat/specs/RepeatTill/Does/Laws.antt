@@ -1,19 +1,19 @@
 -- What repetitions up to a terminator do is lawful.
-use Rattle.std.specs.Prelude.{◌≡◌, ◌⊎◌, ◌<◌, ℕ, Bool, List, [], ◌∷◌, ◌++◌, length, Option, Some, false}
-use Rattle.std.proofs.Common.{refl, sym, ap, subst, inl, inr, ◌∙◌}
+use Rattle.std.specs.Prelude.{◌≡◌, ◌⊎◌, ◌<◌, ℕ, Bool, List, [], ◌∷◌, ◌++◌, length, Option, Some}
+use Rattle.std.specs.Prelude.{false}
+use Rattle.std.proofs.Common.{refl, sym, subst, inl, inr}
 use Rattle.stream_sets.specs.Accumulator.{Accumulator}
 use Rattle.stream_sets.specs.Accumulator.Holds.{Accumulates, Holds as Kept}
 use Rattle.stream_sets.specs.Range.{Bounds}
 use Rattle.winnow_core.specs.InOrder.Decided.{AlikePairs}
-use Rattle.winnow_core.specs.Outcome.{Alike, Does, IsFinal, Outcome, Setting, as_longer, asks, backs}
-use Rattle.winnow_core.specs.Outcome.{both, cuts, final_by, grown, longer, misused, on_cut, took}
+use Rattle.winnow_core.specs.Outcome.{Alike, Does, IsFinal, Outcome, Setting, as_longer, asks}
+use Rattle.winnow_core.specs.Outcome.{backs, both, cuts, grown, longer, misused, on_cut, took}
 use Rattle.winnow_core.specs.Outcome.{wants}
 use Rattle.winnow_core.specs.Says.{Lawful}
 use Rattle.winnow_core.specs.Says.Lacks.{misused_alike, misused_whole}
 use Rattle.winnow_core.specs.Then.{ComesOf, Holds, Meets, NextHolds, NextMeets, Then}
 use Rattle.winnow_core.specs.Then.Steps.{asks_later, asks_meet, backs_hold, cuts_hold, cuts_meet}
-use Rattle.winnow_core.specs.Then.Steps.{holds_where}
-use Rattle.winnow_core.specs.Then.Steps.{meets_where, where_took}
+use Rattle.winnow_core.specs.Then.Steps.{holds_where, meets_where, where_took}
 use Rattle.winnow_repeat.specs.Chain.Bounded.{HeldAlike, bounded_law, held_alike}
 use Rattle.winnow_repeat.specs.Chain.Items.{Gathers, IsRefused, then_meet, then_stay, then_whole}
 use Rattle.winnow_repeat.specs.Chain.Says.{AlikeLists, ItemOf, Meet, Stay, StepLaw, Stops, Whole}
