@@ -10,9 +10,9 @@ use Rattle.winnow_core.specs.Runs.{Runs}
 use Rattle.winnow_repeat.specs.Chain.{Chain}
 use Rattle.winnow_repeat.specs.Repeat.{ItemsRun}
 use Rattle.winnow_repeat.specs.declared.combinator.impls.fold.RepeatFold.{RepeatFold}
-pub mod Decided
 pub mod Exact
 pub mod Laws
+pub mod Says
 
 -- how often the parser is run
 abbrev pub fold_occurrences : {P G H I O R E : Type 0} → RepeatFold P G H I O R E → Range

@@ -10,10 +10,10 @@ use Rattle.winnow_repeat.specs.Chain.{Chain}
 use Rattle.stream_sets.specs.Accumulator.Holds.{Accumulates}
 use Rattle.stream_sets.specs.Accumulator.{Accumulator}
 use Rattle.winnow_repeat.specs.declared.combinator.impls.repeat.Repeat.{Repeat}
-pub mod Decided
 pub mod Exact
 pub mod Known
 pub mod Laws
+pub mod Says
 
 -- how often the parser is run
 abbrev pub repeat_occurrences : {P I O C E A : Type 0} → Repeat P I O C E A → Range

@@ -12,10 +12,10 @@ use Rattle.stream_sets.specs.Accumulator.Holds.{Accumulates}
 use Rattle.winnow_repeat.specs.Chain.{Chain, Successes}
 use Rattle.winnow_repeat.specs.Repeat.{capacity_of}
 use Rattle.winnow_repeat.specs.declared.combinator.impls.repeat_till.RepeatTill.{RepeatTill}
-pub mod Decided
+pub mod Does
 pub mod Exact
 pub mod Laws
-pub mod Least
+pub mod Says
 
 -- how many items are read before the terminator
 abbrev pub repeat_till_occurrences : {P G I O D C E A : Type 0} → RepeatTill P G I O D C E A

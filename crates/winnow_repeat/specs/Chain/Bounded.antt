@@ -1,14 +1,14 @@
 -- Outputs within bounds, into an accumulator: what is done before the first, whatever follows.
-use Rattle.std.specs.Prelude.{◌≡◌, ◌⊎◌, ◌<◌, ◌≤◌, ℕ, Bool, List, ◌++◌, Option, Some, false, Err}
-use Rattle.std.proofs.Common.{refl, sym, subst, inl, inr, arith}
+use Rattle.std.specs.Prelude.{◌≡◌, ◌⊎◌, ◌<◌, ◌≤◌, ℕ, List, Option, Some, Err}
+use Rattle.std.proofs.Common.{refl, subst, inl, inr, arith}
 use Rattle.streams.specs.Input.{Input}
 use Rattle.streams.specs.Kind.{memory}
 use Rattle.stream_errors.specs.Form.{Answer, assert_kind}
 use Rattle.stream_sets.specs.Accumulator.{Accumulator}
 use Rattle.stream_sets.specs.Accumulator.Holds.{Accumulates, Holds}
 use Rattle.stream_sets.specs.Range.{Bounds, IsWithin}
-use Rattle.winnow_core.specs.Outcome.{Outcome, asks, wants, Setting, grown, Does, IsFinal, alike_wants}
-use Rattle.winnow_core.specs.Outcome.{as_longer, both, final_by, gave, longer, misused, on_cut}
+use Rattle.winnow_core.specs.Outcome.{wants, Setting, Does, alike_wants, as_longer, both, final_by}
+use Rattle.winnow_core.specs.Outcome.{gave, misused}
 use Rattle.winnow_core.specs.Says.{Did, Lawful}
 use Rattle.winnow_core.specs.Says.Lacks.{misused_alike, misused_outcome, misused_whole}
 use Rattle.winnow_core.specs.Says.Leaf.{here_did}

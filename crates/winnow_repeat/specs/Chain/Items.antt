@@ -9,15 +9,14 @@ use Rattle.stream_sets.specs.Accumulator.{Accumulator}
 use Rattle.stream_sets.specs.Accumulator.Holds.{Accumulates}
 use Rattle.stream_sets.specs.Range.{Bounds}
 use Rattle.winnow_core.specs.Outcome.{Outcome, took, backs, cuts, asks, wants, Setting, grown, Does}
-use Rattle.winnow_core.specs.Outcome.{Alike, IsFinal, as_longer, both, gave, longer, misused, on_cut}
-use Rattle.winnow_core.specs.Outcome.{outcome_of}
+use Rattle.winnow_core.specs.Outcome.{Alike, IsFinal, as_longer, both, gave, longer, misused}
+use Rattle.winnow_core.specs.Outcome.{on_cut}
 use Rattle.winnow_core.specs.Runs.{Meaning}
 use Rattle.winnow_core.specs.Says.{Did, EachDoes, IsAt, Lawful}
 use Rattle.winnow_core.specs.Says.Lacks.{misused_alike, misused_outcome, misused_whole}
 use Rattle.winnow_core.specs.Says.Leaf.{here_did}
-use Rattle.winnow_core.specs.Then.{ComesOf, Next, NextHolds, NextMeets, Then, back_then}
-use Rattle.winnow_core.specs.Then.{did_then, final_comes, hands_on, one_comes, stays_comes}
-use Rattle.winnow_core.specs.Then.{whole_comes}
+use Rattle.winnow_core.specs.Then.{ComesOf, Next, NextHolds, NextMeets, Then, back_then, did_then}
+use Rattle.winnow_core.specs.Then.{final_comes, hands_on, one_comes, stays_comes, whole_comes}
 use Rattle.winnow_core.specs.Then.Steps.{asks_later, asks_meet, asks_on, cuts_hold, cuts_meet}
 use Rattle.winnow_core.specs.Then.Steps.{cuts_on}
 use Rattle.winnow_repeat.specs.Chain.Says.{AlikeLists, Chained, Ends, ItemOf, Meet, Stay, Stops}

@@ -1,6 +1,6 @@
 -- What chains do with tokens: steps one after the other, and what ends them.
-use Rattle.std.specs.Prelude.{◌≡◌, ◌⊎◌, ◌<◌, ◌+◌, ℕ, Bool, List, [], ◌∷◌, ◌++◌, length, Option, Some}
-use Rattle.std.specs.Prelude.{None, false, Ok, ⊤}
+use Rattle.std.specs.Prelude.{◌≡◌, ◌⊎◌, ◌<◌, ◌+◌, ℕ, Bool, List, [], ◌∷◌, ◌++◌, length, Option}
+use Rattle.std.specs.Prelude.{Some, None, false, Ok, ⊤}
 use Rattle.std.specs.List.{FoldsTo}
 use Rattle.std.proofs.Common.{refl, sym, ap, subst, inl, inr, ◌∙◌, arith, length-append}
 use Rattle.streams.specs.Input.{Input}
@@ -8,9 +8,9 @@ use Rattle.stream_errors.specs.Form.{Answer}
 use Rattle.stream_sets.specs.Range.{IsBelow}
 use Rattle.winnow_core.specs.Chain.{IsItem}
 use Rattle.winnow_core.specs.Outcome.{Outcome, took, asks, wants, Setting, on_cut, grown, Does}
-use Rattle.winnow_core.specs.Outcome.{IsFinal, longer, Alike, alike_wants, both, outcome_of}
+use Rattle.winnow_core.specs.Outcome.{IsFinal, longer, Alike, alike_wants, both}
 use Rattle.winnow_core.specs.Runs.{Runs}
-use Rattle.winnow_core.specs.Says.{Did, IsAt, Lawful, still_at}
+use Rattle.winnow_core.specs.Says.{Did, IsAt, Lawful}
 
 -- A step goes from a list of tokens to another, with an output.
 abbrev pub Step : Type 0 → Type 0 → Type 1
@@ -267,31 +267,51 @@ chain_at did is = record {
   possible = did.possible ∙ is.possible;
 }
 
-pub items_did : {S T O : Type 0} {does : Does T O} {s : S} (run : Runs S T O) (at : Setting)
-    → ((i : Input T) (answer : Answer O) (t : S) (j : Input T) → IsAt at i → run s i answer t j
-    → Did does at s i answer t j)
+-- runs one after the other, of which each is a step
+pub steps_did : {S T O : Type 0} (step : Step T O) (ran : S × Input T → O → S × Input T → Type 0)
+    (at : Setting) (s : S)
+    → ((i : Input T) (o : O) (p : S × Input T) → IsAt at i → ran (s, i) o p
+    → (p.0 ≡ s) × (p.1.status ≡ i.status) × (p.1.left.possible ≡ i.left.possible)
+    × step at i.left.tokens o p.1.left.tokens)
     → (outputs : List O) (i : Input T) (u : S) (m : Input T) → IsAt at i
-    → FoldsTo (λ p o q. IsItem run p o q) (s, i) outputs (u, m)
-    → ChainDid (ItemOf does) at s i outputs u m
-items_did {does = does} {s} run at part [] i u m is e =
-    let P : _ → Type 0 = λ p. ChainDid (ItemOf does) at s i [] p.0 p.1 in
+    → FoldsTo (λ p o q. ran p o q) (s, i) outputs (u, m) → ChainDid step at s i outputs u m
+steps_did step ran at s each [] i u m is e =
+    let P : _ → Type 0 = λ p. ChainDid step at s i [] p.0 p.1 in
     subst P e (record { kept = refl; status = refl; possible = refl; steps = refl })
-items_did run at part (o ∷ os) i u m is (p, (r, less), rest) =
-    let did = part i (Ok o) p.0 p.1 is r in
-    let P : _ → Type 0 = λ x. FoldsTo (λ a b q. IsItem run a b q) (x, p.1) os (u, m) in
-    let then = items_did run at part os p.1 u m (still_at did is)
-    (subst P did.kept rest) in
+steps_did step ran at s each (o ∷ os) i u m is (p, r, rest) =
+    let (kept, status, possible, done) = each i o p is r in
+    let P : _ → Type 0 = λ x. FoldsTo (λ a b q. ran a b q) (x, p.1) os (u, m) in
+    let here : IsAt at p.1 = record {
+      more = ap (λ z. z.cut) status ∙ is.more;
+      possible = possible ∙ is.possible;
+    } in
+    let then = steps_did step ran at s each os p.1 u m here (subst P kept rest) in
     record {
       kept = then.kept;
-      status = then.status ∙ did.status;
-      possible = then.possible ∙ did.possible;
-      steps = (p.1.left.tokens, (did.done, less), then.steps);
+      status = then.status ∙ status;
+      possible = then.possible ∙ possible;
+      steps = (p.1.left.tokens, done, then.steps);
     }
 
+-- What runs of a part do, in this setting.
+abbrev pub RunsDo : {S T O : Type 0} → Does T O → Runs S T O → Setting → S → Type 0
+RunsDo {S} {T} {O} does run at s =
+    (i : Input T) (answer : Answer O) (t : S) (j : Input T) → IsAt at i → run s i answer t j
+    → Did does at s i answer t j
+
+pub items_did : {S T O : Type 0} {does : Does T O} {s : S} (run : Runs S T O) (at : Setting)
+    → RunsDo does run at s → (outputs : List O) (i : Input T) (u : S) (m : Input T) → IsAt at i
+    → FoldsTo (λ p o q. IsItem run p o q) (s, i) outputs (u, m)
+    → ChainDid (ItemOf does) at s i outputs u m
+items_did {does = does} {s} run at part =
+    steps_did (ItemOf does) (λ p o q. IsItem run p o q) at s (λ i o p is (r, less).
+    let did = part i (Ok o) p.0 p.1 is r in
+    (did.kept, did.status, did.possible, (did.done, less)))
+
 -- a chain, and what ended it
-pub chained_did : {S T O U : Type 0} {step : Step T O} {greatest : Option ℕ}
-    {full last : List O → Does T U} {at : Setting} {s t u : S} {i m j : Input T}
-    {answer : Answer U} (outputs : List O) → ChainDid step at s i outputs u m
+pub chained_did : {R S T O U : Type 0} {step : Step T O} {greatest : Option ℕ}
+    {full last : List O → Does T U} {at : Setting} {r u : R} {s t : S} {i m j : Input T}
+    {answer : Answer U} (outputs : List O) → ChainDid step at r i outputs u m
     → Did (Ends greatest full last outputs) at s m answer t j
     → Did (Chained step greatest full last) at s i answer t j
 chained_did outputs chain did = record {
@@ -301,7 +321,7 @@ chained_did outputs chain did = record {
   done = (outputs, _, chain.steps, did.done);
 }
 
--- what does a thing does one that has it as a case
+-- what did a thing did one that has it as a case
 pub did_wider : {S T U : Type 0} {does also : Does T U} {at : Setting} {s t : S}
     {i j : Input T} {answer : Answer U} (wider : (y : Outcome T U) → does at i.left.tokens y
     → also at i.left.tokens y) → Did does at s i answer t j → Did also at s i answer t j

@@ -7,9 +7,8 @@ use Rattle.stream_sets.specs.Accumulator.{Accumulator}
 use Rattle.stream_sets.specs.Accumulator.Holds.{Holds}
 use Rattle.stream_sets.specs.Range.{Bounds, bounds_of, from_to}
 use Rattle.stream_sets.specs.declared.range.Range.{Range}
-use Rattle.winnow_core.specs.Outcome.{Outcome, asks, wants, Setting, grown, Does}
-use Rattle.winnow_core.specs.Outcome.{Alike, IsFinal, alike_wants, both, final_by, gave}
-use Rattle.winnow_core.specs.Outcome.{longer, on_cut}
+use Rattle.winnow_core.specs.Outcome.{Outcome, asks, wants, Setting, grown, Does, Alike, IsFinal}
+use Rattle.winnow_core.specs.Outcome.{alike_wants, both, final_by, gave, longer, on_cut}
 use Rattle.winnow_core.specs.Runs.{Meaning}
 use Rattle.winnow_core.specs.Says.{Did, EachDoes, IsAt, Lawful, Said, Says, still_at}
 use Rattle.winnow_core.specs.States.{pair_is}
@@ -20,8 +19,8 @@ use Rattle.winnow_repeat.specs.Chain.Bounded.{held_alike}
 use Rattle.winnow_repeat.specs.Chain.Items.{ItemsDo, items_meet, items_run_did, items_stay}
 use Rattle.winnow_repeat.specs.Chain.Items.{items_whole}
 use Rattle.winnow_repeat.specs.Chain.Says.{Meet, Stay, Whole, did_beside, did_wider}
-use Rattle.winnow_repeat.specs.Repeat.{ItemsRun, RangedRuns, RepeatManyRuns}
-use Rattle.winnow_repeat.specs.Repeat.{RepeatOneRuns, RepeatRuns, capacity_of}
+use Rattle.winnow_repeat.specs.Repeat.{ItemsRun, RangedRuns, RepeatManyRuns, RepeatOneRuns}
+use Rattle.winnow_repeat.specs.Repeat.{RepeatRuns, capacity_of}
 
 -- What comes of the first item in the form `1..`, which may take nothing: others follow it, or
 -- there is no memory for it.

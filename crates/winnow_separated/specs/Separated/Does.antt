@@ -2,13 +2,10 @@
 use Rattle.std.specs.Prelude.{◌≡◌, ◌⊎◌, ◌<◌, ℕ, List, length, Some}
 use Rattle.stream_sets.specs.Accumulator.{Accumulator}
 use Rattle.stream_sets.specs.Range.{Bounds, IsBelow}
-use Rattle.winnow_core.specs.Outcome.{took, backs, wants, Does}
-use Rattle.winnow_core.specs.Outcome.{misused}
+use Rattle.winnow_core.specs.Outcome.{took, backs, wants, Does, misused}
 use Rattle.winnow_core.specs.Then.{Next, Then}
-use Rattle.winnow_core.specs.Then.Steps.{asks_on}
-use Rattle.winnow_core.specs.Then.Steps.{cuts_on, where_took}
-use Rattle.winnow_repeat.specs.Chain.Items.{Gives}
-use Rattle.winnow_repeat.specs.Chain.Items.{last_item}
+use Rattle.winnow_core.specs.Then.Steps.{asks_on, cuts_on, where_took}
+use Rattle.winnow_repeat.specs.Chain.Items.{Gives, last_item}
 use Rattle.winnow_repeat.specs.Chain.Says.{Chained, ItemOf}
 use Rattle.winnow_separated.specs.Separated.{links_within}
 pub mod Laws

@@ -1,6 +1,5 @@
 -- What elements with separators between them say that they do.
-use Rattle.std.specs.Prelude.{◌≡◌, ◌<◌, List, length}
-use Rattle.std.specs.Prelude.{Ok, Err}
+use Rattle.std.specs.Prelude.{◌≡◌, ◌<◌, List, length, Ok, Err}
 use Rattle.std.proofs.Common.{refl, ap, subst, inl, inr, ◌∙◌, arith}
 use Rattle.streams.specs.Input.{Input}
 use Rattle.streams.specs.Kind.{backtrack}
@@ -9,26 +8,21 @@ use Rattle.stream_sets.specs.Accumulator.{Accumulator}
 use Rattle.stream_sets.specs.Accumulator.Holds.{Holds}
 use Rattle.stream_sets.specs.Range.{Bounds, bounds_of}
 use Rattle.stream_sets.specs.declared.range.Range.{Range}
-use Rattle.winnow_core.specs.Outcome.{Outcome, Setting, Does}
-use Rattle.winnow_core.specs.Outcome.{both, gave}
+use Rattle.winnow_core.specs.Outcome.{Outcome, Setting, Does, both, gave}
 use Rattle.winnow_core.specs.Runs.{Meaning}
 use Rattle.winnow_core.specs.Says.{Did, EachDoes, IsAt, Said, Says, still_at}
 use Rattle.winnow_core.specs.Says.Lacks.{misused_outcome}
 use Rattle.winnow_core.specs.Says.Leaf.{here_did}
 use Rattle.winnow_core.specs.States.{pair_is}
-use Rattle.winnow_core.specs.Then.{back_in, did_in}
-use Rattle.winnow_core.specs.Then.{hands_on}
+use Rattle.winnow_core.specs.Then.{back_in, did_in, hands_on}
 use Rattle.winnow_core.specs.Then.Steps.{fails_on}
 use Rattle.winnow_repeat.specs.Chain.Bounded.{Bounded, HeldAlike, bounded_did}
-use Rattle.winnow_repeat.specs.Chain.Items.{ItemsDo, items_run_did}
-use Rattle.winnow_repeat.specs.Chain.Items.{with_state}
-use Rattle.winnow_repeat.specs.Chain.Says.{chain_at, chained_did}
-use Rattle.winnow_repeat.specs.Chain.Says.{did_beside, did_wider}
-use Rattle.winnow_repeat.specs.Chain.Says.{items_did}
+use Rattle.winnow_repeat.specs.Chain.Items.{ItemsDo, items_run_did, with_state}
+use Rattle.winnow_repeat.specs.Chain.Says.{chain_at, chained_did, did_beside, did_wider, items_did}
 use Rattle.winnow_separated.specs.Link.{LinkRuns, SeparatesNothing}
-use Rattle.winnow_separated.specs.Separated.{ElementsRun, LinksRun, RangedElements}
-use Rattle.winnow_separated.specs.Separated.{links_within}
-use Rattle.winnow_separated.specs.Separated.Does.{Behind, LinkDoes, LinksDo, first_element, ElementsDo}
+use Rattle.winnow_separated.specs.Separated.{ElementsRun, LinksRun, RangedElements, links_within}
+use Rattle.winnow_separated.specs.Separated.Does.{Behind, LinkDoes, LinksDo, first_element}
+use Rattle.winnow_separated.specs.Separated.Does.{ElementsDo}
 use Rattle.winnow_separated.specs.Separated.Does.Laws.{separated_law}
 
 -- elements into an accumulator, of which this is held

@@ -11,11 +11,11 @@ ghost use Rattle.winnow_core.specs.Exact.Allowed.{fails_as, softly};
 ghost use Rattle.winnow_core.specs.Stable.Grows.{grows, stays};
 ghost use Rattle.winnow_repeat.specs.Fold.{FoldOneRuns, FoldTakes, RangedFolds, fold_closure};
 ghost use Rattle.winnow_repeat.specs.Fold.{fold_init, fold_occurrences, fold_parser};
-ghost use Rattle.winnow_repeat.specs.Fold.Decided.{fold_decided};
 ghost use Rattle.winnow_repeat.specs.Fold.Exact.{fold_exact, fold_fails};
 ghost use Rattle.winnow_repeat.specs.Fold.Laws.{ranged_folds_end, fold_grows};
-ghost use Rattle.winnow_repeat.specs.Repeat.Decided.{HeldAlike};
-ghost use Rattle.winnow_core.specs.Says.{nothing_done, nothing_said};
+ghost use Rattle.winnow_repeat.specs.Chain.Bounded.{HeldAlike};
+ghost use Rattle.winnow_repeat.specs.Fold.Says.{fold_said, fold_says};
+ghost use Rattle.winnow_core.specs.Says.Decided.{decided_of};
 
 use crate::combinator::folding::{Folding, fold_items, fold_range};
 use std::marker::PhantomData;
@@ -112,7 +112,7 @@ impl<
 
     ghost meaning = { λ form. RangedFolds G.step H.step (P.meaning form) (assert_kind form) };
 
-    ghost says = { λ _. nothing_said };
+    ghost says = { λ s. fold_says G.step H.step s.1 (P.says s.0) };
 
     ghost claim = { λ s. record {
       premise = (P.claim s.0).premise × (P.claim s.0).backtracks × (P.claim s.0).consumes
@@ -122,14 +122,14 @@ impl<
       spares_memory = (P.claim s.0).spares_memory;
       consumes = 0 < (bounds_of s.1.0).least;
       grammar = Folded G.step s.1.1.0 H.step s.1.1.1 s.1.0 (P.claim s.0).grammar;
-      decides = (P.claim s.0).decides × StaysMaking G.step s.1.1.0 × StaysFolding H.step s.1.1.1;
-      alike = HeldAlike (FoldOf G.step s.1.1.0 H.step s.1.1.1) (P.claim s.0).alike;
+      decides = (P.says s.0).premise × StaysMaking G.step s.1.1.0 × StaysFolding H.step s.1.1.1;
+      alike = HeldAlike (FoldOf G.step s.1.1.0 H.step s.1.1.1) (P.says s.0).alike;
     } };
 
     ghost leaves_ends = { λ form. ranged_folds_end I.reading G.step H.step (P.meaning form)
         (assert_kind form) (P.leaves_ends form) };
 
-    ghost said = { λ _. nothing_done };
+    ghost said = { λ s. fold_said G.step H.step s (P.said s.0) };
 
     ghost claimed = { λ s. record {
       exact = λ form is. fold_exact (P.meaning form) G.step s.1.1.0 is.4 H.step s.1.1.1 is.5
@@ -141,8 +141,7 @@ impl<
           (fails_as (λ b. is.1) (λ m. m) ((P.claimed s.0).fails form is.0));
       takes = λ is some. repeated_take (FoldOf G.step s.1.1.0 H.step s.1.1.1) s.1.0
           ((P.claimed s.0).exact modal is.0).unique ((P.claimed s.0).takes is.0 is.2) some;
-      decided = λ form is. fold_decided (P.meaning form) G.step s.1.1.0 is.1 H.step s.1.1.1 is.2
-          (assert_kind form) s.1.0 ((P.claimed s.0).decided form is.0);
+      decided = λ form is. decided_of I.reading leaves_ends (said s) form is;
     } };
 
     fn parse_next(&mut self, input: &mut I) -> Result<R, E> {

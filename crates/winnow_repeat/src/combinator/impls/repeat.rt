@@ -10,14 +10,15 @@ ghost use Rattle.winnow_core.specs.Stable.Grows.{grows, stays};
 ghost use Rattle.winnow_repeat.specs.Fold.{fold_closure, fold_init, fold_occurrences, fold_parser};
 ghost use Rattle.winnow_repeat.specs.Repeat.{RangedRuns, RepeatOneRuns, repeat_occurrences};
 ghost use Rattle.winnow_repeat.specs.Repeat.{repeat_parser};
-ghost use Rattle.winnow_repeat.specs.Repeat.Decided.{HeldAlike, repeat_decided};
 ghost use Rattle.winnow_repeat.specs.Repeat.Exact.{repeat_exact, repeat_fails, repeat_takes};
 ghost use Rattle.winnow_repeat.specs.Repeat.Laws.{ranged_ends, repeat_grows};
 ghost use Rattle.winnow_repeat.specs.TryFold.{try_fold_closure, try_fold_init};
 ghost use Rattle.winnow_repeat.specs.TryFold.{try_fold_occurrences, try_fold_parser};
 ghost use Rattle.winnow_repeat.specs.VerifyFold.{verify_fold_closure, verify_fold_init};
 ghost use Rattle.winnow_repeat.specs.VerifyFold.{verify_fold_occurrences, verify_fold_parser};
-ghost use Rattle.winnow_core.specs.Says.{nothing_done, nothing_said};
+ghost use Rattle.winnow_repeat.specs.Chain.Bounded.{HeldAlike};
+ghost use Rattle.winnow_repeat.specs.Repeat.Says.{repeat_said, repeat_says};
+ghost use Rattle.winnow_core.specs.Says.Decided.{decided_of};
 
 use crate::combinator::impls::{RepeatFold, RepeatTryFold, RepeatVerifyFold};
 use crate::combinator::items::{repeat_items, repeat_many};
@@ -143,7 +144,7 @@ impl<
 
     ghost meaning = { λ form. RangedRuns (P.meaning form) C.accumulator (assert_kind form) };
 
-    ghost says = { λ _. nothing_said };
+    ghost says = { λ s. repeat_says C.accumulator C.holds (bounds_of s.1) (P.says s.0) };
 
     ghost claim = { λ s. record {
       premise = (P.claim s.0).premise × (P.claim s.0).backtracks × (P.claim s.0).consumes
@@ -152,14 +153,14 @@ impl<
       spares_memory = (P.claim s.0).spares_memory × C.spares_memory;
       consumes = 0 < (bounds_of s.1).least;
       grammar = Repeated C.holds s.1 (P.claim s.0).grammar;
-      decides = (P.claim s.0).decides;
-      alike = HeldAlike C.holds (P.claim s.0).alike;
+      decides = (P.says s.0).premise;
+      alike = HeldAlike C.holds (P.says s.0).alike;
     } };
 
     ghost leaves_ends = { λ form. ranged_ends I.reading (P.meaning form) C.accumulator
         (assert_kind form) (P.leaves_ends form) };
 
-    ghost said = { λ _. nothing_done };
+    ghost said = { λ s. repeat_said C.accumulator C.holds C.gathers s (P.said s.0) };
 
     ghost claimed = { λ s. record {
       exact = λ form is. repeat_exact C.accumulator (assert_kind form) s C.holds C.gathers
@@ -172,8 +173,7 @@ impl<
           (λ w. wanted (λ m. C.never_wants m.1 w));
       takes = λ is some. repeat_takes C.accumulator (assert_kind modal) s C.holds
           ((P.claimed s.0).exact modal is.0) ((P.claimed s.0).takes is.0 is.2) some;
-      decided = λ form is. repeat_decided C.accumulator (assert_kind form) C.holds C.gathers s
-          ((P.claimed s.0).decided form is);
+      decided = λ form is. decided_of I.reading leaves_ends (said s) form is;
     } };
 
     fn parse_next(&mut self, input: &mut I) -> Result<C, E> {

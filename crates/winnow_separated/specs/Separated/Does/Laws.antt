@@ -1,6 +1,5 @@
 -- What elements with separators between them do is lawful.
-use Rattle.std.specs.Prelude.{◌≡◌, ◌⊎◌, ◌<◌, ℕ, Bool, List, ◌∷◌, ◌++◌, length, Option}
-use Rattle.std.specs.Prelude.{[], false}
+use Rattle.std.specs.Prelude.{◌≡◌, ◌⊎◌, ◌<◌, ℕ, Bool, List, ◌∷◌, ◌++◌, length, Option, [], false}
 use Rattle.std.proofs.Common.{refl, sym, ap, subst, inl, inr, ◌∙◌, arith}
 use Rattle.stream_sets.specs.Accumulator.{Accumulator}
 use Rattle.stream_sets.specs.Accumulator.Holds.{Holds}
@@ -10,21 +9,20 @@ use Rattle.winnow_core.specs.Outcome.{Alike, IsFinal, alike_wants, as_longer, bo
 use Rattle.winnow_core.specs.Outcome.{longer, misused, on_cut}
 use Rattle.winnow_core.specs.Says.{Lawful}
 use Rattle.winnow_core.specs.Says.Lacks.{misused_alike, misused_whole}
-use Rattle.winnow_core.specs.Then.{ComesOf, NextHolds, NextMeets, Then}
-use Rattle.winnow_core.specs.Then.{then_law}
-use Rattle.winnow_core.specs.Then.Steps.{asks_later, asks_meet, cuts_hold, cuts_meet}
-use Rattle.winnow_core.specs.Then.Steps.{holds_where, meets_where, where_took}
+use Rattle.winnow_core.specs.Then.{ComesOf, NextHolds, NextMeets, Then, then_law}
+use Rattle.winnow_core.specs.Then.Steps.{asks_later, asks_meet, cuts_hold, cuts_meet, holds_where}
+use Rattle.winnow_core.specs.Then.Steps.{meets_where, where_took}
 use Rattle.winnow_repeat.specs.Chain.Bounded.{Bounded, HeldAlike, bounded_law}
-use Rattle.winnow_repeat.specs.Chain.Items.{Gathers, Gives, gives_meet, last_holds}
-use Rattle.winnow_repeat.specs.Chain.Items.{last_item, last_meets, last_stops, then_meet, then_stay}
+use Rattle.winnow_repeat.specs.Chain.Items.{Gathers, Gives, gives_meet, last_holds, last_item}
+use Rattle.winnow_repeat.specs.Chain.Items.{last_meets, last_stops, then_meet, then_stay}
 use Rattle.winnow_repeat.specs.Chain.Items.{then_whole}
-use Rattle.winnow_repeat.specs.Chain.Says.{AlikeLists, ItemOf, Meet, Stay, Stops}
-use Rattle.winnow_repeat.specs.Chain.Says.{Whole, chained_meet, chained_stay}
-use Rattle.winnow_repeat.specs.Chain.Says.{chained_whole, full_is_below}
+use Rattle.winnow_repeat.specs.Chain.Says.{AlikeLists, ItemOf, Meet, Stay, Stops, Whole}
+use Rattle.winnow_repeat.specs.Chain.Says.{chained_meet, chained_stay, chained_whole, full_is_below}
 use Rattle.winnow_repeat.specs.Chain.Says.{item_law, nor_less, still_less}
 use Rattle.winnow_repeat.specs.Repeat.{capacity_of}
 use Rattle.winnow_separated.specs.Separated.{links_within}
-use Rattle.winnow_separated.specs.Separated.Does.{Behind, LinkDoes, NothingBetween, LastLink, LinksDo, first_element, ElementsDo}
+use Rattle.winnow_separated.specs.Separated.Does.{Behind, LinkDoes, NothingBetween, LastLink}
+use Rattle.winnow_separated.specs.Separated.Does.{LinksDo, first_element, ElementsDo}
 
 -- ---- laws of links
 
