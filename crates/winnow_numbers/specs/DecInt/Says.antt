@@ -53,8 +53,15 @@ module _ {N K T L : Type 0} (number : N → ℤ) (fits : ℤ → Type 0) (seen :
     Ok n,
     rest,
     e,
-    inl (sign, digits, n, numeral_to seen code reading at true tokens sign digits rest has, fit,
-          is, refl),
+    inl (
+      sign,
+      digits,
+      n,
+      numeral_to seen code reading at true tokens sign digits rest has,
+      fit,
+      is,
+      refl,
+    ),
   )
   to at tokens y (inr (inl ((sign, digits, rest, has, large), e))) = (
     Err backtrack,

@@ -52,8 +52,14 @@ module _ {N K T L : Type 0} (number : N → ℕ) (bound : ℕ) (seen : K → T) 
     Ok n,
     rest,
     e,
-    inl (digits, n, numeral_to seen code reading at false tokens [] digits rest has, fits, is,
-          refl),
+    inl (
+      digits,
+      n,
+      numeral_to seen code reading at false tokens [] digits rest has,
+      fits,
+      is,
+      refl,
+    ),
   )
   to at tokens y (inr (inl ((digits, rest, has, large), e))) = (
     Err backtrack,

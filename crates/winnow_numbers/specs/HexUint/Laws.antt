@@ -193,7 +193,7 @@ module _ {N K T L : Type 0} (number : N → ℕ) (most : ℕ) (seen : K → T) (
   pub hex_uint_status : (i : Input T) (answer : Answer N) (j : Input T)
       → HexUintRuns number most seen code reading form i answer j → j.status ≡ i.status
   hex_uint_status i answer j
-        (inl (front, digits, n, p, chars, are, some, few, stops, ended, is, e)) =
+      (inl (front, digits, n, p, chars, are, some, few, stops, ended, is, e)) =
       p.status
   hex_uint_status i answer j (inr (inl (all, few, cut, e, same))) = ap (λ z. z.status) same
   hex_uint_status i answer j (inr (inr (inl (none, ended, e, same)))) = ap (λ z. z.status) same

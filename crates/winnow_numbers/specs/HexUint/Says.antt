@@ -88,9 +88,12 @@ module _ {N K T L : Type 0} (number : N → ℕ) (most : ℕ) (seen : K → T) (
   )
   to at tokens y (inr (inr (inl (none, whole), e))) =
       (Err backtrack, tokens, e, inr (inr (inl (none, whole, refl, refl))))
-  to at tokens y (inr (inr (inr (front, t, rest, splits, are, many, is), e))) =
-      (Err backtrack, tokens, e,
-            inr (inr (inr (front, t, rest, splits, are, many, is, refl, refl))))
+  to at tokens y (inr (inr (inr (front, t, rest, splits, are, many, is), e))) = (
+    Err backtrack,
+    tokens,
+    e,
+    inr (inr (inr (front, t, rest, splits, are, many, is, refl, refl))),
+  )
 
   of : (r : Reading T L) (at : Setting) (i : Input T) (answer : Answer N) (j : Input T)
       → IsAt at i → HexUintRuns number most seen code r at.form i answer j

@@ -259,8 +259,10 @@ module _ {S T O C : Type 0} {does : Does T O} {s : S} {meaning : Meaning S T O}
         did_wider (λ y d. inr (below, d))
         (did_then {next = last_item into bounds.least before outputs}
         (part.did at m (Ok o) t j is r)
-        (inl (λ less. absurd (omega (arith, as_many, less)),
-        misused_outcome at j.left.tokens e)))
+        (inl (
+          λ less. absurd (omega (arith, as_many, less)),
+          misused_outcome at j.left.tokens e,
+        )))
     ends_did outputs m answer t j is
         (inr (inr (inr (inr (o, some, below, r, less, taken, grows, e))))) =
         did_wider (λ y d. inr (below, d))

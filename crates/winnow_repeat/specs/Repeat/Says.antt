@@ -75,11 +75,16 @@ module _ {T O C : Type 0} {stable : Type 0} {alike : O → O → Type 0} {does :
   Also = HeldAlike holds alike
 
   one_law : Lawful stable Also (RepeatOneDo does into)
-  one_law = then_law p (meets_where (λ o q same. record { one = λ at tokens rest y z d e.
-      first_meets o q same at rest tokens y z d e }))
-      (holds_where (λ o. record { whole = λ at tokens rest need end is d.
-      first_whole o at rest tokens need end is d; stays = λ is more flag tokens rest y final d.
-      first_stays o is more flag rest tokens y final d })) (λ is. is)
+  one_law = then_law p (meets_where (λ o q same. record {
+    one = λ at tokens rest y z d e.
+        first_meets o q same at rest tokens y z d e;
+  }))
+      (holds_where (λ o. record {
+        whole = λ at tokens rest need end is d.
+            first_whole o at rest tokens need end is d;
+        stays = λ is more flag tokens rest y final d.
+            first_stays o is more flag rest tokens y final d;
+      })) (λ is. is)
     where
       first_meets : (o q : O) → alike o q → (at : Setting) (rest tokens : List T)
           (y z : Outcome T C) → FirstItem does into o rest at tokens y
@@ -112,8 +117,13 @@ module _ {T O C : Type 0} {stable : Type 0} {alike : O → O → Type 0} {does :
           (y : Outcome T C) → IsFinal y → FirstItem does into o rest on_cut tokens y
           → FirstItem does into o (rest ++ more) (grown flag) (tokens ++ more) (longer more y)
       first_stays o is more flag rest tokens y final (inl (empty, one, starts, kept1, items)) =
-          inl (empty, one, starts, kept1,
-          items_stay p into Also (from_to 0 None) one is more flag rest y final items)
+          inl (
+            empty,
+            one,
+            starts,
+            kept1,
+            items_stay p into Also (from_to 0 None) one is more flag rest y final items,
+          )
       first_stays o is more flag rest tokens y final (inr (grows, e)) =
           absurd (final_by {y = wants} e final)
 

@@ -145,8 +145,10 @@ module _ {S W T O D : Type 0} {item : Does T O} {till : Does T D} {s : S × W}
           (inr (inr (inr (inl (o, below, turn, nothing, e))))) =
           let as_many = ap length nothing in
           turn_ended outputs m (Ok o) answer t j is below turn
-          (inl (λ less. absurd (omega (arith, as_many, less)),
-          misused_outcome at j.left.tokens e))
+          (inl (
+            λ less. absurd (omega (arith, as_many, less)),
+            misused_outcome at j.left.tokens e,
+          ))
       turns_ended outputs some taken m answer t j is
           (inr (inr (inr (inr (o, below, turn, less, grows, e))))) =
           turn_ended outputs m (Ok o) answer t j is below turn

@@ -98,9 +98,16 @@ module _ {S W T O D : Type 0} {element : Does T O} {separator : Does T D} {s : S
           kept = pair_is same last.kept;
           status = last.status;
           possible = last.possible;
-          done = inr (below, inr (d, j.left.tokens, last.done,
+          done = inr (
+            below,
+            inr (
+              d,
+              j.left.tokens,
+              last.done,
               λ less. absurd (omega (arith, as_many, less)),
-              misused_outcome at j.left.tokens e));
+              misused_outcome at j.left.tokens e,
+            ),
+          );
         })
 
     elements_did : (bounds : Bounds) (empty : C) (i : Input T) (answer : Answer C) (t : S × W)
