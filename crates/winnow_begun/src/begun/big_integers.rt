@@ -6,7 +6,9 @@ ghost use Rattle.winnow_begun.specs.Begun.Leaves.{integer_asks};
 ghost use Rattle.winnow_begun.specs.Begun.Words.{Fewer};
 ghost use Rattle.winnow_core.specs.Stable.Grows.{leaf_stays};
 ghost use Rattle.winnow_integers.specs.Integer.{signed_value, unsigned_value};
-ghost use Rattle.winnow_integers.specs.Integer.Laws.{integer_decided, integer_stays};
+ghost use Rattle.winnow_integers.specs.Integer.Laws.{integer_leaves, integer_stays};
+ghost use Rattle.winnow_integers.specs.Integer.Says.{integer_said};
+ghost use Rattle.winnow_core.specs.Says.Decided.{decided_of};
 ghost use Rattle.winnow_integers.specs.declared.binary.endianness.Endianness.TheVariants.{Big};
 
 use crate::begun::Begun;
@@ -27,7 +29,8 @@ impl<I: StreamIsPartial + ByteStream, E: ParserError<I>> Begun<I, u8, E> for BeU
         (λ _. integer_stays 1 (unsigned_value Big) I.reading) };
 
     ghost asks = { λ p is. integer_asks 1 (λ _. unsigned_value Big) I.reading tt
-        (integer_decided 1 (λ (_ : ⊤). unsigned_value Big) I.reading modal tt) };
+        (decided_of I.reading (integer_leaves 1 (λ (_ : ⊤). unsigned_value Big) I.reading)
+        (integer_said 1 (λ (_ : ⊤). unsigned_value Big) I.reading tt) modal tt) };
 }
 
 /// It asks for more of fewer bytes.
@@ -40,7 +43,8 @@ impl<I: StreamIsPartial + ByteStream, E: ParserError<I>> Begun<I, u16, E> for Be
         (λ _. integer_stays 2 (unsigned_value Big) I.reading) };
 
     ghost asks = { λ p is. integer_asks 2 (λ _. unsigned_value Big) I.reading tt
-        (integer_decided 2 (λ (_ : ⊤). unsigned_value Big) I.reading modal tt) };
+        (decided_of I.reading (integer_leaves 2 (λ (_ : ⊤). unsigned_value Big) I.reading)
+        (integer_said 2 (λ (_ : ⊤). unsigned_value Big) I.reading tt) modal tt) };
 }
 
 /// It asks for more of fewer bytes.
@@ -53,7 +57,8 @@ impl<I: StreamIsPartial + ByteStream, E: ParserError<I>> Begun<I, u32, E> for Be
         (λ _. integer_stays 3 (unsigned_value Big) I.reading) };
 
     ghost asks = { λ p is. integer_asks 3 (λ _. unsigned_value Big) I.reading tt
-        (integer_decided 3 (λ (_ : ⊤). unsigned_value Big) I.reading modal tt) };
+        (decided_of I.reading (integer_leaves 3 (λ (_ : ⊤). unsigned_value Big) I.reading)
+        (integer_said 3 (λ (_ : ⊤). unsigned_value Big) I.reading tt) modal tt) };
 }
 
 /// It asks for more of fewer bytes.
@@ -66,7 +71,8 @@ impl<I: StreamIsPartial + ByteStream, E: ParserError<I>> Begun<I, u32, E> for Be
         (λ _. integer_stays 4 (unsigned_value Big) I.reading) };
 
     ghost asks = { λ p is. integer_asks 4 (λ _. unsigned_value Big) I.reading tt
-        (integer_decided 4 (λ (_ : ⊤). unsigned_value Big) I.reading modal tt) };
+        (decided_of I.reading (integer_leaves 4 (λ (_ : ⊤). unsigned_value Big) I.reading)
+        (integer_said 4 (λ (_ : ⊤). unsigned_value Big) I.reading tt) modal tt) };
 }
 
 /// It asks for more of fewer bytes.
@@ -79,7 +85,8 @@ impl<I: StreamIsPartial + ByteStream, E: ParserError<I>> Begun<I, u64, E> for Be
         (λ _. integer_stays 8 (unsigned_value Big) I.reading) };
 
     ghost asks = { λ p is. integer_asks 8 (λ _. unsigned_value Big) I.reading tt
-        (integer_decided 8 (λ (_ : ⊤). unsigned_value Big) I.reading modal tt) };
+        (decided_of I.reading (integer_leaves 8 (λ (_ : ⊤). unsigned_value Big) I.reading)
+        (integer_said 8 (λ (_ : ⊤). unsigned_value Big) I.reading tt) modal tt) };
 }
 
 /// It asks for more of fewer bytes.
@@ -92,7 +99,8 @@ impl<I: StreamIsPartial + ByteStream, E: ParserError<I>> Begun<I, u128, E> for B
         (λ _. integer_stays 16 (unsigned_value Big) I.reading) };
 
     ghost asks = { λ p is. integer_asks 16 (λ _. unsigned_value Big) I.reading tt
-        (integer_decided 16 (λ (_ : ⊤). unsigned_value Big) I.reading modal tt) };
+        (decided_of I.reading (integer_leaves 16 (λ (_ : ⊤). unsigned_value Big) I.reading)
+        (integer_said 16 (λ (_ : ⊤). unsigned_value Big) I.reading tt) modal tt) };
 }
 
 /// It asks for more of fewer bytes.
@@ -104,7 +112,8 @@ impl<I: StreamIsPartial + ByteStream, E: ParserError<I>> Begun<I, i8, E> for BeI
     ghost ended = { leaf_stays none_follows _ (λ _. integer_stays 1 (signed_value Big) I.reading) };
 
     ghost asks = { λ p is. integer_asks 1 (λ _. signed_value Big) I.reading tt
-        (integer_decided 1 (λ (_ : ⊤). signed_value Big) I.reading modal tt) };
+        (decided_of I.reading (integer_leaves 1 (λ (_ : ⊤). signed_value Big) I.reading)
+        (integer_said 1 (λ (_ : ⊤). signed_value Big) I.reading tt) modal tt) };
 }
 
 /// It asks for more of fewer bytes.
@@ -116,7 +125,8 @@ impl<I: StreamIsPartial + ByteStream, E: ParserError<I>> Begun<I, i16, E> for Be
     ghost ended = { leaf_stays none_follows _ (λ _. integer_stays 2 (signed_value Big) I.reading) };
 
     ghost asks = { λ p is. integer_asks 2 (λ _. signed_value Big) I.reading tt
-        (integer_decided 2 (λ (_ : ⊤). signed_value Big) I.reading modal tt) };
+        (decided_of I.reading (integer_leaves 2 (λ (_ : ⊤). signed_value Big) I.reading)
+        (integer_said 2 (λ (_ : ⊤). signed_value Big) I.reading tt) modal tt) };
 }
 
 /// It asks for more of fewer bytes.
@@ -128,7 +138,8 @@ impl<I: StreamIsPartial + ByteStream, E: ParserError<I>> Begun<I, i32, E> for Be
     ghost ended = { leaf_stays none_follows _ (λ _. integer_stays 3 (signed_value Big) I.reading) };
 
     ghost asks = { λ p is. integer_asks 3 (λ _. signed_value Big) I.reading tt
-        (integer_decided 3 (λ (_ : ⊤). signed_value Big) I.reading modal tt) };
+        (decided_of I.reading (integer_leaves 3 (λ (_ : ⊤). signed_value Big) I.reading)
+        (integer_said 3 (λ (_ : ⊤). signed_value Big) I.reading tt) modal tt) };
 }
 
 /// It asks for more of fewer bytes.
@@ -140,7 +151,8 @@ impl<I: StreamIsPartial + ByteStream, E: ParserError<I>> Begun<I, i32, E> for Be
     ghost ended = { leaf_stays none_follows _ (λ _. integer_stays 4 (signed_value Big) I.reading) };
 
     ghost asks = { λ p is. integer_asks 4 (λ _. signed_value Big) I.reading tt
-        (integer_decided 4 (λ (_ : ⊤). signed_value Big) I.reading modal tt) };
+        (decided_of I.reading (integer_leaves 4 (λ (_ : ⊤). signed_value Big) I.reading)
+        (integer_said 4 (λ (_ : ⊤). signed_value Big) I.reading tt) modal tt) };
 }
 
 /// It asks for more of fewer bytes.
@@ -152,7 +164,8 @@ impl<I: StreamIsPartial + ByteStream, E: ParserError<I>> Begun<I, i64, E> for Be
     ghost ended = { leaf_stays none_follows _ (λ _. integer_stays 8 (signed_value Big) I.reading) };
 
     ghost asks = { λ p is. integer_asks 8 (λ _. signed_value Big) I.reading tt
-        (integer_decided 8 (λ (_ : ⊤). signed_value Big) I.reading modal tt) };
+        (decided_of I.reading (integer_leaves 8 (λ (_ : ⊤). signed_value Big) I.reading)
+        (integer_said 8 (λ (_ : ⊤). signed_value Big) I.reading tt) modal tt) };
 }
 
 /// It asks for more of fewer bytes.
@@ -165,7 +178,8 @@ impl<I: StreamIsPartial + ByteStream, E: ParserError<I>> Begun<I, i128, E> for B
         (λ _. integer_stays 16 (signed_value Big) I.reading) };
 
     ghost asks = { λ p is. integer_asks 16 (λ _. signed_value Big) I.reading tt
-        (integer_decided 16 (λ (_ : ⊤). signed_value Big) I.reading modal tt) };
+        (decided_of I.reading (integer_leaves 16 (λ (_ : ⊤). signed_value Big) I.reading)
+        (integer_said 16 (λ (_ : ⊤). signed_value Big) I.reading tt) modal tt) };
 }
 
 /// It asks for more of fewer bytes.
@@ -178,7 +192,8 @@ impl<I: StreamIsPartial + ByteStream, E: ParserError<I>> Begun<I, u8, E> for U8 
         (λ _. integer_stays 1 (unsigned_value Big) I.reading) };
 
     ghost asks = { λ p is. integer_asks 1 (λ _. unsigned_value Big) I.reading tt
-        (integer_decided 1 (λ (_ : ⊤). unsigned_value Big) I.reading modal tt) };
+        (decided_of I.reading (integer_leaves 1 (λ (_ : ⊤). unsigned_value Big) I.reading)
+        (integer_said 1 (λ (_ : ⊤). unsigned_value Big) I.reading tt) modal tt) };
 }
 
 /// It asks for more of fewer bytes.
@@ -190,5 +205,6 @@ impl<I: StreamIsPartial + ByteStream, E: ParserError<I>> Begun<I, i8, E> for I8 
     ghost ended = { leaf_stays none_follows _ (λ _. integer_stays 1 (signed_value Big) I.reading) };
 
     ghost asks = { λ p is. integer_asks 1 (λ _. signed_value Big) I.reading tt
-        (integer_decided 1 (λ (_ : ⊤). signed_value Big) I.reading modal tt) };
+        (decided_of I.reading (integer_leaves 1 (λ (_ : ⊤). signed_value Big) I.reading)
+        (integer_said 1 (λ (_ : ⊤). signed_value Big) I.reading tt) modal tt) };
 }

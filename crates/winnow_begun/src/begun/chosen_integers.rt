@@ -8,7 +8,9 @@ ghost use Rattle.winnow_binary.specs.Chosen.{i64_endian, u128_endian, u16_endian
 ghost use Rattle.winnow_binary.specs.Chosen.{u32_endian, u64_endian};
 ghost use Rattle.winnow_core.specs.Stable.Grows.{leaf_stays};
 ghost use Rattle.winnow_integers.specs.Integer.{signed_value, unsigned_value};
-ghost use Rattle.winnow_integers.specs.Integer.Laws.{integer_decided, integer_stays};
+ghost use Rattle.winnow_integers.specs.Integer.Laws.{integer_leaves, integer_stays};
+ghost use Rattle.winnow_integers.specs.Integer.Says.{integer_said};
+ghost use Rattle.winnow_core.specs.Says.Decided.{decided_of};
 
 use crate::begun::Begun;
 use stream_errors::parser_error::ParserError;
@@ -25,7 +27,8 @@ impl<I: StreamIsPartial + ByteStream, E: ParserError<I>> Begun<I, u16, E> for U1
     ghost ended = { leaf_stays none_follows _ (λ x. integer_stays 2 (unsigned_value x) I.reading) };
 
     ghost asks = { λ p is. integer_asks 2 unsigned_value I.reading (u16_endian p)
-        (integer_decided 2 unsigned_value I.reading modal (u16_endian p)) };
+        (decided_of I.reading (integer_leaves 2 unsigned_value I.reading)
+        (integer_said 2 unsigned_value I.reading (u16_endian p)) modal tt) };
 }
 
 /// It asks for more of fewer bytes.
@@ -37,7 +40,8 @@ impl<I: StreamIsPartial + ByteStream, E: ParserError<I>> Begun<I, u32, E> for U2
     ghost ended = { leaf_stays none_follows _ (λ x. integer_stays 3 (unsigned_value x) I.reading) };
 
     ghost asks = { λ p is. integer_asks 3 unsigned_value I.reading (u24_endian p)
-        (integer_decided 3 unsigned_value I.reading modal (u24_endian p)) };
+        (decided_of I.reading (integer_leaves 3 unsigned_value I.reading)
+        (integer_said 3 unsigned_value I.reading (u24_endian p)) modal tt) };
 }
 
 /// It asks for more of fewer bytes.
@@ -49,7 +53,8 @@ impl<I: StreamIsPartial + ByteStream, E: ParserError<I>> Begun<I, u32, E> for U3
     ghost ended = { leaf_stays none_follows _ (λ x. integer_stays 4 (unsigned_value x) I.reading) };
 
     ghost asks = { λ p is. integer_asks 4 unsigned_value I.reading (u32_endian p)
-        (integer_decided 4 unsigned_value I.reading modal (u32_endian p)) };
+        (decided_of I.reading (integer_leaves 4 unsigned_value I.reading)
+        (integer_said 4 unsigned_value I.reading (u32_endian p)) modal tt) };
 }
 
 /// It asks for more of fewer bytes.
@@ -61,7 +66,8 @@ impl<I: StreamIsPartial + ByteStream, E: ParserError<I>> Begun<I, u64, E> for U6
     ghost ended = { leaf_stays none_follows _ (λ x. integer_stays 8 (unsigned_value x) I.reading) };
 
     ghost asks = { λ p is. integer_asks 8 unsigned_value I.reading (u64_endian p)
-        (integer_decided 8 unsigned_value I.reading modal (u64_endian p)) };
+        (decided_of I.reading (integer_leaves 8 unsigned_value I.reading)
+        (integer_said 8 unsigned_value I.reading (u64_endian p)) modal tt) };
 }
 
 /// It asks for more of fewer bytes.
@@ -74,7 +80,8 @@ impl<I: StreamIsPartial + ByteStream, E: ParserError<I>> Begun<I, u128, E> for U
         (λ x. integer_stays 16 (unsigned_value x) I.reading) };
 
     ghost asks = { λ p is. integer_asks 16 unsigned_value I.reading (u128_endian p)
-        (integer_decided 16 unsigned_value I.reading modal (u128_endian p)) };
+        (decided_of I.reading (integer_leaves 16 unsigned_value I.reading)
+        (integer_said 16 unsigned_value I.reading (u128_endian p)) modal tt) };
 }
 
 /// It asks for more of fewer bytes.
@@ -86,7 +93,8 @@ impl<I: StreamIsPartial + ByteStream, E: ParserError<I>> Begun<I, i16, E> for I1
     ghost ended = { leaf_stays none_follows _ (λ x. integer_stays 2 (signed_value x) I.reading) };
 
     ghost asks = { λ p is. integer_asks 2 signed_value I.reading (i16_endian p)
-        (integer_decided 2 signed_value I.reading modal (i16_endian p)) };
+        (decided_of I.reading (integer_leaves 2 signed_value I.reading)
+        (integer_said 2 signed_value I.reading (i16_endian p)) modal tt) };
 }
 
 /// It asks for more of fewer bytes.
@@ -98,7 +106,8 @@ impl<I: StreamIsPartial + ByteStream, E: ParserError<I>> Begun<I, i32, E> for I2
     ghost ended = { leaf_stays none_follows _ (λ x. integer_stays 3 (signed_value x) I.reading) };
 
     ghost asks = { λ p is. integer_asks 3 signed_value I.reading (i24_endian p)
-        (integer_decided 3 signed_value I.reading modal (i24_endian p)) };
+        (decided_of I.reading (integer_leaves 3 signed_value I.reading)
+        (integer_said 3 signed_value I.reading (i24_endian p)) modal tt) };
 }
 
 /// It asks for more of fewer bytes.
@@ -110,7 +119,8 @@ impl<I: StreamIsPartial + ByteStream, E: ParserError<I>> Begun<I, i32, E> for I3
     ghost ended = { leaf_stays none_follows _ (λ x. integer_stays 4 (signed_value x) I.reading) };
 
     ghost asks = { λ p is. integer_asks 4 signed_value I.reading (i32_endian p)
-        (integer_decided 4 signed_value I.reading modal (i32_endian p)) };
+        (decided_of I.reading (integer_leaves 4 signed_value I.reading)
+        (integer_said 4 signed_value I.reading (i32_endian p)) modal tt) };
 }
 
 /// It asks for more of fewer bytes.
@@ -122,7 +132,8 @@ impl<I: StreamIsPartial + ByteStream, E: ParserError<I>> Begun<I, i64, E> for I6
     ghost ended = { leaf_stays none_follows _ (λ x. integer_stays 8 (signed_value x) I.reading) };
 
     ghost asks = { λ p is. integer_asks 8 signed_value I.reading (i64_endian p)
-        (integer_decided 8 signed_value I.reading modal (i64_endian p)) };
+        (decided_of I.reading (integer_leaves 8 signed_value I.reading)
+        (integer_said 8 signed_value I.reading (i64_endian p)) modal tt) };
 }
 
 /// It asks for more of fewer bytes.
@@ -134,5 +145,6 @@ impl<I: StreamIsPartial + ByteStream, E: ParserError<I>> Begun<I, i128, E> for I
     ghost ended = { leaf_stays none_follows _ (λ x. integer_stays 16 (signed_value x) I.reading) };
 
     ghost asks = { λ p is. integer_asks 16 signed_value I.reading (i128_endian p)
-        (integer_decided 16 signed_value I.reading modal (i128_endian p)) };
+        (decided_of I.reading (integer_leaves 16 signed_value I.reading)
+        (integer_said 16 signed_value I.reading (i128_endian p)) modal tt) };
 }

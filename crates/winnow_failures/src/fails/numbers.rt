@@ -5,7 +5,7 @@ ghost use Rattle.winnow_failures.specs.Fails.Leaves.{leaf_fails, leaf_told};
 ghost use Rattle.winnow_failures.specs.Fails.Numbers.{dec_int_there, dec_uint_there};
 ghost use Rattle.winnow_failures.specs.Fails.Numbers.{hex_uint_there};
 ghost use Rattle.winnow_numbers.specs.HexUint.Laws.{hex_uint_exact, hex_uint_fails};
-ghost use Rattle.winnow_numbers.specs.HexUint.Laws.{hexadecimal_takes, hex_uint_alike};
+ghost use Rattle.winnow_numbers.specs.HexUint.Laws.{hexadecimal_takes};
 ghost use Rattle.winnow_numbers.specs.Numeral.Exact.{dec_int_exact, dec_int_fails, signed_takes};
 ghost use Rattle.winnow_numbers.specs.Numeral.Exact.{dec_uint_exact, dec_uint_fails, decimal_takes};
 ghost use Rattle.winnow_numbers.specs.Numeral.Grammar.{Decimal};
