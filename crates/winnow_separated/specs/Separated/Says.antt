@@ -75,14 +75,14 @@ module _ {S W T O D : Type 0} {element : Does T O} {separator : Does T D} {s : S
         (j : Input T) → IsAt at i
         → LinksRun (meaning at.form) (between at.form) into (assert_kind at.form) bounds before
         s i answer t j
-        → Did (LinksDo element separator into bounds before) at s i answer t j
+        → Did (LinksDo (LinkDoes element separator) separator into bounds before) at s i answer t j
     links_did bounds before i answer t j is (inl items) =
         did_wider (λ y d. links y d)
         (items_run_did link_each into at bounds before i answer t j is items)
       where
         links : (y : Outcome T C)
             → ItemsDo (LinkDoes element separator) into bounds before at i.left.tokens y
-            → LinksDo element separator into bounds before at i.left.tokens y
+            → LinksDo (LinkDoes element separator) separator into bounds before at i.left.tokens y
         links y (os, end, steps, inl full) = (os, end, steps, inl full)
         links y (os, end, steps, inr (below, d)) = (os, end, steps, inr (below, inl d))
     links_did bounds before i answer t j is
