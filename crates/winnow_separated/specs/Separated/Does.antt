@@ -9,6 +9,7 @@ use Rattle.winnow_repeat.specs.Chain.Items.{Gives, last_item}
 use Rattle.winnow_repeat.specs.Chain.Says.{Chained, ItemOf}
 use Rattle.winnow_separated.specs.Separated.{links_within}
 pub mod Laws
+pub mod Runs
 
 -- Behind a separator that takes something, the element does what it does.
 abbrev pub Behind : {T O : Type 0} → Does T O → List T → Does T O

@@ -11,7 +11,7 @@ use Rattle.winnow_core.specs.Says.{Lawful}
 use Rattle.winnow_core.specs.Says.Lacks.{misused_alike, misused_whole}
 use Rattle.winnow_core.specs.Then.{ComesOf, NextHolds, NextMeets, Then, then_law}
 use Rattle.winnow_core.specs.Then.Steps.{asks_later, asks_meet, cuts_hold, cuts_meet, holds_where}
-use Rattle.winnow_core.specs.Then.Steps.{meets_where, where_took}
+use Rattle.winnow_core.specs.Then.Steps.{meets_where, where_took, takes_hold, takes_meet}
 use Rattle.winnow_repeat.specs.Chain.Bounded.{Bounded, HeldAlike, bounded_law}
 use Rattle.winnow_repeat.specs.Chain.Items.{Gathers, Gives, gives_meet, last_holds, last_item}
 use Rattle.winnow_repeat.specs.Chain.Items.{last_meets, last_stops, then_meet, then_stay}
@@ -22,10 +22,8 @@ use Rattle.winnow_repeat.specs.Chain.Says.{item_law, nor_less, still_less}
 use Rattle.winnow_repeat.specs.Repeat.{capacity_of}
 use Rattle.winnow_separated.specs.Separated.{links_within}
 use Rattle.winnow_separated.specs.Separated.Does.{Behind, LinkDoes, NothingBetween, LastLink}
-use Rattle.winnow_separated.specs.Separated.Does.{PairLinkDoes}
+use Rattle.winnow_separated.specs.Separated.Does.{PairLinkDoes, LinksDo, first_element, ElementsDo}
 use Rattle.winnow_core.specs.InOrder.Decided.{AlikePairs}
-use Rattle.winnow_core.specs.Then.Steps.{takes, takes_hold, takes_meet}
-use Rattle.winnow_separated.specs.Separated.Does.{LinksDo, first_element, ElementsDo}
 
 -- ---- laws of links
 
