@@ -139,10 +139,12 @@ module _ {S W Q T O D : Type 0} {element : Does T O} {separator : Does T D}
       (λ i answer t j is r. (pair_each part mid).did at i answer t j is r) links i u m is
       chain.runs in
       let P : S × W → Type 0 = λ x. LinksEnd (meaning at.form) (between at.form)
-      (assert_kind at.form) value x m answer (t.0, t.1) j in
-      (kept, chained_did links did (did_wider (λ y d. inr (tt, d))
-      (last_link first value links m answer (t.0, t.1) j (chain_at did is)
-      (record { taken = held }) (subst P did.kept ends))))
+      (assert_kind at.form) value x m answer (t.0, t.1) j in (
+        kept,
+        chained_did links did (did_wider (λ y d. inr (tt, d))
+            (last_link first value links m answer (t.0, t.1) j (chain_at did is)
+            (record { taken = held }) (subst P did.kept ends))),
+      )
 
   foldl1_did : (i : Input T) (answer : Answer O) (t : S × W × Q) (j : Input T) → IsAt at i
       → SeparatedFoldl1Runs step (meaning at.form) (between at.form) (assert_kind at.form)

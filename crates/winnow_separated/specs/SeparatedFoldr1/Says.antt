@@ -101,16 +101,19 @@ module _ {S W Q T O D : Type 0} (A : Type 0) {says : Says T O} {also : Says T D}
           (folded A step op u others)
       one o u same links others (os, ps, first, second, likes) = record {
         one = λ at tokens rest y z (value, folds, e) (more, joins, f).
-            both (AlikeFolded step op says.alike also.alike) e f ((
-              o,
-              u,
-              os,
-              ps,
-              same,
-              likes,
-              subst (λ l. FoldsRight step op o l value op) first folds,
-              subst (λ l. FoldsRight step op u l more op) second joins,
-            ), refl);
+            both (AlikeFolded step op says.alike also.alike) e f (
+              (
+                o,
+                u,
+                os,
+                ps,
+                same,
+                likes,
+                subst (λ l. FoldsRight step op o l value op) first folds,
+                subst (λ l. FoldsRight step op u l more op) second joins,
+              ),
+              refl,
+            );
       }
 
   foldr1_did : says.premise × also.premise × StaysJoining step op → (at : Setting) (i : Input T)
@@ -133,8 +136,15 @@ module _ {S W Q T O D : Type 0} (A : Type 0) {says : Says T O} {also : Says T D}
         kept = triple_is (swapped then.kept) kept;
         status = then.status ∙ did.status;
         possible = then.possible ∙ did.possible;
-        done = (_, did.done, (_, then.done,
-            fails_on (λ links. folded A step op first links) at n.left.tokens j.left.tokens k e));
+        done = (
+          _,
+          did.done,
+          (
+            _,
+            then.done,
+            fails_on (λ links. folded A step op first links) at n.left.tokens j.left.tokens k e,
+          ),
+        );
       }
   foldr1_did is at i answer t j here
       (inr (inr (first, v, n, links, value, r, repeats, folds, e))) =

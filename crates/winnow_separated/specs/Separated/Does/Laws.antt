@@ -136,8 +136,13 @@ module _ {T U D C : Type 0} {stable other : Type 0} {alike : U → U → Type 0}
       tokens y final d)
   last_link_stays least before os is more flag tokens y final
       (inr (d, mid, r, nothing, e)) =
-      inr (d, mid ++ more, q.stays (with_it is) more flag tokens (took d mid) tt r,
-      nor_less more mid tokens nothing, as_longer more e)
+      inr (
+        d,
+        mid ++ more,
+        q.stays (with_it is) more flag tokens (took d mid) tt r,
+        nor_less more mid tokens nothing,
+        as_longer more e,
+      )
 
   module _ (bounds : Bounds) where
     pub links_meet : (before bare : C)
@@ -266,8 +271,11 @@ module _ {T O D C : Type 0} {first other : Type 0} {alike : O → O → Type 0}
       taken_stays o is more flag tokens rest y final (inl (grows, e)) =
           absurd (final_by {y = wants} e final)
       taken_stays o is more flag tokens rest y final (inr (one, kept, links)) =
-          inr (one, kept,
-          links_stay (link_law p q) q (λ is. is.1) (no_link (λ d. element) q) into Also (links_within bounds) one is more flag rest y final links)
+          inr (
+            one,
+            kept,
+            links_stay (link_law p q) q (λ is. is.1) (no_link (λ d. element) q) into Also (links_within bounds) one is more flag rest y final links,
+          )
 
       back_whole : (at : Setting) (tokens place : List T) (need : Option ℕ) (end : List T)
           → at.more ≡ false
@@ -294,13 +302,16 @@ module _ {T O D C : Type 0} {first other : Type 0} {alike : O → O → Type 0}
       (ElementsDo element separator into bounds bare)
   elements_meet capacity empty bare starts begins at tokens y z (inl (none, e))
       (inl (none2, f)) =
-      both Also e f ((
-        [],
-        [],
-        keeps.held capacity empty empty [] starts (record { taken = refl }),
-        keeps.held capacity bare bare [] begins (record { taken = refl }),
-        tt,
-      ), refl)
+      both Also e f (
+        (
+          [],
+          [],
+          keeps.held capacity empty empty [] starts (record { taken = refl }),
+          keeps.held capacity bare bare [] begins (record { taken = refl }),
+          tt,
+        ),
+        refl,
+      )
   elements_meet capacity empty bare starts begins at tokens y z (inl (none, e))
       (inr (below, d)) =
       full_is_below bounds.greatest 0 none below
