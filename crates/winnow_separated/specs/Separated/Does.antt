@@ -4,11 +4,12 @@ use Rattle.stream_sets.specs.Accumulator.{Accumulator}
 use Rattle.stream_sets.specs.Range.{Bounds, IsBelow}
 use Rattle.winnow_core.specs.Outcome.{took, backs, wants, Does, misused}
 use Rattle.winnow_core.specs.Then.{Next, Then}
-use Rattle.winnow_core.specs.Then.Steps.{asks_on, cuts_on, where_took}
+use Rattle.winnow_core.specs.Then.Steps.{asks_on, cuts_on, takes, where_took}
 use Rattle.winnow_repeat.specs.Chain.Items.{Gives, last_item}
 use Rattle.winnow_repeat.specs.Chain.Says.{Chained, ItemOf}
 use Rattle.winnow_separated.specs.Separated.{links_within}
 pub mod Laws
+pub mod Runs
 
 -- Behind a separator that takes something, the element does what it does.
 abbrev pub Behind : {T O : Type 0} → Does T O → List T → Does T O
@@ -19,6 +20,12 @@ abbrev pub LinkDoes : {T O D : Type 0} → Does T O → Does T D → Does T O
 LinkDoes element separator =
     Then separator (where_took (λ d at tokens mid y. Behind element mid at tokens y))
 
+-- The same, where the output is that of the separator and that of the element.
+abbrev pub PairLinkDoes : {T O D : Type 0} → Does T O → Does T D → Does T (D × O)
+PairLinkDoes element separator =
+    Then separator (where_took (λ d at tokens mid y.
+    Behind (Then element (where_took (λ o. takes (d, o)))) mid at tokens y))
+
 -- A separator that takes nothing: no link, and the parser is made wrongly.
 abbrev pub NothingBetween : {T D U : Type 0} → Does T D → Does T U
 NothingBetween {T} {D} separator at tokens y =
@@ -28,16 +35,16 @@ NothingBetween {T} {D} separator at tokens y =
 -- What ends the links after some, where there may be one more.
 abbrev pub LastLink : {T O D C : Type 0} → Does T O → Does T D → Accumulator C O → ℕ → C → List O
     → Does T C
-LastLink element separator into least before outputs at tokens y =
-    Then (LinkDoes element separator) (last_item into least before outputs) at tokens y
+LastLink link separator into least before outputs at tokens y =
+    Then link (last_item into least before outputs) at tokens y
     ⊎ NothingBetween separator at tokens y
 
 -- Links that take something, and what ends them.
 abbrev pub LinksDo : {T O D C : Type 0} → Does T O → Does T D → Accumulator C O → Bounds → C
     → Does T C
-LinksDo element separator into bounds before =
-    Chained (ItemOf (LinkDoes element separator)) bounds.greatest (Gives into before)
-    (LastLink element separator into bounds.least before)
+LinksDo link separator into bounds before =
+    Chained (ItemOf link) bounds.greatest (Gives into before)
+    (LastLink link separator into bounds.least before)
 
 -- What comes of the first element, which may take nothing.
 abbrev pub first_element : {T O D C : Type 0} → Does T O → Does T D → Accumulator C O → Bounds → C
@@ -47,7 +54,7 @@ first_element {C = C} element separator into bounds empty = record {
   on_took = λ o at tokens rest y.
       (into.grows empty o × (y ≡ wants))
       ⊎ ((one : C) × into.takes empty o one
-      × LinksDo element separator into (links_within bounds) one at rest y);
+      × LinksDo (LinkDoes element separator) separator into (links_within bounds) one at rest y);
   -- none is needed, or one is
   on_backs = λ at tokens place y.
       ((bounds.least ≡ 0) × (y ≡ took empty tokens))

@@ -1,6 +1,6 @@
 -- What elements with separators between them say that they do.
-use Rattle.std.specs.Prelude.{◌≡◌, ◌<◌, List, length, Ok, Err}
-use Rattle.std.proofs.Common.{refl, ap, subst, inl, inr, ◌∙◌, arith}
+use Rattle.std.specs.Prelude.{◌≡◌, List, Ok, Err}
+use Rattle.std.proofs.Common.{ap, subst, inl, inr, ◌∙◌}
 use Rattle.streams.specs.Input.{Input}
 use Rattle.streams.specs.Kind.{backtrack}
 use Rattle.stream_errors.specs.Form.{Answer, assert_kind}
@@ -11,19 +11,17 @@ use Rattle.stream_sets.specs.declared.range.Range.{Range}
 use Rattle.winnow_core.specs.Outcome.{Outcome, Setting, Does, both, gave}
 use Rattle.winnow_core.specs.Runs.{Meaning}
 use Rattle.winnow_core.specs.Says.{Did, EachDoes, IsAt, Said, Says, still_at}
-use Rattle.winnow_core.specs.Says.Lacks.{misused_outcome}
 use Rattle.winnow_core.specs.Says.Leaf.{here_did}
 use Rattle.winnow_core.specs.States.{pair_is}
 use Rattle.winnow_core.specs.Then.{back_in, did_in, hands_on}
-use Rattle.winnow_core.specs.Then.Steps.{fails_on}
 use Rattle.winnow_repeat.specs.Chain.Bounded.{Bounded, HeldAlike, bounded_did}
 use Rattle.winnow_repeat.specs.Chain.Items.{ItemsDo, items_run_did, with_state}
 use Rattle.winnow_repeat.specs.Chain.Says.{chain_at, chained_did, did_beside, did_wider, items_did}
 use Rattle.winnow_separated.specs.Link.{LinkRuns, SeparatesNothing}
 use Rattle.winnow_separated.specs.Separated.{ElementsRun, LinksRun, RangedElements, links_within}
-use Rattle.winnow_separated.specs.Separated.Does.{Behind, LinkDoes, LinksDo, first_element}
-use Rattle.winnow_separated.specs.Separated.Does.{ElementsDo}
+use Rattle.winnow_separated.specs.Separated.Does.{LinkDoes, LinksDo, first_element, ElementsDo}
 use Rattle.winnow_separated.specs.Separated.Does.Laws.{separated_law}
+use Rattle.winnow_separated.specs.Separated.Does.Runs.{link_each, nothing_did}
 
 -- elements into an accumulator, of which this is held
 abbrev pub separated_says : {T O D C : Type 0} → Accumulator C O → (C → List O → Type 0) → Bounds
@@ -40,75 +38,28 @@ separated_says into holds bounds p q = record {
 module _ {S W T O D : Type 0} {element : Does T O} {separator : Does T D} {s : S × W}
     {meaning : Meaning S T O} {between : Meaning W T D} (part : EachDoes element s.0 meaning)
     (mid : EachDoes separator s.1 between) where
-  -- a link
-  link_each : EachDoes (LinkDoes element separator) s
-      (λ form. LinkRuns (meaning form) (between form))
-  link_each = record { did = did }
-    where
-      behind : (at : Setting) (i : Input T) (answer : Answer O) (t : S × W) (m j : Input T) (d : D)
-          → IsAt at i → between at.form s.1 i (Ok d) t.1 m
-          → length m.left.tokens < length i.left.tokens → meaning at.form s.0 m answer t.0 j
-          → Did (LinkDoes element separator) at s i answer t j
-      behind at i answer t m j d is r less x =
-          let did = mid.did at i (Ok d) t.1 m is r in
-          let then = part.did at m answer t.0 j (still_at did is) x in
-          record {
-            kept = pair_is then.kept did.kept;
-            status = then.status ∙ did.status;
-            possible = then.possible ∙ did.possible;
-            done = (_, did.done, (less, then.done));
-          }
-
-      did : (at : Setting) (i : Input T) (answer : Answer O) (t : S × W) (j : Input T) → IsAt at i
-          → LinkRuns (meaning at.form) (between at.form) s i answer t j
-          → Did (LinkDoes element separator) at s i answer t j
-      did at i (Ok o) t j is (d, m, r, less, x) = behind at i (Ok o) t m j d is r less x
-      did at i (Err k) t j is (inr (d, m, r, less, x)) = behind at i (Err k) t m j d is r less x
-      did at i (Err k) t j is (inl (r, same)) =
-          let did = mid.did at i (Err k) t.1 j is r in
-          did_in s t (pair_is same did.kept) did
-          (fails_on (λ d at tokens mid y. Behind element mid at tokens y) at i.left.tokens
-          j.left.tokens k refl)
-
   module _ {C : Type 0} (into : Accumulator C O) (at : Setting) where
     links_did : (bounds : Bounds) (before : C) (i : Input T) (answer : Answer C) (t : S × W)
         (j : Input T) → IsAt at i
         → LinksRun (meaning at.form) (between at.form) into (assert_kind at.form) bounds before
         s i answer t j
-        → Did (LinksDo element separator into bounds before) at s i answer t j
+        → Did (LinksDo (LinkDoes element separator) separator into bounds before) at s i answer t j
     links_did bounds before i answer t j is (inl items) =
         did_wider (λ y d. links y d)
-        (items_run_did link_each into at bounds before i answer t j is items)
+        (items_run_did (link_each part mid) into at bounds before i answer t j is items)
       where
         links : (y : Outcome T C)
             → ItemsDo (LinkDoes element separator) into bounds before at i.left.tokens y
-            → LinksDo element separator into bounds before at i.left.tokens y
+            → LinksDo (LinkDoes element separator) separator into bounds before at i.left.tokens y
         links y (os, end, steps, inl full) = (os, end, steps, inl full)
         links y (os, end, steps, inr (below, d)) = (os, end, steps, inr (below, inl d))
     links_did bounds before i answer t j is
         (inr (outputs, u, m, some, chain, below, taken, ended, e)) =
         let did = items_did (LinkRuns (meaning at.form) (between at.form)) at
-        (λ i answer t j is r. link_each.did at i answer t j is r) outputs i u m is chain.runs in
+        (λ i answer t j is r. (link_each part mid).did at i answer t j is r) outputs i u m is chain.runs in
         let P : S × W → Type 0 = λ x. SeparatesNothing (between at.form) x m t j in
-        let (d, r, nothing, same) : SeparatesNothing (between at.form) s m t j =
-        subst P did.kept ended in
-        let last = mid.did at m (Ok d) t.1 j (chain_at did is) r in
-        let as_many = ap length nothing in
-        chained_did outputs did (record {
-          kept = pair_is same last.kept;
-          status = last.status;
-          possible = last.possible;
-          done = inr (
-            below,
-            inr (
-              d,
-              j.left.tokens,
-              last.done,
-              λ less. absurd (omega (arith, as_many, less)),
-              misused_outcome at j.left.tokens e,
-            ),
-          );
-        })
+        chained_did outputs did (did_wider (λ y d. inr (below, inr d))
+        (nothing_did part mid at m answer t j (chain_at did is) (subst P did.kept ended) e))
 
     elements_did : (bounds : Bounds) (empty : C) (i : Input T) (answer : Answer C) (t : S × W)
         (j : Input T) → IsAt at i
@@ -152,7 +103,7 @@ module _ {S W T O D : Type 0} {element : Does T O} {separator : Does T D} {s : S
         }
 
 -- triples of which the parts are the same
-triple_is : {A B X : Type 0} {t s : A × B × X} → ◌≡◌ {A = A × B} (t.0, t.1) (s.0, s.1)
+pub triple_is : {A B X : Type 0} {t s : A × B × X} → ◌≡◌ {A = A × B} (t.0, t.1) (s.0, s.1)
     → t.2 ≡ s.2 → t ≡ s
 triple_is {t = t} {s = s} e f =
     ap (λ x. (x.0, x.1, t.2)) e ∙ ap (λ z. (s.0, s.1, z)) f

@@ -11,7 +11,7 @@ use Rattle.winnow_core.specs.Says.{Lawful}
 use Rattle.winnow_core.specs.Says.Lacks.{misused_alike, misused_whole}
 use Rattle.winnow_core.specs.Then.{ComesOf, NextHolds, NextMeets, Then, then_law}
 use Rattle.winnow_core.specs.Then.Steps.{asks_later, asks_meet, cuts_hold, cuts_meet, holds_where}
-use Rattle.winnow_core.specs.Then.Steps.{meets_where, where_took}
+use Rattle.winnow_core.specs.Then.Steps.{meets_where, where_took, takes_hold, takes_meet}
 use Rattle.winnow_repeat.specs.Chain.Bounded.{Bounded, HeldAlike, bounded_law}
 use Rattle.winnow_repeat.specs.Chain.Items.{Gathers, Gives, gives_meet, last_holds, last_item}
 use Rattle.winnow_repeat.specs.Chain.Items.{last_meets, last_stops, then_meet, then_stay}
@@ -22,14 +22,15 @@ use Rattle.winnow_repeat.specs.Chain.Says.{item_law, nor_less, still_less}
 use Rattle.winnow_repeat.specs.Repeat.{capacity_of}
 use Rattle.winnow_separated.specs.Separated.{links_within}
 use Rattle.winnow_separated.specs.Separated.Does.{Behind, LinkDoes, NothingBetween, LastLink}
-use Rattle.winnow_separated.specs.Separated.Does.{LinksDo, first_element, ElementsDo}
+use Rattle.winnow_separated.specs.Separated.Does.{PairLinkDoes, LinksDo, first_element, ElementsDo}
+use Rattle.winnow_core.specs.InOrder.Decided.{AlikePairs}
 
 -- ---- laws of links
 
 module _ {T O D : Type 0} {first other : Type 0} {alike : O → O → Type 0}
     {between : D → D → Type 0} {element : Does T O} {separator : Does T D}
     (p : Lawful first alike element) (q : Lawful other between separator) where
-  link_law : Lawful (first × other) alike (LinkDoes element separator)
+  pub link_law : Lawful (first × other) alike (LinkDoes element separator)
   link_law = then_law q (meets_where (λ d e same. record {
     one = λ at tokens mid y z (less, x) (fewer, w). p.one at mid y z x w;
   })) (holds_where (λ d. record {
@@ -40,108 +41,136 @@ module _ {T O D : Type 0} {first other : Type 0} {alike : O → O → Type 0}
     );
   })) (λ is. is.1)
 
-  -- where a separator takes nothing there is no link
-  no_link : {U : Type 0} (at : Setting) (tokens : List T) (y : Outcome T U) (x : Outcome T O)
-      → NothingBetween separator at tokens y → LinkDoes element separator at tokens x → x ≡ wants
-  no_link at tokens y x (d, mid, r, none, e) (w, s, c) =
-      by w (q.one at tokens w (took d mid) s r) c
-    where
-      by : (w : Outcome T D) → Alike between w (took d mid)
-          → ComesOf (where_took (λ d at tokens mid y. Behind element mid at tokens y)) at tokens w
-          x → x ≡ wants
-      by (took e end) (like, same) (less, z) =
-          absurd (none (subst (λ l. length l < length tokens) same less))
-      by (backs place) like z = absurd like
-      by (cuts place) like z = absurd like
-      by (asks need place) like z = absurd like
-      by wants like z = z
+  -- the same, with the separator's output
+  pub pair_law : Lawful (first × other) (AlikePairs between alike) (PairLinkDoes element separator)
+  pair_law = then_law q (meets_where (λ d e same. record {
+    one = λ at tokens mid y z (less, x) (fewer, w).
+        then_meet p (meets_where (λ o u like. takes_meet (same, like))) at mid y z x w;
+  })) (holds_where (λ d. record {
+    whole = λ at tokens mid need end is (less, x).
+        then_whole {stable = first} p (holds_where (λ o. takes_hold)) at mid need end is x;
+    stays = λ is more flag tokens mid y final (less, x). (
+      still_less more mid tokens less,
+      then_stay {stable = first} (λ is. is) p (holds_where (λ o. takes_hold)) is.0 more flag mid y
+          final x,
+    );
+  })) (λ is. is.1)
 
-  module _ {C : Type 0} (into : Accumulator C O) (beside : C → C → Type 0) where
-    nothing_last : (least : ℕ) (before : C) (os : List O) (at : Setting) (tokens : List T)
-        (y z : Outcome T C) → NothingBetween separator at tokens y
-        → Then (LinkDoes element separator) (last_item into least before os) at tokens z
-        → z ≡ wants
-    nothing_last least before os at tokens y z nothing (x, d, c) =
-        let P : Outcome T O → Type 0 =
-        λ x. ComesOf (last_item into least before os) at tokens x z in
-        subst P (no_link at tokens y x nothing d) c
+-- Where a separator takes nothing there is no link behind it.
+abbrev pub NoLink : {T U D : Type 0} → Does T U → Does T D → Type 0
+NoLink {T} {U} {D} link separator =
+    (at : Setting) (tokens : List T) (d : D) (mid : List T) (x : Outcome T U)
+    → separator at tokens (took d mid) → (length mid < length tokens → ⊥)
+    → link at tokens x → x ≡ wants
 
-    last_link_meets : (least : ℕ) (before bare : C)
-        → Gathers {T = T} {alike = alike} link_law into beside before bare → (os ps : List O)
-        → AlikeLists alike os ps
-        → Meet beside (LastLink element separator into least before os)
-        (LastLink element separator into least bare ps)
-    last_link_meets least before bare gathers os ps like at tokens y z (inl d) (inl e) =
-        then_meet link_law (last_meets link_law into beside least before bare gathers os ps like)
-        at tokens y z d e
-    last_link_meets least before bare gathers os ps like at tokens y z (inl d) (inr n) =
-        both beside {u = wants} {v = z} (nothing_last least before os at tokens z y n d) refl tt
-    last_link_meets least before bare gathers os ps like at tokens y z (inr n) (inl e) =
-        both beside {u = y} {v = wants} refl (nothing_last least bare ps at tokens y z n e)
-        (alike_wants beside y)
-    last_link_meets least before bare gathers os ps like at tokens y z
-        (inr (d, mid, r, none, e)) (inr (b, end, s, none2, f)) =
-        let same = q.one at tokens (took d mid) (took b end) r s in
-        both beside e (f ∙ ap (λ l. misused at l) (sym same.1)) (misused_alike beside at mid)
+pub no_link : {T U D : Type 0} {other : Type 0} {between : D → D → Type 0} {separator : Does T D}
+    (after : D → Does T U) → Lawful other between separator
+    → NoLink (Then separator (where_took (λ d at tokens mid y. Behind (after d) mid at tokens y)))
+    separator
+no_link {T} {D = D} {between = between} after q at tokens d mid x r none (w, s, c) =
+    by w (q.one at tokens w (took d mid) s r) c
+  where
+    by : (w : Outcome T D) → Alike between w (took d mid)
+        → ComesOf (where_took (λ d at tokens mid y. Behind (after d) mid at tokens y)) at tokens w x
+        → x ≡ wants
+    by (took e end) (like, same) (less, z) =
+        absurd (none (subst (λ l. length l < length tokens) same less))
+    by (backs place) like z = absurd like
+    by (cuts place) like z = absurd like
+    by (asks need place) like z = absurd like
+    by wants like z = z
 
-    last_link_stops : (least : ℕ) (before : C)
-        → Stops (ItemOf (LinkDoes element separator))
-        (LastLink element separator into least before)
-    last_link_stops least before os at tokens y o rest (inl d) item =
-        last_stops link_law into beside least before os at tokens y o rest d item
-    last_link_stops least before os at tokens y o rest (inr n) (d, less) =
-        let e = no_link at tokens y (took o rest) n d in absurd (cc)
+-- ---- laws of links of any kind
 
-    last_link_whole : (least : ℕ) (before : C) (os : List O)
-        → Whole (LastLink element separator into least before os)
-    last_link_whole least before os at tokens need end is (inl d) =
-        then_whole link_law (last_holds link_law into beside least before os) at tokens need end is
-        d
-    last_link_whole least before os at tokens need end is (inr (d, mid, r, none, e)) =
-        misused_whole at mid need end e
+module _ {T U D C : Type 0} {stable other : Type 0} {alike : U → U → Type 0}
+    {between : D → D → Type 0} {link : Does T U} {separator : Does T D}
+    (l : Lawful stable alike link) (q : Lawful other between separator) (with_it : stable → other)
+    (none : NoLink link separator) (into : Accumulator C U) (beside : C → C → Type 0) where
+  nothing_last : (least : ℕ) (before : C) (os : List U) (at : Setting) (tokens : List T)
+      (y z : Outcome T C) → NothingBetween separator at tokens y
+      → Then link (last_item into least before os) at tokens z
+      → z ≡ wants
+  nothing_last least before os at tokens y z (d, mid, r, nothing, e) (x, s, c) =
+      let P : Outcome T U → Type 0 =
+      λ x. ComesOf (last_item into least before os) at tokens x z in
+      subst P (none at tokens d mid x r nothing s) c
 
-    last_link_stays : (least : ℕ) (before : C) (os : List O)
-        → Stay (first × other) (LastLink element separator into least before os)
-    last_link_stays least before os is more flag tokens y final (inl d) =
-        inl (then_stay (λ is. is) link_law (last_holds link_law into beside least before os) is more flag
-        tokens y final d)
-    last_link_stays least before os is more flag tokens y final
-        (inr (d, mid, r, none, e)) =
-        inr (
-          d,
-          mid ++ more,
-          q.stays is.1 more flag tokens (took d mid) tt r,
-          nor_less more mid tokens none,
-          as_longer more e,
-        )
+  last_link_meets : (least : ℕ) (before bare : C)
+      → Gathers l into beside before bare → (os ps : List U)
+      → AlikeLists alike os ps
+      → Meet beside (LastLink link separator into least before os)
+      (LastLink link separator into least bare ps)
+  last_link_meets least before bare gathers os ps like at tokens y z (inl d) (inl e) =
+      then_meet l (last_meets l into beside least before bare gathers os ps like)
+      at tokens y z d e
+  last_link_meets least before bare gathers os ps like at tokens y z (inl d) (inr n) =
+      both beside {u = wants} {v = z} (nothing_last least before os at tokens z y n d) refl tt
+  last_link_meets least before bare gathers os ps like at tokens y z (inr n) (inl e) =
+      both beside {u = y} {v = wants} refl (nothing_last least bare ps at tokens y z n e)
+      (alike_wants beside y)
+  last_link_meets least before bare gathers os ps like at tokens y z
+      (inr (d, mid, r, nothing, e)) (inr (b, end, s, nothing2, f)) =
+      let same = q.one at tokens (took d mid) (took b end) r s in
+      both beside e (f ∙ ap (λ l. misused at l) (sym same.1)) (misused_alike beside at mid)
 
-    module _ (bounds : Bounds) where
-      links_meet : (before bare : C)
-          → Gathers {T = T} {alike = alike} link_law into beside before bare
-          → Meet beside (LinksDo element separator into bounds before)
-          (LinksDo element separator into bounds bare)
-      links_meet before bare gathers =
-          chained_meet (item_law link_law) bounds.greatest beside (Gives into before)
-          (Gives into bare) (LastLink element separator into bounds.least before)
-          (LastLink element separator into bounds.least bare)
-          (gives_meet link_law into beside before bare gathers)
-          (last_link_meets bounds.least before bare gathers)
-          (last_link_stops bounds.least before) (last_link_stops bounds.least bare)
+  last_link_stops : (least : ℕ) (before : C)
+      → Stops (ItemOf link)
+      (LastLink link separator into least before)
+  last_link_stops least before os at tokens y o rest (inl d) item =
+      last_stops l into beside least before os at tokens y o rest d item
+  last_link_stops least before os at tokens y o rest (inr (d, mid, r, nothing, e)) (s, less) =
+      let e = none at tokens d mid (took o rest) r nothing s in absurd (cc)
 
-      links_whole : (before : C) → Whole (LinksDo element separator into bounds before)
-      links_whole before =
-          chained_whole (ItemOf (LinkDoes element separator)) bounds.greatest (Gives into before)
-          (LastLink element separator into bounds.least before)
-          (λ os at tokens need place is (all, taken, e). absurd (cc))
-          (last_link_whole bounds.least before)
+  last_link_whole : (least : ℕ) (before : C) (os : List U)
+      → Whole (LastLink link separator into least before os)
+  last_link_whole least before os at tokens need end is (inl d) =
+      then_whole l (last_holds l into beside least before os) at tokens need end is
+      d
+  last_link_whole least before os at tokens need end is (inr (d, mid, r, nothing, e)) =
+      misused_whole at mid need end e
 
-      links_stay : (before : C)
-          → Stay (first × other) (LinksDo element separator into bounds before)
-      links_stay before =
-          chained_stay (item_law link_law) bounds.greatest (Gives into before)
-          (LastLink element separator into bounds.least before)
-          (λ os is more flag tokens y final (all, taken, e). (all, taken, as_longer more e))
-          (last_link_stays bounds.least before)
+  last_link_stays : (least : ℕ) (before : C) (os : List U)
+      → Stay stable (LastLink link separator into least before os)
+  last_link_stays least before os is more flag tokens y final (inl d) =
+      inl (then_stay (λ is. is) l (last_holds l into beside least before os) is more flag
+      tokens y final d)
+  last_link_stays least before os is more flag tokens y final
+      (inr (d, mid, r, nothing, e)) =
+      inr (
+        d,
+        mid ++ more,
+        q.stays (with_it is) more flag tokens (took d mid) tt r,
+        nor_less more mid tokens nothing,
+        as_longer more e,
+      )
+
+  module _ (bounds : Bounds) where
+    pub links_meet : (before bare : C)
+        → Gathers l into beside before bare
+        → Meet beside (LinksDo link separator into bounds before)
+        (LinksDo link separator into bounds bare)
+    links_meet before bare gathers =
+        chained_meet (item_law l) bounds.greatest beside (Gives into before)
+        (Gives into bare) (LastLink link separator into bounds.least before)
+        (LastLink link separator into bounds.least bare)
+        (gives_meet l into beside before bare gathers)
+        (last_link_meets bounds.least before bare gathers)
+        (last_link_stops bounds.least before) (last_link_stops bounds.least bare)
+
+    pub links_whole : (before : C) → Whole (LinksDo link separator into bounds before)
+    links_whole before =
+        chained_whole (ItemOf link) bounds.greatest (Gives into before)
+        (LastLink link separator into bounds.least before)
+        (λ os at tokens need place is (all, taken, e). absurd (cc))
+        (last_link_whole bounds.least before)
+
+    pub links_stay : (before : C)
+        → Stay stable (LinksDo link separator into bounds before)
+    links_stay before =
+        chained_stay (item_law l) bounds.greatest (Gives into before)
+        (LastLink link separator into bounds.least before)
+        (λ os is more flag tokens y final (all, taken, e). (all, taken, as_longer more e))
+        (last_link_stays bounds.least before)
 
 -- ---- laws of elements
 
@@ -167,17 +196,17 @@ module _ {T O D C : Type 0} {first other : Type 0} {alike : O → O → Type 0}
       taken : (o u : O) → alike o u → (at : Setting) (tokens rest : List T) (y z : Outcome T C)
           → (into.grows empty o × (y ≡ wants))
           ⊎ ((one : C) × into.takes empty o one
-          × LinksDo element separator into (links_within bounds) one at rest y)
+          × LinksDo (LinkDoes element separator) separator into (links_within bounds) one at rest y)
           → (into.grows bare u × (z ≡ wants))
           ⊎ ((one : C) × into.takes bare u one
-          × LinksDo element separator into (links_within bounds) one at rest z)
+          × LinksDo (LinkDoes element separator) separator into (links_within bounds) one at rest z)
           → Alike Also y z
       taken o u same at tokens rest y z (inl (grows, e)) second =
           both Also {u = wants} {v = z} e refl tt
       taken o u same at tokens rest y z (inr links) (inl (grows, e)) =
           both Also {u = y} {v = wants} refl e (alike_wants Also y)
       taken o u same at tokens rest y z (inr (one, kept, links)) (inr (two, held, others)) =
-          links_meet p q into Also (links_within bounds) one two
+          links_meet (link_law p q) q (λ is. is.1) (no_link (λ d. element) q) into Also (links_within bounds) one two
           (λ os ps all more taken taken2 likes. (
             o ∷ os,
             u ∷ ps,
@@ -224,20 +253,20 @@ module _ {T O D C : Type 0} {first other : Type 0} {alike : O → O → Type 0}
           → at.more ≡ false
           → (into.grows empty o × (◌≡◌ {A = Outcome T C} (asks need end) wants))
           ⊎ ((one : C) × into.takes empty o one
-          × LinksDo element separator into (links_within bounds) one at rest (asks need end))
+          × LinksDo (LinkDoes element separator) separator into (links_within bounds) one at rest (asks need end))
           → ⊥
       taken_whole o at tokens rest need end is (inl (grows, e)) = absurd (cc)
       taken_whole o at tokens rest need end is (inr (one, kept, links)) =
-          links_whole p q into Also (links_within bounds) one at rest need end is links
+          links_whole (link_law p q) q (λ is. is.1) (no_link (λ d. element) q) into Also (links_within bounds) one at rest need end is links
 
       taken_stays : (o : O) → first × other → (more : List T) (flag : Bool)
           (tokens rest : List T) (y : Outcome T C) → IsFinal y
           → (into.grows empty o × (y ≡ wants))
           ⊎ ((one : C) × into.takes empty o one
-          × LinksDo element separator into (links_within bounds) one on_cut rest y)
+          × LinksDo (LinkDoes element separator) separator into (links_within bounds) one on_cut rest y)
           → (into.grows empty o × (longer more y ≡ wants))
           ⊎ ((one : C) × into.takes empty o one
-          × LinksDo element separator into (links_within bounds) one (grown flag) (rest ++ more)
+          × LinksDo (LinkDoes element separator) separator into (links_within bounds) one (grown flag) (rest ++ more)
           (longer more y))
       taken_stays o is more flag tokens rest y final (inl (grows, e)) =
           absurd (final_by {y = wants} e final)
@@ -245,7 +274,7 @@ module _ {T O D C : Type 0} {first other : Type 0} {alike : O → O → Type 0}
           inr (
             one,
             kept,
-            links_stay p q into Also (links_within bounds) one is more flag rest y final links,
+            links_stay (link_law p q) q (λ is. is.1) (no_link (λ d. element) q) into Also (links_within bounds) one is more flag rest y final links,
           )
 
       back_whole : (at : Setting) (tokens place : List T) (need : Option ℕ) (end : List T)

@@ -8,7 +8,7 @@ ghost use Rattle.winnow_separated.specs.SeparatedFoldl1.{foldl1_closure, foldl1_
 ghost use Rattle.winnow_separated.specs.SeparatedFoldl1.{foldl1_separator};
 ghost use Rattle.winnow_separated.specs.SeparatedFoldl1.Laws.{foldl1_ends, foldl1_grows};
 ghost use Rattle.winnow_core.specs.Claim.{no_claim, nothing_claimed};
-ghost use Rattle.winnow_core.specs.Says.{nothing_done, nothing_said};
+ghost use Rattle.winnow_separated.specs.SeparatedFoldl1.Says.{foldl1_said, foldl1_says};
 
 use crate::combinator::impls::link::Link;
 use std::marker::PhantomData;
@@ -65,14 +65,14 @@ impl<
     ghost meaning = { λ form. SeparatedFoldl1Runs H.step (P.meaning form) (S.meaning form)
         (assert_kind form) };
 
-    ghost says = { λ _. nothing_said };
+    ghost says = { λ s. foldl1_says H.step s.2 (P.says s.0) (S.says s.1) };
 
     ghost claim = { λ _. no_claim };
 
     ghost leaves_ends = { λ form. foldl1_ends I.reading H.step (P.meaning form) (S.meaning form)
         (assert_kind form) (P.leaves_ends form) (S.leaves_ends form) };
 
-    ghost said = { λ _. nothing_done };
+    ghost said = { λ s. foldl1_said H.step s (P.said s.0) (S.said s.1) };
 
     ghost claimed = { λ _. nothing_claimed };
 

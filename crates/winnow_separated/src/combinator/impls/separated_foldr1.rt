@@ -7,7 +7,7 @@ ghost use Rattle.winnow_separated.specs.SeparatedFoldr1.{foldr1_closure, foldr1_
 ghost use Rattle.winnow_separated.specs.SeparatedFoldr1.{foldr1_separator};
 ghost use Rattle.winnow_separated.specs.SeparatedFoldr1.Laws.{foldr1_ends, foldr1_grows};
 ghost use Rattle.winnow_core.specs.Claim.{no_claim, nothing_claimed};
-ghost use Rattle.winnow_core.specs.Says.{nothing_done, nothing_said};
+ghost use Rattle.winnow_separated.specs.SeparatedFoldr1.Says.{foldr1_said, foldr1_says};
 
 use std::alloc::Allocator;
 use std::marker::PhantomData;
@@ -74,14 +74,14 @@ impl<
     ghost meaning = { λ form. SeparatedFoldr1Runs A H.step (P.meaning form)
         (S.meaning form) (assert_kind form) };
 
-    ghost says = { λ _. nothing_said };
+    ghost says = { λ s. foldr1_says A H.step s.2 (P.says s.0) (S.says s.1) };
 
     ghost claim = { λ _. no_claim };
 
     ghost leaves_ends = { λ form. foldr1_ends A I.reading H.step (P.meaning form) (S.meaning form)
         (assert_kind form) (P.leaves_ends form) (S.leaves_ends form) };
 
-    ghost said = { λ _. nothing_done };
+    ghost said = { λ s. foldr1_said A H.step s (P.said s.0) (S.said s.1) };
 
     ghost claimed = { λ _. nothing_claimed };
 
