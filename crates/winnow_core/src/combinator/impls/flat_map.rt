@@ -11,7 +11,8 @@ ghost use Rattle.winnow_core.specs.FlatMap.{flat_map_parser};
 ghost use Rattle.winnow_core.specs.FlatMap.Laws.{flat_map_exact, flat_map_fails, flat_map_ends};
 ghost use Rattle.winnow_core.specs.FlatMap.Laws.{flat_map_grows};
 ghost use Rattle.winnow_core.specs.Stable.Grows.{grows, stays};
-ghost use Rattle.winnow_core.specs.FlatMap.Says.{AlikeByMade, MakesOne, flat_map_said, flat_map_says};
+ghost use Rattle.winnow_core.specs.FlatMap.Says.{AlikeByMade, MakesOne, flat_map_said};
+ghost use Rattle.winnow_core.specs.FlatMap.Says.{flat_map_says};
 ghost use Rattle.winnow_core.specs.Says.Decided.{decided_of};
 
 use crate::parser::Parser;
