@@ -206,7 +206,8 @@ module _ {T O D C : Type 0} {first other : Type 0} {alike : O → O → Type 0}
       taken o u same at tokens rest y z (inr links) (inl (grows, e)) =
           both Also {u = y} {v = wants} refl e (alike_wants Also y)
       taken o u same at tokens rest y z (inr (one, kept, links)) (inr (two, held, others)) =
-          links_meet (link_law p q) q (λ is. is.1) (no_link (λ d. element) q) into Also (links_within bounds) one two
+          links_meet (link_law p q) q (λ is. is.1) (no_link (λ d. element) q) into Also
+          (links_within bounds) one two
           (λ os ps all more taken taken2 likes. (
             o ∷ os,
             u ∷ ps,
@@ -253,20 +254,24 @@ module _ {T O D C : Type 0} {first other : Type 0} {alike : O → O → Type 0}
           → at.more ≡ false
           → (into.grows empty o × (◌≡◌ {A = Outcome T C} (asks need end) wants))
           ⊎ ((one : C) × into.takes empty o one
-          × LinksDo (LinkDoes element separator) separator into (links_within bounds) one at rest (asks need end))
+          × LinksDo (LinkDoes element separator) separator into (links_within bounds) one at
+          rest (asks need end))
           → ⊥
       taken_whole o at tokens rest need end is (inl (grows, e)) = absurd (cc)
       taken_whole o at tokens rest need end is (inr (one, kept, links)) =
-          links_whole (link_law p q) q (λ is. is.1) (no_link (λ d. element) q) into Also (links_within bounds) one at rest need end is links
+          links_whole (link_law p q) q (λ is. is.1) (no_link (λ d. element) q) into Also
+          (links_within bounds) one at rest need end is links
 
       taken_stays : (o : O) → first × other → (more : List T) (flag : Bool)
           (tokens rest : List T) (y : Outcome T C) → IsFinal y
           → (into.grows empty o × (y ≡ wants))
           ⊎ ((one : C) × into.takes empty o one
-          × LinksDo (LinkDoes element separator) separator into (links_within bounds) one on_cut rest y)
+          × LinksDo (LinkDoes element separator) separator into (links_within bounds) one on_cut
+          rest y)
           → (into.grows empty o × (longer more y ≡ wants))
           ⊎ ((one : C) × into.takes empty o one
-          × LinksDo (LinkDoes element separator) separator into (links_within bounds) one (grown flag) (rest ++ more)
+          × LinksDo (LinkDoes element separator) separator into (links_within bounds) one
+          (grown flag) (rest ++ more)
           (longer more y))
       taken_stays o is more flag tokens rest y final (inl (grows, e)) =
           absurd (final_by {y = wants} e final)
@@ -274,7 +279,8 @@ module _ {T O D C : Type 0} {first other : Type 0} {alike : O → O → Type 0}
           inr (
             one,
             kept,
-            links_stay (link_law p q) q (λ is. is.1) (no_link (λ d. element) q) into Also (links_within bounds) one is more flag rest y final links,
+            links_stay (link_law p q) q (λ is. is.1) (no_link (λ d. element) q) into Also
+                (links_within bounds) one is more flag rest y final links,
           )
 
       back_whole : (at : Setting) (tokens place : List T) (need : Option ℕ) (end : List T)
