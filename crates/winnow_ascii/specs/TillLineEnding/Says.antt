@@ -288,9 +288,20 @@ module _ {T L : Type 0} (spells : Bor (List ℕ) → List T → Type 0)
             gave j.left.tokens e,
           )))
       did alike at i answer j here
-          (inr (inr (inl
-                      (slice, return, both, k, it, they, ran, first, (x, more, is), none, short,
-                      e)))) =
+          (inr (inr (inl (
+            slice,
+            return,
+            both,
+            k,
+            it,
+            they,
+            ran,
+            first,
+            (x, more, is),
+            none,
+            short,
+            e,
+          )))) =
           let (front, line, takes) = line_taken here slice j ran in
           takes_did takes (inr (inr (inl (
             j.left.tokens,

@@ -139,7 +139,7 @@ module _ {T L : Type 0} (reading : Reading T L) (sought : List T → Type 0) (bo
           → OneCase (TakesWhere (StandsBefore reading sought bounds))
           (FailsWhere (StandsWrongly sought bounds)) at tokens y → ⊥
       apart within at tokens x y (inl nowhere, e)
-            (inl (v, rest, (f, before, enough, fits, shown), d)) =
+          (inl (v, rest, (f, before, enough, fits, shown), d)) =
           let (hit, behind, there) = stands_behind before in nowhere f hit behind there
       apart within at tokens x y (inl nowhere, e) (inr ((f, rest, before, why), d)) =
           let (hit, behind, there) = stands_behind before in nowhere f hit behind there

@@ -210,8 +210,10 @@ module _ {X T L : Type 0} (reading : Reading T L) (member : X → T → Bool →
       did at i answer j here (inr (inl (within, all, cut, e, same))) =
           here_did same (inr (
             within,
-            inl ((all, sym here.more ∙ cut),
-                  short_outcome at i _ _ i.left.tokens here (inl (cut, refl)) e),
+            inl (
+              (all, sym here.more ∙ cut),
+              short_outcome at i _ _ i.left.tokens here (inl (cut, refl)) e,
+            ),
           ))
       did at i answer j here
           (inr (inr (inl (front, rest, slice, within, longest, ended, enough, takes, e)))) =
