@@ -151,7 +151,7 @@ pub trait Parser<I: Stream, O, E: ParserError<I>>: Sized {
         ensures tells { Tells (says (state self.old)) E.form (I.view input.old)
             (outcome_of (answer_by E.kind result) (I.view input.new).left.tokens) }
     {
-        self.parse_next(input)
+        Self::parse_next(self, input)
     }
 
     /// As [`parse_next`](Parser::parse_next), and the parser's grammar says what it answers: on a
