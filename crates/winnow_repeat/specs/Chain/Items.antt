@@ -274,7 +274,8 @@ module _ {S T O C : Type 0} {does : Does T O} {s : S} {meaning : Meaning S T O}
         → ItemsRun (meaning at.form) into (assert_kind at.form) bounds before s i answer t j
         → Did (ItemsDo does into bounds before) at s i answer t j
     items_run_did i answer t j is (outputs, u, m, chain, ends) =
-        let did = items_did (meaning at.form) at (λ i answer t j is r. part.did at i answer t j is r)
+        let did = items_did (meaning at.form) at
+        (λ i answer t j is r. part.did at i answer t j is r)
         outputs i u m is chain.runs in
         let P : S → Type 0 = λ x. RepeatEnds (meaning at.form) into (assert_kind at.form) bounds
         before outputs x m answer t j in

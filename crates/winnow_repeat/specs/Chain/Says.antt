@@ -125,7 +125,8 @@ Stay {T} {U} stable does =
 
 -- steps stay where more tokens follow
 steps_stay : {T O : Type 0} {stable : Type 0} {alike : O → O → Type 0} {step : Step T O}
-    → StepLaw stable alike step → stable → (more : List T) (flag : Bool) (outputs : List O) (tokens mid : List T)
+    → StepLaw stable alike step → stable
+    → (more : List T) (flag : Bool) (outputs : List O) (tokens mid : List T)
     → FoldsTo (λ a o b. step on_cut a o b) tokens outputs mid
     → FoldsTo (λ a o b. step (grown flag) a o b) (tokens ++ more) outputs (mid ++ more)
 steps_stay law is more flag [] tokens mid same = ap (λ l. l ++ more) same
@@ -232,12 +233,13 @@ module _ {T O U : Type 0} {stable : Type 0} {alike : O → O → Type 0} {step :
     steps_stay law is more flag os tokens mid chain,
     inl (most, fulls os is more flag mid y final d),
   )
-  chained_stay full last fulls lasts is more flag tokens y final (os, mid, chain, inr (below, d)) = (
-    os,
-    mid ++ more,
-    steps_stay law is more flag os tokens mid chain,
-    inr (below, lasts os is more flag mid y final d),
-  )
+  chained_stay full last fulls lasts is more flag tokens y final
+      (os, mid, chain, inr (below, d)) = (
+        os,
+        mid ++ more,
+        steps_stay law is more flag os tokens mid chain,
+        inr (below, lasts os is more flag mid y final d),
+      )
 
 pub chained_whole : {T O U : Type 0} (step : Step T O) (greatest : Option ℕ)
     (full last : List O → Does T U) → ((os : List O) → Whole (full os))

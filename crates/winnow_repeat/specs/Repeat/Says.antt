@@ -142,7 +142,8 @@ module _ {T O C : Type 0} {stable : Type 0} {alike : O → O → Type 0} {does :
             one_law.one at tokens y z d e
         one at tokens y z (inl (least, most, d)) (inr (other, e)) = absurd (other (least, most))
         one at tokens y z (inr (other, d)) (inl (least, most, e)) = absurd (other (least, most))
-        one at tokens y z (inr (other, d)) (inr (other2, e)) = (many_law bounds).one at tokens y z d e
+        one at tokens y z (inr (other, d)) (inr (other2, e)) =
+            (many_law bounds).one at tokens y z d e
 
         whole : Whole (RepeatDo does into bounds)
         whole at tokens need end is (inl (least, most, d)) =

@@ -22,8 +22,8 @@ abbrev pub stopped : {T O D C : Type 0} → Accumulator C O → C → List O →
 stopped {C = C} into before outputs d at tokens rest y =
     (all : C) × Accumulates into.takes before outputs all × (y ≡ took (all, d) rest)
 
--- what comes of the item of a turn, if it is the last: it takes nothing, or it takes some tokens and
--- there is no memory for it
+-- what comes of the item of a turn, if it is the last: it takes nothing, or it takes some tokens
+-- and there is no memory for it
 abbrev pub last_turn : {T O D C : Type 0} → Accumulator C O → C → List O → Next T O (C × D)
 last_turn into before outputs = where_took (λ o at tokens rest y.
     ((length rest < length tokens → ⊥) × (y ≡ misused at rest))

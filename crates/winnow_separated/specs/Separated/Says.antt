@@ -56,7 +56,8 @@ module _ {S W T O D : Type 0} {element : Does T O} {separator : Does T D} {s : S
     links_did bounds before i answer t j is
         (inr (outputs, u, m, some, chain, below, taken, ended, e)) =
         let did = items_did (LinkRuns (meaning at.form) (between at.form)) at
-        (λ i answer t j is r. (link_each part mid).did at i answer t j is r) outputs i u m is chain.runs in
+        (λ i answer t j is r. (link_each part mid).did at i answer t j is r) outputs i u m is
+        chain.runs in
         let P : S × W → Type 0 = λ x. SeparatesNothing (between at.form) x m t j in
         chained_did outputs did (did_wider (λ y d. inr (below, inr d))
         (nothing_did part mid at m answer t j (chain_at did is) (subst P did.kept ended) e))

@@ -78,7 +78,8 @@ impl<
     ghost leaves_ends = { λ form. repeat_till_ends I.reading (P.meaning form) (G.meaning form)
         C.accumulator (assert_kind form) (P.leaves_ends form) (G.leaves_ends form) };
 
-    ghost said = { λ s. repeat_till_said C.accumulator C.holds C.gathers s (P.said s.0) (G.said s.1) };
+    ghost said = { λ s. repeat_till_said C.accumulator C.holds C.gathers s (P.said s.0)
+        (G.said s.1) };
 
     ghost claimed = { λ s. record {
       exact = λ form is. repeat_till_exact C.accumulator (assert_kind form) s C.holds

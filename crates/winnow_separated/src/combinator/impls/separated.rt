@@ -79,7 +79,8 @@ impl<
     ghost leaves_ends = { λ form. separated_ends I.reading (P.meaning form) (S.meaning form)
         C.accumulator (assert_kind form) (P.leaves_ends form) (S.leaves_ends form) };
 
-    ghost said = { λ s. separated_said C.accumulator C.holds C.gathers s (P.said s.0) (S.said s.1) };
+    ghost said = { λ s. separated_said C.accumulator C.holds C.gathers s (P.said s.0)
+        (S.said s.1) };
 
     ghost claimed = { λ s. record {
       exact = λ form is. separated_exact C.accumulator (assert_kind form) s
