@@ -199,6 +199,16 @@ module _ {T O D C : Type 0} {first other : Type 0} {alike : O → O → Type 0}
   after_stay = links_stay (link_law p q) q (λ is. is.1) (no_link (λ d. element) q) into Also
       (links_within bounds)
 
+  none_held : (capacity : Option ℕ) (empty bare : C) → into.starts capacity empty
+      → into.starts capacity bare → HeldAlike holds alike empty bare
+  none_held capacity empty bare starts begins = (
+    [],
+    [],
+    keeps.held capacity empty empty [] starts (record { taken = refl }),
+    keeps.held capacity bare bare [] begins (record { taken = refl }),
+    tt,
+  )
+
   first_meets : (capacity : Option ℕ) (empty bare : C) → into.starts capacity empty
       → into.starts capacity bare
       → NextMeets {T = T} alike Also (first_element element separator into bounds empty)
@@ -234,15 +244,6 @@ module _ {T O D C : Type 0} {first other : Type 0} {alike : O → O → Type 0}
             (same, likes),
           )) at rest y z links others
 
-      none_held : HeldAlike holds alike empty bare
-      none_held = (
-        [],
-        [],
-        keeps.held capacity empty empty [] starts (record { taken = refl }),
-        keeps.held capacity bare bare [] begins (record { taken = refl }),
-        tt,
-      )
-
       back : (at : Setting) (tokens place : List T) (y z : Outcome T C)
           → ((bounds.least ≡ 0) × (y ≡ took empty tokens))
           ⊎ ((0 < bounds.least) × (y ≡ backs place))
@@ -250,7 +251,7 @@ module _ {T O D C : Type 0} {first other : Type 0} {alike : O → O → Type 0}
           ⊎ ((0 < bounds.least) × (z ≡ backs place))
           → Alike Also y z
       back at tokens place y z (inl (none, e)) (inl (none2, f)) =
-          both Also e f (none_held, refl)
+          both Also e f (none_held capacity empty bare starts begins, refl)
       back at tokens place y z (inl (none, e)) (inr (some, f)) =
           absurd (omega (arith, none, some))
       back at tokens place y z (inr (some, e)) (inl (none, f)) =
@@ -319,16 +320,7 @@ module _ {T O D C : Type 0} {first other : Type 0} {alike : O → O → Type 0}
       (ElementsDo element separator into bounds bare)
   elements_meet capacity empty bare starts begins at tokens y z (inl (none, e))
       (inl (none2, f)) =
-      both Also e f (
-        (
-          [],
-          [],
-          keeps.held capacity empty empty [] starts (record { taken = refl }),
-          keeps.held capacity bare bare [] begins (record { taken = refl }),
-          tt,
-        ),
-        refl,
-      )
+      both Also e f (none_held capacity empty bare starts begins, refl)
   elements_meet capacity empty bare starts begins at tokens y z (inl (none, e))
       (inr (below, d)) =
       full_is_below bounds.greatest 0 none below
