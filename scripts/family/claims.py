@@ -72,6 +72,8 @@ def claimed(n):
     return "\n".join([*lines, *("  %s = %s;" % field for field in fields.items()), "}"])
 
 
+# What decides them follows from what they say.
+DECIDED = "λ form is. decided_of I.reading leaves_ends (said s) form is"
 # Of a tuple of no members, and of one.
 NOTHING_CLAIMS = {
     "claim": record(
@@ -92,18 +94,10 @@ NOTHING_CLAIMS = {
             "exact": "λ form is. unit_exact",
             "fails": "λ form is. backs unit_fails",
             "takes": NEVER_TAKES,
-            "decided": "decided_of I.reading (λ form s i answer t j r. same_ends I.reading i j r.1) unit_said",
+            "decided": DECIDED,
         },
     ),
 }
-
-
-def ends(n):
-    """That a tuple of n parsers leaves an end."""
-    parts = "%s %s" % (spaced("(P#.meaning form)", n), spaced("(P#.leaves_ends form)", n))
-    return "(λ form. sequence%d_ends I.reading %s)" % (n, parts)
-
-
 CHILD = "(P1.meaning form) (record { 0 = s.0 })"
 ONE_CLAIMS = {
     "claim": record(
@@ -118,7 +112,7 @@ ONE_CLAIMS = {
             "exact": "λ form is. tuple1_exact %s ((P1.claimed s.0).exact form is)" % CHILD,
             "fails": "λ form is. tuple1_fails %s ((P1.claimed s.0).fails form is)" % CHILD,
             "takes": "λ is some. made_of_takes OneTuple tt ((P1.claimed s.0).takes is some)",
-            "decided": "decided_of I.reading %s (one_said (P1.said s.0))" % ends(1),
+            "decided": DECIDED,
         },
     ),
 }
@@ -133,7 +127,7 @@ def member_claims(n):
     if n == 1:
         return members | ONE_CLAIMS
     claim = "%s_claim %s (%s)" % (word, spaced("(P#.claim s.@)", n), says)
-    claimed = "%s_claimed I.reading %s %s (%s)" % (word, ends(n), spaced("(P#.claimed s.@)", n), said)
+    claimed = "%s_claimed I.reading leaves_ends %s (said s)" % (word, spaced("(P#.claimed s.@)", n))
     return members | {"claim": member % ("claim", claim), "claimed": member % ("claimed", claimed)}
 
 

@@ -5,9 +5,7 @@ use Rattle.streams.specs.Kind.{memory}
 use Rattle.stream_errors.specs.Form.{Answer}
 use Rattle.winnow_core.specs.Runs.{Runs}
 pub mod Adapters
-pub mod Errors
 pub mod Inputs
-pub mod Made
 
 -- The answer is no want of memory.
 abbrev pub NotMemory : {O : Type 0} → Answer O → Type 0

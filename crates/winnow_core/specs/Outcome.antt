@@ -7,7 +7,8 @@ use Rattle.stream_errors.specs.Form.{Answer, ErrorForm, plain, modal}
 pub mod Errors
 
 -- It takes some tokens and returns an output; it fails, and lets other branches be tried or not; it
--- asks for so much more input, where that is known; or it is out of memory. The list is what is then
+-- asks for so much more input, where that is known; or it is out of memory. The list is what is
+-- then
 -- left.
 pub data Outcome (T O : Type 0) : Type 0 where
   took : O → List T → Outcome T O

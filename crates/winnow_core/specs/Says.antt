@@ -3,7 +3,8 @@ use Rattle.std.specs.Prelude.{◌≡◌, Bool, true, false, List, ◌++◌, ℕ,
 use Rattle.std.proofs.Common.{refl, subst, ap, ◌∙◌}
 use Rattle.streams.specs.Input.{Input}
 use Rattle.stream_errors.specs.Form.{Answer, ErrorForm, modal}
-use Rattle.winnow_core.specs.Outcome.{Outcome, asks, Setting, on_cut, grown, Does, outcome_of, IsFinal}
+use Rattle.winnow_core.specs.Outcome.{Outcome, asks, Setting, on_cut, grown, Does, outcome_of}
+use Rattle.winnow_core.specs.Outcome.{IsFinal}
 use Rattle.winnow_core.specs.Outcome.{longer, Alike}
 use Rattle.winnow_core.specs.Runs.{Meaning}
 pub mod Along

@@ -4,7 +4,8 @@ use Rattle.std.proofs.Common.{refl, sym, subst, ap, ◌∙◌}
 use Rattle.streams.specs.Input.{Input, back_at}
 use Rattle.streams.specs.Kind.{Kind, backtrack, cut, incomplete, memory}
 use Rattle.stream_errors.specs.Form.{Answer}
-use Rattle.winnow_core.specs.Outcome.{Outcome, took, backs, cuts, asks, wants, Setting, on_cut, grown}
+use Rattle.winnow_core.specs.Outcome.{Outcome, took, backs, cuts, asks, wants, Setting, on_cut}
+use Rattle.winnow_core.specs.Outcome.{grown}
 use Rattle.winnow_core.specs.Outcome.{Does, IsFinal, longer, Alike, alike_wants, by_alike, both}
 use Rattle.winnow_core.specs.Outcome.{final_by, gave, outcome_of}
 use Rattle.winnow_core.specs.Says.{Did, Lawful}

@@ -1,7 +1,8 @@
 -- What a parser of the tokens after a length says that it does.
 use Rattle.std.specs.Prelude.{◌≡◌, ◌⊎◌, ◌<◌, ◌-◌, ℕ, Bool, false, List, ◌++◌, length, Option}
 use Rattle.std.specs.Prelude.{Err, Ok}
-use Rattle.std.proofs.Common.{append_assoc, arith, inl, inr, length-append, refl, sym, ap, subst, ◌∙◌}
+use Rattle.std.proofs.Common.{append_assoc, arith, inl, inr, length-append, refl, sym, ap, subst}
+use Rattle.std.proofs.Common.{◌∙◌}
 use Rattle.streams.specs.Equal.{same_rest}
 use Rattle.streams.specs.Input.{Input, Passes}
 use Rattle.streams.specs.Kind.{backtrack, cut, incomplete, memory}
@@ -9,8 +10,10 @@ use Rattle.streams.specs.Reading.{Reading}
 use Rattle.stream_errors.specs.Form.{Answer}
 use Rattle.winnow_core.specs.CompleteErr.Says.{complete_err_said, complete_err_says}
 use Rattle.winnow_core.specs.Decided.Adapters.{as_long_front}
-use Rattle.winnow_core.specs.Outcome.{Alike, Does, IsFinal, Outcome, Setting, alike_wants, as_longer}
-use Rattle.winnow_core.specs.Outcome.{asks, backs, both, by_alike, cuts, gave, grown, longer, on_cut}
+use Rattle.winnow_core.specs.Outcome.{Alike, Does, IsFinal, Outcome, Setting, alike_wants}
+use Rattle.winnow_core.specs.Outcome.{as_longer}
+use Rattle.winnow_core.specs.Outcome.{asks, backs, both, by_alike, cuts, gave, grown, longer}
+use Rattle.winnow_core.specs.Outcome.{on_cut}
 use Rattle.winnow_core.specs.Outcome.{outcome_of, took, wants}
 use Rattle.winnow_core.specs.Runs.{Meaning}
 use Rattle.winnow_core.specs.Says.{Did, EachDoes, IsAt, Lawful, Said, Says, did_as}

@@ -15,7 +15,8 @@ use Rattle.winnow_binary.specs.LengthTake.{LengthTakeRuns}
 abbrev pub length_take_says : {T N L : Type 0} → (N → ℕ) → Reading T L → Bool → Says T N
     → Says T L
 length_take_says number reading counts p =
-    length_says number (λ n. (take_says reading counts n).does) (p.premise × OneLength number p.alike)
+    length_says number (λ n. (take_says reading counts n).does)
+    (p.premise × OneLength number p.alike)
     ⊤ (ShowSame reading) p
 
 pub length_take_said : {S T N L : Type 0} (number : N → ℕ) (reading : Reading T L)

@@ -1,17 +1,15 @@
 -- Parsers that answer places are decided.
 use Rattle.std.specs.Prelude.{◌≡◌, ℕ, List, [], ◌∷◌, ◌++◌, length, Ok, Err}
 use Rattle.std.specs.declared.ops.Range.{Range}
-use Rattle.std.proofs.Common.{refl, sym, ap, subst, inl, inr, ◌∙◌, arith, length-append}
+use Rattle.std.proofs.Common.{refl, sym, ap, subst, inl, inr, ◌∙◌, arith}
 use Rattle.streams.specs.Equal.{same_first, same_others}
 use Rattle.streams.specs.Input.{Input}
 use Rattle.stream_errors.specs.Form.{Answer}
-use Rattle.winnow_core.specs.ByRef.{ByRefRuns}
 use Rattle.winnow_core.specs.Decided.{AlikeAnswers, IsDecided, NotMemory}
 use Rattle.winnow_core.specs.Decided.Inputs.{both_err, both_ok, err_not_memory, ok_not_memory}
 use Rattle.winnow_core.specs.MakesOutput.{MakesOutput}
 use Rattle.winnow_core.specs.Runs.{Runs}
 use Rattle.winnow_core.specs.Span.{SpanRuns, places}
-use Rattle.winnow_core.specs.States.{pair_is}
 use Rattle.winnow_core.specs.WithSpan.{WithSpanRuns}
 
 -- an output made of another, and of where that was read
@@ -63,17 +61,6 @@ module _ {S T O : Type 0} {run : Runs S T O} {s : S} {alike : O → O → Type 0
       let P : O → Type 0 = λ z. alike z v.0 in
       let Q : O → Type 0 = λ z. alike o z in
       (subst P (sym x.0) (subst Q (sym y.0) like), x.1 ∙ sym y.1)) c
-
--- ---- a parser after a reference
-
-pub by_ref_decided : {S T O : Type 0} {run : Runs S T O} {s : S × ℕ} {alike : O → O → Type 0}
-    → IsDecided s.0 run alike → IsDecided s (ByRefRuns run) alike
-by_ref_decided {s = s} c = record {
-  kept = λ i answer t j free (r, name).
-      let (same, still) = c.kept i answer t.0 j free r in
-      (pair_is same name, still);
-  decided = λ i a b t u j k na nb (r, name) (q, name2). c.decided i a b t.0 u.0 j k na nb r q;
-}
 
 -- ---- tokens
 

@@ -1,15 +1,13 @@
 -- What decides where an input stands, and what answers are.
-use Rattle.std.specs.Prelude.{◌≡◌, ℕ, Bool, List, [], ◌∷◌, ◌++◌, Option, Ok, Err}
-use Rattle.std.proofs.Common.{refl, sym, ap, subst, inl, inr, ◌∙◌, arith}
-use Rattle.streams.specs.Equal.{same_first, same_others, same_rest, true_is_false}
+use Rattle.std.specs.Prelude.{◌≡◌, Bool, List, [], ◌∷◌, ◌++◌, Ok, Err}
+use Rattle.std.proofs.Common.{refl, sym, ap, subst, ◌∙◌, arith}
+use Rattle.streams.specs.Equal.{same_first, same_others, same_rest}
 use Rattle.streams.specs.Input.{Input, Passes, Status}
-use Rattle.streams.specs.Kind.{Kind, memory, backtrack}
+use Rattle.streams.specs.Kind.{Kind, memory}
 use Rattle.streams.specs.Place.{Place}
 use Rattle.streams.specs.Reading.{Reading, units-nil}
-use Rattle.stream_errors.specs.Form.{Answer, ErrorForm}
-use Rattle.winnow_core.specs.Decided.{AlikeAnswers, IsDecided, NotMemory}
-use Rattle.winnow_core.specs.Runs.{Runs}
-use Rattle.winnow_core.specs.Short.{ShortKind}
+use Rattle.stream_errors.specs.Form.{Answer}
+use Rattle.winnow_core.specs.Decided.{AlikeAnswers, NotMemory}
 
 -- inputs that are the same in each part are the same
 same_parts : {T : Type 0} (a b : Input T) → a.left.tokens ≡ b.left.tokens
@@ -78,25 +76,3 @@ widened alike also more (Ok o) (Ok p) like = more o p like
 widened alike also more (Ok o) (Err l) like = like
 widened alike also more (Err k) (Ok p) like = like
 widened alike also more (Err k) (Err l) like = like
-
--- and runs are decided
-pub decided_as : {S T O : Type 0} {s : S} {run : Runs S T O} {alike also : O → O → Type 0}
-    → ((o p : O) → alike o p → also o p) → IsDecided s run alike → IsDecided s run also
-decided_as {alike = alike} {also = also} more c = record {
-  kept = c.kept;
-  decided = λ i a b t u j k na nb r q.
-      let (same, place) = c.decided i a b t u j k na nb r q in
-      (widened alike also more a b same, place);
-}
-
--- a backtrack is no want of memory
-pub back_not_memory : {O : Type 0} → NotMemory {O = O} (Err backtrack)
-back_not_memory e = cc
-
--- the kind of an error for want of more input is one
-pub one_short : {T : Type 0} (form : ErrorForm) (need : Option ℕ) (i : Input T) (k l : Kind)
-    → ShortKind form need i k → ShortKind form need i l → k ≡ l
-one_short form need i k l (inl (cut, e)) (inl (cut2, f)) = e ∙ sym f
-one_short form need i k l (inl (cut, e)) (inr (whole, f)) = true_is_false (sym cut ∙ whole)
-one_short form need i k l (inr (whole, e)) (inl (cut, f)) = true_is_false (sym cut ∙ whole)
-one_short form need i k l (inr (whole, e)) (inr (whole2, f)) = e ∙ sym f

@@ -1,5 +1,5 @@
 -- What a parser says that it does, whose output decides what is parsed next.
-use Rattle.std.specs.Prelude.{Ok, Err}
+use Rattle.std.specs.Prelude.{◌≡◌, Ok, Err}
 use Rattle.std.proofs.Common.{sym, subst, inl, inr, ◌∙◌}
 use Rattle.streams.specs.Input.{Input}
 use Rattle.grammars.specs.Grammar.Decided.{EachMade}
@@ -43,25 +43,26 @@ pub flat_map_said : {S G T O U H V : Type 0} {says : Says T O} {s : S × G} {mea
     (next : V → Says T U) → Said says s.0 meaning → ((v : V) → Said (next v) v second)
     → Said (flat_map_says step s.1 state next says) s
     (λ form. FlatMapRuns step state (meaning form) (second form))
-flat_map_said {S} {G} {T} {O} {U} {H} {V} {says} {s} {meaning} {second} step state next p q = record {
-  runs = λ is. record { did = did is (p.runs is.0) };
-  law = λ is. then_law (p.law is.0)
-      (meets_where (λ o r like. record {
-        one = λ at tokens mid y z (m, x, d) (n, w, e).
-            alike_wider (λ u v like. (o, m, x, like)) y z
-            (((q (state m)).law (is.3 o m x)).one at mid y z d
-            (subst (λ v. (next v).does at mid z) (sym (is.2 o r m n like x w)) e));
-      }))
-      (holds_where (λ o. record {
-        whole = λ at tokens mid need end whole (m, x, d).
-            ((q (state m)).law (is.3 o m x)).whole at mid need end whole d;
-        stays = λ stable more flag tokens mid y final (m, x, d). (
-          m,
-          x,
-          ((q (state m)).law (is.3 o m x)).stays (stable.1 o m x) more flag mid y final d,
-        );
-      })) (λ stable. stable.0);
-}
+flat_map_said {S} {G} {T} {O} {U} {H} {V} {says} {s} {meaning} {second} step state next p q =
+    record {
+      runs = λ is. record { did = did is (p.runs is.0) };
+      law = λ is. then_law (p.law is.0)
+          (meets_where (λ o r like. record {
+            one = λ at tokens mid y z (m, x, d) (n, w, e).
+                alike_wider (λ u v like. (o, m, x, like)) y z
+                (((q (state m)).law (is.3 o m x)).one at mid y z d
+                (subst (λ v. (next v).does at mid z) (sym (is.2 o r m n like x w)) e));
+          }))
+          (holds_where (λ o. record {
+            whole = λ at tokens mid need end whole (m, x, d).
+                ((q (state m)).law (is.3 o m x)).whole at mid need end whole d;
+            stays = λ stable more flag tokens mid y final (m, x, d). (
+              m,
+              x,
+              ((q (state m)).law (is.3 o m x)).stays (stable.1 o m x) more flag mid y final d,
+            );
+          })) (λ stable. stable.0);
+    }
   where
     did : (flat_map_says step s.1 state next says).premise → EachDoes says.does s.0 meaning
         → (at : Setting) (i : Input T) (answer : Answer U) (t : S × G) (j : Input T) → IsAt at i

@@ -93,7 +93,8 @@ abbrev pub both_says : {T O1 O2 O : Type 0} → (O1 → O2 → O) → (O → O �
 both_says output alike p1 p2 = record {
   premise = p1.premise × p2.premise;
   stable = p1.stable × p2.stable;
-  does = Then p1.does (where_took (λ o1. and_then p2.does (where_took (λ o2. takes (output o1 o2)))));
+  does = Then p1.does
+      (where_took (λ o1. and_then p2.does (where_took (λ o2. takes (output o1 o2)))));
   alike = alike;
 }
 

@@ -26,7 +26,8 @@ pub map_said : {S G T O U : Type 0} {says : Says T O} {s : S × G} {meaning : Me
     → Said (map_says step s.1 says) s (λ form. MapRuns (meaning form) step)
 map_said {S} {G} {T} {O} {U} {says} {s} {meaning} step p = record {
   runs = λ is. record { did = did is.1 (p.runs is.0) };
-  law = λ is. made_law (made_of (Gives step s.1) (λ o q u v like x y. (o, q, like, x, y))) (p.law is.0);
+  law = λ is. made_law (made_of (Gives step s.1) (λ o q u v like x y. (o, q, like, x, y)))
+      (p.law is.0);
 }
   where
     did : Stays step s.1 → EachDoes says.does s.0 meaning → (at : Setting) (i : Input T)

@@ -46,7 +46,8 @@ module _ {O : Type 0} (width : ℕ) (value : List ℕ → O) where
       enough tokens f rest split many few
   one at tokens x y (inr (few, e)) (inl (g, end, split, many, are, d)) =
       enough tokens g end split many few
-  one at tokens x y (inr (few, e)) (inr (few2, d)) = both (λ o p. o ≡ p) e d (lacks_alike (λ o p. o ≡ p) at _ tokens)
+  one at tokens x y (inr (few, e)) (inr (few2, d)) =
+      both (λ o p. o ≡ p) e d (lacks_alike (λ o p. o ≡ p) at _ tokens)
 
   whole : (at : Setting) (tokens : List ℕ) (need : Option ℕ) (place : List ℕ)
       → at.more ≡ false → IntegerDoes at tokens (asks need place) → ⊥

@@ -71,7 +71,8 @@ impl<
     ghost leaves_ends = { λ form. length_and_then_ends N.number I.reading form I.counts_missing
         (P.meaning form) (G.meaning form) (P.leaves_ends form) };
 
-    ghost said = { λ s. length_and_then_said N.number I.reading I.counts_missing (P.said s.0) (G.said s.1) };
+    ghost said = { λ s. length_and_then_said N.number I.reading I.counts_missing (P.said s.0)
+        (G.said s.1) };
 
     ghost claimed = { λ s. record {
       exact = λ form is. length_and_then_exact N.number I.reading form I.counts_missing is.1

@@ -56,7 +56,8 @@ impl<
     ghost meaning = { λ form. LengthRepeatRuns N.number C.accumulator (assert_kind form)
         (P.meaning form) (G.meaning form) };
 
-    ghost says = { λ s. length_repeat_says N.number C.accumulator C.holds (P.says s.0) (G.says s.1) };
+    ghost says = { λ s. length_repeat_says N.number C.accumulator C.holds (P.says s.0)
+        (G.says s.1) };
 
     ghost claim = { λ s. record {
       premise = (P.claim s.0).premise × SaysOne N.number (P.claim s.0).grammar
@@ -75,7 +76,8 @@ impl<
         (assert_kind form) (P.meaning form) (G.meaning form) (P.leaves_ends form)
         (G.leaves_ends form) };
 
-    ghost said = { λ s. length_repeat_said N.number C.accumulator C.holds C.gathers (P.said s.0) (G.said s.1) };
+    ghost said = { λ s. length_repeat_said N.number C.accumulator C.holds C.gathers (P.said s.0)
+        (G.said s.1) };
 
     ghost claimed = { λ s. record {
       exact = λ form is. length_repeat_exact N.number C.accumulator (assert_kind form) s

@@ -11,7 +11,7 @@ ghost use Rattle.winnow_core.specs.Exact.Settled.{NoneWithin, ReadsWithin, and_t
 ghost use Rattle.winnow_core.specs.Exact.Settled.{and_then_fails};
 ghost use Rattle.winnow_core.specs.Settles.Laws.{settles_ends, settles_grows};
 ghost use Rattle.winnow_core.specs.Stable.Grows.{grows, stays};
-ghost use Rattle.winnow_core.specs.AndThen.Says.{and_then_said, and_then_says};
+ghost use Rattle.winnow_core.specs.AndThen.Says.{OneInput, and_then_said, and_then_says};
 ghost use Rattle.winnow_core.specs.Says.Decided.{decided_of};
 
 use crate::parser::Parser;
@@ -73,8 +73,9 @@ impl<
       spares_memory = (F.claim s.0).spares_memory × (G.claim s.1).spares_memory;
       consumes = (F.claim s.0).consumes;
       grammar = Made (ReadsWithin O.view (G.claim s.1).grammar) tt (F.claim s.0).grammar;
-      decides = (says s).premise;
-      alike = (says s).alike;
+      decides = (F.says s.0).premise × OneInput O.view (F.says s.0).alike
+          × (G.says s.1).premise;
+      alike = (G.says s.1).alike;
     } };
 
     ghost leaves_ends = { λ form. settles_ends I.reading

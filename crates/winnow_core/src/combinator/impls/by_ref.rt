@@ -56,8 +56,7 @@ impl<'p, P: Parser<I, O, E>, I: Stream, O, E: ParserError<I>> Parser<I, O, E>
       exact = λ form is. by_ref_exact ((P.claimed s.0).exact form is);
       fails = λ form is. by_ref_fails ((P.claimed s.0).fails form is);
       takes = λ is some. (P.claimed s.0).takes is some;
-      decided = decided_of I.reading (λ form x i answer y j r.
-          P.leaves_ends form x.0 i answer y.0 j r.0) (by_ref_said (P.said s.0));
+      decided = λ form is. decided_of I.reading leaves_ends (said s) form is;
     } };
 
     #[inline(always)]

@@ -55,8 +55,8 @@ impl<F: Parser<I, O, E>, I: Stream, O, E: ParserError<I>> Parser<I, O, E>
       spares_memory = (F.claim s).spares_memory;
       consumes = (F.claim s).consumes;
       grammar = (F.claim s).grammar;
-      decides = (says s).premise;
-      alike = (says s).alike;
+      decides = (F.says s).premise;
+      alike = (F.says s).alike;
     } };
 
     ghost leaves_ends = { λ form s i answer t j ran. makes_error_ends I.reading

@@ -80,8 +80,8 @@ impl<
           (F.claim s.0).spares_memory × C.is_infallible s.1.0 × NeverRefused C.is_clone s.1;
       consumes = (F.claim s.0).consumes;
       grammar = (F.claim s.0).grammar;
-      decides = (says s).premise;
-      alike = (says s).alike;
+      decides = (F.says s.0).premise;
+      alike = (F.says s.0).alike;
     } };
 
     ghost leaves_ends = { λ form. makes_error_ends I.reading

@@ -60,8 +60,8 @@ impl<F: Parser<I, O, E>, I: Stream, O: Drop, O2: Default, E: ParserError<I>> Par
       spares_memory = (F.claim s).spares_memory;
       consumes = (F.claim s).consumes;
       grammar = Made (λ (_ : Unit {0}) o u. O2.is_default u) tt (F.claim s).grammar;
-      decides = (says s).premise;
-      alike = (says s).alike;
+      decides = (F.says s).premise;
+      alike = λ u v. O2.is_default u × O2.is_default v;
     } };
 
     ghost leaves_ends = { λ form. makes_output_ends I.reading _ (F.meaning form)

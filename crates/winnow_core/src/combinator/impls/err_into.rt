@@ -61,8 +61,8 @@ impl<F: Parser<I, O, E>, I: Stream, O, E: ParserError<I>, E2: ParserError<I> + F
           (F.claim s).spares_memory × ConvertsSparing E.kind E2.kind E2.from_gives;
       consumes = (F.claim s).consumes;
       grammar = (F.claim s).grammar;
-      decides = (says s).premise;
-      alike = (says s).alike;
+      decides = (F.says s).premise × SameKinds E.kind E2.kind E2.from_gives;
+      alike = (F.says s).alike;
     } };
 
     ghost leaves_ends = { λ _ s i answer t j ran. makes_error_ends I.reading

@@ -11,7 +11,8 @@ ghost use Rattle.winnow_core.specs.FlatMap.{flat_map_parser};
 ghost use Rattle.winnow_core.specs.FlatMap.Laws.{flat_map_exact, flat_map_fails, flat_map_ends};
 ghost use Rattle.winnow_core.specs.FlatMap.Laws.{flat_map_grows};
 ghost use Rattle.winnow_core.specs.Stable.Grows.{grows, stays};
-ghost use Rattle.winnow_core.specs.FlatMap.Says.{flat_map_said, flat_map_says};
+ghost use Rattle.winnow_core.specs.FlatMap.Says.{AlikeByMade, MakesOne, flat_map_said};
+ghost use Rattle.winnow_core.specs.FlatMap.Says.{flat_map_says};
 ghost use Rattle.winnow_core.specs.Says.Decided.{decided_of};
 
 use crate::parser::Parser;
@@ -83,8 +84,10 @@ impl<
           ⊎ EachMade (Gives G.step) s.1 (λ m. (H.claim (H.state m)).consumes);
       grammar = FlatMapped (Gives G.step) s.1 (λ m. (H.claim (H.state m)).grammar)
           (F.claim s.0).grammar;
-      decides = (says s).premise;
-      alike = (says s).alike;
+      decides = (F.says s.0).premise × Stays G.step s.1
+          × MakesOne G.step s.1 H.state (F.says s.0).alike
+          × EachMade (Gives G.step) s.1 (λ m. (H.says (H.state m)).premise);
+      alike = AlikeByMade G.step s.1 (λ m. (H.says (H.state m)).alike);
     } };
 
     ghost leaves_ends = { λ form. flat_map_ends I.reading G.step H.state (F.meaning form)

@@ -10,6 +10,7 @@ ghost use Rattle.winnow_core.specs.Map.Laws.{map_ends, map_grows};
 ghost use Rattle.winnow_core.specs.Stable.Grows.{grows, stays};
 ghost use Rattle.winnow_core.specs.Map.Says.{map_said, map_says};
 ghost use Rattle.winnow_core.specs.Says.Decided.{decided_of};
+ghost use Rattle.winnow_core.specs.MakesOutput.Says.{OutputsMadeAlike};
 
 use crate::parser::Parser;
 use crate::stable::Stable;
@@ -62,8 +63,8 @@ impl<F: Parser<I, O, E>, G: FnMut(O) -> O2, I: Stream, O, O2, E: ParserError<I>>
       spares_memory = (F.claim s.0).spares_memory;
       consumes = (F.claim s.0).consumes;
       grammar = Made (Gives G.step) s.1 (F.claim s.0).grammar;
-      decides = (says s).premise;
-      alike = (says s).alike;
+      decides = (F.says s.0).premise × Stays G.step s.1;
+      alike = OutputsMadeAlike (F.says s.0).alike (Gives G.step s.1);
     } };
 
     ghost leaves_ends = { λ form. map_ends I.reading (F.meaning form) G.step (F.leaves_ends form) };

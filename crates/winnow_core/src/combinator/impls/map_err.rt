@@ -70,8 +70,8 @@ impl<
       spares_memory = (F.claim s.0).spares_memory;
       consumes = (F.claim s.0).consumes;
       grammar = (F.claim s.0).grammar;
-      decides = (says s).premise;
-      alike = (says s).alike;
+      decides = (F.says s.0).premise × Stays G.step s.1 × KeepsEachKind E.kind E2.kind G.step;
+      alike = (F.says s.0).alike;
     } };
 
     ghost leaves_ends = { λ _. makes_error_ends I.reading (MapErrBecomes E.kind E2.kind G.step)

@@ -9,7 +9,7 @@ ghost use Rattle.winnow_core.specs.MapErrKept.{map_err_kept_closure, map_err_kep
 ghost use Rattle.winnow_core.specs.MapErrKept.{map_err_kept_parser};
 ghost use Rattle.winnow_core.specs.Stable.Grows.{grows, stays};
 ghost use Rattle.winnow_core.specs.MakesError.Says.{turned_said, turned_says};
-ghost use Rattle.winnow_core.specs.Exact.Errors.{map_err_kept_keeps};
+ghost use Rattle.winnow_core.specs.Exact.Errors.{map_err_kept_keeps as kinds_stay};
 ghost use Rattle.winnow_core.specs.Says.Decided.{decided_of};
 
 use crate::parser::Parser;
@@ -75,15 +75,15 @@ impl<
       spares_memory = (F.claim s.0).spares_memory;
       consumes = (F.claim s.0).consumes;
       grammar = (F.claim s.0).grammar;
-      decides = (says s).premise;
-      alike = (says s).alike;
+      decides = (F.says s.0).premise × Stays G.step s.1;
+      alike = (F.says s.0).alike;
     } };
 
     ghost leaves_ends = { λ form. makes_error_ends I.reading
         (MapErrKeptBecomes E.kind E2.kind G.step) (F.meaning form) (F.leaves_ends form) };
 
     ghost said = { λ s. turned_said (MapErrKeptBecomes E.kind E2.kind G.step) (λ is. is.0)
-        (λ is. map_err_kept_keeps E.kind E2.kind G.step is.1) (F.said s.0) };
+        (λ is. kinds_stay E.kind E2.kind G.step is.1) (F.said s.0) };
 
     ghost claimed = { λ s. record {
       exact = λ form is. map_err_kept_exact E.kind E2.kind G.step is.1

@@ -8,7 +8,8 @@ ghost use Rattle.winnow_core.specs.MakesOutput.Laws.{makes_output_ends, made_of_
 ghost use Rattle.winnow_core.specs.MakesOutput.Laws.{makes_output_grows};
 ghost use Rattle.winnow_core.specs.OutputInto.{OutputIntoRuns, output_into_parser};
 ghost use Rattle.winnow_core.specs.Stable.Grows.{grows, stays};
-ghost use Rattle.winnow_core.specs.MakesOutput.Says.{OutputsMadeAlike, of_output_said, of_output_says};
+ghost use Rattle.winnow_core.specs.MakesOutput.Says.{OutputsMadeAlike, of_output_said};
+ghost use Rattle.winnow_core.specs.MakesOutput.Says.{of_output_says};
 ghost use Rattle.winnow_core.specs.Says.Decided.{decided_of};
 
 use crate::parser::Parser;
@@ -60,8 +61,8 @@ impl<F: Parser<I, O, E>, I: Stream, O, O2: From<O>, E: ParserError<I>> Parser<I,
       spares_memory = (F.claim s).spares_memory;
       consumes = (F.claim s).consumes;
       grammar = Made (λ (_ : Unit {0}) o u. O2.from_gives o u) tt (F.claim s).grammar;
-      decides = (says s).premise;
-      alike = (says s).alike;
+      decides = (F.says s).premise;
+      alike = OutputsMadeAlike (F.says s).alike (λ o u. O2.from_gives o u);
     } };
 
     ghost leaves_ends = { λ form. makes_output_ends I.reading _ (F.meaning form)

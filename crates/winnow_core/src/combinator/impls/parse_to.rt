@@ -9,8 +9,9 @@ ghost use Rattle.winnow_core.specs.Exact.Settled.{parse_to_fails};
 ghost use Rattle.winnow_core.specs.ParseTo.{ParseToSettles, ParseToRuns, parse_to_parser};
 ghost use Rattle.winnow_core.specs.Settles.Laws.{settles_ends, settles_grows};
 ghost use Rattle.winnow_core.specs.Stable.Grows.{grows, stays_beside};
-ghost use Rattle.winnow_core.specs.ParseTo.Says.{parse_to_said, parse_to_says};
+ghost use Rattle.winnow_core.specs.ParseTo.Says.{ReadsSame, parse_to_said, parse_to_says};
 ghost use Rattle.winnow_core.specs.Says.Decided.{decided_of};
+ghost use Rattle.winnow_core.specs.MakesOutput.Says.{OutputsMadeAlike};
 
 use crate::parser::Parser;
 use crate::stable::Stable;
@@ -65,8 +66,8 @@ impl<F: Parser<I, O, E>, I: Stream, O: ParseSlice<O2> + Drop, O2, E: ParserError
       spares_memory = (F.claim s).spares_memory;
       consumes = (F.claim s).consumes;
       grammar = Made (ReadsSome O.reads) tt (F.claim s).grammar;
-      decides = (says s).premise;
-      alike = (says s).alike;
+      decides = (F.says s).premise × ReadsSame O.reads (F.says s).alike;
+      alike = OutputsMadeAlike (F.says s).alike (λ o u. O.reads o (Some u));
     } };
 
     ghost leaves_ends = { λ form s i answer t j ran. settles_ends I.reading

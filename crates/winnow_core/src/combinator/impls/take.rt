@@ -9,6 +9,7 @@ ghost use Rattle.winnow_core.specs.Take.{TakeRuns, take_parser};
 ghost use Rattle.winnow_core.specs.Take.Laws.{take_ends, take_adapter_grows};
 ghost use Rattle.winnow_core.specs.Take.Says.{take_said, take_says};
 ghost use Rattle.winnow_core.specs.Says.Decided.{decided_of};
+ghost use Rattle.winnow_core.specs.Literal.Laws.{ShowSame};
 
 use crate::parser::Parser;
 use crate::stable::Stable;
@@ -58,8 +59,8 @@ impl<F: Parser<I, O, E>, I: Stream, O: Drop, E: ParserError<I>> Parser<I, I::Sli
       spares_memory = (F.claim s).spares_memory;
       consumes = (F.claim s).consumes;
       grammar = Taken I.reading (F.claim s).grammar;
-      decides = (says s).premise;
-      alike = (says s).alike;
+      decides = (F.says s).premise;
+      alike = ShowSame I.reading;
     } };
 
     ghost leaves_ends = { λ form. take_ends I.reading (F.meaning form) (F.leaves_ends form) };

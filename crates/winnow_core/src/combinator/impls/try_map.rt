@@ -13,8 +13,9 @@ ghost use Rattle.winnow_core.specs.Settles.Laws.{settles_ends, settles_grows};
 ghost use Rattle.winnow_core.specs.Stable.Grows.{grows, stays};
 ghost use Rattle.winnow_core.specs.TryMap.{TryMapSettles, TryMapRuns, try_map_closure};
 ghost use Rattle.winnow_core.specs.TryMap.{try_map_parser};
-ghost use Rattle.winnow_core.specs.TryMap.Says.{try_map_said, try_map_says};
+ghost use Rattle.winnow_core.specs.TryMap.Says.{TriesSame, try_map_said, try_map_says};
 ghost use Rattle.winnow_core.specs.Says.Decided.{decided_of};
+ghost use Rattle.winnow_core.specs.MakesOutput.Says.{OutputsMadeAlike};
 
 use crate::parser::Parser;
 use crate::stable::Stable;
@@ -76,8 +77,9 @@ impl<
       spares_memory = (F.claim s.0).spares_memory × ErrorsKept s.1.1;
       consumes = (F.claim s.0).consumes;
       grammar = Made (GivesOk G.step) s.1.0 (F.claim s.0).grammar;
-      decides = (says s).premise;
-      alike = (says s).alike;
+      decides = (F.says s.0).premise × Stays G.step s.1.0
+          × TriesSame G.step s.1.0 (F.says s.0).alike;
+      alike = OutputsMadeAlike (F.says s.0).alike (GivesOk G.step s.1.0);
     } };
 
     ghost leaves_ends = { λ form. settles_ends I.reading

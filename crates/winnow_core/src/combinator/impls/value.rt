@@ -8,7 +8,7 @@ ghost use Rattle.winnow_core.specs.Exact.Allowed.{fails_as, wanted};
 ghost use Rattle.winnow_core.specs.Stable.Grows.{grows, stays};
 ghost use Rattle.winnow_core.specs.Value.{ValueRuns, value_kept, value_parser};
 ghost use Rattle.winnow_core.specs.Value.Laws.{value_ends, value_grows};
-ghost use Rattle.winnow_core.specs.Value.Says.{value_said, value_says};
+ghost use Rattle.winnow_core.specs.Value.Says.{BothClones, value_said, value_says};
 ghost use Rattle.winnow_core.specs.Says.Decided.{decided_of};
 
 use crate::parser::Parser;
@@ -61,8 +61,8 @@ impl<F: Parser<I, O, E>, I: Stream, O: Drop, O2: Clone, E: ParserError<I>> Parse
       spares_memory = (F.claim s.0).spares_memory × O2.is_infallible s.1;
       consumes = (F.claim s.0).consumes;
       grammar = Made (λ v o u. O2.is_clone v u) s.1 (F.claim s.0).grammar;
-      decides = (says s).premise;
-      alike = (says s).alike;
+      decides = (F.says s.0).premise;
+      alike = BothClones O2.is_clone s.1;
     } };
 
     ghost leaves_ends = { λ form. value_ends I.reading O2.is_clone O2.is_infallible

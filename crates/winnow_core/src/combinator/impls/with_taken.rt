@@ -10,6 +10,8 @@ ghost use Rattle.winnow_core.specs.WithTaken.{WithTakenRuns, with_taken_parser};
 ghost use Rattle.winnow_core.specs.WithTaken.Laws.{made_with_taken};
 ghost use Rattle.winnow_core.specs.WithTaken.Says.{with_taken_said, with_taken_says};
 ghost use Rattle.winnow_core.specs.Says.Decided.{decided_of};
+ghost use Rattle.winnow_core.specs.InOrder.Decided.{AlikePairs};
+ghost use Rattle.winnow_core.specs.Literal.Laws.{ShowSame};
 
 use crate::combinator::impls::take::slice_from;
 use crate::parser::Parser;
@@ -60,8 +62,8 @@ impl<F: Parser<I, O, E>, I: Stream, O, E: ParserError<I>> Parser<I, (O, I::Slice
       spares_memory = (F.claim s).spares_memory;
       consumes = (F.claim s).consumes;
       grammar = AndTaken I.reading (F.claim s).grammar;
-      decides = (says s).premise;
-      alike = (says s).alike;
+      decides = (F.says s).premise;
+      alike = AlikePairs (F.says s).alike (ShowSame I.reading);
     } };
 
     ghost leaves_ends = { λ form. makes_output_ends I.reading _ (F.meaning form)
