@@ -36,8 +36,8 @@ abbrev pub IsRefused : {O C : Type 0} → Accumulator C O → C → List O → O
 IsRefused {C = C} into before outputs o =
     (some : C) × Accumulates into.takes before outputs some × into.grows some o
 
--- what comes where the last item took an output: it takes nothing, or it takes some tokens and there
--- is no memory for it
+-- what comes where the last item took an output: it takes nothing, or it takes some tokens and
+-- there is no memory for it
 abbrev pub last_taken : {T O C U : Type 0} → Accumulator C O → C → List O → O → Comes T U
 last_taken into before outputs o at tokens rest y =
     ((length rest < length tokens → ⊥) × (y ≡ misused at rest))
