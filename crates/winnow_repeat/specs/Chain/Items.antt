@@ -15,8 +15,9 @@ use Rattle.winnow_core.specs.Runs.{Meaning}
 use Rattle.winnow_core.specs.Says.{Did, EachDoes, IsAt, Lawful}
 use Rattle.winnow_core.specs.Says.Lacks.{misused_alike, misused_outcome, misused_whole}
 use Rattle.winnow_core.specs.Says.Leaf.{here_did}
-use Rattle.winnow_core.specs.Then.{ComesOf, Next, NextHolds, NextMeets, Then, back_then, did_then}
-use Rattle.winnow_core.specs.Then.{final_comes, hands_on, one_comes, stays_comes, whole_comes}
+use Rattle.winnow_core.specs.Then.{Comes, Holds, Meets, ComesOf, Next, NextHolds, NextMeets, Then}
+use Rattle.winnow_core.specs.Then.{back_then, did_then, final_comes, hands_on, one_comes}
+use Rattle.winnow_core.specs.Then.{stays_comes, whole_comes}
 use Rattle.winnow_core.specs.Then.Steps.{asks_later, asks_meet, asks_on, cuts_hold, cuts_meet}
 use Rattle.winnow_core.specs.Then.Steps.{cuts_on}
 use Rattle.winnow_repeat.specs.Chain.Says.{AlikeLists, Chained, Ends, ItemOf, Meet, Stay, Stops}
@@ -35,13 +36,17 @@ abbrev pub IsRefused : {O C : Type 0} → Accumulator C O → C → List O → O
 IsRefused {C = C} into before outputs o =
     (some : C) × Accumulates into.takes before outputs some × into.grows some o
 
+-- what comes where the last item took an output: it takes nothing, or it takes some tokens and
+-- there is no memory for it
+abbrev pub last_taken : {T O C U : Type 0} → Accumulator C O → C → List O → O → Comes T U
+last_taken into before outputs o at tokens rest y =
+    ((length rest < length tokens → ⊥) × (y ≡ misused at rest))
+    ⊎ ((length rest < length tokens) × IsRefused into before outputs o × (y ≡ wants))
+
 -- What comes of the item after these outputs, if it is the last.
 abbrev pub last_item : {T O C : Type 0} → Accumulator C O → ℕ → C → List O → Next T O C
 last_item into least before outputs = record {
-  -- it takes nothing, or it takes some tokens and there is no memory for it
-  on_took = λ o at tokens rest y.
-      ((length rest < length tokens → ⊥) × (y ≡ misused at rest))
-      ⊎ ((length rest < length tokens) × IsRefused into before outputs o × (y ≡ wants));
+  on_took = last_taken into before outputs;
   -- there are enough before it, or too few
   on_backs = λ at tokens place y.
       ((least ≤ length outputs) × Gives into before outputs at tokens y)
@@ -80,6 +85,40 @@ then_stay with_part p h is more flag tokens y final (x, d, c) = (
   stays_comes h is more flag tokens x y final c,
 )
 
+-- ---- laws of the last item
+
+module _ {T O C U : Type 0} (into : Accumulator C O) where
+  pub last_taken_meets : (beside : U → U → Type 0) (before bare : C) (os ps : List O) (o q : O)
+      → Meets {T = T} beside (last_taken into before os o) (last_taken into bare ps q)
+  last_taken_meets beside before bare os ps o q = record { one = one }
+    where
+      one : (at : Setting) (tokens rest : List T) (y z : Outcome T U)
+          → last_taken into before os o at tokens rest y
+          → last_taken into bare ps q at tokens rest z → Alike beside y z
+      one at tokens rest y z (inl (none, e)) (inl (none2, f)) =
+          both beside e f (misused_alike beside at rest)
+      one at tokens rest y z (inl (none, e)) (inr (less, w, f)) = absurd (none less)
+      one at tokens rest y z (inr (less, w, e)) k = both beside {u = wants} {v = z} e refl tt
+
+  pub last_taken_holds : {stable : Type 0} (before : C) (os : List O) (o : O)
+      → Holds {T = T} {U = U} stable (last_taken into before os o)
+  last_taken_holds {stable} before os o = record { whole = whole; stays = stays }
+    where
+      whole : (at : Setting) (tokens rest : List T) (need : Option ℕ) (end : List T)
+          → at.more ≡ false → last_taken {U = U} into before os o at tokens rest (asks need end)
+          → ⊥
+      whole at tokens rest need end is (inl (none, e)) = misused_whole at rest need end e
+      whole at tokens rest need end is (inr (less, w, e)) = absurd (cc)
+
+      stays : stable → (more : List T) (flag : Bool) (tokens rest : List T) (y : Outcome T U)
+          → IsFinal y → last_taken into before os o on_cut tokens rest y
+          → last_taken into before os o (grown flag) (tokens ++ more) (rest ++ more)
+          (longer more y)
+      stays is more flag tokens rest y final (inl (none, e)) =
+          inl (nor_less more rest tokens none, as_longer more e)
+      stays is more flag tokens rest y final (inr (less, w, e)) =
+          inr (still_less more rest tokens less, w, as_longer more e)
+
 -- ---- laws of items
 
 module _ {T O C : Type 0} {stable : Type 0} {alike : O → O → Type 0} {does : Does T O}
@@ -101,24 +140,12 @@ module _ {T O C : Type 0} {stable : Type 0} {alike : O → O → Type 0} {does :
         → NextMeets {T = T} alike beside (last_item into least before os)
         (last_item into least bare ps)
     last_meets before bare gathers os ps like = record {
-      took = λ o q same. record { one = λ at tokens rest y z. taken at tokens rest y z };
+      took = λ o q same. last_taken_meets into beside before bare os ps o q;
       backs = record { one = λ at tokens place y z. back at tokens place y z };
       cuts = cuts_meet;
       asks = asks_meet;
     }
       where
-        taken : {X Y : Type 0} (at : Setting) (tokens rest : List T) (y z : Outcome T C)
-            → ((length rest < length tokens → ⊥) × (y ≡ misused at rest))
-            ⊎ ((length rest < length tokens) × X × (y ≡ wants))
-            → ((length rest < length tokens → ⊥) × (z ≡ misused at rest))
-            ⊎ ((length rest < length tokens) × Y × (z ≡ wants))
-            → Alike beside y z
-        taken at tokens rest y z (inl (none, e)) (inl (none2, f)) =
-            both beside e f (misused_alike beside at rest)
-        taken at tokens rest y z (inl (none, e)) (inr (less, w, f)) = absurd (none less)
-        taken at tokens rest y z (inr (less, w, e)) k =
-            both beside {u = wants} {v = z} e refl tt
-
         back : (at : Setting) (tokens place : List T) (y z : Outcome T C)
             → ((least ≤ length os) × Gives into before os at tokens y)
             ⊎ ((length os < least) × (y ≡ backs place))
@@ -136,34 +163,12 @@ module _ {T O C : Type 0} {stable : Type 0} {alike : O → O → Type 0} {does :
     pub last_holds : (before : C) (os : List O)
         → NextHolds {T = T} stable (last_item into least before os)
     last_holds before os = record {
-      took = λ o. record { whole = taken_whole; stays = taken_stays };
+      took = λ o. last_taken_holds into before os o;
       backs = record { whole = back_whole; stays = back_stays };
       cuts = cuts_hold;
       asks = asks_later;
     }
       where
-        taken_whole : {X : Type 0} (at : Setting) (tokens rest : List T) (need : Option ℕ)
-            (end : List T) → at.more ≡ false
-            → ((length rest < length tokens → ⊥)
-            × (◌≡◌ {A = Outcome T C} (asks need end) (misused at rest)))
-            ⊎ ((length rest < length tokens) × X × (◌≡◌ {A = Outcome T C} (asks need end) wants))
-            → ⊥
-        taken_whole at tokens rest need end is (inl (none, e)) =
-            misused_whole at rest need end e
-        taken_whole at tokens rest need end is (inr (less, w, e)) = absurd (cc)
-
-        taken_stays : {X : Type 0} → stable → (more : List T) (flag : Bool) (tokens rest : List T)
-            (y : Outcome T C) → IsFinal y
-            → ((length rest < length tokens → ⊥) × (y ≡ misused on_cut rest))
-            ⊎ ((length rest < length tokens) × X × (y ≡ wants))
-            → ((length (rest ++ more) < length (tokens ++ more) → ⊥)
-            × (longer more y ≡ misused (grown flag) (rest ++ more)))
-            ⊎ ((length (rest ++ more) < length (tokens ++ more)) × X × (longer more y ≡ wants))
-        taken_stays is more flag tokens rest y final (inl (none, e)) =
-            inl (nor_less more rest tokens none, as_longer more e)
-        taken_stays is more flag tokens rest y final (inr (less, w, e)) =
-            inr (still_less more rest tokens less, w, as_longer more e)
-
         back_whole : (at : Setting) (tokens place : List T) (need : Option ℕ) (end : List T)
             → at.more ≡ false
             → ((least ≤ length os) × Gives into before os at tokens (asks need end))

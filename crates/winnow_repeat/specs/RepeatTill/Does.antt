@@ -1,13 +1,13 @@
 -- What repetitions up to a terminator do with tokens.
-use Rattle.std.specs.Prelude.{◌≡◌, ◌⊎◌, ◌<◌, ℕ, List, length, Option, Some}
+use Rattle.std.specs.Prelude.{◌≡◌, ℕ, List, Option, Some}
 use Rattle.stream_sets.specs.Accumulator.{Accumulator}
 use Rattle.stream_sets.specs.Accumulator.Holds.{Accumulates}
 use Rattle.stream_sets.specs.Range.{Bounds}
-use Rattle.winnow_core.specs.Outcome.{Does, backs, misused, took, wants}
+use Rattle.winnow_core.specs.Outcome.{Does, backs, took, wants}
 use Rattle.winnow_core.specs.Then.{Comes, Next, Then}
 use Rattle.winnow_core.specs.Then.Steps.{asks_on, cuts_on, where_took}
 use Rattle.winnow_repeat.specs.Chain.Bounded.{Bounded}
-use Rattle.winnow_repeat.specs.Chain.Items.{IsRefused}
+use Rattle.winnow_repeat.specs.Chain.Items.{IsRefused, last_taken}
 use Rattle.winnow_repeat.specs.Chain.Says.{Chained, ItemOf, Step}
 use Rattle.winnow_repeat.specs.RepeatTill.{room_behind}
 pub mod Laws
@@ -22,13 +22,9 @@ abbrev pub stopped : {T O D C : Type 0} → Accumulator C O → C → List O →
 stopped {C = C} into before outputs d at tokens rest y =
     (all : C) × Accumulates into.takes before outputs all × (y ≡ took (all, d) rest)
 
--- what comes of the item of a turn, if it is the last: it takes nothing, or it takes some tokens
--- and
--- there is no memory for it
+-- what comes of the item of a turn, if it is the last
 abbrev pub last_turn : {T O D C : Type 0} → Accumulator C O → C → List O → Next T O (C × D)
-last_turn into before outputs = where_took (λ o at tokens rest y.
-    ((length rest < length tokens → ⊥) × (y ≡ misused at rest))
-    ⊎ ((length rest < length tokens) × IsRefused into before outputs o × (y ≡ wants)))
+last_turn into before outputs = where_took (last_taken into before outputs)
 
 -- what comes of the terminator where there may be one more turn, and it is not
 abbrev pub stop_or_turn : {T O D C : Type 0} → Does T O → Accumulator C O → C → List O

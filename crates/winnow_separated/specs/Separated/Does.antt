@@ -46,6 +46,12 @@ LinksDo link separator into bounds before =
     Chained (ItemOf link) bounds.greatest (Gives into before)
     (LastLink link separator into bounds.least before)
 
+-- the links after a first element, by the bounds of the elements
+abbrev pub LinksAfter : {T O D C : Type 0} → Does T O → Does T D → Accumulator C O → Bounds → C
+    → Does T C
+LinksAfter element separator into bounds =
+    LinksDo (LinkDoes element separator) separator into (links_within bounds)
+
 -- What comes of the first element, which may take nothing.
 abbrev pub first_element : {T O D C : Type 0} → Does T O → Does T D → Accumulator C O → Bounds → C
     → Next T O C
@@ -54,7 +60,7 @@ first_element {C = C} element separator into bounds empty = record {
   on_took = λ o at tokens rest y.
       (into.grows empty o × (y ≡ wants))
       ⊎ ((one : C) × into.takes empty o one
-      × LinksDo (LinkDoes element separator) separator into (links_within bounds) one at rest y);
+      × LinksAfter element separator into bounds one at rest y);
   -- none is needed, or one is
   on_backs = λ at tokens place y.
       ((bounds.least ≡ 0) × (y ≡ took empty tokens))

@@ -1,24 +1,21 @@
 -- What repetitions up to a terminator do is lawful.
-use Rattle.std.specs.Prelude.{◌≡◌, ◌⊎◌, ◌<◌, ℕ, Bool, List, [], ◌∷◌, ◌++◌, length, Option, Some}
-use Rattle.std.specs.Prelude.{false}
+use Rattle.std.specs.Prelude.{◌≡◌, ◌<◌, ℕ, List, [], ◌∷◌, ◌++◌, length, Option, Some}
 use Rattle.std.proofs.Common.{refl, sym, subst, inl, inr}
 use Rattle.stream_sets.specs.Accumulator.{Accumulator}
 use Rattle.stream_sets.specs.Accumulator.Holds.{Accumulates, Holds as Kept}
 use Rattle.stream_sets.specs.Range.{Bounds}
 use Rattle.winnow_core.specs.InOrder.Decided.{AlikePairs}
-use Rattle.winnow_core.specs.Outcome.{Alike, Does, IsFinal, Outcome, Setting, as_longer, asks}
-use Rattle.winnow_core.specs.Outcome.{backs, both, cuts, grown, longer, misused, on_cut, took}
-use Rattle.winnow_core.specs.Outcome.{wants}
+use Rattle.winnow_core.specs.Outcome.{Alike, Does, Outcome, as_longer, asks, backs, both, cuts}
+use Rattle.winnow_core.specs.Outcome.{took, wants}
 use Rattle.winnow_core.specs.Says.{Lawful}
-use Rattle.winnow_core.specs.Says.Lacks.{misused_alike, misused_whole}
 use Rattle.winnow_core.specs.Then.{ComesOf, Holds, Meets, NextHolds, NextMeets, Then}
 use Rattle.winnow_core.specs.Then.Steps.{asks_later, asks_meet, backs_hold, cuts_hold, cuts_meet}
 use Rattle.winnow_core.specs.Then.Steps.{holds_where, meets_where, where_took}
 use Rattle.winnow_repeat.specs.Chain.Bounded.{HeldAlike, bounded_law, held_alike}
-use Rattle.winnow_repeat.specs.Chain.Items.{Gathers, IsRefused, then_meet, then_stay, then_whole}
+use Rattle.winnow_repeat.specs.Chain.Items.{Gathers, IsRefused, last_taken_holds, last_taken_meets}
+use Rattle.winnow_repeat.specs.Chain.Items.{then_meet, then_stay, then_whole}
 use Rattle.winnow_repeat.specs.Chain.Says.{AlikeLists, ItemOf, Meet, Stay, StepLaw, Stops, Whole}
 use Rattle.winnow_repeat.specs.Chain.Says.{chained_meet, chained_stay, chained_whole, item_law}
-use Rattle.winnow_repeat.specs.Chain.Says.{nor_less, still_less}
 use Rattle.winnow_repeat.specs.Repeat.{capacity_of}
 use Rattle.winnow_repeat.specs.RepeatTill.{room_behind}
 use Rattle.winnow_repeat.specs.RepeatTill.Does.{ItemsTillDo, RepeatTillDo, SomeItem, TurnDoes}
@@ -71,46 +68,12 @@ module _ {T O D C : Type 0} {first other : Type 0} {alike : O → O → Type 0}
 
   turn_meets : (before bare : C) (os ps : List O)
       → NextMeets {T = T} alike Pairs (last_turn into before os) (last_turn into bare ps)
-  turn_meets before bare os ps = meets_where (λ o u same. record {
-    one = λ at tokens rest y z d e. taken at tokens rest y z d e;
-  })
-    where
-      taken : {X Y : Type 0} (at : Setting) (tokens rest : List T) (y z : Outcome T (C × D))
-          → ((length rest < length tokens → ⊥) × (y ≡ misused at rest))
-          ⊎ ((length rest < length tokens) × X × (y ≡ wants))
-          → ((length rest < length tokens → ⊥) × (z ≡ misused at rest))
-          ⊎ ((length rest < length tokens) × Y × (z ≡ wants))
-          → Alike Pairs y z
-      taken at tokens rest y z (inl (none, e)) (inl (none2, f)) =
-          both Pairs e f (misused_alike Pairs at rest)
-      taken at tokens rest y z (inl (none, e)) (inr (less, w, f)) = absurd (none less)
-      taken at tokens rest y z (inr (less, w, e)) k = both Pairs {u = wants} {v = z} e refl tt
+  turn_meets before bare os ps =
+      meets_where (λ o u same. last_taken_meets into Pairs before bare os ps o u)
 
   turn_holds : (before : C) (os : List O)
       → NextHolds {T = T} {U = C × D} (first × other) (last_turn into before os)
-  turn_holds before os = holds_where (λ o. record { whole = taken_whole; stays = taken_stays })
-    where
-      taken_whole : {X : Type 0} (at : Setting) (tokens rest : List T) (need : Option ℕ)
-          (end : List T) → at.more ≡ false
-          → ((length rest < length tokens → ⊥)
-          × (◌≡◌ {A = Outcome T (C × D)} (asks need end) (misused at rest)))
-          ⊎ ((length rest < length tokens) × X
-          × (◌≡◌ {A = Outcome T (C × D)} (asks need end) wants))
-          → ⊥
-      taken_whole at tokens rest need end is (inl (none, e)) = misused_whole at rest need end e
-      taken_whole at tokens rest need end is (inr (less, w, e)) = absurd (cc)
-
-      taken_stays : {X : Type 0} → first × other → (more : List T) (flag : Bool)
-          (tokens rest : List T) (y : Outcome T (C × D)) → IsFinal y
-          → ((length rest < length tokens → ⊥) × (y ≡ misused on_cut rest))
-          ⊎ ((length rest < length tokens) × X × (y ≡ wants))
-          → ((length (rest ++ more) < length (tokens ++ more) → ⊥)
-          × (longer more y ≡ misused (grown flag) (rest ++ more)))
-          ⊎ ((length (rest ++ more) < length (tokens ++ more)) × X × (longer more y ≡ wants))
-      taken_stays is more flag tokens rest y final (inl (none, e)) =
-          inl (nor_less more rest tokens none, as_longer more e)
-      taken_stays is more flag tokens rest y final (inr (less, w, e)) =
-          inr (still_less more rest tokens less, w, as_longer more e)
+  turn_holds before os = holds_where (λ o. last_taken_holds into before os o)
 
   -- ---- the turns
 

@@ -141,7 +141,9 @@ impl<
           (fails_as (λ b. is.1) (λ m. m) ((P.claimed s.0).fails form is.0));
       takes = λ is some. repeated_take (FoldOf G.step s.1.1.0 H.step s.1.1.1) s.1.0
           ((P.claimed s.0).exact modal is.0).unique ((P.claimed s.0).takes is.0 is.2) some;
-      decided = λ form is. decided_of I.reading leaves_ends (said s) form is;
+      decided = λ form is. decided_of I.reading
+          (λ form. ranged_folds_end I.reading G.step H.step (P.meaning form) (assert_kind form)
+          (P.leaves_ends form)) (fold_said G.step H.step s (P.said s.0)) form is;
     } };
 
     fn parse_next(&mut self, input: &mut I) -> Result<R, E> {

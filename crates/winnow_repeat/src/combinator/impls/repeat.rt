@@ -173,7 +173,10 @@ impl<
           (λ w. wanted (λ m. C.never_wants m.1 w));
       takes = λ is some. repeat_takes C.accumulator (assert_kind modal) s C.holds
           ((P.claimed s.0).exact modal is.0) ((P.claimed s.0).takes is.0 is.2) some;
-      decided = λ form is. decided_of I.reading leaves_ends (said s) form is;
+      decided = λ form is. decided_of I.reading
+          (λ form. ranged_ends I.reading (P.meaning form) C.accumulator (assert_kind form)
+          (P.leaves_ends form)) (repeat_said C.accumulator C.holds C.gathers s (P.said s.0)) form
+          is;
     } };
 
     fn parse_next(&mut self, input: &mut I) -> Result<C, E> {

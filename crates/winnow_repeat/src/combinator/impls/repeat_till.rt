@@ -95,7 +95,10 @@ impl<
       takes = λ is some. till_takes (P.claim s.0).grammar (G.claim s.1).grammar
           ((P.claimed s.0).exact modal is.0).unique C.holds s.2
           ((G.claimed s.1).takes is.3 some);
-      decided = λ form is. decided_of I.reading leaves_ends (said s) form is;
+      decided = λ form is. decided_of I.reading
+          (λ form. repeat_till_ends I.reading (P.meaning form) (G.meaning form) C.accumulator
+          (assert_kind form) (P.leaves_ends form) (G.leaves_ends form))
+          (repeat_till_said C.accumulator C.holds C.gathers s (P.said s.0) (G.said s.1)) form is;
     } };
 
     fn parse_next(&mut self, input: &mut I) -> Result<(C, D), E> {

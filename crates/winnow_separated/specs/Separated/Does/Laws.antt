@@ -21,8 +21,9 @@ use Rattle.winnow_repeat.specs.Chain.Says.{chained_meet, chained_stay, chained_w
 use Rattle.winnow_repeat.specs.Chain.Says.{item_law, nor_less, still_less}
 use Rattle.winnow_repeat.specs.Repeat.{capacity_of}
 use Rattle.winnow_separated.specs.Separated.{links_within}
-use Rattle.winnow_separated.specs.Separated.Does.{Behind, LinkDoes, NothingBetween, LastLink}
-use Rattle.winnow_separated.specs.Separated.Does.{PairLinkDoes, LinksDo, first_element, ElementsDo}
+use Rattle.winnow_separated.specs.Separated.Does.{Behind, LinksAfter, LinkDoes, NothingBetween}
+use Rattle.winnow_separated.specs.Separated.Does.{LastLink, PairLinkDoes, LinksDo, first_element}
+use Rattle.winnow_separated.specs.Separated.Does.{ElementsDo}
 use Rattle.winnow_core.specs.InOrder.Decided.{AlikePairs}
 
 -- ---- laws of links
@@ -182,6 +183,32 @@ module _ {T O D C : Type 0} {first other : Type 0} {alike : O → O → Type 0}
   abbrev Also : C → C → Type 0
   Also = HeldAlike holds alike
 
+  -- the links after a first element
+  after_meet : (before bare : C) → Gathers (link_law p q) into Also before bare
+      → Meet Also (LinksAfter element separator into bounds before)
+      (LinksAfter element separator into bounds bare)
+  after_meet = links_meet (link_law p q) q (λ is. is.1) (no_link (λ d. element) q) into Also
+      (links_within bounds)
+
+  after_whole : (before : C) → Whole (LinksAfter element separator into bounds before)
+  after_whole = links_whole (link_law p q) q (λ is. is.1) (no_link (λ d. element) q) into Also
+      (links_within bounds)
+
+  after_stay : (before : C)
+      → Stay (first × other) (LinksAfter element separator into bounds before)
+  after_stay = links_stay (link_law p q) q (λ is. is.1) (no_link (λ d. element) q) into Also
+      (links_within bounds)
+
+  none_held : (capacity : Option ℕ) (empty bare : C) → into.starts capacity empty
+      → into.starts capacity bare → HeldAlike holds alike empty bare
+  none_held capacity empty bare starts begins = (
+    [],
+    [],
+    keeps.held capacity empty empty [] starts (record { taken = refl }),
+    keeps.held capacity bare bare [] begins (record { taken = refl }),
+    tt,
+  )
+
   first_meets : (capacity : Option ℕ) (empty bare : C) → into.starts capacity empty
       → into.starts capacity bare
       → NextMeets {T = T} alike Also (first_element element separator into bounds empty)
@@ -196,18 +223,17 @@ module _ {T O D C : Type 0} {first other : Type 0} {alike : O → O → Type 0}
       taken : (o u : O) → alike o u → (at : Setting) (tokens rest : List T) (y z : Outcome T C)
           → (into.grows empty o × (y ≡ wants))
           ⊎ ((one : C) × into.takes empty o one
-          × LinksDo (LinkDoes element separator) separator into (links_within bounds) one at rest y)
+          × LinksAfter element separator into bounds one at rest y)
           → (into.grows bare u × (z ≡ wants))
           ⊎ ((one : C) × into.takes bare u one
-          × LinksDo (LinkDoes element separator) separator into (links_within bounds) one at rest z)
+          × LinksAfter element separator into bounds one at rest z)
           → Alike Also y z
       taken o u same at tokens rest y z (inl (grows, e)) second =
           both Also {u = wants} {v = z} e refl tt
       taken o u same at tokens rest y z (inr links) (inl (grows, e)) =
           both Also {u = y} {v = wants} refl e (alike_wants Also y)
       taken o u same at tokens rest y z (inr (one, kept, links)) (inr (two, held, others)) =
-          links_meet (link_law p q) q (λ is. is.1) (no_link (λ d. element) q) into Also
-          (links_within bounds) one two
+          after_meet one two
           (λ os ps all more taken taken2 likes. (
             o ∷ os,
             u ∷ ps,
@@ -218,15 +244,6 @@ module _ {T O D C : Type 0} {first other : Type 0} {alike : O → O → Type 0}
             (same, likes),
           )) at rest y z links others
 
-      none_held : HeldAlike holds alike empty bare
-      none_held = (
-        [],
-        [],
-        keeps.held capacity empty empty [] starts (record { taken = refl }),
-        keeps.held capacity bare bare [] begins (record { taken = refl }),
-        tt,
-      )
-
       back : (at : Setting) (tokens place : List T) (y z : Outcome T C)
           → ((bounds.least ≡ 0) × (y ≡ took empty tokens))
           ⊎ ((0 < bounds.least) × (y ≡ backs place))
@@ -234,7 +251,7 @@ module _ {T O D C : Type 0} {first other : Type 0} {alike : O → O → Type 0}
           ⊎ ((0 < bounds.least) × (z ≡ backs place))
           → Alike Also y z
       back at tokens place y z (inl (none, e)) (inl (none2, f)) =
-          both Also e f (none_held, refl)
+          both Also e f (none_held capacity empty bare starts begins, refl)
       back at tokens place y z (inl (none, e)) (inr (some, f)) =
           absurd (omega (arith, none, some))
       back at tokens place y z (inr (some, e)) (inl (none, f)) =
@@ -254,24 +271,20 @@ module _ {T O D C : Type 0} {first other : Type 0} {alike : O → O → Type 0}
           → at.more ≡ false
           → (into.grows empty o × (◌≡◌ {A = Outcome T C} (asks need end) wants))
           ⊎ ((one : C) × into.takes empty o one
-          × LinksDo (LinkDoes element separator) separator into (links_within bounds) one at
-          rest (asks need end))
+          × LinksAfter element separator into bounds one at rest (asks need end))
           → ⊥
       taken_whole o at tokens rest need end is (inl (grows, e)) = absurd (cc)
       taken_whole o at tokens rest need end is (inr (one, kept, links)) =
-          links_whole (link_law p q) q (λ is. is.1) (no_link (λ d. element) q) into Also
-          (links_within bounds) one at rest need end is links
+          after_whole one at rest need end is links
 
       taken_stays : (o : O) → first × other → (more : List T) (flag : Bool)
           (tokens rest : List T) (y : Outcome T C) → IsFinal y
           → (into.grows empty o × (y ≡ wants))
           ⊎ ((one : C) × into.takes empty o one
-          × LinksDo (LinkDoes element separator) separator into (links_within bounds) one on_cut
-          rest y)
+          × LinksAfter element separator into bounds one on_cut rest y)
           → (into.grows empty o × (longer more y ≡ wants))
           ⊎ ((one : C) × into.takes empty o one
-          × LinksDo (LinkDoes element separator) separator into (links_within bounds) one
-          (grown flag) (rest ++ more)
+          × LinksAfter element separator into bounds one (grown flag) (rest ++ more)
           (longer more y))
       taken_stays o is more flag tokens rest y final (inl (grows, e)) =
           absurd (final_by {y = wants} e final)
@@ -279,8 +292,7 @@ module _ {T O D C : Type 0} {first other : Type 0} {alike : O → O → Type 0}
           inr (
             one,
             kept,
-            links_stay (link_law p q) q (λ is. is.1) (no_link (λ d. element) q) into Also
-                (links_within bounds) one is more flag rest y final links,
+            after_stay one is more flag rest y final links,
           )
 
       back_whole : (at : Setting) (tokens place : List T) (need : Option ℕ) (end : List T)
@@ -308,16 +320,7 @@ module _ {T O D C : Type 0} {first other : Type 0} {alike : O → O → Type 0}
       (ElementsDo element separator into bounds bare)
   elements_meet capacity empty bare starts begins at tokens y z (inl (none, e))
       (inl (none2, f)) =
-      both Also e f (
-        (
-          [],
-          [],
-          keeps.held capacity empty empty [] starts (record { taken = refl }),
-          keeps.held capacity bare bare [] begins (record { taken = refl }),
-          tt,
-        ),
-        refl,
-      )
+      both Also e f (none_held capacity empty bare starts begins, refl)
   elements_meet capacity empty bare starts begins at tokens y z (inl (none, e))
       (inr (below, d)) =
       full_is_below bounds.greatest 0 none below

@@ -97,7 +97,10 @@ impl<
       takes = λ is some. separated_takes C.holds s.2 ((P.claimed s.0).exact modal is.0).unique
           ((S.claimed s.1).exact modal is.2).unique ((P.claimed s.0).takes is.0 some.0)
           some.1;
-      decided = λ form is. decided_of I.reading leaves_ends (said s) form is;
+      decided = λ form is. decided_of I.reading
+          (λ form. separated_ends I.reading (P.meaning form) (S.meaning form) C.accumulator
+          (assert_kind form) (P.leaves_ends form) (S.leaves_ends form))
+          (separated_said C.accumulator C.holds C.gathers s (P.said s.0) (S.said s.1)) form is;
     } };
 
     fn parse_next(&mut self, input: &mut I) -> Result<C, E> {
