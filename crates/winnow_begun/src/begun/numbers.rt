@@ -4,9 +4,12 @@ ghost use Rattle.streams.specs.Following.{none_follows};
 ghost use Rattle.winnow_begun.specs.Begun.Searches.{dec_int_asks, dec_uint_asks, hex_uint_asks};
 ghost use Rattle.winnow_begun.specs.Begun.Words.{DigitsBegun, HexBegun, SignedBegun};
 ghost use Rattle.winnow_core.specs.Stable.Grows.{leaf_stays};
-ghost use Rattle.winnow_numbers.specs.DecInt.Laws.{dec_int_decided, dec_int_stays};
-ghost use Rattle.winnow_numbers.specs.DecUint.Laws.{dec_uint_decided, dec_uint_stays};
-ghost use Rattle.winnow_numbers.specs.HexUint.Laws.{hex_uint_decided, hex_uint_stays};
+ghost use Rattle.winnow_numbers.specs.DecInt.Laws.{dec_int_stays};
+ghost use Rattle.winnow_numbers.specs.DecInt.Says.{dec_int_decided};
+ghost use Rattle.winnow_numbers.specs.DecUint.Laws.{dec_uint_stays};
+ghost use Rattle.winnow_numbers.specs.DecUint.Says.{dec_uint_decided};
+ghost use Rattle.winnow_numbers.specs.HexUint.Laws.{hex_uint_stays};
+ghost use Rattle.winnow_numbers.specs.HexUint.Says.{hex_uint_decided};
 
 use crate::begun::Begun;
 use stream_errors::parser_error::ParserError;

@@ -4,7 +4,7 @@ use Rattle.std.proofs.Common.{refl, sym, ap, subst, inl, inr, ◌∙◌}
 use Rattle.streams.specs.Input.{Input, IsEndOf, with_more}
 use Rattle.streams.specs.Reading.{Reading}
 use Rattle.stream_errors.specs.Form.{Answer, ErrorForm, modal}
-use Rattle.winnow_core.specs.Decided.{AlikeAnswers, IsDecided}
+use Rattle.winnow_core.specs.Decided.{AlikeAnswers}
 use Rattle.winnow_core.specs.Decided.Inputs.{both_err, both_ok}
 use Rattle.winnow_core.specs.Ends.{same_ends}
 use Rattle.winnow_core.specs.Runs.{Keeps}
@@ -118,11 +118,3 @@ module _ {N K T L : Type 0} (number : N → ℤ) (fits : ℤ → Type 0) (seen :
     meet i a b j k (inr (inr (h, none, e))) (inr (inr (l, never, f))) =
         let one = one_miss seen code reading once form true i h l j k none never in
         (both_err (OneNumber number) e f one.0, one.1)
-
-  pub dec_int_decided : SeenOnce seen code
-      → IsDecided tt (Keeps (λ (_ : ⊤). DecIntRuns number fits seen code reading form))
-      (OneNumber number)
-  dec_int_decided once = record {
-    kept = λ i answer t j free (r, same). (same, dec_int_status i answer j r);
-    decided = λ i a b t u j k na nb (r, same) (q, also). meet once i a b j k r q;
-  }

@@ -11,7 +11,7 @@ use Rattle.winnow_numbers.specs.Numeral.Laws.{no_numeral_ends, numeral_ends, num
 use Rattle.winnow_numbers.specs.Numeral.Laws.{no_numeral_more}
 use Rattle.winnow_core.specs.Stable.Longer.{same_more}
 use Rattle.winnow_core.specs.Stable.Grows.{Stays, final_by}
-use Rattle.winnow_core.specs.Decided.{AlikeAnswers, IsDecided}
+use Rattle.winnow_core.specs.Decided.{AlikeAnswers}
 use Rattle.winnow_numbers.specs.DecUint.Known.{dec_uint_once}
 use Rattle.winnow_numbers.specs.Digits.{SeenOnce}
 use Rattle.winnow_numbers.specs.NumberLaws.{AnswersSame}
@@ -78,14 +78,3 @@ module _ {N K T L : Type 0} (number : N → ℕ) (bound : ℕ) (seen : K → T) 
   dec_uint_status i answer j (inr (inl (digits, a, p, large, e, same))) = ap (λ z. z.status) same
   dec_uint_status i answer j (inr (inr (k, none, e))) =
       none_status seen code reading form _ i k j none
-
-  pub dec_uint_decided : SeenOnce seen code
-      → IsDecided tt (Keeps (λ (_ : ⊤). DecUintRuns number bound seen code reading form))
-      (OneNumber number)
-  dec_uint_decided once = record {
-    kept = λ i answer t j free (r, same). (same, dec_uint_status i answer j r);
-    decided = λ i a b t u j k na nb (r, same) (q, also).
-        let (like, place) =
-        dec_uint_once number bound seen code reading form once i a b j k r q in
-        (same_alike number a b like, place);
-  }

@@ -9,7 +9,7 @@ use Rattle.streams.specs.Reading.{Reading}
 use Rattle.stream_errors.specs.Form.{Answer, ErrorForm, modal}
 use Rattle.streams.specs.Kind.{incomplete, Kind, backtrack, memory}
 use Rattle.stream_sets.specs.AsChar.{IsHexDigit}
-use Rattle.winnow_core.specs.Decided.{AlikeAnswers, IsDecided}
+use Rattle.winnow_core.specs.Decided.{AlikeAnswers}
 use Rattle.winnow_core.specs.Decided.Inputs.{both_err, both_ok}
 use Rattle.winnow_core.specs.Ends.{same_ends}
 use Rattle.winnow_core.specs.Runs.{Keeps}
@@ -257,11 +257,3 @@ module _ {N K T L : Type 0} (number : N → ℕ) (most : ℕ) (seen : K → T) (
     meet i a b j k (inr (inr (inr (front, t, rest, split, are, many, is, e, same))))
         (inr (inr (inr (before, u, more, parts, all, full, was, f, stays)))) =
         (both_err (OneNumber number) e f refl, same ∙ sym stays)
-
-  pub hex_uint_decided : SeenOnce seen code
-      → IsDecided tt (Keeps (λ (_ : ⊤). HexUintRuns number most seen code reading form))
-      (OneNumber number)
-  hex_uint_decided once = record {
-    kept = λ i answer t j free (r, same). (same, hex_uint_status i answer j r);
-    decided = λ i a b t u j k na nb (r, same) (q, also). meet once i a b j k r q;
-  }

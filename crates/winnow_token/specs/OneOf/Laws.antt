@@ -15,7 +15,6 @@ use Rattle.streams.specs.Stream.{AnswersSeen}
 use Rattle.stream_sets.specs.Once.{TellsOnce}
 use Rattle.winnow_core.specs.Decided.{AlikeAnswers, IsDecided}
 use Rattle.winnow_core.specs.Decided.Inputs.{both_err, both_ok}
-use Rattle.winnow_token.specs.Any.Laws.{SeenSame}
 use Rattle.winnow_token.specs.Any.Laws.{first_of_none}
 use Rattle.streams.specs.Kind.{Kind, backtrack, memory}
 use Rattle.grammars.specs.Grammar.{NoneStands, TakesTokens, TokenOf}

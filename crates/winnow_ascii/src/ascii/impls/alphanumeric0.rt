@@ -8,11 +8,10 @@ ghost use Rattle.stream_sets.specs.Range.{from_to};
 ghost use Rattle.grammars.specs.Grammar.{Class};
 ghost use Rattle.winnow_ascii.specs.Class.{ClassRuns};
 ghost use Rattle.winnow_ascii.specs.Class.Laws.{class_exact, class_fails, class_ends};
-ghost use Rattle.winnow_ascii.specs.Class.Says.{SeenOnce, class_said, class_says};
+ghost use Rattle.winnow_ascii.specs.Class.Says.{SeenOnce, class_decided, class_said, class_says};
 ghost use Rattle.winnow_core.specs.Exact.Allowed.{backs};
 ghost use Rattle.winnow_core.specs.Literal.Laws.{ShowSame};
 ghost use Rattle.winnow_core.specs.Runs.{Keeps};
-ghost use Rattle.winnow_core.specs.Says.Decided.{decided_of};
 ghost use Rattle.winnow_core.specs.Stable.Grows.{leaf_stays};
 ghost use Rattle.winnow_token.specs.TakeWhile.Laws.{take_while_stays};
 
@@ -63,7 +62,7 @@ where
       exact = λ form is. class_exact IsAlphanum 0 I.Token.code I.seen_as I.reading form is;
       fails = λ form is. backs (class_fails IsAlphanum 0 I.Token.code I.seen_as I.reading form);
       takes = λ is never. absurd never;
-      decided = λ form is. decided_of I.reading leaves_ends (said s) form is;
+      decided = λ form is. class_decided IsAlphanum 0 I.Token.code I.seen_as I.reading form is;
     } };
 
     #[inline(always)]

@@ -58,7 +58,9 @@ impl<I: StreamIsPartial + Compare<&'static str>, E: ParserError<I>> Parser<I, I:
       fails = λ form is. backs (text_fails I.reading form I.spells is I.same_units (13 ∷ 10 ∷ []));
       takes = λ is some. literally_takes I.reading (SpelledBy I.spells) (λ _ slice. slice)
           (13 ∷ 10 ∷ []) some;
-      decided = λ form is. decided_of I.reading leaves_ends (said s) form is;
+      decided = λ form is. decided_of I.reading
+          (λ f x i answer y j r. crlf_ends I.spells I.reading f i answer j r.0)
+          (text_said I.reading I.spells I.same_units (13 ∷ 10 ∷ [])) form is;
     } };
 
     #[inline(always)]

@@ -12,8 +12,8 @@ ghost use Rattle.winnow_ascii.specs.LineEnding.{LineEndingRuns};
 ghost use Rattle.winnow_ascii.specs.LineEnding.Laws.{line_ending_exact, line_ending_fails};
 ghost use Rattle.winnow_ascii.specs.LineEnding.Laws.{line_ending_ends};
 ghost use Rattle.winnow_ascii.specs.LineEnding.Laws.{line_ending_stays};
-ghost use Rattle.winnow_ascii.specs.LineEnding.Says.{line_ending_said, line_ending_says};
-ghost use Rattle.winnow_core.specs.Says.Decided.{decided_of};
+ghost use Rattle.winnow_ascii.specs.LineEnding.Says.{line_ending_decided, line_ending_said};
+ghost use Rattle.winnow_ascii.specs.LineEnding.Says.{line_ending_says};
 
 use crate::ascii::line_ending;
 use stream_errors::parser_error::ParserError;
@@ -63,7 +63,7 @@ impl<I: StreamIsPartial + Compare<&'static str>, E: ParserError<I>> Parser<I, I:
           (literally_takes I.reading (SpelledBy I.spells) (λ _ slice. slice) (10 ∷ [])
           some.0) (literally_takes I.reading (SpelledBy I.spells) (λ _ slice. slice)
           (13 ∷ 10 ∷ []) some.1);
-      decided = λ form is. decided_of I.reading leaves_ends (said s) form is;
+      decided = λ form is. line_ending_decided I.spells I.reading I.same_units form is;
     } };
 
     #[inline(always)]

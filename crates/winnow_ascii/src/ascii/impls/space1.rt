@@ -9,11 +9,10 @@ ghost use Rattle.grammars.specs.Grammar.{Class};
 ghost use Rattle.winnow_ascii.specs.Class.{ClassRuns};
 ghost use Rattle.winnow_ascii.specs.Class.Laws.{class_exact, class_fails, class_takes, one_is_some};
 ghost use Rattle.winnow_ascii.specs.Class.Laws.{class_ends};
-ghost use Rattle.winnow_ascii.specs.Class.Says.{SeenOnce, class_said, class_says};
+ghost use Rattle.winnow_ascii.specs.Class.Says.{SeenOnce, class_decided, class_said, class_says};
 ghost use Rattle.winnow_core.specs.Exact.Allowed.{backs};
 ghost use Rattle.winnow_core.specs.Literal.Laws.{ShowSame};
 ghost use Rattle.winnow_core.specs.Runs.{Keeps};
-ghost use Rattle.winnow_core.specs.Says.Decided.{decided_of};
 ghost use Rattle.winnow_core.specs.Stable.Grows.{leaf_stays};
 ghost use Rattle.winnow_token.specs.TakeWhile.Laws.{take_while_stays};
 
@@ -64,7 +63,7 @@ where
       exact = λ form is. class_exact IsSpace 1 I.Token.code I.seen_as I.reading form is;
       fails = λ form is. backs (class_fails IsSpace 1 I.Token.code I.seen_as I.reading form);
       takes = λ is some. class_takes IsSpace 1 I.Token.code I.seen_as I.reading one_is_some;
-      decided = λ form is. decided_of I.reading leaves_ends (said s) form is;
+      decided = λ form is. class_decided IsSpace 1 I.Token.code I.seen_as I.reading form is;
     } };
 
     #[inline(always)]

@@ -58,7 +58,10 @@ impl<I: StreamIsPartial + Compare<char>, E: ParserError<I>> Parser<I, char, E> f
           (I.same_units 9);
       fails = λ form is. backs (literal_fails I.reading form I.spells (λ s _. s) (λ _. 9) tt);
       takes = λ is some. literally_takes I.reading I.spells (λ s _. s) 9 some;
-      decided = λ form is. decided_of I.reading leaves_ends (said s) form is;
+      decided = λ form is. decided_of I.reading
+          (λ f x i answer y j r. tab_ends I.spells I.reading f i answer j r.0)
+          (literal_said I.reading (λ (_ : ⊤). I.spells 9) (λ _ _. 9) (λ o p. o ≡ p) s
+          (I.same_units 9) (λ slice other shown. refl)) form is;
     } };
 
     #[inline(always)]

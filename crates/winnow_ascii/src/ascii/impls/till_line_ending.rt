@@ -10,9 +10,8 @@ ghost use Rattle.winnow_ascii.specs.TillLineEnding.Exact.{till_line_ending_exact
 ghost use Rattle.winnow_ascii.specs.TillLineEnding.Exact.{till_line_ending_fails};
 ghost use Rattle.winnow_ascii.specs.TillLineEnding.Laws.{till_line_ending_ends};
 ghost use Rattle.winnow_ascii.specs.TillLineEnding.Laws.{till_line_ending_stays};
-ghost use Rattle.winnow_ascii.specs.TillLineEnding.Says.{till_line_ending_said};
+ghost use Rattle.winnow_ascii.specs.TillLineEnding.Says.{till_line_ending_decided, till_line_ending_said};
 ghost use Rattle.winnow_ascii.specs.TillLineEnding.Says.{till_line_ending_says};
-ghost use Rattle.winnow_core.specs.Says.Decided.{decided_of};
 
 use crate::ascii::till_line_ending;
 use crate::stable::LineEnds;
@@ -63,7 +62,8 @@ impl<
       exact = λ form is. till_line_ending_exact I.reading form I.spells is I.sought;
       fails = λ form is. backs (till_line_ending_fails I.reading form I.spells is I.sought);
       takes = λ is never. absurd never;
-      decided = λ form is. decided_of I.reading leaves_ends (said s) form is;
+      decided = λ form is. till_line_ending_decided I.spells I.sought I.reading
+          (I.stays_first (13, 10)) form is;
     } };
 
     #[inline(always)]

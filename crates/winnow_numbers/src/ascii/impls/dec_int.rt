@@ -9,8 +9,7 @@ ghost use Rattle.winnow_numbers.specs.DecInt.Laws.{dec_int_ends, dec_int_stays};
 ghost use Rattle.winnow_numbers.specs.DecUint.Laws.{OneNumber};
 ghost use Rattle.winnow_numbers.specs.Numeral.Exact.{dec_int_exact, dec_int_fails, signed_takes};
 ghost use Rattle.winnow_numbers.specs.Numeral.Grammar.{SignedDecimal};
-ghost use Rattle.winnow_numbers.specs.DecInt.Says.{dec_int_said, dec_int_says};
-ghost use Rattle.winnow_core.specs.Says.Decided.{decided_of};
+ghost use Rattle.winnow_numbers.specs.DecInt.Says.{dec_int_decided, dec_int_said, dec_int_says};
 
 use crate::ascii::{Int, dec_int};
 use stream_errors::parser_error::ParserError;
@@ -63,7 +62,8 @@ where
       fails = λ form is. backs
           (dec_int_fails I.seen_as I.Token.code I.reading O.number O.fits form);
       takes = λ is some. signed_takes I.seen_as I.Token.code I.reading O.number O.fits;
-      decided = λ form is. decided_of I.reading leaves_ends (said s) form is;
+      decided = λ form is. dec_int_decided O.number O.fits I.seen_as I.Token.code I.reading form
+          I.one_code;
     } };
 
     #[inline(always)]

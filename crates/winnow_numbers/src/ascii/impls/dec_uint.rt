@@ -9,8 +9,7 @@ ghost use Rattle.winnow_numbers.specs.DecUint.Laws.{OneNumber};
 ghost use Rattle.winnow_numbers.specs.DecUint.Laws.{dec_uint_ends, dec_uint_stays};
 ghost use Rattle.winnow_numbers.specs.Numeral.Exact.{dec_uint_exact, dec_uint_fails, decimal_takes};
 ghost use Rattle.winnow_numbers.specs.Numeral.Grammar.{Decimal};
-ghost use Rattle.winnow_numbers.specs.DecUint.Says.{dec_uint_said, dec_uint_says};
-ghost use Rattle.winnow_core.specs.Says.Decided.{decided_of};
+ghost use Rattle.winnow_numbers.specs.DecUint.Says.{dec_uint_decided, dec_uint_said, dec_uint_says};
 
 use crate::ascii::{Uint, dec_uint};
 use stream_errors::parser_error::ParserError;
@@ -63,7 +62,8 @@ where
       fails = λ form is. backs
           (dec_uint_fails I.seen_as I.Token.code I.reading O.number O.bound form);
       takes = λ is some. decimal_takes I.seen_as I.Token.code I.reading O.number O.bound;
-      decided = λ form is. decided_of I.reading leaves_ends (said s) form is;
+      decided = λ form is. dec_uint_decided O.number O.bound I.seen_as I.Token.code I.reading
+          form I.one_code;
     } };
 
     #[inline(always)]

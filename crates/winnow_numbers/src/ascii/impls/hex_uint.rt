@@ -11,8 +11,7 @@ ghost use Rattle.winnow_numbers.specs.HexUint.Laws.{hex_uint_exact, hex_uint_fai
 ghost use Rattle.winnow_numbers.specs.HexUint.Laws.{hexadecimal_takes};
 ghost use Rattle.winnow_numbers.specs.HexUint.Laws.{hex_uint_ends, hex_uint_stays};
 ghost use Rattle.winnow_numbers.specs.Numeral.Grammar.{Hexadecimal};
-ghost use Rattle.winnow_numbers.specs.HexUint.Says.{hex_uint_said, hex_uint_says};
-ghost use Rattle.winnow_core.specs.Says.Decided.{decided_of};
+ghost use Rattle.winnow_numbers.specs.HexUint.Says.{hex_uint_decided, hex_uint_said, hex_uint_says};
 
 use crate::ascii::hex_uint;
 use crate::ascii::impls::hex_uint::sealed::SealedMarker;
@@ -224,7 +223,8 @@ where
       fails = λ form is. backs (hex_uint_fails I.seen_as I.Token.code I.reading O.number O.nibbles
           form);
       takes = λ is some. hexadecimal_takes I.seen_as I.Token.code I.reading O.number O.nibbles;
-      decided = λ form is. decided_of I.reading leaves_ends (said s) form is;
+      decided = λ form is. hex_uint_decided O.number O.nibbles I.seen_as I.Token.code I.reading
+          form I.one_code;
     } };
 
     #[inline(always)]

@@ -66,7 +66,11 @@ impl<T: Copy, I: StreamIsPartial + Compare<T>, E: ParserError<I>> Parser<I, I::S
       fails = λ form is. backs
           (literal_fails I.reading form I.spells (λ _ slice. slice) (λ s. s) s);
       takes = λ is some. literally_takes I.reading I.spells (λ _ slice. slice) s some;
-      decided = λ form is. decided_of I.reading leaves_ends (said s) form is;
+      decided = λ form is. decided_of I.reading
+          (λ f x i answer y j r. literal_ends I.reading f (I.spells x) (λ slice. slice) i answer
+          j r.0)
+          (literal_said I.reading I.spells (λ _ slice. slice) (ShowSame I.reading) s
+          (I.same_units s) (λ slice other shown. shown)) form is;
     } };
 
     #[inline(always)]
