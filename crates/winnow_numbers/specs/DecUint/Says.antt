@@ -118,7 +118,9 @@ module _ {N K T L : Type 0} (number : N → ℕ) (bound : ℕ) (seen : K → T) 
 -- one input decides their runs
 pub dec_uint_decided : {N K T L : Type 0} (number : N → ℕ) (bound : ℕ) (seen : K → T)
     (code : K → ℕ) (reading : Reading T L) (form : ErrorForm) → SeenOnce seen code
-    → IsDecided tt (Keeps (λ (_ : ⊤). DecUintRuns number bound seen code reading form)) (OneNumber number)
+    → IsDecided tt (Keeps (λ (_ : ⊤). DecUintRuns number bound seen code reading form))
+          (OneNumber number)
 dec_uint_decided number bound seen code reading form once =
-    decided_of reading (λ f s i answer t j r. dec_uint_ends number bound seen code reading f i answer j r.0)
+    decided_of reading
+          (λ f s i answer t j r. dec_uint_ends number bound seen code reading f i answer j r.0)
     (dec_uint_said number bound seen code reading once) form tt

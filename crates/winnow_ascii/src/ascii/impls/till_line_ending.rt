@@ -10,7 +10,8 @@ ghost use Rattle.winnow_ascii.specs.TillLineEnding.Exact.{till_line_ending_exact
 ghost use Rattle.winnow_ascii.specs.TillLineEnding.Exact.{till_line_ending_fails};
 ghost use Rattle.winnow_ascii.specs.TillLineEnding.Laws.{till_line_ending_ends};
 ghost use Rattle.winnow_ascii.specs.TillLineEnding.Laws.{till_line_ending_stays};
-ghost use Rattle.winnow_ascii.specs.TillLineEnding.Says.{till_line_ending_decided, till_line_ending_said};
+ghost use Rattle.winnow_ascii.specs.TillLineEnding.Says.{till_line_ending_decided};
+ghost use Rattle.winnow_ascii.specs.TillLineEnding.Says.{till_line_ending_said};
 ghost use Rattle.winnow_ascii.specs.TillLineEnding.Says.{till_line_ending_says};
 
 use crate::ascii::till_line_ending;
