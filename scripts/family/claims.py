@@ -73,7 +73,14 @@ def claimed(n):
 
 
 # What decides them follows from what they say.
-DECIDED = "λ form is. decided_of I.reading leaves_ends (said s) form is"
+DECIDED = "λ form is. decided_of I.reading (%s) (%s) form is"
+
+
+def ends(n):
+    """That a tuple of n leaves an end, where its members do."""
+    return "λ form. sequence%d_ends I.reading %s" % (n, spaced("(P#.meaning form)", n)) + " " + spaced("(P#.leaves_ends form)", n)
+
+
 # Of a tuple of no members, and of one.
 NOTHING_CLAIMS = {
     "claim": record(
@@ -94,7 +101,7 @@ NOTHING_CLAIMS = {
             "exact": "λ form is. unit_exact",
             "fails": "λ form is. backs unit_fails",
             "takes": NEVER_TAKES,
-            "decided": DECIDED,
+            "decided": DECIDED % ("λ form s i answer t j r. same_ends I.reading i j r.1", "unit_said"),
         },
     ),
 }
@@ -112,7 +119,7 @@ ONE_CLAIMS = {
             "exact": "λ form is. tuple1_exact %s ((P1.claimed s.0).exact form is)" % CHILD,
             "fails": "λ form is. tuple1_fails %s ((P1.claimed s.0).fails form is)" % CHILD,
             "takes": "λ is some. made_of_takes OneTuple tt ((P1.claimed s.0).takes is some)",
-            "decided": DECIDED,
+            "decided": DECIDED % (ends(1), "one_said (P1.said s.0)"),
         },
     ),
 }
@@ -127,7 +134,7 @@ def member_claims(n):
     if n == 1:
         return members | ONE_CLAIMS
     claim = "%s_claim %s (%s)" % (word, spaced("(P#.claim s.@)", n), says)
-    claimed = "%s_claimed I.reading leaves_ends %s (said s)" % (word, spaced("(P#.claimed s.@)", n))
+    claimed = "%s_claimed I.reading (%s) %s (%s)" % (word, ends(n), spaced("(P#.claimed s.@)", n), said)
     return members | {"claim": member % ("claim", claim), "claimed": member % ("claimed", claimed)}
 
 

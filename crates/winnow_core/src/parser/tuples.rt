@@ -61,7 +61,8 @@ impl<I: Stream, E: ParserError<I>> Parser<I, (), E> for () {
       exact = λ form is. unit_exact;
       fails = λ form is. backs unit_fails;
       takes = λ is never. absurd never;
-      decided = λ form is. decided_of I.reading leaves_ends (said s) form is;
+      decided = λ form is. decided_of I.reading
+          (λ form s i answer t j r. same_ends I.reading i j r.1) (unit_said) form is;
     } };
 
     #[inline(always)]
@@ -102,7 +103,9 @@ impl<I: Stream, O1, E: ParserError<I>, P1: Parser<I, O1, E>> Parser<I, (O1,), E>
       fails = λ form is. tuple1_fails (P1.meaning form) (record { 0 = s.0 })
           ((P1.claimed s.0).fails form is);
       takes = λ is some. made_of_takes OneTuple tt ((P1.claimed s.0).takes is some);
-      decided = λ form is. decided_of I.reading leaves_ends (said s) form is;
+      decided = λ form is. decided_of I.reading
+          (λ form. sequence1_ends I.reading (P1.meaning form) (P1.leaves_ends form))
+          (one_said (P1.said s.0)) form is;
     } };
 
     #[inline(always)]
@@ -135,8 +138,10 @@ impl<I: Stream, O1: Drop, O2, E: ParserError<I>, P1: Parser<I, O1, E>, P2: Parse
 
     ghost said = { λ s. sequence2_said (P1.said s.0) (P2.said s.1) };
 
-    ghost claimed = { λ s. sequence2_claimed I.reading leaves_ends (P1.claimed s.0)
-        (P2.claimed s.1) (said s) };
+    ghost claimed = { λ s. sequence2_claimed I.reading
+        (λ form. sequence2_ends I.reading (P1.meaning form) (P2.meaning form)
+        (P1.leaves_ends form) (P2.leaves_ends form)) (P1.claimed s.0) (P2.claimed s.1)
+        (sequence2_said (P1.said s.0) (P2.said s.1)) };
 
     #[inline(always)]
     fn parse_next(&mut self, input: &mut I) -> Result<(O1, O2), E> {
@@ -174,8 +179,11 @@ impl<
 
     ghost said = { λ s. sequence3_said (P1.said s.0) (P2.said s.1) (P3.said s.2) };
 
-    ghost claimed = { λ s. sequence3_claimed I.reading leaves_ends (P1.claimed s.0)
-        (P2.claimed s.1) (P3.claimed s.2) (said s) };
+    ghost claimed = { λ s. sequence3_claimed I.reading
+        (λ form. sequence3_ends I.reading (P1.meaning form) (P2.meaning form)
+        (P3.meaning form) (P1.leaves_ends form) (P2.leaves_ends form) (P3.leaves_ends form))
+        (P1.claimed s.0) (P2.claimed s.1) (P3.claimed s.2)
+        (sequence3_said (P1.said s.0) (P2.said s.1) (P3.said s.2)) };
 
     #[inline(always)]
     fn parse_next(&mut self, input: &mut I) -> Result<(O1, O2, O3), E> {
@@ -220,8 +228,12 @@ impl<
 
     ghost said = { λ s. sequence4_said (P1.said s.0) (P2.said s.1) (P3.said s.2) (P4.said s.3) };
 
-    ghost claimed = { λ s. sequence4_claimed I.reading leaves_ends (P1.claimed s.0)
-        (P2.claimed s.1) (P3.claimed s.2) (P4.claimed s.3) (said s) };
+    ghost claimed = { λ s. sequence4_claimed I.reading
+        (λ form. sequence4_ends I.reading (P1.meaning form) (P2.meaning form)
+        (P3.meaning form) (P4.meaning form) (P1.leaves_ends form) (P2.leaves_ends form)
+        (P3.leaves_ends form) (P4.leaves_ends form)) (P1.claimed s.0) (P2.claimed s.1)
+        (P3.claimed s.2) (P4.claimed s.3)
+        (sequence4_said (P1.said s.0) (P2.said s.1) (P3.said s.2) (P4.said s.3)) };
 
     #[inline(always)]
     fn parse_next(&mut self, input: &mut I) -> Result<(O1, O2, O3, O4), E> {
@@ -273,8 +285,14 @@ impl<
     ghost said = { λ s. sequence5_said (P1.said s.0) (P2.said s.1) (P3.said s.2) (P4.said s.3)
         (P5.said s.4) };
 
-    ghost claimed = { λ s. sequence5_claimed I.reading leaves_ends (P1.claimed s.0)
-        (P2.claimed s.1) (P3.claimed s.2) (P4.claimed s.3) (P5.claimed s.4) (said s) };
+    ghost claimed = { λ s. sequence5_claimed I.reading
+        (λ form. sequence5_ends I.reading (P1.meaning form) (P2.meaning form)
+        (P3.meaning form) (P4.meaning form) (P5.meaning form) (P1.leaves_ends form)
+        (P2.leaves_ends form) (P3.leaves_ends form) (P4.leaves_ends form)
+        (P5.leaves_ends form)) (P1.claimed s.0) (P2.claimed s.1) (P3.claimed s.2)
+        (P4.claimed s.3) (P5.claimed s.4)
+        (sequence5_said (P1.said s.0) (P2.said s.1) (P3.said s.2) (P4.said s.3)
+        (P5.said s.4)) };
 
     #[inline(always)]
     fn parse_next(&mut self, input: &mut I) -> Result<(O1, O2, O3, O4, O5), E> {
@@ -336,9 +354,14 @@ impl<
     ghost said = { λ s. sequence6_said (P1.said s.0) (P2.said s.1) (P3.said s.2) (P4.said s.3)
         (P5.said s.4) (P6.said s.5) };
 
-    ghost claimed = { λ s. sequence6_claimed I.reading leaves_ends (P1.claimed s.0)
+    ghost claimed = { λ s. sequence6_claimed I.reading
+        (λ form. sequence6_ends I.reading (P1.meaning form) (P2.meaning form)
+        (P3.meaning form) (P4.meaning form) (P5.meaning form) (P6.meaning form)
+        (P1.leaves_ends form) (P2.leaves_ends form) (P3.leaves_ends form)
+        (P4.leaves_ends form) (P5.leaves_ends form) (P6.leaves_ends form)) (P1.claimed s.0)
         (P2.claimed s.1) (P3.claimed s.2) (P4.claimed s.3) (P5.claimed s.4) (P6.claimed s.5)
-        (said s) };
+        (sequence6_said (P1.said s.0) (P2.said s.1) (P3.said s.2) (P4.said s.3) (P5.said s.4)
+        (P6.said s.5)) };
 
     #[inline(always)]
     fn parse_next(&mut self, input: &mut I) -> Result<(O1, O2, O3, O4, O5, O6), E> {
