@@ -9,12 +9,14 @@ It writes the sets that are tuples in the crate `stream_sets`, the meanings and 
 sequences (tuples of one to six) in the crate `winnow_core`, those of choices among as many
 branches in the crate `winnow_comb`, with their laws, the parsers of classes of characters in the
 crate `winnow_ascii`, and those of integers in the crates `winnow_integers` and `winnow_binary`;
-what all of these claim, and that they are stable. It prints the crates whose files it writes.
+what all of these claim, and that they are stable; and the law that each parser means the same
+over a partial stream. It prints the crates whose files it writes.
 """
 from family.choices import write_choices
 from family.chosen import write_chosen
 from family.claims import write_claims
 from family.classes import write_classes
+from family.complete import CRATES_OF_PARSERS, write_complete
 from family.exact import write_exact
 from family.integers import write_integers
 from family.known import write_known
@@ -37,4 +39,5 @@ if __name__ == "__main__":
     write_exact()
     write_says()
     write_claims()
-    print("stream_sets grammars winnow_core winnow_comb winnow_ascii winnow_integers winnow_binary")
+    write_complete()
+    print("stream_sets grammars", *CRATES_OF_PARSERS)

@@ -195,6 +195,8 @@ LAWS = """//! Laws of integers, each proved by a function that does nothing.
 //! {head}
 ghost use Rattle.winnow_integers.specs.IntegerLaws.{{ReadsReversed}};
 
+pub mod complete;
+
 use crate::binary::impls::{{{structs}}};
 use stream_errors::parser_error::ParserError;
 use streams::byte_stream::ByteStream;

@@ -6,4 +6,5 @@
 #![tactic(auto)]
 
 pub mod ascii;
+pub mod laws;
 pub mod stable;

@@ -4,3 +4,4 @@
 #![tactic(auto)]
 
 pub mod binary;
+pub mod laws;

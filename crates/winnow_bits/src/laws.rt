@@ -2,6 +2,8 @@
 ghost use Rattle.stream_bits.specs.BitReading.{bits_reading};
 ghost use Rattle.winnow_bits.specs.BitLaws.{StaysOnError, TakesFirstBits};
 
+pub mod complete;
+
 use crate::bits::BitOutput;
 use crate::bits::impls::{BitsParser, Bytes, Take};
 use stream_bits::bits::Bits;

@@ -2,6 +2,7 @@
 ghost use Rattle.winnow_comb.specs.Laws.{GoesBack, GoesBackOnNone};
 
 pub mod choices;
+pub mod complete;
 pub mod items;
 
 use crate::combinator::impls::{Not, Opt, Peek};

@@ -2,11 +2,15 @@
 ghost use Rattle.std.specs.Prelude.{◌≡◌, List, [], ◌∷◌};
 ghost use Rattle.std.specs.Str.{chars};
 ghost use Rattle.stream_errors.specs.Form.{modal};
-ghost use Rattle.winnow_core.specs.Laws.{GoesBackOnFailure, ShowsOne};
+ghost use Rattle.winnow_core.specs.Laws.{AnswersAlike, GoesBackOnFailure, ShowsOne};
 ghost use Rattle.winnow_core.specs.Laws.{TakesFromTheFront};
 ghost use Rattle.winnow_core.specs.Runs.{LeaveEnds};
+ghost use Rattle.winnow_core.specs.SameMeaning.{SameMeaning};
 ghost use Rattle.winnow_core.specs.Says.Longer.{EachLongerGets};
 ghost use Rattle.winnow_core.specs.Stable.{EachSettlesOnCut, IsStable};
+
+pub mod complete;
+pub mod complete_values;
 
 use crate::combinator::impls::{AndThen, Eof, ParseTo, Take, TryMap, Verify, VerifyMap, WithTaken};
 use crate::parser::Parser;
@@ -14,6 +18,7 @@ use crate::stable::Stable;
 use stream_errors::external::FromExternalError;
 use stream_errors::parser_error::ParserError;
 use stream_sets::parse_slice::ParseSlice;
+use streams::partial::Partial;
 use streams::stream::{Stream, StreamIsPartial};
 use streams::token_slice::TokenSlice as Tokens;
 
@@ -102,6 +107,22 @@ pub fn and_then_goes_back<
 >()
     ensures { GoesBackOnFailure (λ s. s.0) (P.meaning E.form)
         (⟦<AndThen<P, G, I, O, O2, E> as Parser<I, O2, E>>⟧.meaning E.form) }
+{}
+
+/// Where a parser means over a partial stream what another means over the plain one, as each parser
+/// of the library does (the laws of [`complete`](crate::laws::complete) and its like), what the
+/// partial stream is answered the plain one is answered: so it is of a partial stream that is
+/// marked complete.
+pub fn a_complete_stream_is_answered_as_the_plain_one<
+    P: Parser<I, O, E>,
+    Q: Parser<Partial<I>, O, F>,
+    I: Stream,
+    O,
+    E: ParserError<I>,
+    F: ParserError<Partial<I>>,
+>()
+    ensures { (along : P.State → Q.State) → SameMeaning along P.meaning Q.meaning → E.form ≡ F.form
+        → AnswersAlike along (P.meaning E.form) (Q.meaning F.form) }
 {}
 
 /// Over bytes, the slice that [`take`](crate::parser::Parser::take) answers and then the rest are

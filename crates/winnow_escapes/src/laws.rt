@@ -3,6 +3,8 @@ ghost use Rattle.std.specs.Prelude.{List};
 ghost use Rattle.std.specs.Str.{chars};
 ghost use Rattle.winnow_core.specs.Laws.{ShowsOne, TakesFromTheFront};
 
+pub mod complete;
+
 use crate::ascii::impls::TakeEscaped;
 use stream_errors::control::ControlError;
 use stream_errors::parser_error::ParserError;

@@ -7,3 +7,4 @@
 #![tactic(auto)]
 
 pub mod combinator;
+pub mod laws;

@@ -3,6 +3,8 @@
 //! Written by scripts/families.py: do not edit.
 ghost use Rattle.winnow_integers.specs.IntegerLaws.{ReadsReversed};
 
+pub mod complete;
+
 use crate::binary::impls::{
     BeI8, BeI16, BeI24, BeI32, BeI64, BeI128, BeU8, BeU16, BeU24, BeU32, BeU64, BeU128, LeI8,
     LeI16, LeI24, LeI32, LeI64, LeI128, LeU8, LeU16, LeU24, LeU32, LeU64, LeU128,

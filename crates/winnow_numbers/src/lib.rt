@@ -5,3 +5,4 @@
 #![tactic(auto)]
 
 pub mod ascii;
+pub mod laws;

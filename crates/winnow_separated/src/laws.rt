@@ -3,6 +3,8 @@ ghost use Rattle.winnow_core.specs.Decides.{Decides};
 ghost use Rattle.winnow_separated.specs.FoldLaws.{Consumes, FoldTheSame};
 ghost use Rattle.winnow_separated.specs.SeparatedLaws.{LeavesTheSeparator};
 
+pub mod complete;
+
 use crate::combinator::impls::{Separated, SeparatedFoldl1, SeparatedFoldr1};
 use std::alloc::Allocator;
 use stream_errors::parser_error::ParserError;

@@ -3,6 +3,8 @@ ghost use Rattle.std.specs.Prelude.{[], ◌∷◌};
 ghost use Rattle.stream_errors.specs.Form.{modal};
 ghost use Rattle.winnow_core.specs.Stable.{IsStable};
 
+pub mod complete;
+
 use crate::token::impls::{Any, Rest};
 use stream_errors::parser_error::ParserError;
 use streams::stream::{Stream, StreamIsPartial};

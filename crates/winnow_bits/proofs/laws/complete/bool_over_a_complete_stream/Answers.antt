@@ -1,0 +1,8 @@
+-- Written by scripts/families.py: do not edit.
+use Rattle.winnow_core.specs.SameMeaning.{same_refl}
+use Rattle.winnow_bits.proofs.laws.complete.bool_over_a_complete_stream.Goals as goal
+
+pub returns : goal.returns
+returns g c = record {
+  bool = same_refl _;
+}

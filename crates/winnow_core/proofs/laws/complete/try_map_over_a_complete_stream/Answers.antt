@@ -1,0 +1,11 @@
+-- Written by scripts/families.py: do not edit.
+use Rattle.winnow_core.specs.TryMap.{TryMapRuns}
+use Rattle.winnow_core.specs.SameMeaning.{SameMeaning, along1, same_refl}
+use Rattle.winnow_core.proofs.laws.complete.try_map_over_a_complete_stream.Goals as goal
+
+pub returns : goal.returns
+returns g c = record {
+  try_map = along1 (λ Sf Uf to_f mf nf. SameMeaning (λ z. (to_f z.0, z.1))
+      (λ form. TryMapRuns (goal.G-step g) (mf form))
+      (λ form. TryMapRuns (goal.G-step g) (nf form))) (λ Sf mf. same_refl _);
+}

@@ -1,0 +1,8 @@
+-- Written by scripts/families.py: do not edit.
+use Rattle.winnow_core.specs.SameMeaning.{same_refl}
+use Rattle.winnow_core.proofs.laws.complete_values.text_over_a_complete_stream.Goals as goal
+
+pub returns : goal.returns
+returns g c = record {
+  text = same_refl _;
+}

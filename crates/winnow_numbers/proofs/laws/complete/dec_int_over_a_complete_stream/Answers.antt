@@ -1,0 +1,8 @@
+-- Written by scripts/families.py: do not edit.
+use Rattle.winnow_core.specs.SameMeaning.{same_refl}
+use Rattle.winnow_numbers.proofs.laws.complete.dec_int_over_a_complete_stream.Goals as goal
+
+pub returns : goal.returns
+returns g c = record {
+  dec_int = same_refl _;
+}

@@ -1,0 +1,2 @@
+//! Laws of the parsers, each proved by a function that does nothing.
+pub mod complete;

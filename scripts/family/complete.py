@@ -1,0 +1,454 @@
+"""That each parser means over `Partial<I>` what it means over `I`: a law of each crate's parsers,
+read off the blocks that make them parsers."""
+import collections
+import re
+
+from family.common import MOST, NUMBER, TOP, documented, upto, write
+from registry.common import CRATES, WIDTH, split
+from registry.parsers import closing
+
+SAME = "Rattle.winnow_core.specs.SameMeaning"
+# Parsers that call a function of one stream, or whose parts have laws of their own.
+LEFT = {"Func<F>", "Expression<I, O, P, Pre, Post, Pix, F, G, H, E, A>", "AltParser<A, I, O, E>", "OperandPlace<P, R>", "OperatorPlace<P, R>"}
+# Parsers of one type of errors, which a closure or a conversion takes.
+ONE_ERROR = {"MapErr", "MapErrKept", "ErrInto", "AndThen"}
+# What a value that is a parser of itself is called in a law.
+NAMES = {
+    "&'t [u8]": "bytes",
+    "&'t [u8; N]": "array",
+    "&'t str": "text",
+    "Caseless<&'t [u8]>": "caseless_bytes",
+    "Caseless<&'t [u8; N]>": "caseless_array",
+    "Caseless<&'t str>": "caseless_text",
+    "Infix<F>": "infix_operator",
+    "Prefix<F>": "prefix_operator",
+    "Postfix<F>": "postfix_operator",
+    "()": "nothing",
+    "AltParser<[P; N], I, O, E>": "alt_of_an_array",
+    "AltParser<&'a mut [P], I, O, E>": "alt_of_a_slice",
+}
+
+
+def one_line(text):
+    return " ".join(text.split())
+
+
+def snake(name):
+    return re.sub(r"(?<=[a-z0-9])(?=[A-Z])|(?<=[a-z])(?=[0-9]{2,})", "_", name).lower().replace("_u", "_u")
+
+
+class Block:
+    """A block that makes a type a parser."""
+
+    def __init__(self, path, text):
+        self.path = path
+        self.head = one_line(text[: text.index("{\n")])
+        at = self.head.index("<")
+        end = closing(self.head, at, "<", ">")
+        self.parameters = [tuple(one_line(x) for x in (it.split(":", 1) + [""])[:2]) for it in split(self.head[at + 1 : end - 1])]
+        rest = self.head[end:].strip()
+        trait = rest[: rest.index("<")]
+        inner = closing(rest, len(trait), "<", ">")
+        self.stream, self.output, self.error = split(rest[len(trait) + 1 : inner - 1])
+        kind, _, self.where = rest[inner:].strip()[len("for ") :].partition(" where ")
+        self.kind, self.where = kind.strip(), self.where.strip().rstrip(",")
+        if trait == "Alt":
+            self.kind = "AltParser<%s, I, O, E>" % self.kind
+        self.state_type = self.member(text, "State")
+        self.meaning = self.member(text, "meaning")
+        self.file = path.read_text(encoding="utf-8")
+        if "Bits<I>" in self.head:
+            self.over_bytes()
+
+    def over_bytes(self):
+        """Bits are those of bytes: a bound at bits of any stream is not stated."""
+        byte = lambda text: re.sub(r"(?<![\w:'])I\b(?!::)", "&'i [u8]", text).replace("I::Slice", "&'i [u8]")
+        self.meaning = self.meaning.replace("I.reading", "bytes_reading")
+        self.parameters = [("'i", "")] + [(x, byte(b)) for x, b in self.parameters if x != "I"]
+        self.stream, self.output, self.error, self.kind = map(byte, (self.stream, self.output, self.error, self.kind))
+
+    @staticmethod
+    def member(text, name):
+        return one_line(re.search(r"ghost %s = \{(.*?)\};" % name, text, re.DOTALL)[1])
+
+    @property
+    def name(self):
+        if self.kind in NAMES:
+            return NAMES[self.kind]
+        if self.kind.startswith("("):
+            return "tuple%d" % len(split(self.kind[1:-1]))
+        if self.kind.startswith("AltParser<("):
+            return "alt%d" % len(split(self.kind[len("AltParser<(") : self.kind.index(")")]))
+        return snake(re.match(r"\w+", self.kind)[0]) if self.kind[0].isupper() else self.kind
+
+
+def blocks(crate):
+    for path in sorted((CRATES / crate / "src").rglob("*.rt")):
+        text = path.read_text(encoding="utf-8")
+        for found in re.finditer(r"^impl<.*?^\}", text, re.MULTILINE | re.DOTALL):
+            head = one_line(found[0][: found[0].index("{\n")])
+            if head[closing(head, head.index("<"), "<", ">") :].strip().startswith(("Parser<", "Alt<")):
+                block = Block(path, found[0])
+                if block.kind not in LEFT:
+                    yield block
+
+
+def mentions(text, names):
+    return any(re.search(r"(?<![\w:'])%s\b(?!::)" % it, text) for it in names)
+
+
+# The parser that a closure makes is of one type, and is a parser over both streams.
+MADE = ("⟦<H as Parser<I, O2, E>>⟧", "⟦<H as Parser<Partial<I>, O2, QE>>⟧")
+MAKES_CLAUSE = """    ensures flat_map { (f : F.State → QF.State) → SameMeaning f F.meaning QF.meaning
+        → (h : HERE.State → THERE.State)
+        → SameMeaning h HERE.meaning THERE.meaning
+        → ((made : H) → h (HERE.state made) ≡ THERE.state made)
+        → SameMeaning (λ z. (f z.0, z.1))
+        %s }""".replace("THERE", MADE[1]).replace("HERE", MADE[0])
+MAKES_ANSWER = (
+    "λ f one h other leads. along2 (λ Sf Uf f mf nf Sh Uh h mh nh. (here : g.row.H.Denot → Sh) (there : g.row.H.Denot → Uh) → ((made : g.row.H.Denot) → h (here made) ≡ there made) → "
+    "SameMeaning (λ z. (f z.0, z.1)) (λ form. FlatMapRuns (goal.G-step g) here (mf form) (mh form)) "
+    "(λ form. FlatMapRuns (goal.G-step g) there (nf form) (nh form))) "
+    "(λ Sf mf Sh mh here there same. let P : _ → Type 0 = λ state. SameMeaning (λ z. z) (λ form. FlatMapRuns (goal.G-step g) here (mf form) (mh form)) (λ form. FlatMapRuns (goal.G-step g) state (mf form) (mh form)) in subst P (λ i made. same made i) (same_refl _)) f one h other _ _ leads"
+)
+
+
+class Law:
+    """What a block's parser means over both streams."""
+
+    def __init__(self, block):
+        self.block = block
+        self.one_error = re.match(r"\w*", block.kind)[0] in ONE_ERROR
+        bounds = dict(block.parameters)
+        self.twice = []
+        for _ in bounds:
+            for name, bound in block.parameters:
+                if name in ("I", *self.twice) or name.startswith("const"):
+                    continue
+                if block.kind.startswith("FlatMap<") and name in "GH":
+                    continue
+                if self.one_error and not bound.startswith("Parser<I,"):
+                    continue
+                if "&'i [u8]" in bound or mentions(bound, ["I", *self.twice]):
+                    self.twice.append(name)
+        self.makes = block.kind.startswith("FlatMap<")
+        self.parts = [x for x, b in block.parameters if x in self.twice and b.startswith("Parser<")]
+
+    def letters(self):
+        """The names of one letter that longer ones get."""
+        used = {name for name, _ in self.block.parameters} | {"I"}
+        free = iter([it for it in "QRSTUWXYZJKLMNBCDFGHV" if it not in used])
+        names = [name for name, _ in self.block.parameters]
+        longer = [it for name in names for it in (name, "Q" + name) if it != name or re.fullmatch(r"[A-Z]\w+", it)]
+        return {it: next(free) for it in longer if it[1:] in self.twice or it in names}
+
+    def short(self, text):
+        for name, letter in self.letters().items():
+            text = re.sub(r"\b%s\b" % name, letter, text)
+        # A type is one line.
+        last = text.rpartition("\n")[2]
+        return text[:-2] + "\n    }" if len(last) > WIDTH and text.endswith(" }") else text
+
+    def other(self, text):
+        text = text.replace("&'i [u8]", "Partial<&'i [u8]>")
+        text = re.sub(r"(?<![\w:'])I\b(?!::)", "Partial<I>", text)
+        for name in sorted(self.twice, key=len, reverse=True):
+            text = re.sub(r"(?<![\w:'])%s\b(?!::)" % name, "Q" + name, text)
+        return text
+
+    def lives(self, name):
+        """How long what a parser borrows lives."""
+        for lifetime, kind, borrowed in ("'p", "ByRef<", "P"), ("'a", "AltParser<&'a", "P"), ("'b", "Fill<", "O"):
+            if self.block.kind.startswith(kind) and name == borrowed:
+                return " + " + lifetime
+        return ""
+
+    def parameters(self):
+        lines = []
+        for name, bound in self.block.parameters:
+            if self.makes and name == "H":
+                bound = "Parser<I, O2, E> + Parser<Partial<I>, O2, QE> + Drop"
+            bound += self.lives(name)
+            if self.one_error and bound.startswith("ParserError<I>"):
+                bound = bound.replace("ParserError<I>", "ParserError<I> + ParserError<Partial<I>>")
+            lines.append("%s: %s" % (name, bound) if bound else name)
+            if name in self.twice:
+                lines.append("Q%s: %s" % (name, self.other(bound)))
+        return lines
+
+    def mapped(self, kind, at):
+        """What the map of states does with the part of a state at a path."""
+        if kind.startswith("record { 0 : "):
+            return "record { 0 = %s }" % self.mapped(kind[len("record { 0 : ") : -2], at + ".0")
+        parts = products(kind)
+        if len(parts) == 1:
+            name = kind.removeprefix("List ").removesuffix(".State")
+            if kind.startswith("List ") and name in self.parts:
+                return "map to_%s %s" % (name.lower(), at)
+            if name + ".State" == kind and name in self.parts:
+                return "to_%s %s" % (name.lower(), at)
+            if kind.startswith("(") and any(x + ".State" in kind for x in self.parts):
+                return self.mapped(kind[1:-1], at)
+            return at
+        inside = [self.mapped(it, "%s.%d" % (at, k)) for k, it in enumerate(parts)]
+        return "(%s)" % ", ".join(inside) if any(self.parts) else at
+
+    def states(self):
+        if not self.parts:
+            return "(λ s. s)"
+        first = "to_" + self.parts[0].lower()
+        whole = self.mapped(self.block.state_type, "z")
+        if whole in (first + " z", "map %s z" % first):
+            return first if whole.startswith(first) else "(map %s)" % first
+        return "(λ z. %s)" % whole
+
+    def meanings(self):
+        b = self.block
+        here = "⟦<%s as Parser<%s, %s, %s>>⟧.meaning" % (b.kind, b.stream, b.output, b.error)
+        there = "⟦<%s as Parser<%s, %s, %s>>⟧.meaning" % tuple(self.other(x) for x in (b.kind, b.stream, b.output, b.error))
+        return here, there
+
+    def clause(self):
+        if self.makes:
+            return MAKES_CLAUSE % "\n        ".join(self.meanings())
+        premises = ["(to_{0} : {1}.State → Q{1}.State) → SameMeaning to_{0} {1}.meaning Q{1}.meaning →".format(x.lower(), x) for x in self.parts]
+        lines = [*premises, "SameMeaning %s" % self.states(), *self.meanings()]
+        return "    ensures %s { %s }" % (self.block.name, "\n        ".join(lines))
+
+    def made(self, prefix):
+        """The meaning, with variables for those of the parts."""
+        text = self.block.meaning
+        for name in self.parts:
+            text = re.sub(r"\b%s\.meaning\b" % name, prefix + name.lower(), text)
+        bounds = dict(self.block.parameters)
+
+        def member(found):
+            name, item = found[1], found[2]
+            if name not in bounds:
+                return found[0]
+            if item in ("step", "post"):
+                return "(goal.%s-%s g)" % (name, item)
+            return "g.%s.%s" % (name, ".".join([*trait_of(item, bounds[name]), item]))
+
+        for k, found in enumerate(re.findall(r"⟦<(\w+) as (\w+)<[^⟧]*>>⟧", text)):
+            text = re.sub(r"⟦<\w+ as \w+<[^⟧]*>>⟧", "g.%s.%s-%d" % (*found, k + 1), text, count=1)
+        for name in re.findall(r"(?<=Runs )[A-Z]\b(?!\.)", text):
+            text = re.sub(r"(?<=Runs )%s\b(?!\.)" % name, "g.row.%s.Denot" % name, text)
+        return re.sub(r"(?<![\w.])([A-Z]\w*)\.(\w+)", member, text)
+
+    def base(self):
+        """Why a meaning is one with itself: also where the states are lists."""
+        if "List" not in self.block.state_type:
+            return "same_refl"
+        return "same_map" if "×" not in self.block.state_type else "same_map_beside"
+
+    def answer(self):
+        if not self.parts:
+            return "same_refl _"
+        if self.makes:
+            return MAKES_ANSWER
+        names = [x.lower() for x in self.parts]
+        every = " ".join("S{0} U{0} to_{0} m{0} n{0}".format(x) for x in names)
+        base = " ".join("S{0} m{0}".format(x) for x in names)
+        return "along%d (λ %s. SameMeaning %s (%s) (%s)) (λ %s. %s _)" % (len(names), every, self.states(), self.made("m"), self.made("n"), base, self.base())
+
+
+def products(text):
+    """The parts of a product, those in brackets whole."""
+    depth, parts = 0, [""]
+    for sign in text:
+        depth += (sign in "({") - (sign in ")}")
+        if sign == "×" and not depth:
+            parts.append("")
+        else:
+            parts[-1] += sign
+    return [it.strip() for it in parts]
+
+
+TRAITS = {"is_clone": "Clone", "is_infallible": "Clone", "is_default": "Default", "from_gives": "From", "step": "FnMut", "post": "Fn", "next_gives": "Iterator"}
+for _path in sorted(CRATES.glob("*/src/**/*.rt")):
+    for _found in re.finditer(r"^pub trait (\w+).*?^\}", _path.read_text(encoding="utf-8"), re.MULTILINE | re.DOTALL):
+        for _item in re.findall(r"^    ghost (\w+):", _found[0], re.MULTILINE):
+            TRAITS.setdefault(_item, []) if not isinstance(TRAITS.get(_item), str) else None
+            if isinstance(TRAITS[_item], list):
+                TRAITS[_item].append(_found[1])
+
+
+def trait_of(item, bound):
+    found = TRAITS.get(item, [])
+    if isinstance(found, str):
+        return [found]
+    for it in found:
+        if re.search(r"\b%s\b" % it, bound):
+            return [it]
+    return found[:1]
+
+
+def public(path, name, base):
+    """Where a name of a crate is public, if a module above makes it so."""
+    src = CRATES / path.relative_to(CRATES).parts[0] / "src"
+    for file in sorted(src.rglob("*.rt"), key=lambda it: (len(it.parts), it)):
+        for it in re.findall(r"^pub use ([^;]*);", file.read_text(encoding="utf-8"), re.MULTILINE):
+            if re.search(r"\b%s\b" % name, it):
+                return "::".join(["crate", *[it for it in file.relative_to(src).with_suffix("").parts if it != "lib"]])
+    return base
+
+
+def used(text, blocks, ghost):
+    """The imports of names that a text has, as the files of the blocks have them."""
+    found = {}
+    for block in blocks:
+        crate = "::".join(["crate", *block.path.relative_to(TOP).with_suffix("").parts[3:]])
+        crate = re.sub(r"::impls::.*", "::impls", crate)
+        for line in re.findall(r"^(?:pub )?%suse ([^;]*);" % ("ghost " if ghost else ""), block.file, re.MULTILINE):
+            line = one_line(line)
+            base, _, names = line.partition("{")
+            names = split(names.rstrip("}")) if names else [re.split(r"::|\.", line)[-1]]
+            base = base.rstrip(":.") if "{" in line else line[: -len(names[0])].rstrip(":.")
+            for name in names:
+                if ghost or name[0].isupper():
+                    found[name] = base
+        if not ghost:
+            for name in re.findall(r"^pub (?:struct|enum|trait) (\w+)", block.file, re.MULTILINE):
+                found[name] = crate
+    if not ghost:
+        found |= {name: public(blocks[0].path, name, base) for name, base in found.items() if base.startswith("crate::")}
+    lines = collections.defaultdict(list)
+    for name, base in sorted(found.items()):
+        word = name.split(" as ")[-1].strip("◌")
+        if re.search(r"(?<![\w])%s(?![\w])" % re.escape(word), text):
+            lines[base].append(name)
+    return lines
+
+
+def law_groups(crate, module):
+    groups = collections.defaultdict(list)
+    for block in blocks(crate):
+        if file_of(block) != module:
+            continue
+        law = Law(block)
+        parameters = tuple(law.short(it) for it in law.parameters())
+        groups[parameters, law.block.where, bool(law.parts)].append(law)
+    return groups
+
+
+def title(laws):
+    names = [it.block.name for it in laws]
+    whole = "_and_".join(names)
+    return whole if len(whole) < 32 else names[0] + "_and_its_like"
+
+
+def file_of(block):
+    """The file of laws in which a block's stands: values that are parsers have one of their own."""
+    return "complete" if block.kind[0].isupper() and "Caseless" not in block.kind else "complete_values"
+
+
+def write_crate(crate, module):
+    functions, every_block = [], []
+    for (parameters, where, has_parts), laws in law_groups(crate, module).items():
+        name = title(laws) + "_over_a_complete_stream"
+        parts = ", where its parts do" if has_parts else ""
+        said = "Over a partial stream `%s` means what it means over the plain one%s." % (laws[0].block.name, parts)
+        if len(laws) > 1:
+            listed = ", ".join("`%s`" % it.block.name for it in laws)
+            said = "Over a partial stream each of these means what it means over the plain one%s: %s." % (parts, listed)
+        lines = [documented(said)]
+        lines += ["pub fn %s<%s>()" % (name, ", ".join(parameters))]
+        lines += ["where", "    " + where + ","] if where else []
+        lines += [it.short(it.clause()) for it in laws] + ["{}"]
+        functions.append("\n".join(lines))
+        answers = "returns g c = record {\n%s\n}" % "\n".join("  %s = %s;" % (it.block.name, it.short(it.answer())) for it in laws)
+        uses = used(answers, [it.block for it in laws], True)
+        uses.pop("Rattle.winnow_core.specs.SameMeaning", None)
+        specs = "".join("use %s.{%s}\n" % (base, ", ".join(names)) for base, names in uses.items())
+        if "bytes_reading" in answers:
+            specs += "use Rattle.streams.specs.Bytes.{bytes_reading}\n"
+        if "subst P" in answers:
+            specs += "use Rattle.std.specs.Prelude.{◌≡◌}\nuse Rattle.std.proofs.Common.{subst}\n"
+        alongs = sorted(set(re.findall(r"along\d", answers)))
+        if alongs:
+            named = ["SameMeaning"] + [it for it in alongs if it == "along1"] + ["same_refl"]
+            specs += "use %s.{%s}\n" % (SAME, ", ".join(named if "same_refl" in answers else named[:-1]))
+            more = [it for it in alongs if it != "along1"] + sorted(set(re.findall(r"same_map\w*", answers)))
+            specs += "use %s.Along.{%s}\n" % (SAME, ", ".join(more)) if more else ""
+        else:
+            specs += "use %s.{same_refl}\n" % SAME
+        text = "-- {head}\n%suse Rattle.%s.proofs.laws.%s.%s.Goals as goal\n\npub returns : goal.returns\n%s\n" % (specs, crate, module, name, answers)
+        write("crates/%s/proofs/laws/%s/%s/Answers.antt" % (crate, module, name), text.replace("{", "{{").replace("}", "}}").replace("{{head}}", "{head}"))
+        every_block += [it.block for it in laws]
+    if not functions:
+        return
+    body = "\n\n".join(functions)
+    uses = used(body, every_block, False)
+    uses["streams::partial"] = ["Partial"]
+    imports = "".join("use %s::%s;\n" % (base, names[0]) if len(names) == 1 else "use %s::{%s};\n" % (base, ", ".join(names)) for base, names in sorted(uses.items()))
+    words = ", ".join((["◌≡◌"] if "≡" in body else []) + (["map"] if "(map " in body else []))
+    prelude = "ghost use Rattle.std.specs.Prelude.{%s};\n" % words if words else ""
+    text = "//! Laws of parsers over two streams, each proved by a function that does nothing.\n//!\n//! {head}\n%sghost use %s.{SameMeaning};\n\n%s\n%s\n" % (prelude, SAME, imports, body)
+    write("crates/%s/src/laws/%s.rt" % (crate, module), text.replace("{", "{{").replace("}", "}}").replace("{{head}}", "{head}"))
+
+
+ALONG = """-- What holds of meanings and themselves holds of those that are one, of two to six at once.
+-- {head}
+use Rattle.std.specs.Prelude.{{◌≡◌, List, [], ◌∷◌, map}}
+use Rattle.std.proofs.Common.{{refl, ap, subst, sym}}
+use Rattle.winnow_core.specs.Runs.{{Meaning}}
+use Rattle.winnow_core.specs.SameMeaning.{{SameMeaning, along1, same_refl}}
+
+mapped_by_none : {{X : Type 0}} (xs : List X) → map (λ (x : X). x) xs ≡ xs
+mapped_by_none [] = refl
+mapped_by_none (x ∷ xs) = ap (λ ys. x ∷ ys) (mapped_by_none xs)
+
+-- A meaning over lists of states is one with itself along the map of what stays,
+pub same_map : {{S T O : Type 0}} (m : Meaning (List S) T O) → SameMeaning (map (λ s. s)) m m
+same_map {{S}} m =
+    let P : (List S → List S) → Type 0 = λ f. SameMeaning f m m in
+    subst P (sym (λ i xs. mapped_by_none xs i)) (same_refl m)
+
+-- and so it is beside something else.
+pub same_map_beside : {{S G T O : Type 0}} (m : Meaning (List S × G) T O) → SameMeaning (λ z. (map (λ s. s) z.0, z.1)) m m
+same_map_beside {{S}} m =
+    let P : (List S → List S) → Type 0 = λ f. SameMeaning (λ z. (f z.0, z.1)) m m in
+    subst P (sym (λ i xs. mapped_by_none xs i)) (same_refl m)
+
+{family}
+"""
+
+
+def each(n, text, joined=" "):
+    return joined.join(text.replace("#", str(k)) for k in upto(n))
+
+
+def along(n):
+    """What holds of n meanings and themselves holds of those that are one with them."""
+    kinds = each(n, "(S# U# : Type 0) → (S# → U#) → Meaning S# T# O# → Meaning U# T# O#", " → ")
+    same = each(n, "(S# : Type 0) (m# : Meaning S# T# O#)") + " → P " + each(n, "S# S# (λ s. s) m# m#")
+    given = each(n, "{S# U# : Type 0} {m# : Meaning S# T# O#} {n# : Meaning U# T# O#}")
+    ones = each(n, "(f# : S# → U#) → SameMeaning f# m# n#", " → ")
+    rest = " ".join("S{0} U{0} f{0} m{0} n{0}".format(k) for k in range(2, n + 1))
+    others = " ".join("f%d one%d" % (k, k) for k in range(2, n + 1))
+    named = " ".join("{{S{0} = S{0}}} {{U{0} = U{0}}} {{m{0} = m{0}}} {{n{0} = n{0}}}".format(k) for k in range(2, n + 1))
+    return "\n".join(
+        [
+            "-- ... %s" % NUMBER[n],
+            "pub along%d : {%s : Type 0} (P : %s → Type 0) → (%s) → %s → %s → P %s"
+            % (n, each(n, "T# O#"), kinds, same, given, ones, each(n, "S# U# f# m# n#")),
+            "along%d P same %s f1 one1 %s =" % (n, named, others),
+            "    along1 (λ S U f m n. P S U f m n %s)" % rest,
+            "    (λ S m. along%d (P S S (λ s. s) m m) (same S m) %s) f1 one1" % (n - 1, others),
+        ]
+    )
+
+
+def write_along():
+    write("crates/winnow_core/specs/SameMeaning/Along.antt", ALONG, family="\n\n".join(along(n) for n in range(2, MOST + 1)))
+
+
+CRATES_OF_PARSERS = "winnow_core winnow_token winnow_comb winnow_repeat winnow_separated winnow_ascii winnow_numbers winnow_escapes winnow_integers winnow_binary winnow_bits winnow_expression winnow_recovery".split()
+
+
+def write_complete():
+    write_along()
+    for crate in CRATES_OF_PARSERS:
+        write_crate(crate, "complete")
+        write_crate(crate, "complete_values")
