@@ -1,6 +1,5 @@
 -- Where parsers that have no parts ask for more.
-use Rattle.std.specs.Prelude.{◌≡◌, ⊤, ℕ, Bool, true, List, Option, Some, None}
-use Rattle.std.specs.Prelude.{Ok, Err}
+use Rattle.std.specs.Prelude.{◌≡◌, ⊤, ℕ, Bool, true, List, Option, Some, None, Ok, Err}
 use Rattle.std.proofs.Common.{refl, ap, subst, inl, inr}
 use Rattle.streams.specs.Input.{Input}
 use Rattle.streams.specs.Kind.{Kind, backtrack, cut, incomplete, memory}
@@ -134,8 +133,6 @@ one_of_asks {S} {K} {T} seen reading member s c = leaf_asks c asked
     asked i need t j (inr (inl (x, rest, split, lacks, e, same)), kept) = back_asks (same_kind e)
     asked i need t j (inr (inr none), kept) = none_left_asks i need j none
 
--- ---- that many tokens
-
 -- ---- characters of a class
 
 -- Nothing but characters of the class is there.
@@ -149,5 +146,3 @@ pub class_asks : {K T L : Type 0} (class : ℕ → Type 0) (least : ℕ) (code :
 class_asks class least code seen reading apart = take_while_asks reading
     (λ (_ : ⊤). AnswersSeen seen (InClass class code tt)) (λ _. from_to least None) tt tt
     (class_decided class least code seen reading modal (λ k l e. ap code (apart k l e)))
-
--- ---- integers

@@ -1,6 +1,5 @@
 -- The words in which it is said where parsers ask for more.
-use Rattle.std.specs.Prelude.{◌⊎◌, ◌≡◌, ℕ, List, [], ◌∷◌, length}
-use Rattle.std.specs.Prelude.{Option}
+use Rattle.std.specs.Prelude.{◌⊎◌, ◌≡◌, ℕ, List, [], ◌∷◌, length, Option}
 use Rattle.grammars.specs.Grammar.{Both, Each, Grammar, NoneStands}
 use Rattle.stream_sets.specs.Range.{IsBelow}
 

@@ -1,7 +1,6 @@
 //! Characters of a class.
 ghost use Rattle.std.specs.Prelude.{None};
-ghost use Rattle.stream_sets.specs.AsChar.{IsAlpha, IsAlphanum, IsHexDigit};
-ghost use Rattle.stream_sets.specs.AsChar.{IsSpace};
+ghost use Rattle.stream_sets.specs.AsChar.{IsAlpha, IsAlphanum, IsHexDigit, IsSpace};
 ghost use Rattle.stream_sets.specs.Range.{from_to};
 ghost use Rattle.streams.specs.Following.{none_follows};
 ghost use Rattle.winnow_begun.specs.Begun.Leaves.{AllOfClass, class_asks};

@@ -3,8 +3,7 @@ ghost use Rattle.stream_errors.specs.Form.{modal};
 ghost use Rattle.winnow_begun.specs.Begun.{part_of};
 ghost use Rattle.winnow_begun.specs.Begun.InOrder.{both_asks, three_asks};
 ghost use Rattle.winnow_begun.specs.Begun.Words.{Behind};
-ghost use Rattle.winnow_core.specs.Sequence.Grows.{sequence2_grows};
-ghost use Rattle.winnow_core.specs.Sequence.Grows.{sequence3_grows};
+ghost use Rattle.winnow_core.specs.Sequence.Grows.{sequence2_grows, sequence3_grows};
 ghost use Rattle.winnow_core.specs.Stable.Grows.{grows, stays};
 
 use crate::begun::Begun;

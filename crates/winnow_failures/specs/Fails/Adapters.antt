@@ -9,8 +9,7 @@ use Rattle.winnow_core.specs.Exact.{IsExact}
 use Rattle.winnow_core.specs.Exact.Adapters.{void_exact}
 use Rattle.winnow_core.specs.Runs.{Runs}
 use Rattle.winnow_core.specs.Void.{VoidRuns}
-use Rattle.winnow_failures.specs.Fails.{FailsWhere, exact_of, fails_where}
-use Rattle.winnow_failures.specs.Fails.{fell_in, law_beside}
+use Rattle.winnow_failures.specs.Fails.{FailsWhere, exact_of, fails_where, fell_in, law_beside}
 use Rattle.winnow_failures.specs.Fails.Words.{Failure}
 
 -- The part failed so, and left the input there; or the whole is out of memory, where it asks for

@@ -27,7 +27,7 @@ four_told a b c d = record {
       (FailsBehind c.grammar c.failure d.failure));
 }
 
--- a choice of two, of which the second may be one
+-- a choice of two
 abbrev pub either_told : {T O : Type 0} → Told T O → Told T O → Told T O
 either_told a b = record {
   premise = a.premise × b.premise;

@@ -50,8 +50,6 @@ leaf_fails {g = g} c f stays = fails_where c (λ i k t j is ran. record {
   ];
 }) (not_there_law g)
 
-})
-
 -- ---- literals
 
 pub literal_there : {S T L O : Type 0} (reading : Reading T L) (form : ErrorForm)
@@ -90,5 +88,3 @@ take_while_there reading form member bounds x i k t j is (
 take_while_there reading form member bounds x i k t j is
     (inr (inr (inr (front, rest, within, longest, ended, few, e, same))), kept) =
     ap (λ z. z.left.tokens) same
-
--- ---- the end, nothing, and a failure

@@ -1,10 +1,10 @@
--- How tuples of four to six parsers fail: as one of them, after those before it.
+-- How tuples of four parsers fail: as one of them, after those before it.
 use Rattle.std.specs.Prelude.{◌≡◌, false, List, Ok, Err}
 use Rattle.std.proofs.Common.{refl, inl, inr}
 use Rattle.streams.specs.Input.{Input}
 use Rattle.streams.specs.Kind.{Kind}
 use Rattle.grammars.specs.Grammar.{Both, Grammar, IsUnique, Three}
-use Rattle.grammars.specs.Grammar.Tuples.{Five, Four, Six}
+use Rattle.grammars.specs.Grammar.Tuples.{Four}
 use Rattle.stream_errors.specs.Form.Known.{at_kind, ok_is_err}
 use Rattle.winnow_core.specs.Runs.{Runs}
 use Rattle.winnow_core.specs.Sequence.{SequenceRuns4}
@@ -21,7 +21,7 @@ pub four_law : {T O1 O2 O3 O4 : Type 0} {g1 : Grammar T O1} {g2 : Grammar T O2}
     → IsUnique g3 → IsFailureOf g3 f3
     → IsFailureOf g4 f4
     → IsFailureOf (Four g1 g2 g3 g4) (FailsBehind g1 f1 (FailsBehind g2 f2 (FailsBehind g3 f3 f4)))
-unfolding Both Three Four Five Six
+unfolding Both Three Four
 four_law {O1 = O1} {O2} {O3} {O4} u1 l1 u2 l2 u3 l3 l4 =
     law_beside {O = O1 × (O2 × O3 × O4)}
     (λ tokens o rest (o1, o2, o3, o4, a, b, c, x1, x2, x3, x4, e). (

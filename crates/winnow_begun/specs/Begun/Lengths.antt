@@ -1,1 +1,0 @@
--- Where data after its length asks for more.

@@ -1,1 +1,0 @@
--- Where what stands before a line end asks for more.

@@ -1,1 +1,0 @@
--- Where tuples of four to six parsers ask for more: where the first does, or what is after it.

@@ -1,1 +1,0 @@
--- Where parsers of numbers leave the input when they fail: where they began.

@@ -1,1 +1,0 @@
--- Where searches and parsers of line ends leave the input when they fail: where they began.
