@@ -8,9 +8,9 @@
 //! There are 1,000 compositions of depth 1 at most, 3,000 of depth 2 and 6,000 of depth 3. Each runs
 //! on six whole inputs: output and rest, or the backtrack, must be the grammar's. Those without
 //! `Rest`, `RestLen` and `Eof` also run, over `Partial`, on each prefix of the first input: the
-//! result must be `Incomplete` exactly if the prefix is begun, as GRAMMARS says it of each parser,
-//! and each other result must be the grammar's for that prefix and each longer one of the same
-//! input. Outputs are compared by size and a digest of 64 bits. It leaves out:
+//! result must be `Incomplete` exactly if the prefix is begun, as each parser says it, and each
+//! other result must be the grammar's for that prefix and each longer one of the same input.
+//! Outputs are compared by size and a digest of 64 bits. It leaves out:
 //!
 //! - Parsers: literals that are a character or a slice of bytes, `Caseless` of bytes, `literal(t)`,
 //!   `Newline`, `Tab`, `Crlf`, `Empty`, `(p,)`, tuples and choices of four to six, choices of lists,

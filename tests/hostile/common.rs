@@ -1,5 +1,6 @@
 //! What these tests share: a child that counts its runs, and a child with a plan.
 ghost use Rattle.winnow_core.specs.Claim.{no_claim, nothing_claimed};
+ghost use Rattle.winnow_core.specs.Says.{nothing_done, nothing_said};
 ghost use Rattle.std.specs.Prelude.{⊤};
 ghost use Rattle.streams.specs.Input.{IsEndOf};
 
@@ -35,9 +36,13 @@ impl<I: Stream, O, E: ParserError<I>, P: Parser<I, O, E>> Parser<I, O, E> for Co
 
     ghost meaning = { P.meaning };
 
+    ghost says = { λ _. nothing_said };
+
     ghost claim = { λ _. no_claim };
 
     ghost leaves_ends = { P.leaves_ends };
+
+    ghost said = { λ _. nothing_done };
 
     ghost claimed = { λ _. nothing_claimed };
 
@@ -100,9 +105,13 @@ impl<I: Stream, E: ParserError<I>> Parser<I, usize, E> for Planned {
 
     ghost meaning = { λ _ _ i _ _ j. IsEndOf I.reading j i };
 
+    ghost says = { λ _. nothing_said };
+
     ghost claim = { λ _. no_claim };
 
     ghost leaves_ends = { λ _ _ _ _ _ _ ends. ends };
+
+    ghost said = { λ _. nothing_done };
 
     ghost claimed = { λ _. nothing_claimed };
 

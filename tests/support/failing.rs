@@ -1,5 +1,6 @@
 //! A parser that fails.
 ghost use Rattle.winnow_core.specs.Claim.{no_claim, nothing_claimed};
+ghost use Rattle.winnow_core.specs.Says.{nothing_done, nothing_said};
 ghost use Rattle.std.specs.Prelude.{⊤};
 ghost use Rattle.streams.specs.Input.{IsEndOf};
 
@@ -21,9 +22,13 @@ impl<I: Stream, E: ParserError<I>> Parser<I, u8, E> for Failing {
 
     ghost meaning = { λ _ _ i _ _ j. IsEndOf I.reading j i };
 
+    ghost says = { λ _. nothing_said };
+
     ghost claim = { λ _. no_claim };
 
     ghost leaves_ends = { λ _ _ _ _ _ _ ends. ends };
+
+    ghost said = { λ _. nothing_done };
 
     ghost claimed = { λ _. nothing_claimed };
 

@@ -11,22 +11,17 @@ use Rattle.stream_errors.specs.Form.{Answer, ErrorForm, modal}
 use Rattle.winnow_core.specs.Claim.{Claim, Claimed}
 use Rattle.winnow_core.specs.Exact.{IsExact, IsSoft}
 use Rattle.winnow_core.specs.Runs.{LeaveEnds, Meaning, Runs}
-use Rattle.winnow_core.specs.Stable.{AsksForMore, IsFinal, IsFinalKind, IsStable}
-use Rattle.winnow_core.specs.Stable.{WantsMemory}
+use Rattle.winnow_core.specs.Stable.{AsksForMore, IsFinal, IsFinalKind, IsStable, WantsMemory}
 use Rattle.winnow_core.specs.Stable.Grows.{Grows, MayGrow, grows}
 pub mod Adapters
 pub mod Choice
 pub mod InOrder
 pub mod Items
 pub mod Leaves
-pub mod Lengths
-pub mod Lines
 pub mod Links
 pub mod Parted
 pub mod Passed
 pub mod Repeated
-pub mod Searches
-pub mod Tuples
 pub mod Words
 
 -- The input is cut, and can be read at all; so it may also end where it is cut.

@@ -9,20 +9,11 @@ ghost use Rattle.winnow_exact.specs.Cut.{ReadsOrAsks};
 
 mod adapters;
 mod basic;
-mod big_integers;
 mod choice;
-mod chosen_integers;
 mod classes;
-mod errors;
-mod lengths;
-mod line_ends;
 mod literals;
-mod little_integers;
-mod numbers;
 mod repeat;
-mod searches;
 mod sequence;
-mod settled;
 mod token;
 mod tuples;
 

@@ -1,15 +1,14 @@
 -- How parsers fail on a whole input: with which kind, and what they leave.
-use Rattle.std.specs.Prelude.{◌≡◌, ◌⊎◌, false, List, [], Ok, Err}
-use Rattle.std.proofs.Common.{refl, sym, subst, inl, inr, ◌∙◌}
+use Rattle.std.specs.Prelude.{◌≡◌, ◌⊎◌, false, List, Ok, Err}
+use Rattle.std.proofs.Common.{inl, inr}
 use Rattle.streams.specs.Input.{Input}
 use Rattle.streams.specs.Kind.{Kind, backtrack, cut, memory}
-use Rattle.grammars.specs.Grammar.{Grammar, IsUnique, NoneStands, TakesTokens}
+use Rattle.grammars.specs.Grammar.{Grammar, IsUnique, NoneStands}
 use Rattle.stream_errors.specs.Form.{Answer}
 use Rattle.winnow_core.specs.Exact.{IsExact}
 use Rattle.winnow_core.specs.Runs.{Runs}
 use Rattle.winnow_failures.specs.Fails.Words.{Failure}
 pub mod Adapters
-pub mod Basic
 pub mod Calls
 pub mod Choice
 pub mod Classes
@@ -17,13 +16,8 @@ pub mod Composed
 pub mod Errors
 pub mod InOrder
 pub mod Leaves
-pub mod Numbers
-pub mod OtherErrors
-pub mod Outputs
-pub mod Refusing
 pub mod Repeat
 pub mod Repeated
-pub mod Searches
 pub mod Tuples
 pub mod Words
 

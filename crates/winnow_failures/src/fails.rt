@@ -8,21 +8,11 @@ ghost use Rattle.winnow_failures.specs.Fails.{FailsWhere, Told};
 ghost use Rattle.winnow_failures.specs.Fails.Calls.{FailsBy, FaultsBy, ReadsBy};
 
 mod adapters;
-mod basic;
-mod big_integers;
 mod choice;
 mod classes;
-mod ends;
 mod errors;
-mod line_ends;
 mod literals;
-mod little_integers;
-mod numbers;
-mod outputs;
-mod refusing;
 mod repeat;
-mod sequence;
-mod token;
 mod tuples;
 
 use stream_errors::fault::ParseFault;

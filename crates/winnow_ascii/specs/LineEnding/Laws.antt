@@ -17,7 +17,7 @@ use Rattle.grammars.specs.Grammar.Unique.{either_unique}
 use Rattle.winnow_core.specs.Decided.{AlikeAnswers, IsDecided, NotMemory}
 use Rattle.winnow_core.specs.Exact.{Backtracks, IsExact}
 use Rattle.winnow_core.specs.Exact.Failed.{none_at_backtrack}
-use Rattle.winnow_core.specs.Literal.Laws.{ShowSame, SpellsByText, TextRuns, text_decided}
+use Rattle.winnow_core.specs.Literal.Laws.{ShowSame, SpellsByText, TextRuns}
 use Rattle.winnow_core.specs.Literal.Laws.{text_exact, text_fails}
 
 -- they leave an end

@@ -1,6 +1,5 @@
 -- Where parsers that have no parts ask for more.
-use Rattle.std.specs.Prelude.{◌≡◌, ◌<◌, ⊤, ℕ, Bool, true, List, length, Option, Some, None}
-use Rattle.std.specs.Prelude.{Ok, Err}
+use Rattle.std.specs.Prelude.{◌≡◌, ⊤, ℕ, Bool, true, List, Option, Some, None, Ok, Err}
 use Rattle.std.proofs.Common.{refl, ap, subst, inl, inr}
 use Rattle.streams.specs.Input.{Input}
 use Rattle.streams.specs.Kind.{Kind, backtrack, cut, incomplete, memory}
@@ -19,11 +18,9 @@ use Rattle.winnow_core.specs.Stable.{IsFinal, IsFinalKind}
 use Rattle.winnow_ascii.specs.Class.{ClassRuns}
 use Rattle.winnow_ascii.specs.Class.Says.{class_decided}
 use Rattle.winnow_begun.specs.Begun.{AsksWhere}
-use Rattle.winnow_begun.specs.Begun.Words.{Fewer, NeverBegun, NoneLeft}
-use Rattle.winnow_integers.specs.Integer.{IntegerRuns}
-use Rattle.winnow_token.specs.Any.{AnyRuns, NoTokenRuns}
+use Rattle.winnow_begun.specs.Begun.Words.{NoneLeft}
+use Rattle.winnow_token.specs.Any.{NoTokenRuns}
 use Rattle.winnow_token.specs.OneOf.{OneOfRuns}
-use Rattle.winnow_token.specs.Take.{TakeRuns}
 use Rattle.winnow_token.specs.TakeWhile.{IsOpen, TakeWhileRuns}
 
 -- a backtrack asks for no more
@@ -59,42 +56,6 @@ leaf_asks {s = s} {alike = alike} c asked can = record {
       never_alike alike need answer final (c.decided i answer (Err (incomplete need)) t s j i
       (λ e. subst IsFinal e final) (λ e. asks_no_memory e) r q).0;
 }
-
--- The same, where it may stand elsewhere after it.
-pub leaf_asks_behind : {S T O : Type 0} {s : S} {run : Runs S T O} {alike : O → O → Type 0}
-    {begun : List T → Type 0} → IsDecided s run alike
-    → ((i : Input T) (need : Option ℕ) (t : S) (j : Input T) → run s i (Err (incomplete need)) t j
-    → begun i.left.tokens)
-    → ((i : Input T) → i.status.cut ≡ true → begun i.left.tokens
-    → (need : Option ℕ) × (j : Input T) × run s i (Err (incomplete need)) s j)
-    → AsksWhere s run begun
-leaf_asks_behind {s = s} {alike = alike} c asked can = record {
-  asked = λ i need t j may r. asked i need t j r;
-  settled = λ i answer t j may final r is.
-      let (need, k, q) = can i may.0 is in
-      never_alike alike need answer final (c.decided i answer (Err (incomplete need)) t s j k
-      (λ e. subst IsFinal e final) (λ e. asks_no_memory e) r q).0;
-}
-
--- what never asks for more
-pub never_asks : {S T O : Type 0} {s : S} {run : Runs S T O}
-    → ((i : Input T) (need : Option ℕ) (t : S) (j : Input T)
-    → run s i (Err (incomplete need)) t j → ⊥) → AsksWhere s run NeverBegun
-unfolding NeverBegun
-never_asks never = record {
-  asked = λ i need t j may r. absurd (never i need t j r);
-  settled = λ i answer t j may final r is. is;
-}
-
--- what always gives an output asks for no more
-pub empty_never : {O : Type 0} {o : O} {need : Option ℕ}
-    → ◌≡◌ {A = Answer O} (Err (incomplete need)) (Ok o) → ⊥
-empty_never e = absurd (cc)
-
--- nor does what always backtracks
-pub fail_never : {O : Type 0} {need : Option ℕ}
-    → ◌≡◌ {A = Answer O} (Err (incomplete need)) (Err backtrack) → ⊥
-fail_never e = absurd (cc)
 
 -- ---- literals
 
@@ -158,18 +119,6 @@ none_left_may : {T O : Type 0} (i : Input T) → i.status.cut ≡ true → NoneL
 unfolding NoneLeft
 none_left_may i is none = (incomplete (Some 1), none, inl (is, refl), refl, refl)
 
-pub any_asks : {S K T L : Type 0} {alike : K → K → Type 0} (seen : K → T) (reading : Reading T L)
-    (s : S) → IsDecided s (Keeps (λ (y : S). AnyRuns seen reading modal)) alike
-    → AsksWhere s (Keeps (λ (y : S). AnyRuns seen reading modal)) NoneLeft
-any_asks {S} {K} {T} seen reading s c = leaf_asks c asked
-    (λ i is none. (_, (inr (none_left_may {O = K} i is none), refl)))
-  where
-    asked : (i : Input T) (need : Option ℕ) (t : S) (j : Input T)
-        → Keeps (λ (y : S). AnyRuns seen reading modal) s i (Err (incomplete need)) t j
-        → NoneLeft i.left.tokens
-    asked i need t j (inl (x, passed, e), kept) = ok_is_err e refl
-    asked i need t j (inr none, kept) = none_left_asks i need j none
-
 pub one_of_asks : {S K T L : Type 0} {alike : K → K → Type 0} (seen : K → T)
     (reading : Reading T L) (member : S → K → Bool → Type 0) (s : S)
     → IsDecided s (Keeps (λ y. OneOfRuns seen reading modal (member y))) alike
@@ -184,21 +133,6 @@ one_of_asks {S} {K} {T} seen reading member s c = leaf_asks c asked
     asked i need t j (inr (inl (x, rest, split, lacks, e, same)), kept) = back_asks (same_kind e)
     asked i need t j (inr (inr none), kept) = none_left_asks i need j none
 
--- ---- that many tokens
-
-pub take_asks : {S T L : Type 0} {alike : L → L → Type 0} (reading : Reading T L) (counts : Bool)
-    (n : S → ℕ) (s : S) → IsDecided s (Keeps (λ y. TakeRuns reading modal counts (n y))) alike
-    → AsksWhere s (Keeps (λ y. TakeRuns reading modal counts (n y))) (Fewer (n s))
-unfolding Fewer
-take_asks {S} {T} reading counts n s c = leaf_asks c asked
-    (λ i is few. (_, (inr (_, few, inl (is, refl), refl, refl), refl)))
-  where
-    asked : (i : Input T) (need : Option ℕ) (t : S) (j : Input T)
-        → Keeps (λ y. TakeRuns reading modal counts (n y)) s i (Err (incomplete need)) t j
-        → length i.left.tokens < n s
-    asked i need t j (inl (front, slice, as_many, takes, e), kept) = ok_is_err e refl
-    asked i need t j (inr (k, few, short, e, same), kept) = few
-
 -- ---- characters of a class
 
 -- Nothing but characters of the class is there.
@@ -212,19 +146,3 @@ pub class_asks : {K T L : Type 0} (class : ℕ → Type 0) (least : ℕ) (code :
 class_asks class least code seen reading apart = take_while_asks reading
     (λ (_ : ⊤). AnswersSeen seen (InClass class code tt)) (λ _. from_to least None) tt tt
     (class_decided class least code seen reading modal (λ k l e. ap code (apart k l e)))
-
--- ---- integers
-
-pub integer_asks : {S O L : Type 0} {alike : O → O → Type 0} (width : ℕ) (value : S → List ℕ → O)
-    (reading : Reading ℕ L) (s : S)
-    → IsDecided s (Keeps (λ y. IntegerRuns width (value y) reading modal)) alike
-    → AsksWhere s (Keeps (λ y. IntegerRuns width (value y) reading modal)) (Fewer width)
-unfolding Fewer
-integer_asks {S} width value reading s c = leaf_asks c asked
-    (λ i is few. (_, (inr (_, few, inl (is, refl), refl, refl), refl)))
-  where
-    asked : (i : Input ℕ) (need : Option ℕ) (t : S) (j : Input ℕ)
-        → Keeps (λ y. IntegerRuns width (value y) reading modal) s i (Err (incomplete need)) t j
-        → length i.left.tokens < width
-    asked i need t j (inl (bytes, as_many, are, passes, e), kept) = ok_is_err e refl
-    asked i need t j (inr (k, few, short, e, same), kept) = few

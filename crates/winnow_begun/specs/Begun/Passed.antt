@@ -1,13 +1,13 @@
 -- Parsers that ask for more where one other parser does.
 use Rattle.std.specs.Prelude.{◌≡◌, ℕ, List, Option, Ok, Err}
-use Rattle.std.proofs.Common.{refl, subst, ◌∙◌}
+use Rattle.std.proofs.Common.{refl, subst}
 use Rattle.streams.specs.Input.{Input}
 use Rattle.streams.specs.Kind.{Kind, incomplete, memory}
 use Rattle.stream_errors.specs.Form.{Answer}
 use Rattle.stream_errors.specs.Form.Known.{same_err}
 use Rattle.winnow_begun.specs.Begun.{AsksWhere}
 use Rattle.winnow_core.specs.Runs.{Runs}
-use Rattle.winnow_core.specs.Stable.{AsksForMore, IsFinal, IsFinalKind}
+use Rattle.winnow_core.specs.Stable.{AsksForMore, IsFinal}
 use Rattle.winnow_core.specs.Stable.Grows.{final_by}
 
 -- The part answered too: it asked for more where the whole does, and is final where the whole is.
@@ -24,11 +24,6 @@ memory_asks e = absurd (cc)
 pub output_asks : {O P : Type 0} {answer : Answer O} {o : O} → answer ≡ Ok o
     → AsksForMore answer → P
 output_asks e (need, f) = absurd (cc)
-
--- nor does an error of a final kind, or one for want of memory
-pub error_asks : {O P : Type 0} {answer : Answer O} (k : Kind)
-    → ((need : Option ℕ) → k ≡ incomplete need → ⊥) → answer ≡ Err k → AsksForMore answer → P
-error_asks k never e (need, f) = absurd (never need (same_err e f))
 
 module _ {S T O U : Type 0} (run : Runs S T O) (s : S) {i : Input T} {answer : Answer U} where
   -- the part gave an output, or backtracked, and the whole asks for no more
@@ -50,23 +45,6 @@ module _ {S T O U : Type 0} (run : Runs S T O) (s : S) {i : Input T} {answer : A
   )
     where
       ap_err : {l : Kind} → k ≡ l → ◌≡◌ {A = Answer O} (Err k) (Err l)
-      ap_err is = cc
-
-  -- the part failed, and the whole fails by a kind that asks where that does, and is final where
-  -- that is
-  pub part_became : {m : S} {a : Input T} (k l : Kind) → run s i (Err k) m a → answer ≡ Err l
-      → ((need : Option ℕ) → l ≡ incomplete need → k ≡ l) → (IsFinalKind l → IsFinalKind k)
-      → Became run s i answer
-  part_became {m} {a} k l r e asks keeps = (
-    Err k,
-    m,
-    a,
-    r,
-    (λ (need, f). (need, ap_err (asks need (same_err e f) ∙ same_err e f))),
-    λ final. keeps (final_by (Err l) e final),
-  )
-    where
-      ap_err : {n : Kind} → k ≡ n → ◌≡◌ {A = Answer O} (Err k) (Err n)
       ap_err is = cc
 
 pub passed_asks : {S R T O U : Type 0} {run : Runs S T O} {s : S} {made : Runs R T U} {r : R}

@@ -115,11 +115,6 @@ module _ {S T O C : Type 0} {run : Runs S T O} {g : Grammar T O} {b : List T →
   many_settled possible i answer t j may final (inr (inr (empty, within, starts, items))) is =
       items_settled into bounds p takes empty i answer t j may final items is
 
-  -- without a rule of its own for the first item
-  pub many_asks : IsWithin bounds.greatest bounds.least
-      → AsksWhere s (RepeatManyRuns run into cut bounds) (Among g b bounds.greatest)
-  many_asks possible = record { asked = many_asked; settled = many_settled possible }
-
   repeat_asked : (i : Input T) (need : Option ℕ) (t : S) (j : Input T) → IsCut i
       → RepeatRuns run into cut bounds s i (Err (incomplete need)) t j
       → Among g b bounds.greatest i.left.tokens

@@ -6,8 +6,6 @@ ghost use Rattle.winnow_begun.specs.Begun.Words.{Behind};
 ghost use Rattle.winnow_comb.specs.Delimited.{delimited_ignored1, delimited_ignored2};
 ghost use Rattle.winnow_comb.specs.Delimited.{delimited_parser};
 ghost use Rattle.winnow_comb.specs.Preceded.{preceded_ignored, preceded_parser};
-ghost use Rattle.winnow_comb.specs.SeparatedPair.{separated_pair_first, separated_pair_second};
-ghost use Rattle.winnow_comb.specs.SeparatedPair.{separated_pair_separator};
 ghost use Rattle.winnow_comb.specs.Terminated.{terminated_ignored, terminated_parser};
 ghost use Rattle.winnow_core.specs.InOrder.Laws.{both_grows, three_grow};
 ghost use Rattle.winnow_core.specs.Stable.Grows.{grows, stays};
@@ -15,7 +13,7 @@ ghost use Rattle.winnow_core.specs.Stable.Grows.{grows, stays};
 use crate::begun::Begun;
 use stream_errors::parser_error::ParserError;
 use streams::stream::Stream;
-use winnow_comb::combinator::impls::{Delimited, Preceded, SeparatedPair, Terminated};
+use winnow_comb::combinator::impls::{Delimited, Preceded, Terminated};
 
 /// It asks for more where the first does, or the second after it.
 impl<P1: Begun<I, O1, E>, P2: Begun<I, O2, E>, I: Stream, O1: Drop, O2, E: ParserError<I>> Begun<
@@ -62,38 +60,6 @@ impl<
         (P1.asks (terminated_parser p)) is.0)
         (part_of (P2.claimed (P2.state (terminated_ignored p))) P2.leaves_ends P2.ended
         (P2.asks (terminated_ignored p)) is.1) };
-}
-
-/// It asks for more where the first does, or one of the others after those before it.
-impl<
-    P1: Begun<I, O1, E>,
-    P2: Begun<I, O2, E>,
-    P3: Begun<I, O3, E>,
-    I: Stream,
-    O1: Drop,
-    O2: Drop,
-    O3,
-    E: ParserError<I>,
-> Begun<I, (O1, O3), E> for SeparatedPair<P1, P2, P3, I, O1, O2, O3, E> {
-    ghost begun = { λ p. Behind (P1.claim (P1.state (separated_pair_first p))).grammar
-        (P1.begun (separated_pair_first p))
-        (Behind (P2.claim (P2.state (separated_pair_separator p))).grammar
-        (P2.begun (separated_pair_separator p)) (P3.begun (separated_pair_second p))) };
-
-    fn begin() {}
-
-    ghost ended = { stays
-        (three_grow (λ o1 o2 o3. (o1, o3)) (grows (P1.leaves_ends modal) P1.ended)
-        (grows (P2.leaves_ends modal) P2.ended)
-        (grows (P3.leaves_ends modal) P3.ended)) };
-
-    ghost asks = { λ p is. three_asks (λ o1 o2 o3. (o1, o3))
-        (part_of (P1.claimed (P1.state (separated_pair_first p))) P1.leaves_ends P1.ended
-        (P1.asks (separated_pair_first p)) is.0)
-        (part_of (P2.claimed (P2.state (separated_pair_separator p))) P2.leaves_ends P2.ended
-        (P2.asks (separated_pair_separator p)) is.1)
-        (part_of (P3.claimed (P3.state (separated_pair_second p))) P3.leaves_ends P3.ended
-        (P3.asks (separated_pair_second p)) is.2) };
 }
 
 /// It asks for more where the first does, or one of the others after those before it.

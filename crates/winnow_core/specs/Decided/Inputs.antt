@@ -1,33 +1,11 @@
 -- What decides where an input stands, and what answers are.
-use Rattle.std.specs.Prelude.{◌≡◌, Bool, List, [], ◌∷◌, ◌++◌, Ok, Err}
+use Rattle.std.specs.Prelude.{◌≡◌, List, [], ◌∷◌, ◌++◌, Ok, Err}
 use Rattle.std.proofs.Common.{refl, sym, ap, subst, ◌∙◌, arith}
-use Rattle.streams.specs.Equal.{same_first, same_others, same_rest}
-use Rattle.streams.specs.Input.{Input, Passes, Status}
+use Rattle.streams.specs.Equal.{same_first, same_others}
 use Rattle.streams.specs.Kind.{Kind, memory}
-use Rattle.streams.specs.Place.{Place}
 use Rattle.streams.specs.Reading.{Reading, units-nil}
 use Rattle.stream_errors.specs.Form.{Answer}
 use Rattle.winnow_core.specs.Decided.{AlikeAnswers, NotMemory}
-
--- inputs that are the same in each part are the same
-same_parts : {T : Type 0} (a b : Input T) → a.left.tokens ≡ b.left.tokens
-    → a.left.place ≡ b.left.place → a.left.possible ≡ b.left.possible → a.status ≡ b.status
-    → a ≡ b
-same_parts {T} a b tokens place possible status =
-    let make : List T → Place → Bool → Status → Input T =
-    λ t p q s. record { left = record { tokens = t; place = p; possible = q }; status = s }
-    in
-    ap (λ t. make t a.left.place a.left.possible a.status) tokens
-    ∙ ap (λ p. make b.left.tokens p a.left.possible a.status) place
-    ∙ ap (λ q. make b.left.tokens b.left.place q a.status) possible
-    ∙ ap (λ s. make b.left.tokens b.left.place b.left.possible s) status
-
--- what is left after the same tokens is the same
-pub same_passed : {T L : Type 0} {reading : Reading T L} (front : List T) {i j k : Input T}
-    → Passes reading front i j → Passes reading front i k → j ≡ k
-same_passed front {j = j} {k = k} p q = same_parts j k
-    (same_rest front j.left.tokens k.left.tokens (sym p.tokens ∙ q.tokens))
-    (p.place ∙ sym q.place) (p.possible ∙ sym q.possible) (p.status ∙ sym q.status)
 
 -- two beginnings of as many units are the same
 pub same_front : {T L : Type 0} (reading : Reading T L) (front other rest more : List T)

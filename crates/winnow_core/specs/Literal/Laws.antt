@@ -1,20 +1,18 @@
 -- What holds of the runs of a literal.
-use Rattle.std.specs.Prelude.{List, ◌++◌, [], ◌∷◌, None, Err, ◌≡◌, ◌⊎◌, ℕ, false, Ok, ⊤}
+use Rattle.std.specs.Prelude.{List, ◌++◌, [], ◌∷◌, None, Err, ◌≡◌, ℕ, false, Ok, ⊤}
 use Rattle.std.proofs.Common.{inl, inr, subst, append_assoc, arith, length-append, refl, sym, ap}
 use Rattle.std.proofs.Common.{◌∙◌}
-use Rattle.streams.specs.Input.{Input, IsEndOf, takes_end, Takes}
+use Rattle.streams.specs.Input.{Input, IsEndOf, takes_end}
 use Rattle.streams.specs.Reading.{Reading}
 use Rattle.stream_errors.specs.Form.{Answer, ErrorForm, modal}
 use Rattle.stream_searches.specs.Compare.{StandsFirst, IsShort}
-use Rattle.streams.specs.Kind.{incomplete, Kind, backtrack, memory}
+use Rattle.streams.specs.Kind.{incomplete, Kind, backtrack}
 use Rattle.winnow_core.specs.Ends.{same_ends}
 use Rattle.winnow_core.specs.Literal.{LiteralRuns, IsOneToken}
 use Rattle.winnow_core.specs.Runs.{Keeps}
 use Rattle.winnow_core.specs.Stable.Longer.{one_beginning, same_more, takes_more}
 use Rattle.winnow_core.specs.Stable.Grows.{Stays, final_by, not_whole}
 use Rattle.streams.specs.Equal.{true_is_false}
-use Rattle.winnow_core.specs.Decided.{AlikeAnswers, IsDecided}
-use Rattle.winnow_core.specs.Decided.Inputs.{both_err, both_ok, same_front, same_passed}
 use Rattle.std.specs.Borrow.{Bor}
 use Rattle.grammars.specs.Grammar.{Literally, NoneStands}
 use Rattle.grammars.specs.Grammar.Searches.{LiterallyBytes}
@@ -97,62 +95,6 @@ not_longer reading tokens front rest more x e u =
       reading.units_add tokens (x ∷ more),
       reading.units_positive x more,
     ))
-
--- The literal of a state.
-module _ {X S T L O : Type 0} (reading : Reading T L) (form : ErrorForm)
-    (spelled : S → List T → Type 0) (output : S → L → O) (literal : X → S)
-    (alike : O → O → Type 0) (x : X)
-    (same_units : (xs ys : List T) → spelled (literal x) xs → spelled (literal x) ys
-    → reading.units xs ≡ reading.units ys)
-    (shown : (slice other : L) → ShowSame reading slice other
-    → alike (output (literal x) slice) (output (literal x) other)) where
-  abbrev Ran : Input T → Answer O → Input T → Type 0
-  Ran i answer j = LiteralRuns reading form (spelled (literal x)) (output (literal x)) i answer j
-
-  still : (i : Input T) (answer : Answer O) (j : Input T) → Ran i answer j → j.status ≡ i.status
-  still i answer j (inl (front, slice, is, takes, e)) = takes.passed.status
-  still i answer j (inr (inl (short, cut, e, same))) = ap (λ z. z.status) same
-  still i answer j (inr (inr (nothing, cuts, e, same))) = ap (λ z. z.status) same
-
-  took_short : {P : Type 0} (i j : Input T) (front : List T) (slice : L) → spelled (literal x) front
-      → Takes reading front i slice j → IsShort (spelled (literal x)) i.left.tokens → P
-  took_short i j front slice is takes (y, more, other) =
-      not_longer reading i.left.tokens front j.left.tokens more y takes.passed.tokens
-      (same_units front (i.left.tokens ++ y ∷ more) is other)
-
-  meet : (i : Input T) (a b : Answer O) (j k : Input T) → Ran i a j → Ran i b k
-      → AlikeAnswers alike a b × (j ≡ k)
-  meet i a b j k (inl (f, v, is, takes, e)) (inl (g, w, also, takes2, d)) =
-      let same = same_front reading g f k.left.tokens j.left.tokens
-      (sym takes2.passed.tokens ∙ takes.passed.tokens) (same_units g f also is) in
-      let P : List T → Type 0 = λ l. Takes reading l i w k in
-      let there = subst P same takes2 in (
-        both_ok alike e d (shown v w (f, takes.shown, there.shown)),
-        same_passed f takes.passed there.passed,
-      )
-  meet i a b j k (inl (f, v, is, takes, e)) (inr (inl (short, cut, d, same))) =
-      took_short i j f v is takes short
-  meet i a b j k (inl (f, v, is, takes, e)) (inr (inr (nothing, cuts, d, same))) =
-      absurd (nothing (f, j.left.tokens, is, takes.passed.tokens))
-  meet i a b j k (inr (inl (short, cut, e, same))) (inl (g, w, also, takes, d)) =
-      took_short i k g w also takes short
-  meet i a b j k (inr (inl (short, cut, e, same))) (inr (inl (short2, cut2, d, same2))) =
-      (both_err alike e d refl, same ∙ sym same2)
-  meet i a b j k (inr (inl (short, cut, e, same))) (inr (inr (nothing, cuts, d, same2))) =
-      true_is_false (sym cut ∙ cuts short)
-  meet i a b j k (inr (inr (nothing, cuts, e, same))) (inl (g, w, also, takes, d)) =
-      absurd (nothing (g, k.left.tokens, also, takes.passed.tokens))
-  meet i a b j k (inr (inr (nothing, cuts, e, same))) (inr (inl (short, cut, d, same2))) =
-      true_is_false (sym cut ∙ cuts short)
-  meet i a b j k (inr (inr (nothing, cuts, e, same))) (inr (inr (other, cuts2, d, same2))) =
-      (both_err alike e d refl, same ∙ sym same2)
-
-  pub literal_decided : IsDecided x
-      (Keeps (λ y. LiteralRuns reading form (spelled (literal y)) (output (literal y)))) alike
-  literal_decided = record {
-    kept = λ i answer t j other (r, same). (same, still i answer j r);
-    decided = λ i a b t u j k na nb (r, same) (q, also). meet i a b j k r q;
-  }
 
 -- ---- what it reads
 
@@ -259,36 +201,6 @@ module _ {T L : Type 0} (reading : Reading T L) (form : ErrorForm)
           (same_units s f g sf (alike t s g (was ∙ sym is) sg));
     };
   }
-
-  -- a run by one text of some bytes is one by another text of them
-  by_other : (one other : Bor (List ℕ)) → one.now ≡ other.now → (i : Input T) (answer : Answer L)
-      (j : Input T) → LiteralRuns reading form (spells other) (λ slice. slice) i answer j
-      → LiteralRuns reading form (spells one) (λ slice. slice) i answer j
-  by_other one other same i answer j (inl (front, slice, is, takes, e)) =
-      inl (front, slice, alike other one front (sym same) is, takes, e)
-  by_other one other same i answer j (inr (inl ((y, more, is), cut, e, at))) =
-      inr (inl ((y, more, alike other one _ (sym same) is), cut, e, at))
-  by_other one other same i answer j (inr (inr (nothing, cuts, e, at))) = inr (inr (
-    λ (front, rest, is, split). nothing (front, rest, alike one other front same is, split),
-    λ (y, more, is). cuts (y, more, alike one other _ same is),
-    e,
-    at,
-  ))
-
-  pub text_decided : (bytes : List ℕ)
-      → IsDecided tt (Keeps (λ (_ : ⊤). TextRuns reading spells bytes form)) (ShowSame reading)
-  text_decided bytes = record {
-    kept = λ i answer t j free ((text, here, r), same).
-        (same, ((each text).kept i answer text j free (r, refl)).1);
-    decided = λ i a b t u j k na nb ((text, here, r), same) ((other, was, q), also).
-        (each text).decided i a b text text j k na nb (r, refl)
-        (by_other text other (here ∙ sym was) i b k q, refl);
-  }
-    where
-      each : (text : Bor (List ℕ)) → IsDecided text
-          (Keeps (λ y. LiteralRuns reading form (spells y) (λ slice. slice))) (ShowSame reading)
-      each text = literal_decided reading form spells (λ _ slice. slice) (λ y. y)
-          (ShowSame reading) text (same_units text) (λ v w shown. shown)
 
   pub text_fails : (bytes : List ℕ)
       → Backtracks tt (Keeps (λ (_ : ⊤). TextRuns reading spells bytes form))

@@ -3,19 +3,13 @@ use Rattle.std.specs.Prelude.{◌≡◌, ◌⊎◌, ⊤, List, Err}
 use Rattle.std.proofs.Common.{refl, inl, inr}
 use Rattle.streams.specs.Input.{Input}
 use Rattle.streams.specs.Kind.{Kind, memory}
-use Rattle.streams.specs.Reading.{Reading}
-use Rattle.grammars.specs.Grammar.{Grammar, Made, Taken}
-use Rattle.stream_errors.specs.Form.Known.{at_kind, ok_is_err, same_kind}
-use Rattle.winnow_core.specs.Closures.{Gives, Stays}
+use Rattle.grammars.specs.Grammar.{Grammar, Made}
+use Rattle.stream_errors.specs.Form.Known.{at_kind, ok_is_err}
 use Rattle.winnow_core.specs.Exact.{IsExact}
-use Rattle.winnow_core.specs.Exact.Adapters.{map_exact, take_exact, value_exact, void_exact}
-use Rattle.winnow_core.specs.Map.{MapRuns}
+use Rattle.winnow_core.specs.Exact.Adapters.{void_exact}
 use Rattle.winnow_core.specs.Runs.{Runs}
-use Rattle.winnow_core.specs.Take.{TakeRuns}
-use Rattle.winnow_core.specs.Value.{ValueRuns}
 use Rattle.winnow_core.specs.Void.{VoidRuns}
-use Rattle.winnow_failures.specs.Fails.{FailsWhere, exact_of, fails_where}
-use Rattle.winnow_failures.specs.Fails.{fell_in, law_beside}
+use Rattle.winnow_failures.specs.Fails.{FailsWhere, exact_of, fails_where, fell_in, law_beside}
 use Rattle.winnow_failures.specs.Fails.Words.{Failure}
 
 -- The part failed so, and left the input there; or the whole is out of memory, where it asks for
@@ -46,35 +40,6 @@ pub made_back : {F T O U : Type 0} (makes : F → O → U → Type 0) (part : F)
 unfolding Made
 made_back makes part g tokens u rest (o, x, made) = (o, rest, x)
 
-module _ {S G T O U : Type 0} (step : G → O → U → G → Type 0) {run : Runs S T O} {s : S × G}
-    {m : Type 0} {g : Grammar T O} {f : Failure T} (p : FailsWhere s.0 run m g f) where
-  map_failed : (i : Input T) (k : Kind) (t : S × G) (j : Input T)
-      → MapRuns run step s i (Err k) t j → PartFailed run s.0 m i k j
-  map_failed i k t j (inl (o, u, r, called, e)) = ok_is_err e refl
-  map_failed i k t j (inr (l, r, same, e)) =
-      inr (t.0, at_kind (λ x. run s.0 i (Err x) t.0 j) e r)
-
-  pub map_fail : Stays step s.1 → FailsWhere s (MapRuns run step) m (Made (Gives step) s.1 g) f
-  map_fail stays = passed_fail m p (λ m. m) (map_exact step stays (exact_of p))
-      (made_back (Gives step) s.1 g) map_failed
-
-module _ {S T O U : Type 0} (is_clone : U → U → Type 0) (clones : U → Type 0) {run : Runs S T O}
-    {s : S × U} {m : Type 0} {g : Grammar T O} {f : Failure T} (p : FailsWhere s.0 run m g f)
-  where
-    value_failed : (i : Input T) (k : Kind) (t : S × U) (j : Input T)
-        → ValueRuns is_clone clones run s i (Err k) t j
-        → PartFailed run s.0 (m × clones s.1) i k j
-    value_failed i k t j (inl (o, u, r, same, cloned, e)) = ok_is_err e refl
-    value_failed i k t j (inr (inl (o, r, same, not, e))) = inl (same_kind e, λ all. not all.1)
-    value_failed i k t j (inr (inr (l, r, same, e))) =
-        inr (t.0, at_kind (λ x. run s.0 i (Err x) t.0 j) e r)
-
-    pub value_fail : FailsWhere s (ValueRuns is_clone clones run) (m × clones s.1)
-        (Made (λ v o u. is_clone v u) s.1 g) f
-    value_fail = passed_fail (m × clones s.1) p (λ all. all.0)
-        (value_exact is_clone clones (exact_of p)) (made_back (λ v o u. is_clone v u) s.1 g)
-        value_failed
-
 module _ {S T O : Type 0} {run : Runs S T O} {s : S} {m : Type 0} {g : Grammar T O}
     {f : Failure T} (p : FailsWhere s run m g f) where
   void_failed : (i : Input T) (k : Kind) (t : S) (j : Input T) → VoidRuns run s i (Err k) t j
@@ -86,20 +51,3 @@ module _ {S T O : Type 0} {run : Runs S T O} {s : S} {m : Type 0} {g : Grammar T
       (Made (λ (_ : Unit {0}) o (u : Unit {0}). ⊤) tt g) f
   void_fail = passed_fail m p (λ m. m) (void_exact (exact_of p))
       (made_back (λ (_ : Unit {0}) o (u : Unit {0}). ⊤) tt g) void_failed
-
-taken_back : {T L O : Type 0} (reading : Reading T L) (g : Grammar T O) (tokens : List T)
-    (slice : L) (rest : List T) → Taken reading g tokens slice rest
-    → (o : O) × (end : List T) × g tokens o end
-unfolding Taken
-taken_back reading g tokens slice rest (o, x, shown) = (o, rest, x)
-
-module _ {S T L O : Type 0} (reading : Reading T L) {run : Runs S T O} {s : S} {m : Type 0}
-    {g : Grammar T O} {f : Failure T} (p : FailsWhere s run m g f) where
-  take_failed : (i : Input T) (k : Kind) (t : S) (j : Input T)
-      → TakeRuns reading run s i (Err k) t j → PartFailed run s m i k j
-  take_failed i k t j (inl (o, front, slice, r, split, shown, e)) = ok_is_err e refl
-  take_failed i k t j (inr (l, r, e)) = inr (t, at_kind (λ x. run s i (Err x) t j) e r)
-
-  pub take_fail : FailsWhere s (TakeRuns reading run) m (Taken reading g) f
-  take_fail = passed_fail m p (λ m. m) (take_exact reading (exact_of p)) (taken_back reading g)
-      take_failed

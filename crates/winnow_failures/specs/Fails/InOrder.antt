@@ -5,9 +5,8 @@ use Rattle.streams.specs.Input.{Input}
 use Rattle.streams.specs.Kind.{Kind, backtrack, cut}
 use Rattle.grammars.specs.Grammar.{Both, Grammar, IsUnique, NoneStands, Three}
 use Rattle.stream_errors.specs.Form.Known.{at_kind, ok_is_err}
-use Rattle.winnow_core.specs.InOrder.{BothRuns, ThreeRuns}
+use Rattle.winnow_core.specs.InOrder.{BothRuns}
 use Rattle.winnow_core.specs.InOrder.Exact.{both_exact}
-use Rattle.winnow_core.specs.InOrder.Three.{three_exact}
 use Rattle.winnow_core.specs.Runs.{Runs}
 use Rattle.winnow_failures.specs.Fails.{FailsWhere, Fell, IsFailureOf, exact_of, fails_where}
 use Rattle.winnow_failures.specs.Fails.{fell_in, law_beside}
@@ -96,36 +95,3 @@ three_law {O1 = O1} {O2} {O3} output u1 l1 u2 l2 l3 = law_beside {O = O1 × (O2 
     ((o1, (o2, o3)), rest, (o1, (o2, o3), a, x, (o2, o3, b, y, z, refl), refl)))
     (behind_law (λ o1 (two : O2 × O3). (o1, two)) u1 l1
     (behind_law (λ o2 o3. (o2, o3)) u2 l2 l3))
-
-module _ {S1 S2 S3 T O1 O2 O3 O : Type 0} {run1 : Runs S1 T O1} {run2 : Runs S2 T O2}
-    {run3 : Runs S3 T O3} {m1 m2 m3 : Type 0} {g1 : Grammar T O1} {g2 : Grammar T O2}
-    {g3 : Grammar T O3} {f1 f2 f3 : Failure T} {s : S1 × S2 × S3} (output : O1 → O2 → O3 → O)
-    (p : FailsWhere s.0 run1 m1 g1 f1) (q : FailsWhere s.1 run2 m2 g2 f2)
-    (r : FailsWhere s.2 run3 m3 g3 f3) where
-  abbrev Falls : List T → Kind → List T → Type 0
-  Falls tokens k rest =
-      Fell (m1 × m2 × m3) (FailsBehind g1 f1 (FailsBehind g2 f2 f3)) tokens k rest
-
-  three_failed : (i : Input T) (k : Kind) (t : S1 × S2 × S3) (j : Input T)
-      → i.status.cut ≡ false → ThreeRuns output run1 run2 run3 s i (Err k) t j
-      → Falls i.left.tokens k j.left.tokens
-  three_failed i k t j is (inl (o1, o2, o3, a, b, r1, r2, r3, e)) = ok_is_err e refl
-  three_failed i k t j is (inr (inl (l, r1, same2, same3, e))) =
-      at_kind (λ x. Falls i.left.tokens x j.left.tokens) e
-      (first_fell g1 (FailsBehind g2 f2 f3) (λ m. m.0) (p.failed i l t.0 j is r1))
-  three_failed i k t j is (inr (inr (inl (o1, l, a, r1, r2, same3, e)))) =
-      let on = (p.kept i (Ok o1) t.0 a is r1).1 in
-      at_kind (λ x. Falls i.left.tokens x j.left.tokens) e
-      (behind_fell g1 f1 o1 (λ m. m) (p.stands i o1 t.0 a is r1)
-      (first_fell g2 f3 (λ m. m.1) (q.failed a l t.1 j on r2)))
-  three_failed i k t j is (inr (inr (inr (o1, o2, l, a, b, r1, r2, r3, e)))) =
-      let on = (p.kept i (Ok o1) t.0 a is r1).1 in
-      let still = (q.kept a (Ok o2) t.1 b on r2).1 in
-      at_kind (λ x. Falls i.left.tokens x j.left.tokens) e
-      (behind_fell g1 f1 o1 (λ m. m) (p.stands i o1 t.0 a is r1)
-      (behind_fell g2 f2 o2 (λ m. m.2) (q.stands a o2 t.1 b on r2) (r.failed b l t.2 j still r3)))
-
-  pub three_fail : FailsWhere s (ThreeRuns output run1 run2 run3) (m1 × m2 × m3)
-      (Three output g1 g2 g3) (FailsBehind g1 f1 (FailsBehind g2 f2 f3))
-  three_fail = fails_where (three_exact (exact_of p) (exact_of q) (exact_of r)) three_failed
-      (three_law output p.unique p.law q.unique q.law r.law)

@@ -1,5 +1,5 @@
 -- How parsers that have no parts fail.
-use Rattle.std.specs.Prelude.{◌≡◌, ⊤, ℕ, Bool, false, List, Err}
+use Rattle.std.specs.Prelude.{◌≡◌, ⊤, Bool, false, List, Err}
 use Rattle.std.proofs.Common.{refl, sym, ap, inl, inr, ◌∙◌}
 use Rattle.streams.specs.Input.{Input}
 use Rattle.streams.specs.Kind.{Kind}
@@ -8,18 +8,13 @@ use Rattle.stream_sets.specs.Range.{Bounds}
 use Rattle.grammars.specs.Grammar.{Grammar}
 use Rattle.stream_errors.specs.Form.{ErrorForm}
 use Rattle.stream_errors.specs.Form.Known.{ok_is_err}
-use Rattle.winnow_comb.specs.Fail.{FailRuns}
-use Rattle.winnow_core.specs.Eof.{EofRuns}
 use Rattle.winnow_core.specs.Exact.{Backtracks, IsExact}
 use Rattle.winnow_core.specs.Exact.Failed.{not_memory}
 use Rattle.winnow_core.specs.Literal.{LiteralRuns}
 use Rattle.winnow_core.specs.Runs.{Keeps, Runs}
-use Rattle.winnow_token.specs.Any.{AnyRuns, NoTokenRuns}
-use Rattle.winnow_token.specs.OneOf.{OneOfRuns}
-use Rattle.winnow_token.specs.Take.{TakeRuns}
 use Rattle.winnow_token.specs.TakeWhile.{TakeWhileRuns}
 use Rattle.winnow_failures.specs.Fails.{FailsWhere, IsFailureOf, Told, fails_where}
-use Rattle.winnow_failures.specs.Fails.Words.{NeverFails, NotThere}
+use Rattle.winnow_failures.specs.Fails.Words.{NotThere}
 
 -- What is told of a parser that backtracks where nothing of it stands, and takes nothing then.
 abbrev pub leaf_told : {T O : Type 0} → Type 0 → Type 0 → Grammar T O → Told T O
@@ -55,17 +50,6 @@ leaf_fails {g = g} c f stays = fails_where c (λ i k t j is ran. record {
   ];
 }) (not_there_law g)
 
--- what never fails
-pub never_fails : {S T O : Type 0} {s : S} {run : Runs S T O} {g : Grammar T O} → IsExact s run g
-    → ((i : Input T) (k : Kind) (t : S) (j : Input T) → run s i (Err k) t j → ⊥)
-    → FailsWhere s run ⊤ g NeverFails
-unfolding NeverFails
-never_fails c never = fails_where c (λ i k t j is ran. absurd (never i k t j ran)) (record {
-  kinds = λ tokens k rest x. absurd x;
-  one = λ tokens k l rest other x y. absurd x;
-  apart = λ tokens k rest x. absurd x;
-})
-
 -- ---- literals
 
 pub literal_there : {S T L O : Type 0} (reading : Reading T L) (form : ErrorForm)
@@ -79,26 +63,6 @@ literal_there reading form spells output s i k t j is (inr (inr (never, whole, e
     ap (λ z. z.left.tokens) same
 
 -- ---- tokens
-
-none_there : {T O : Type 0} (form : ErrorForm) (i : Input T) (k : Kind) (j : Input T)
-    → NoTokenRuns {O = O} form i (Err k) j → j.left.tokens ≡ i.left.tokens
-none_there form i k j (l, none, short, e, same) = ap (λ z. z.left.tokens) same
-
-pub any_there : {S K T L : Type 0} (seen : K → T) (reading : Reading T L) (form : ErrorForm)
-    (s : S) → StaysThere s (Keeps (λ (y : S). AnyRuns seen reading form))
-any_there seen reading form s i k t j is (inl (x, passed, e), kept) = ok_is_err e refl
-any_there {K = K} seen reading form s i k t j is (inr none, kept) =
-    none_there {O = K} form i k j none
-
-pub one_of_there : {S K T L : Type 0} (seen : K → T) (reading : Reading T L) (form : ErrorForm)
-    (member : S → K → Bool → Type 0) (s : S)
-    → StaysThere s (Keeps (λ y. OneOfRuns seen reading form (member y)))
-one_of_there seen reading form member s i k t j is (inl (x, passed, has, e), kept) =
-    ok_is_err e refl
-one_of_there seen reading form member s i k t j is
-    (inr (inl (x, rest, split, lacks, e, same)), kept) = ap (λ z. z.left.tokens) same
-one_of_there {K = K} seen reading form member s i k t j is (inr (inr none), kept) =
-    none_there {O = K} form i k j none
 
 pub take_while_there : {X T L : Type 0} (reading : Reading T L) (form : ErrorForm)
     (member : X → T → Bool → Type 0) (bounds : X → Bounds) (x : X)
@@ -124,20 +88,3 @@ take_while_there reading form member bounds x i k t j is (
 take_while_there reading form member bounds x i k t j is
     (inr (inr (inr (front, rest, within, longest, ended, few, e, same))), kept) =
     ap (λ z. z.left.tokens) same
-
-pub take_there : {S T L : Type 0} (reading : Reading T L) (form : ErrorForm) (counts : Bool)
-    (n : S → ℕ) (s : S) → StaysThere s (Keeps (λ y. TakeRuns reading form counts (n y)))
-take_there reading form counts n s i k t j is
-    (inl (front, slice, as_many, takes, e), kept) = ok_is_err e refl
-take_there reading form counts n s i k t j is (inr (l, few, short, e, same), kept) =
-    ap (λ z. z.left.tokens) same
-
--- ---- the end, nothing, and a failure
-
-pub eof_there : {T L : Type 0} (reading : Reading T L)
-    → StaysThere tt (Keeps (λ (_ : ⊤). EofRuns reading))
-eof_there reading i k t j is (inl (slice, nothing, takes, e), kept) = ok_is_err e refl
-eof_there reading i k t j is (inr (some, e, same), kept) = ap (λ z. z.left.tokens) same
-
-pub fail_there : {T O : Type 0} → StaysThere tt (Keeps (λ (_ : ⊤). FailRuns {T = T} {O = O}))
-fail_there i k t j is ((e, same), kept) = ap (λ z. z.left.tokens) same

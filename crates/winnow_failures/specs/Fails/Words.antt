@@ -1,5 +1,5 @@
 -- The words in which it is said how parsers fail, and what they read where a part cuts.
-use Rattle.std.specs.Prelude.{◌≡◌, ◌⊎◌, ◌<◌, ◌≤◌, Bool, true, List, length, Option, Some, None}
+use Rattle.std.specs.Prelude.{◌≡◌, ◌⊎◌, ◌<◌, ◌≤◌, List, length, Some}
 use Rattle.streams.specs.Kind.{Kind, backtrack, cut}
 use Rattle.grammars.specs.Grammar.{Each, Gathered, Grammar, NoneStands}
 use Rattle.stream_sets.specs.Range.{Bounds, IsBelow, bounds_of}
@@ -14,10 +14,6 @@ abbrev pub Backs : {T : Type 0} → Failure T → List T → Type 0
 Backs {T} failure tokens = (place : List T) × failure tokens backtrack place
 
 -- ---- failures
-
--- It never fails.
-unfoldable pub NeverFails : {T : Type 0} → Failure T
-NeverFails tokens k rest = ⊥
 
 -- Nothing of it stands: it backtracks, and takes nothing.
 unfoldable pub NotThere : {T O : Type 0} → Grammar T O → Failure T
@@ -38,37 +34,6 @@ FailsEither first second tokens k rest =
 unfoldable pub ForGood : {T : Type 0} → Failure T → Failure T
 ForGood failure tokens k rest = (k ≡ cut) × (was : Kind) × failure tokens was rest
 
--- It fails, and backtracks.
-unfoldable pub NotForGood : {T : Type 0} → Failure T → Failure T
-NotForGood failure tokens k rest = (k ≡ backtrack) × (was : Kind) × failure tokens was rest
-
--- It cuts: where it backtracks, it does not fail.
-unfoldable pub OnlyCuts : {T : Type 0} → Failure T → Failure T
-OnlyCuts failure tokens k rest = (k ≡ cut) × failure tokens cut rest
-
--- It fails, and takes nothing.
-unfoldable pub TakesNothing : {T : Type 0} → Failure T → Failure T
-TakesNothing {T} failure tokens k rest =
-    (rest ≡ tokens) × (place : List T) × failure tokens k place
-
--- It stands, which backtracks; or it cuts. It takes nothing.
-unfoldable pub FailsThere : {T O : Type 0} → Grammar T O → Failure T → Failure T
-FailsThere {T} {O} grammar failure tokens k rest =
-    (rest ≡ tokens)
-    × (((k ≡ backtrack) × (o : O) × (end : List T) × grammar tokens o end)
-    ⊎ ((k ≡ cut) × (place : List T) × failure tokens cut place))
-
--- It fails, where a condition holds.
-unfoldable pub FailsOnlyIf : {T : Type 0} → Bool → Failure T → Failure T
-FailsOnlyIf condition failure tokens k rest = (condition ≡ true) × failure tokens k rest
-
--- The part fails; or it stands, and nothing of the whole does: it backtracks, and takes nothing.
-unfoldable pub FailsRefusing : {T O U : Type 0} → Grammar T O → Failure T → Grammar T U → Failure T
-FailsRefusing {T} {O} grammar failure whole tokens k rest =
-    failure tokens k rest
-    ⊎ ((k ≡ backtrack) × (rest ≡ tokens) × NoneStands whole tokens
-    × (o : O) × (end : List T) × grammar tokens o end)
-
 -- After some that stand one after the other, fewer than the greatest number, one fails: by a cut,
 -- or where they are fewer than the least number.
 unfoldable pub FailsAmong : {T O : Type 0} → Grammar T O → Failure T → Bounds → Failure T
@@ -83,16 +48,6 @@ FailsAmong {T} {O} grammar failure bounds tokens k rest =
 unfoldable pub Otherwise : {T O : Type 0} → Grammar T O → Failure T → Grammar T O → Grammar T O
 Otherwise first failure second tokens o rest =
     first tokens o rest ⊎ (Backs failure tokens × second tokens o rest)
-
--- It stands; or it backtracks, and nothing is taken.
-unfoldable pub MaybeThere : {T O : Type 0} → Grammar T O → Failure T → Grammar T (Option O)
-MaybeThere {O = O} grammar failure tokens o rest =
-    ((x : O) × (o ≡ Some x) × grammar tokens x rest)
-    ⊎ ((o ≡ None) × Backs failure tokens × (rest ≡ tokens))
-
--- It backtracks, and nothing is taken.
-unfoldable pub BacksThere : {T : Type 0} → Failure T → Grammar T (Unit {0})
-BacksThere failure tokens o rest = Backs failure tokens × (rest ≡ tokens)
 
 -- As many as stand one after the other, within the bounds: up to the greatest number, or to where
 -- one backtracks.

@@ -2,13 +2,11 @@
 ghost use Rattle.stream_errors.specs.Form.{modal};
 ghost use Rattle.winnow_core.specs.Exact.Along.{either_way};
 ghost use Rattle.winnow_core.specs.InOrder.Exact.{both_takes};
-ghost use Rattle.winnow_core.specs.InOrder.Three.{three_takes};
-ghost use Rattle.winnow_core.specs.Sequence.Exact.{tuple4_takes, tuple5_takes, tuple6_takes};
+ghost use Rattle.winnow_core.specs.Sequence.Exact.{tuple4_takes};
 ghost use Rattle.winnow_failures.specs.Fails.{exact_of};
-ghost use Rattle.winnow_failures.specs.Fails.Composed.{both_told, five_told, four_told, six_told};
-ghost use Rattle.winnow_failures.specs.Fails.Composed.{three_told};
-ghost use Rattle.winnow_failures.specs.Fails.InOrder.{both_fail, three_fail};
-ghost use Rattle.winnow_failures.specs.Fails.Tuples.{five_fail, four_fail, six_fail};
+ghost use Rattle.winnow_failures.specs.Fails.Composed.{both_told, four_told};
+ghost use Rattle.winnow_failures.specs.Fails.InOrder.{both_fail};
+ghost use Rattle.winnow_failures.specs.Fails.Tuples.{four_fail};
 
 use crate::fails::Fails;
 use stream_errors::parser_error::ParserError;
@@ -37,32 +35,6 @@ impl<
     I: Stream,
     O1: Drop,
     O2: Drop,
-    O3,
-    E: ParserError<I>,
-    P1: Fails<I, O1, E>,
-    P2: Fails<I, O2, E>,
-    P3: Fails<I, O3, E>,
-> Fails<I, (O1, O2, O3), E> for (P1, P2, P3) {
-    ghost told = { λ p. three_told (λ o1 o2 o3. (o1, o2, o3)) (P1.told p.0) (P2.told p.1)
-        (P3.told p.2) };
-
-    fn tell() {}
-
-    ghost tells = { λ form p is. three_fail (λ o1 o2 o3. (o1, o2, o3))
-        (P1.tells form p.0 is.0) (P2.tells form p.1 is.1) (P3.tells form p.2 is.2) };
-
-    ghost takes = { λ p is some. three_takes (λ o1 o2 o3. (o1, o2, o3))
-        (exact_of (P1.tells modal p.0 is.0)) (exact_of (P2.tells modal p.1 is.1))
-        (exact_of (P3.tells modal p.2 is.2))
-        (either_way (either_way (P1.takes p.0 is.0) (P2.takes p.1 is.1)) (P3.takes p.2 is.2)
-        some) };
-}
-
-/// It fails as its first that fails, after those before it.
-impl<
-    I: Stream,
-    O1: Drop,
-    O2: Drop,
     O3: Drop,
     O4,
     E: ParserError<I>,
@@ -84,73 +56,4 @@ impl<
         (exact_of (P3.tells modal p.2 is.2)) (exact_of (P4.tells modal p.3 is.3))
         (either_way (either_way (either_way (P1.takes p.0 is.0) (P2.takes p.1 is.1))
         (P3.takes p.2 is.2)) (P4.takes p.3 is.3) some) };
-}
-
-/// It fails as its first that fails, after those before it.
-impl<
-    I: Stream,
-    O1: Drop,
-    O2: Drop,
-    O3: Drop,
-    O4: Drop,
-    O5,
-    E: ParserError<I>,
-    P1: Fails<I, O1, E>,
-    P2: Fails<I, O2, E>,
-    P3: Fails<I, O3, E>,
-    P4: Fails<I, O4, E>,
-    P5: Fails<I, O5, E>,
-> Fails<I, (O1, O2, O3, O4, O5), E> for (P1, P2, P3, P4, P5) {
-    ghost told = { λ p. five_told (P1.told p.0) (P2.told p.1) (P3.told p.2) (P4.told p.3)
-        (P5.told p.4) };
-
-    fn tell() {}
-
-    ghost tells = { λ form p is. five_fail
-        (P1.tells form p.0 is.0) (P2.tells form p.1 is.1) (P3.tells form p.2 is.2)
-        (P4.tells form p.3 is.3) (P5.tells form p.4 is.4) };
-
-    ghost takes = { λ p is some. tuple5_takes
-        (exact_of (P1.tells modal p.0 is.0)) (exact_of (P2.tells modal p.1 is.1))
-        (exact_of (P3.tells modal p.2 is.2)) (exact_of (P4.tells modal p.3 is.3))
-        (exact_of (P5.tells modal p.4 is.4))
-        (either_way (either_way
-        (either_way (either_way (P1.takes p.0 is.0) (P2.takes p.1 is.1))
-        (P3.takes p.2 is.2)) (P4.takes p.3 is.3)) (P5.takes p.4 is.4) some) };
-}
-
-/// It fails as its first that fails, after those before it.
-impl<
-    I: Stream,
-    O1: Drop,
-    O2: Drop,
-    O3: Drop,
-    O4: Drop,
-    O5: Drop,
-    O6,
-    E: ParserError<I>,
-    P1: Fails<I, O1, E>,
-    P2: Fails<I, O2, E>,
-    P3: Fails<I, O3, E>,
-    P4: Fails<I, O4, E>,
-    P5: Fails<I, O5, E>,
-    P6: Fails<I, O6, E>,
-> Fails<I, (O1, O2, O3, O4, O5, O6), E> for (P1, P2, P3, P4, P5, P6) {
-    ghost told = { λ p. six_told (P1.told p.0) (P2.told p.1) (P3.told p.2) (P4.told p.3)
-        (P5.told p.4) (P6.told p.5) };
-
-    fn tell() {}
-
-    ghost tells = { λ form p is. six_fail
-        (P1.tells form p.0 is.0) (P2.tells form p.1 is.1) (P3.tells form p.2 is.2)
-        (P4.tells form p.3 is.3) (P5.tells form p.4 is.4) (P6.tells form p.5 is.5) };
-
-    ghost takes = { λ p is some. tuple6_takes
-        (exact_of (P1.tells modal p.0 is.0)) (exact_of (P2.tells modal p.1 is.1))
-        (exact_of (P3.tells modal p.2 is.2)) (exact_of (P4.tells modal p.3 is.3))
-        (exact_of (P5.tells modal p.4 is.4)) (exact_of (P6.tells modal p.5 is.5))
-        (either_way (either_way
-        (either_way (either_way (either_way (P1.takes p.0 is.0) (P2.takes p.1 is.1))
-        (P3.takes p.2 is.2)) (P4.takes p.3 is.3)) (P5.takes p.4 is.4))
-        (P6.takes p.5 is.5) some) };
 }

@@ -14,7 +14,7 @@ use Rattle.winnow_core.specs.Stable.Grows.{final_by, Stays}
 use Rattle.streams.specs.Equal.{same_first, true_is_false}
 use Rattle.streams.specs.Kind.{Kind, backtrack, memory}
 use Rattle.winnow_core.specs.Decided.{AlikeAnswers, IsDecided}
-use Rattle.winnow_core.specs.Decided.Inputs.{both_err, both_ok, same_passed}
+use Rattle.winnow_core.specs.Decided.Inputs.{both_err, both_ok}
 use Rattle.winnow_core.specs.Short.{ShortKind}
 use Rattle.grammars.specs.Grammar.{NoneStands, TakesTokens, Token}
 use Rattle.grammars.specs.Grammar.Unique.{token_unique}

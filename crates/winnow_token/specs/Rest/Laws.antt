@@ -4,7 +4,7 @@ use Rattle.streams.specs.Input.{Input, IsEndOf, takes_end}
 use Rattle.streams.specs.Reading.{Reading}
 use Rattle.stream_errors.specs.Form.{Answer}
 use Rattle.winnow_core.specs.Decided.{IsDecided}
-use Rattle.winnow_core.specs.Decided.Inputs.{both_ok, same_passed}
+use Rattle.winnow_core.specs.Decided.Inputs.{both_ok}
 use Rattle.winnow_core.specs.Literal.Laws.{ShowSame}
 use Rattle.winnow_core.specs.Runs.{Keeps}
 use Rattle.winnow_token.specs.Rest.{RestLenRuns, RestRuns}

@@ -11,7 +11,7 @@ use Rattle.winnow_core.specs.Stable.Longer.{takes_more, short_final}
 use Rattle.winnow_core.specs.Stable.Grows.{Stays, final_by}
 use Rattle.winnow_core.specs.Decided.{AlikeAnswers, IsDecided}
 use Rattle.winnow_core.specs.Decided.Adapters.{as_long_front}
-use Rattle.winnow_core.specs.Decided.Inputs.{both_err, both_ok, same_passed}
+use Rattle.winnow_core.specs.Decided.Inputs.{both_err, both_ok}
 use Rattle.winnow_core.specs.Literal.Laws.{ShowSame}
 use Rattle.streams.specs.Equal.{same_others}
 use Rattle.streams.specs.Kind.{Kind, backtrack, memory}

@@ -16,7 +16,7 @@ use std::marker::PhantomData;
 use stream_bits::bits::Bits;
 use stream_errors::parser_error::ParserError;
 use streams::byte_stream::ByteStream;
-use streams::stream::StreamIsPartial;
+use streams::stream::{Stream, StreamIsPartial};
 use winnow_core::parser::Parser;
 use winnow_core::stable::Stable;
 
