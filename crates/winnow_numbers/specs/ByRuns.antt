@@ -1,5 +1,5 @@
 -- What a parser with no parts does with tokens, by its runs on an input that is these tokens.
-use Rattle.std.specs.Prelude.{◌≡◌, Bool, true, false, List, [], ◌++◌, ℕ, Option, Ok, Err}
+use Rattle.std.specs.Prelude.{◌≡◌, false, List, [], ◌++◌, ℕ, Option, Ok, Err}
 use Rattle.std.proofs.Common.{refl, sym, ap, subst, ◌∙◌}
 use Rattle.streams.specs.Input.{Input, IsEndOf, Passes, with_more}
 use Rattle.streams.specs.Kind.{Kind, backtrack, cut, incomplete, memory}
@@ -8,7 +8,7 @@ use Rattle.streams.specs.Reading.{Reading}
 use Rattle.stream_errors.specs.Form.{Answer, ErrorForm, modal}
 use Rattle.winnow_core.specs.Decided.{AlikeAnswers}
 use Rattle.winnow_core.specs.Outcome
-use Rattle.winnow_core.specs.Outcome.{Alike, Does, Outcome, Setting, asks, both, grown, longer}
+use Rattle.winnow_core.specs.Outcome.{Alike, Outcome, Setting, asks, both, grown, longer}
 use Rattle.winnow_core.specs.Outcome.{on_cut, outcome_of}
 use Rattle.winnow_core.specs.Runs.{Keeps}
 use Rattle.winnow_core.specs.Says.{IsAt, Lawful, Said, Says}

@@ -1,5 +1,5 @@
 -- Decimal numerals at the beginning of an input.
-use Rattle.std.specs.Prelude.{◌≡◌, ◌<◌, ◌≤◌, ◌==◌, ⊤, ℕ, ℤ, pos, neg_ℤ, Bool, true, false, List}
+use Rattle.std.specs.Prelude.{◌≡◌, ◌<◌, ◌≤◌, ◌==◌, ℕ, ℤ, pos, neg_ℤ, Bool, true, false, List}
 use Rattle.std.specs.Prelude.{[], ◌∷◌, Option, Some, None, if◌then◌else◌, ◌⊎◌}
 use Rattle.std.specs.List.{All, AllByRecursion}
 use Rattle.streams.specs.Input.{Input, Passes}

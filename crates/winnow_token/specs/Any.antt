@@ -1,7 +1,7 @@
 -- One token.
-use Rattle.std.specs.Prelude.{◌≡◌, List, [], ◌∷◌, Some, Ok, Err, ◌⊎◌}
+use Rattle.std.specs.Prelude.{◌≡◌, [], ◌∷◌, Some, Ok, Err, ◌⊎◌}
 use Rattle.streams.specs.Input.{Input, Passes}
-use Rattle.streams.specs.Kind.{Kind, backtrack}
+use Rattle.streams.specs.Kind.{Kind}
 use Rattle.streams.specs.Reading.{Reading}
 use Rattle.stream_errors.specs.Form.{ErrorForm, Answer}
 use Rattle.winnow_core.specs.Short.{ShortKind}

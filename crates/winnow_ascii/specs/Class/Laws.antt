@@ -1,5 +1,5 @@
 -- What holds of the runs of a class.
-use Rattle.std.specs.Prelude.{◌≡◌, ◌↔◌, ⊤, ℕ, IsTrue, None, ◌<◌}
+use Rattle.std.specs.Prelude.{◌↔◌, ⊤, ℕ, IsTrue, None, ◌<◌}
 use Rattle.streams.specs.Input.{Input, IsEndOf}
 use Rattle.streams.specs.Reading.{Reading}
 use Rattle.streams.specs.Stream.{AnswersSeen}
@@ -8,12 +8,8 @@ use Rattle.stream_sets.specs.Range.{from_to}
 use Rattle.winnow_core.specs.Runs.{Keeps}
 use Rattle.winnow_ascii.specs.Class.{ClassRuns}
 use Rattle.winnow_token.specs.TakeWhile.Laws.{take_while_ends}
-use Rattle.std.proofs.Common.{refl, sym, ◌∙◌, subst, arith}
-use Rattle.streams.specs.Equal.{true_is_false}
-use Rattle.stream_sets.specs.Once.{TellsOnce, SeesApart, holds_once, seen_once}
-use Rattle.winnow_core.specs.Decided.{IsDecided}
-use Rattle.winnow_core.specs.Literal.Laws.{ShowSame}
-use Rattle.winnow_token.specs.TakeWhile.Says.{take_while_decided}
+use Rattle.std.proofs.Common.{arith}
+use Rattle.stream_sets.specs.Once.{SeesApart, holds_once, seen_once}
 use Rattle.grammars.specs.Grammar.{Class, InClass, IsUnique, TakesTokens}
 use Rattle.winnow_core.specs.Exact.{Backtracks, IsExact}
 use Rattle.winnow_token.specs.TakeWhile.Exact.{longest_unique, take_while_exact, take_while_fails}

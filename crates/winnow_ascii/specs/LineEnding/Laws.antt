@@ -14,10 +14,9 @@ use Rattle.winnow_core.specs.Stable.Grows.{Stays}
 use Rattle.grammars.specs.Grammar.{Either, NoneStands}
 use Rattle.grammars.specs.Grammar.Searches.{LineEnd, LiterallyBytes}
 use Rattle.grammars.specs.Grammar.Unique.{either_unique}
-use Rattle.winnow_core.specs.Decided.{AlikeAnswers, IsDecided, NotMemory}
 use Rattle.winnow_core.specs.Exact.{Backtracks, IsExact}
 use Rattle.winnow_core.specs.Exact.Failed.{none_at_backtrack}
-use Rattle.winnow_core.specs.Literal.Laws.{ShowSame, SpellsByText, TextRuns}
+use Rattle.winnow_core.specs.Literal.Laws.{SpellsByText, TextRuns}
 use Rattle.winnow_core.specs.Literal.Laws.{text_exact, text_fails}
 
 -- they leave an end

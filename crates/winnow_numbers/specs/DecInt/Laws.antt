@@ -1,5 +1,5 @@
 -- What holds of the runs of decimal signed numbers.
-use Rattle.std.specs.Prelude.{◌≡◌, ℕ, ℤ, List, true, ⊤, Err}
+use Rattle.std.specs.Prelude.{◌≡◌, ℕ, ℤ, List, true, Err}
 use Rattle.std.proofs.Common.{refl, sym, ap, subst, inl, inr, ◌∙◌}
 use Rattle.streams.specs.Input.{Input, IsEndOf, with_more}
 use Rattle.streams.specs.Reading.{Reading}
@@ -7,7 +7,6 @@ use Rattle.stream_errors.specs.Form.{Answer, ErrorForm, modal}
 use Rattle.winnow_core.specs.Decided.{AlikeAnswers}
 use Rattle.winnow_core.specs.Decided.Inputs.{both_err, both_ok}
 use Rattle.winnow_core.specs.Ends.{same_ends}
-use Rattle.winnow_core.specs.Runs.{Keeps}
 use Rattle.winnow_numbers.specs.DecInt.{DecIntRuns}
 use Rattle.winnow_numbers.specs.DecUint.Laws.{OneNumber}
 use Rattle.winnow_numbers.specs.DecimalText.{signed_value}

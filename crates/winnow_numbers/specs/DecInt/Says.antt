@@ -11,7 +11,7 @@ use Rattle.winnow_core.specs.Runs.{Keeps}
 use Rattle.winnow_core.specs.Says.{IsAt, Said, Says}
 use Rattle.winnow_core.specs.Says.Cases.{Case, FailsWhere, OneCase, TakesWhere}
 use Rattle.winnow_core.specs.Says.Decided.{decided_of}
-use Rattle.winnow_numbers.specs.ByRuns.{ByRuns, by_runs, no_places, plain_at}
+use Rattle.winnow_numbers.specs.ByRuns.{by_runs, no_places, plain_at}
 use Rattle.winnow_numbers.specs.DecInt.{DecIntRuns}
 use Rattle.winnow_numbers.specs.DecInt.Laws.{dec_int_ends, dec_int_status, dec_int_stays, meet}
 use Rattle.winnow_numbers.specs.DecUint.Laws.{OneNumber}

@@ -1,19 +1,16 @@
 -- What holds of the runs of decimal unsigned numbers.
-use Rattle.std.specs.Prelude.{◌≡◌, ℕ, false, ⊤, [], Err, Ok}
+use Rattle.std.specs.Prelude.{◌≡◌, ℕ, false, [], Err, Ok}
 use Rattle.std.proofs.Common.{inl, inr, ap}
 use Rattle.streams.specs.Input.{Input, IsEndOf, with_more}
 use Rattle.streams.specs.Reading.{Reading}
 use Rattle.stream_errors.specs.Form.{Answer, ErrorForm, modal}
 use Rattle.winnow_core.specs.Ends.{same_ends}
-use Rattle.winnow_core.specs.Runs.{Keeps}
 use Rattle.winnow_numbers.specs.DecUint.{DecUintRuns}
 use Rattle.winnow_numbers.specs.Numeral.Laws.{no_numeral_ends, numeral_ends, numeral_more}
 use Rattle.winnow_numbers.specs.Numeral.Laws.{no_numeral_more}
 use Rattle.winnow_core.specs.Stable.Longer.{same_more}
 use Rattle.winnow_core.specs.Stable.Grows.{Stays, final_by}
 use Rattle.winnow_core.specs.Decided.{AlikeAnswers}
-use Rattle.winnow_numbers.specs.DecUint.Known.{dec_uint_once}
-use Rattle.winnow_numbers.specs.Digits.{SeenOnce}
 use Rattle.winnow_numbers.specs.NumberLaws.{AnswersSame}
 use Rattle.winnow_numbers.specs.Numeral.Known.{none_status, numeral_status}
 

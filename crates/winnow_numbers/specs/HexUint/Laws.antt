@@ -1,5 +1,5 @@
 -- What holds of the runs of hexadecimal numbers.
-use Rattle.std.specs.Prelude.{◌≡◌, ◌≤◌, ℕ, ⊤, List, [], ◌∷◌, ◌++◌, Some, Err, ◌⊎◌, false, true}
+use Rattle.std.specs.Prelude.{◌≡◌, ◌≤◌, ℕ, ⊤, List, [], ◌∷◌, ◌++◌, Some, Err, false, true}
 use Rattle.std.specs.Prelude.{Bool, length, Ok}
 use Rattle.std.specs.List.{All}
 use Rattle.std.proofs.Common.{inl, inr, ap, ◌∙◌, append_assoc, refl, sym, arith, length-append}
@@ -7,7 +7,7 @@ use Rattle.std.proofs.lemmas.List.Elements.{All-head}
 use Rattle.streams.specs.Input.{Input, IsEndOf, passes_end}
 use Rattle.streams.specs.Reading.{Reading}
 use Rattle.stream_errors.specs.Form.{Answer, ErrorForm, modal}
-use Rattle.streams.specs.Kind.{incomplete, Kind, backtrack, memory}
+use Rattle.streams.specs.Kind.{incomplete, Kind, backtrack}
 use Rattle.stream_sets.specs.AsChar.{IsHexDigit}
 use Rattle.winnow_core.specs.Decided.{AlikeAnswers}
 use Rattle.winnow_core.specs.Decided.Inputs.{both_err, both_ok}

@@ -13,7 +13,7 @@ use Rattle.winnow_core.specs.Says.Cases.{Case, FailsWhere, LacksAfter, OneCase}
 use Rattle.winnow_core.specs.Says.Lacks.{short_outcome}
 use Rattle.winnow_numbers.specs.ByRuns.{no_places, plain_at, plain_passes}
 use Rattle.winnow_numbers.specs.Digits.{AreCharacters, IsIn, NoneFirst}
-use Rattle.winnow_numbers.specs.Numeral.{DigitsRuns, IsLeadingDigit, IsSign, LacksDigits, NoDigits}
+use Rattle.winnow_numbers.specs.Numeral.{DigitsRuns, IsLeadingDigit, IsSign, LacksDigits}
 use Rattle.winnow_numbers.specs.Numeral.{NoNumeral, NumeralRuns, SignRuns, is_none, left_by}
 use Rattle.winnow_numbers.specs.Numeral.Known.{sign_status}
 

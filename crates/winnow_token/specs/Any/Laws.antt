@@ -1,8 +1,8 @@
 -- What holds of the runs of one token.
-use Rattle.std.specs.Prelude.{◌≡◌, ⊤, true, Err, ℕ, List, [], ◌∷◌, Option, ◌⊎◌, false, length}
+use Rattle.std.specs.Prelude.{◌≡◌, ⊤, true, Err, List, [], ◌∷◌, false, length}
 use Rattle.std.specs.Prelude.{Some, Ok}
-use Rattle.std.proofs.Common.{inl, inr, sym, ap, subst, ◌∙◌, refl, arith}
-use Rattle.streams.specs.Input.{Input, IsEndOf, passes_end, Passes}
+use Rattle.std.proofs.Common.{inl, inr, sym, ap, ◌∙◌, refl, arith}
+use Rattle.streams.specs.Input.{Input, IsEndOf, passes_end}
 use Rattle.streams.specs.Reading.{Reading}
 use Rattle.stream_errors.specs.Form.{Answer, ErrorForm, modal}
 use Rattle.winnow_core.specs.Ends.{same_ends}
@@ -11,11 +11,7 @@ use Rattle.winnow_token.specs.Any.{AnyRuns, NoTokenRuns}
 use Rattle.winnow_core.specs.Stable.Longer.{short_final, passes_more}
 use Rattle.winnow_core.specs.Stable.{IsFinal}
 use Rattle.winnow_core.specs.Stable.Grows.{final_by, Stays}
-use Rattle.streams.specs.Equal.{same_first, true_is_false}
-use Rattle.streams.specs.Kind.{Kind, backtrack, memory}
-use Rattle.winnow_core.specs.Decided.{AlikeAnswers, IsDecided}
-use Rattle.winnow_core.specs.Decided.Inputs.{both_err, both_ok}
-use Rattle.winnow_core.specs.Short.{ShortKind}
+use Rattle.streams.specs.Kind.{Kind, backtrack}
 use Rattle.grammars.specs.Grammar.{NoneStands, TakesTokens, Token}
 use Rattle.grammars.specs.Grammar.Unique.{token_unique}
 use Rattle.stream_errors.specs.Form.Known.{ok_is_err, same_ok, same_kind}

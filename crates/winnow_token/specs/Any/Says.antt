@@ -1,6 +1,6 @@
 -- What the parser of one token says that it does.
-use Rattle.std.specs.Prelude.{◌≡◌, ⊤, List, [], ◌∷◌, ◌++◌, Some, Ok}
-use Rattle.std.proofs.Common.{refl, sym, ap, inl, inr, ◌∙◌}
+use Rattle.std.specs.Prelude.{◌≡◌, ⊤, [], ◌∷◌, ◌++◌, Some}
+use Rattle.std.proofs.Common.{sym, ap, inl, inr, ◌∙◌}
 use Rattle.streams.specs.Equal.{same_first, same_others}
 use Rattle.streams.specs.Input.{Input}
 use Rattle.streams.specs.Reading.{Reading}

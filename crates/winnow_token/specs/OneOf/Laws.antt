@@ -1,5 +1,5 @@
 -- What holds of the runs of one token of a set.
-use Rattle.std.specs.Prelude.{◌≡◌, Bool, ◌++◌, ◌⊎◌, true, false, ◌∷◌, length, Some, Ok, Err}
+use Rattle.std.specs.Prelude.{◌≡◌, Bool, ◌++◌, true, false, ◌∷◌, length, Some, Ok, Err}
 use Rattle.std.proofs.Common.{inl, inr, ap, refl, sym, ◌∙◌, subst, arith}
 use Rattle.streams.specs.Input.{Input, IsEndOf, passes_end}
 use Rattle.streams.specs.Reading.{Reading}
@@ -13,10 +13,8 @@ use Rattle.winnow_token.specs.Any.Laws.{no_token_final}
 use Rattle.streams.specs.Equal.{same_first}
 use Rattle.streams.specs.Stream.{AnswersSeen}
 use Rattle.stream_sets.specs.Once.{TellsOnce}
-use Rattle.winnow_core.specs.Decided.{AlikeAnswers, IsDecided}
-use Rattle.winnow_core.specs.Decided.Inputs.{both_err, both_ok}
 use Rattle.winnow_token.specs.Any.Laws.{first_of_none}
-use Rattle.streams.specs.Kind.{Kind, backtrack, memory}
+use Rattle.streams.specs.Kind.{Kind, backtrack}
 use Rattle.grammars.specs.Grammar.{NoneStands, TakesTokens, TokenOf}
 use Rattle.grammars.specs.Grammar.Unique.{token_of_unique}
 use Rattle.stream_errors.specs.Form.Known.{ok_is_err, same_ok, same_kind}

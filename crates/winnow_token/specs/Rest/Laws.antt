@@ -1,11 +1,8 @@
 -- What holds of the runs of what is left.
-use Rattle.std.specs.Prelude.{◌≡◌, ⊤, ℕ, [], ◌++◌}
+use Rattle.std.specs.Prelude.{⊤, [], ◌++◌}
 use Rattle.streams.specs.Input.{Input, IsEndOf, takes_end}
 use Rattle.streams.specs.Reading.{Reading}
 use Rattle.stream_errors.specs.Form.{Answer}
-use Rattle.winnow_core.specs.Decided.{IsDecided}
-use Rattle.winnow_core.specs.Decided.Inputs.{both_ok}
-use Rattle.winnow_core.specs.Literal.Laws.{ShowSame}
 use Rattle.winnow_core.specs.Runs.{Keeps}
 use Rattle.winnow_token.specs.Rest.{RestLenRuns, RestRuns}
 use Rattle.std.proofs.Common.{refl, sym, ap, subst, ◌∙◌}

@@ -1,15 +1,14 @@
 -- What the parsers of all that is left say that they do.
-use Rattle.std.specs.Prelude.{◌≡◌, ⊤, ℕ, List, []}
+use Rattle.std.specs.Prelude.{◌≡◌, ⊤, ℕ, []}
 use Rattle.std.proofs.Common.{refl, sym, ◌∙◌}
-use Rattle.streams.specs.Input.{Input}
 use Rattle.streams.specs.Reading.{Reading}
-use Rattle.stream_errors.specs.Form.{Answer, plain}
+use Rattle.stream_errors.specs.Form.{plain}
 use Rattle.winnow_core.specs.Ends.{same_ends}
 use Rattle.winnow_core.specs.Literal.Laws.{ShowSame}
 use Rattle.winnow_core.specs.Decided.{IsDecided}
-use Rattle.winnow_core.specs.Outcome.{Setting, gave}
+use Rattle.winnow_core.specs.Outcome.{gave}
 use Rattle.winnow_core.specs.Runs.{Keeps}
-use Rattle.winnow_core.specs.Says.{Did, IsAt, Said, Says}
+use Rattle.winnow_core.specs.Says.{Said, Says}
 use Rattle.winnow_core.specs.Says.Cases.{TakesWhere, takes_law}
 use Rattle.winnow_core.specs.Says.Decided.{decided_of}
 use Rattle.winnow_core.specs.Says.Leaf.{here_did, leaf_said, takes_did}

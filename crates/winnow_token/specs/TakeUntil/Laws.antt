@@ -1,5 +1,5 @@
 -- What holds of the runs of takes up to a literal.
-use Rattle.std.specs.Prelude.{List, ◌≡◌, ◌∷◌, ◌++◌, [], ℕ, ◌<◌, ◌≤◌, length, Err, ◌⊎◌, Some, None}
+use Rattle.std.specs.Prelude.{List, ◌≡◌, ◌∷◌, ◌++◌, [], ℕ, ◌<◌, ◌≤◌, length, Err, Some, None}
 use Rattle.std.specs.Prelude.{false, Ok}
 use Rattle.std.proofs.Common.{inl, inr, arith, refl, sym, ap, ◌∙◌, append_assoc, subst}
 use Rattle.streams.specs.Input.{Input, IsEndOf, takes_end, Takes, with_more}
@@ -13,7 +13,7 @@ use Rattle.winnow_core.specs.Runs.{Keeps}
 use Rattle.winnow_token.specs.TakeUntil.{TakeUntilRuns}
 use Rattle.winnow_core.specs.Stable.Longer.{one_beginning, same_more, takes_more, short_final}
 use Rattle.winnow_core.specs.Stable.Grows.{Stays, final_by}
-use Rattle.streams.specs.Kind.{Kind, backtrack, memory}
+use Rattle.streams.specs.Kind.{Kind, backtrack}
 use Rattle.stream_sets.specs.Longest.{within_is}
 use Rattle.grammars.specs.Grammar.{NoneStands}
 use Rattle.grammars.specs.Grammar.Searches.{Before, IsBefore}

@@ -1,15 +1,15 @@
 -- What takes up to a literal say that they do.
-use Rattle.std.specs.Prelude.{◌≡◌, ◌⊎◌, ◌<◌, ◌≤◌, ◌+◌, ⊤, ℕ, Bool, List, ◌++◌, length, Option}
+use Rattle.std.specs.Prelude.{◌≡◌, ◌⊎◌, ◌<◌, ◌≤◌, ◌+◌, ⊤, ℕ, List, ◌++◌, length, Option}
 use Rattle.std.specs.Prelude.{Some, None, Err}
 use Rattle.std.proofs.Common.{refl, sym, ap, subst, inl, inr, ◌∙◌, arith, append_assoc}
 use Rattle.std.proofs.lemmas.Bool.{cases_order}
-use Rattle.streams.specs.Equal.{none_is_some, same_some}
+use Rattle.streams.specs.Equal.{none_is_some}
 use Rattle.streams.specs.Input.{Input}
 use Rattle.streams.specs.Reading.{Reading}
 use Rattle.grammars.specs.Grammar.Searches.{IsBefore}
 use Rattle.grammars.specs.Grammar.Searches.Unique.{as_long, longer, match_before, one_before}
 use Rattle.grammars.specs.Grammar.Searches.Unique.{stands_behind}
-use Rattle.stream_searches.specs.FindSlice.{IsFirstMatch, Stands}
+use Rattle.stream_searches.specs.FindSlice.{IsFirstMatch}
 use Rattle.stream_searches.specs.FirstMatch.{StaysFirst}
 use Rattle.stream_sets.specs.Longest.{within_is}
 use Rattle.stream_sets.specs.Range.{Bounds, IsWithin}
@@ -17,7 +17,7 @@ use Rattle.stream_errors.specs.Form.{Answer, ErrorForm}
 use Rattle.winnow_core.specs.Decided.Adapters.{as_long_front}
 use Rattle.winnow_core.specs.Literal.Laws.{ShowSame}
 use Rattle.winnow_core.specs.Decided.{IsDecided}
-use Rattle.winnow_core.specs.Outcome.{Does, Outcome, Setting, gave, grown, on_cut}
+use Rattle.winnow_core.specs.Outcome.{Outcome, Setting, gave}
 use Rattle.winnow_core.specs.Runs.{Keeps}
 use Rattle.winnow_core.specs.Says.{Did, IsAt, Lawful, Said, Says}
 use Rattle.winnow_core.specs.Says.Cases.{Case, FailsWhere, LacksWhere, OneCase, TakesWhere}
