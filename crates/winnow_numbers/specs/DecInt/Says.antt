@@ -125,8 +125,8 @@ module _ {N K T L : Type 0} (number : N → ℤ) (fits : ℤ → Type 0) (seen :
 pub dec_int_decided : {N K T L : Type 0} (number : N → ℤ) (fits : ℤ → Type 0) (seen : K → T)
     (code : K → ℕ) (reading : Reading T L) (form : ErrorForm) → SeenOnce seen code
     → IsDecided tt (Keeps (λ (_ : ⊤). DecIntRuns number fits seen code reading form))
-          (OneNumber number)
+    (OneNumber number)
 dec_int_decided number fits seen code reading form once =
     decided_of reading
-          (λ f s i answer t j r. dec_int_ends number fits seen code reading f i answer j r.0)
+    (λ f s i answer t j r. dec_int_ends number fits seen code reading f i answer j r.0)
     (dec_int_said number fits seen code reading once) form tt

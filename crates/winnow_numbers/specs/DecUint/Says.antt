@@ -119,8 +119,8 @@ module _ {N K T L : Type 0} (number : N → ℕ) (bound : ℕ) (seen : K → T) 
 pub dec_uint_decided : {N K T L : Type 0} (number : N → ℕ) (bound : ℕ) (seen : K → T)
     (code : K → ℕ) (reading : Reading T L) (form : ErrorForm) → SeenOnce seen code
     → IsDecided tt (Keeps (λ (_ : ⊤). DecUintRuns number bound seen code reading form))
-          (OneNumber number)
+    (OneNumber number)
 dec_uint_decided number bound seen code reading form once =
     decided_of reading
-          (λ f s i answer t j r. dec_uint_ends number bound seen code reading f i answer j r.0)
+    (λ f s i answer t j r. dec_uint_ends number bound seen code reading f i answer j r.0)
     (dec_uint_said number bound seen code reading once) form tt

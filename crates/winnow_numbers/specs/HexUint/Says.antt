@@ -154,8 +154,8 @@ module _ {N K T L : Type 0} (number : N → ℕ) (most : ℕ) (seen : K → T) (
 pub hex_uint_decided : {N K T L : Type 0} (number : N → ℕ) (most : ℕ) (seen : K → T)
     (code : K → ℕ) (reading : Reading T L) (form : ErrorForm) → SeenOnce seen code
     → IsDecided tt (Keeps (λ (_ : ⊤). HexUintRuns number most seen code reading form))
-          (OneNumber number)
+    (OneNumber number)
 hex_uint_decided number most seen code reading form once =
     decided_of reading
-          (λ f s i answer t j r. hex_uint_ends number most seen code reading f i answer j r.0)
+    (λ f s i answer t j r. hex_uint_ends number most seen code reading f i answer j r.0)
     (hex_uint_said number most seen code reading once) form tt

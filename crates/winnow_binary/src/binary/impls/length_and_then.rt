@@ -83,7 +83,11 @@ impl<
           (fails_as (λ b. b.1) (λ m. m.1) ((G.claimed s.1).fails form is.2));
       takes = λ is some. sized_inside_takes N.number (G.claim s.1).grammar
           ((P.claimed s.0).exact modal is.0).unique ((P.claimed s.0).takes is.0 some);
-      decided = λ form is. decided_of I.reading (λ form. length_and_then_ends N.number I.reading form I.counts_missing (P.meaning form) (G.meaning form) (P.leaves_ends form)) (length_and_then_said N.number I.reading I.counts_missing (P.said s.0) (G.said s.1)) form is;
+      decided = λ form is. decided_of I.reading
+          (λ form. length_and_then_ends N.number I.reading form I.counts_missing
+          (P.meaning form) (G.meaning form) (P.leaves_ends form))
+          (length_and_then_said N.number I.reading I.counts_missing (P.said s.0) (G.said s.1))
+          form is;
     } };
 
     #[inline]

@@ -93,7 +93,11 @@ impl<
       takes = λ is some. sized_times_takes N.number C.holds
           ((G.claimed s.1).exact modal is.2).unique
           ((P.claimed s.0).exact modal is.0).unique ((P.claimed s.0).takes is.0 some);
-      decided = λ form is. decided_of I.reading (λ form. length_repeat_ends I.reading N.number C.accumulator (assert_kind form) (P.meaning form) (G.meaning form) (P.leaves_ends form) (G.leaves_ends form)) (length_repeat_said N.number C.accumulator C.holds C.gathers (P.said s.0) (G.said s.1)) form is;
+      decided = λ form is. decided_of I.reading
+          (λ form. length_repeat_ends I.reading N.number C.accumulator (assert_kind form)
+          (P.meaning form) (G.meaning form) (P.leaves_ends form) (G.leaves_ends form))
+          (length_repeat_said N.number C.accumulator C.holds C.gathers (P.said s.0)
+          (G.said s.1)) form is;
     } };
 
     fn parse_next(&mut self, input: &mut I) -> Result<C, E> {

@@ -71,7 +71,10 @@ impl<P: Parser<I, N, E>, I: StreamIsPartial, N: ToUsize + Drop, E: ParserError<I
           ((P.claimed s).exact form is.0) ((P.claimed s).fails form is.0);
       takes = λ is some. length_take_takes N.number I.reading ((P.claimed s).exact modal is.0)
           ((P.claimed s).takes is.0 some);
-      decided = λ form is. decided_of I.reading (λ form. length_take_ends N.number I.reading form I.counts_missing (P.meaning form) (P.leaves_ends form)) (length_take_said N.number I.reading I.counts_missing (P.said s)) form is;
+      decided = λ form is. decided_of I.reading
+          (λ form. length_take_ends N.number I.reading form I.counts_missing (P.meaning form)
+          (P.leaves_ends form))
+          (length_take_said N.number I.reading I.counts_missing (P.said s)) form is;
     } };
 
     #[inline]

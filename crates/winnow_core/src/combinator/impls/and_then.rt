@@ -93,7 +93,10 @@ impl<
           (fails_as (λ b. is.2) (λ m. m.1) ((G.claimed s.1).fails form is.1));
       takes = λ is some. made_of_takes (ReadsWithin O.view (G.claim s.1).grammar) tt
           ((F.claimed s.0).takes is.0 some);
-      decided = λ form is. decided_of I.reading (λ form. settles_ends I.reading (AndThenSettles O.view (G.meaning form)) (F.meaning form) (F.leaves_ends form)) (and_then_said O.view (F.said s.0) (G.said s.1)) form is;
+      decided = λ form is. decided_of I.reading
+          (λ form. settles_ends I.reading (AndThenSettles O.view (G.meaning form))
+          (F.meaning form) (F.leaves_ends form))
+          (and_then_said O.view (F.said s.0) (G.said s.1)) form is;
     } };
 
     #[inline]

@@ -56,7 +56,9 @@ impl<'p, P: Parser<I, O, E>, I: Stream, O, E: ParserError<I>> Parser<I, O, E>
       exact = λ form is. by_ref_exact ((P.claimed s.0).exact form is);
       fails = λ form is. by_ref_fails ((P.claimed s.0).fails form is);
       takes = λ is some. (P.claimed s.0).takes is some;
-      decided = λ form is. decided_of I.reading (λ form s i answer t j r. P.leaves_ends form s.0 i answer t.0 j r.0) (by_ref_said (P.said s.0)) form is;
+      decided = λ form is. decided_of I.reading
+          (λ form s i answer t j r. P.leaves_ends form s.0 i answer t.0 j r.0)
+          (by_ref_said (P.said s.0)) form is;
     } };
 
     #[inline(always)]

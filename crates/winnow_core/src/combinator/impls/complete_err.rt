@@ -69,7 +69,10 @@ impl<F: Parser<I, O, E>, I: Stream, O, E: ParserError<I>> Parser<I, O, E>
       exact = λ form is. complete_err_exact ((F.claimed s).exact form is);
       fails = λ form is. complete_err_fails ((F.claimed s).fails form is);
       takes = λ is some. (F.claimed s).takes is some;
-      decided = λ form is. decided_of I.reading (λ form s i answer t j ran. makes_error_ends I.reading CompleteErrBecomes (F.meaning form) (F.leaves_ends form) _ i answer _ j ran) (complete_err_said (F.said s)) form is;
+      decided = λ form is. decided_of I.reading
+          (λ form s i answer t j ran. makes_error_ends I.reading CompleteErrBecomes
+          (F.meaning form) (F.leaves_ends form) _ i answer _ j ran)
+          (complete_err_said (F.said s)) form is;
     } };
 
     #[inline]

@@ -99,7 +99,11 @@ impl<
           (λ copy cloned refused. wanted (λ m. m.2 copy cloned refused))
           (fails_as (λ b. b) (λ m. m.0) ((F.claimed s.0).fails form is));
       takes = λ is some. (F.claimed s.0).takes is some;
-      decided = λ form is. decided_of I.reading (λ form. makes_error_ends I.reading (ContextBecomes C.is_clone C.is_infallible) (F.meaning form) (F.leaves_ends form)) (turned_said (ContextBecomes C.is_clone C.is_infallible) (λ is. is) (λ is. context_keeps_kinds C.is_clone C.is_infallible) (F.said s.0)) form is;
+      decided = λ form is. decided_of I.reading
+          (λ form. makes_error_ends I.reading (ContextBecomes C.is_clone C.is_infallible)
+          (F.meaning form) (F.leaves_ends form))
+          (turned_said (ContextBecomes C.is_clone C.is_infallible) (λ is. is)
+          (λ is. context_keeps_kinds C.is_clone C.is_infallible) (F.said s.0)) form is;
     } };
 
     #[inline]

@@ -77,7 +77,10 @@ impl<F: Parser<I, O, E>, I: Stream, O: Drop, O2: Default, E: ParserError<I>> Par
           ((F.claimed s).fails form is);
       takes = λ is some. made_of_takes (λ (_ : Unit {0}) o u. O2.is_default u) tt
           ((F.claimed s).takes is some);
-      decided = λ form is. decided_of I.reading (λ form. makes_output_ends I.reading _ (F.meaning form) (F.leaves_ends form)) (of_output_said (λ o u. O2.is_default u) (λ o p u v like x y. (x, y)) (F.said s)) form is;
+      decided = λ form is. decided_of I.reading
+          (λ form. makes_output_ends I.reading _ (F.meaning form) (F.leaves_ends form))
+          (of_output_said (λ o u. O2.is_default u) (λ o p u v like x y. (x, y)) (F.said s))
+          form is;
     } };
 
     #[inline]

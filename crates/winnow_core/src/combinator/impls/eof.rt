@@ -50,7 +50,9 @@ impl<I: Stream, E: ParserError<I>> Parser<I, I::Slice, E> for Eof {
       exact = λ form is. eof_exact I.reading;
       fails = λ form is. backs (eof_fails I.reading);
       takes = λ is never. absurd never;
-      decided = λ form is. decided_of I.reading (λ form x i answer y j r. eof_ends I.reading i answer j r.0) (eof_said I.reading) form is;
+      decided = λ form is. decided_of I.reading
+          (λ form x i answer y j r. eof_ends I.reading i answer j r.0) (eof_said I.reading)
+          form is;
     } };
 
     #[inline(always)]

@@ -77,7 +77,11 @@ impl<F: Parser<I, O, E>, I: Stream, O, E: ParserError<I>, E2: ParserError<I> + F
       fails = λ form is. err_into_fails E.kind E2.kind E2.from_gives is.1 (λ m. m.0)
           (λ m. m.1) ((F.claimed s).fails E.form is.0);
       takes = λ is some. (F.claimed s).takes is.0 some;
-      decided = λ form is. decided_of I.reading (λ _ s i answer t j ran. makes_error_ends I.reading (ErrIntoBecomes E.kind E2.kind E2.from_gives) (F.meaning E.form) (F.leaves_ends E.form) _ i answer _ j ran) (err_into_said E.form E.kind E2.kind E2.from_gives (F.said s)) form is;
+      decided = λ form is. decided_of I.reading
+          (λ _ s i answer t j ran. makes_error_ends I.reading
+          (ErrIntoBecomes E.kind E2.kind E2.from_gives) (F.meaning E.form)
+          (F.leaves_ends E.form) _ i answer _ j ran)
+          (err_into_said E.form E.kind E2.kind E2.from_gives (F.said s)) form is;
     } };
 
     #[inline]

@@ -110,7 +110,10 @@ impl<
           (either_way ((F.claimed s.0).takes is.0)
           (λ each o made m. (H.claimed (H.state made)).takes (is.2 o made m)
           (each o made m)) some);
-      decided = λ form is. decided_of I.reading (λ form. flat_map_ends I.reading G.step H.state (F.meaning form) (H.meaning form) (F.leaves_ends form) (H.leaves_ends form)) (flat_map_said G.step H.state H.says (F.said s.0) H.said) form is;
+      decided = λ form is. decided_of I.reading
+          (λ form. flat_map_ends I.reading G.step H.state (F.meaning form) (H.meaning form)
+          (F.leaves_ends form) (H.leaves_ends form))
+          (flat_map_said G.step H.state H.says (F.said s.0) H.said) form is;
     } };
 
     #[inline]

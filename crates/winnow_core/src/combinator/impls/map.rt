@@ -75,7 +75,9 @@ impl<F: Parser<I, O, E>, G: FnMut(O) -> O2, I: Stream, O, O2, E: ParserError<I>>
       exact = λ form is. map_exact G.step is.1 ((F.claimed s.0).exact form is.0);
       fails = λ form is. map_fails G.step is.1 ((F.claimed s.0).fails form is.0);
       takes = λ is some. made_of_takes (Gives G.step) s.1 ((F.claimed s.0).takes is.0 some);
-      decided = λ form is. decided_of I.reading (λ form. map_ends I.reading (F.meaning form) G.step (F.leaves_ends form)) (map_said G.step (F.said s.0)) form is;
+      decided = λ form is. decided_of I.reading
+          (λ form. map_ends I.reading (F.meaning form) G.step (F.leaves_ends form))
+          (map_said G.step (F.said s.0)) form is;
     } };
 
     #[inline(always)]

@@ -88,7 +88,12 @@ impl<
       fails = λ form is. map_err_fails E.kind E2.kind G.step is.2
           ((F.claimed s.0).fails E.form is.0);
       takes = λ is some. (F.claimed s.0).takes is.0 some;
-      decided = λ form is. decided_of I.reading (λ _. makes_error_ends I.reading (MapErrBecomes E.kind E2.kind G.step) (F.meaning E.form) (F.leaves_ends E.form)) (turned_said (MapErrBecomes E.kind E2.kind G.step) (λ is. is.0) (λ is. map_err_keeps E.kind E2.kind G.step is.2 is.1) (in_form_said E.form (F.said s.0))) form is;
+      decided = λ form is. decided_of I.reading
+          (λ _. makes_error_ends I.reading (MapErrBecomes E.kind E2.kind G.step)
+          (F.meaning E.form) (F.leaves_ends E.form))
+          (turned_said (MapErrBecomes E.kind E2.kind G.step) (λ is. is.0)
+          (λ is. map_err_keeps E.kind E2.kind G.step is.2 is.1)
+          (in_form_said E.form (F.said s.0))) form is;
     } };
 
     #[inline]

@@ -91,7 +91,11 @@ impl<
       fails = λ form is. map_err_kept_fails E.kind E2.kind G.step
           ((F.claimed s.0).fails form is.0);
       takes = λ is some. (F.claimed s.0).takes is.0 some;
-      decided = λ form is. decided_of I.reading (λ form. makes_error_ends I.reading (MapErrKeptBecomes E.kind E2.kind G.step) (F.meaning form) (F.leaves_ends form)) (turned_said (MapErrKeptBecomes E.kind E2.kind G.step) (λ is. is.0) (λ is. kinds_stay E.kind E2.kind G.step is.1) (F.said s.0)) form is;
+      decided = λ form is. decided_of I.reading
+          (λ form. makes_error_ends I.reading (MapErrKeptBecomes E.kind E2.kind G.step)
+          (F.meaning form) (F.leaves_ends form))
+          (turned_said (MapErrKeptBecomes E.kind E2.kind G.step) (λ is. is.0)
+          (λ is. kinds_stay E.kind E2.kind G.step is.1) (F.said s.0)) form is;
     } };
 
     #[inline]

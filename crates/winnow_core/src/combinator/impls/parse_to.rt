@@ -80,7 +80,10 @@ impl<F: Parser<I, O, E>, I: Stream, O: ParseSlice<O2> + Drop, O2, E: ParserError
       exact = λ form is. parse_to_exact O.reads is.1 ((F.claimed s).exact form is.0);
       fails = λ form is. parse_to_fails O.reads ((F.claimed s).fails form is.0);
       takes = λ is some. made_of_takes (ReadsSome O.reads) tt ((F.claimed s).takes is.0 some);
-      decided = λ form is. decided_of I.reading (λ form s i answer t j ran. settles_ends I.reading (ParseToSettles O.reads) (F.meaning form) (F.leaves_ends form) _ i answer _ j ran) (parse_to_said O.reads (F.said s)) form is;
+      decided = λ form is. decided_of I.reading
+          (λ form s i answer t j ran. settles_ends I.reading (ParseToSettles O.reads)
+          (F.meaning form) (F.leaves_ends form) _ i answer _ j ran)
+          (parse_to_said O.reads (F.said s)) form is;
     } };
 
     #[inline]

@@ -71,7 +71,9 @@ impl<F: Parser<I, O, E>, I: Stream, O: Drop, E: ParserError<I>> Parser<I, I::Sli
       exact = λ form is. take_exact I.reading ((F.claimed s).exact form is);
       fails = λ form is. take_fails I.reading ((F.claimed s).fails form is);
       takes = λ is some. taken_takes I.reading ((F.claimed s).takes is some);
-      decided = λ form is. decided_of I.reading (λ form. take_ends I.reading (F.meaning form) (F.leaves_ends form)) (take_said I.reading (F.said s)) form is;
+      decided = λ form is. decided_of I.reading
+          (λ form. take_ends I.reading (F.meaning form) (F.leaves_ends form))
+          (take_said I.reading (F.said s)) form is;
     } };
 
     #[inline]

@@ -93,7 +93,9 @@ impl<
       fails = λ form is. try_map_fails G.step is.1 (λ m. m.1)
           (fails_as (λ b. b) (λ m. m.0) ((F.claimed s.0).fails form is.0));
       takes = λ is some. made_of_takes (GivesOk G.step) s.1.0 ((F.claimed s.0).takes is.0 some);
-      decided = λ form is. decided_of I.reading (λ form. settles_ends I.reading (TryMapSettles G.step) (F.meaning form) (F.leaves_ends form)) (try_map_said G.step (F.said s.0)) form is;
+      decided = λ form is. decided_of I.reading
+          (λ form. settles_ends I.reading (TryMapSettles G.step) (F.meaning form)
+          (F.leaves_ends form)) (try_map_said G.step (F.said s.0)) form is;
     } };
 
     #[inline]

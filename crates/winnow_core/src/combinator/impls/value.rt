@@ -77,7 +77,10 @@ impl<F: Parser<I, O, E>, I: Stream, O: Drop, O2: Clone, E: ParserError<I>> Parse
           (fails_as (λ b. b) (λ m. m.0) ((F.claimed s.0).fails form is));
       takes = λ is some. made_of_takes (λ v o u. O2.is_clone v u) s.1
           ((F.claimed s.0).takes is some);
-      decided = λ form is. decided_of I.reading (λ form. value_ends I.reading O2.is_clone O2.is_infallible (F.meaning form) (F.leaves_ends form)) (value_said O2.is_clone O2.is_infallible (F.said s.0)) form is;
+      decided = λ form is. decided_of I.reading
+          (λ form. value_ends I.reading O2.is_clone O2.is_infallible (F.meaning form)
+          (F.leaves_ends form)) (value_said O2.is_clone O2.is_infallible (F.said s.0)) form
+          is;
     } };
 
     #[inline]

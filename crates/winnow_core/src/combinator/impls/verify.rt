@@ -89,7 +89,9 @@ impl<F: Parser<I, O, E>, G: FnMut(&O) -> bool, I: Stream, O: Drop, E: ParserErro
           ((F.claimed s.0).fails form is.0);
       takes = λ is some. made_of_takes (Finds (CalledAt G.FnMut)) s.1
           ((F.claimed s.0).takes is.0 some);
-      decided = λ form is. decided_of I.reading (λ form. settles_ends I.reading (VerifySettles (CalledAt G.FnMut)) (F.meaning form) (F.leaves_ends form)) (verify_said (CalledAt G.FnMut) (F.said s.0)) form is;
+      decided = λ form is. decided_of I.reading
+          (λ form. settles_ends I.reading (VerifySettles (CalledAt G.FnMut)) (F.meaning form)
+          (F.leaves_ends form)) (verify_said (CalledAt G.FnMut) (F.said s.0)) form is;
     } };
 
     #[inline]

@@ -70,7 +70,9 @@ impl<F: Parser<I, O, E>, I: Stream, O: Drop, E: ParserError<I>> Parser<I, (), E>
       fails = λ form is. void_fails ((F.claimed s).fails form is);
       takes = λ is some. made_of_takes (λ (_ : Unit {0}) o (u : Unit {0}). ⊤) tt
           ((F.claimed s).takes is some);
-      decided = λ form is. decided_of I.reading (λ form. void_ends I.reading (F.meaning form) (F.leaves_ends form)) (void_said (F.said s)) form is;
+      decided = λ form is. decided_of I.reading
+          (λ form. void_ends I.reading (F.meaning form) (F.leaves_ends form))
+          (void_said (F.said s)) form is;
     } };
 
     #[inline(always)]

@@ -75,7 +75,9 @@ impl<F: Parser<I, O, E>, I: Stream, O, E: ParserError<I>> Parser<I, (O, I::Slice
       exact = λ form is. with_taken_exact I.reading ((F.claimed s).exact form is);
       fails = λ form is. with_taken_fails I.reading ((F.claimed s).fails form is);
       takes = λ is some. and_taken_takes I.reading ((F.claimed s).takes is some);
-      decided = λ form is. decided_of I.reading (λ form. makes_output_ends I.reading _ (F.meaning form) (F.leaves_ends form)) (with_taken_said I.reading (F.said s)) form is;
+      decided = λ form is. decided_of I.reading
+          (λ form. makes_output_ends I.reading _ (F.meaning form) (F.leaves_ends form))
+          (with_taken_said I.reading (F.said s)) form is;
     } };
 
     #[inline]
