@@ -1,5 +1,6 @@
 //! On which tokens of a cut input more is asked for, as each parser says it (`X/Says.antt`), in
 //! lists and by the grammars of the parts; it knows no parser.
+use crate::closures::{LENGTHS, decided, said};
 use crate::standing::{Ambiguous, Found, Standing, both, standing};
 use crate::tree::{Bounds, Leaf, One, Three, Tree, Two};
 use crate::words::first_place;
