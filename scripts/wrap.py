@@ -181,7 +181,8 @@ def main(names):
             with open(name, "w", encoding="utf-8") as it:
                 it.write(text)
         for number, line in enumerate(text.split("\n"), 1):
-            if len(line) > WIDTH and not is_fixed(line):
+            # The formatter leaves the brace that ends a clause on its line.
+            if len(line.removesuffix(" }")) > WIDTH and not is_fixed(line):
                 long += 1
                 print(f"{name}:{number}: {len(line)} columns")
     return 1 if long else 0

@@ -147,7 +147,10 @@ class Law:
             text = re.sub(r"\b%s\b" % name, letter, text)
         # A type is one line.
         last = text.rpartition("\n")[2]
-        return text[:-2] + "\n    }" if len(last) > WIDTH and text.endswith(" }") else text
+        if len(last) > 100 and text.endswith(" }"):
+            front, _, end = text.rpartition(", ")
+            return "%s,\n            %s" % (front, end)
+        return text
 
     def other(self, text):
         text = text.replace("&'i [u8]", "Partial<&'i [u8]>")

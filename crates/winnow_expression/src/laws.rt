@@ -42,6 +42,5 @@ pub fn expression_over_a_complete_stream<
         ⟦<H as FoldBinary<Partial<I>, O, D>>⟧.folds
         → SameMeaning (λ z. ((to_p z.0.0, to_r z.0.1), (to_t z.1.0, to_w z.1.1), z.2))
         ⟦<Expression<I, O, P, R, T, W, F, G, H, E, A> as Parser<I, O, E>>⟧.meaning
-        ⟦<Expression<Partial<I>, O, Q, S, U, X, F, G, H, D, A> as Parser<Partial<I>, O,
-            D>>⟧.meaning }
+        ⟦<Expression<Partial<I>, O, Q, S, U, X, F, G, H, D, A> as Parser<Partial<I>, O, D>>⟧.meaning }
 {}

@@ -56,6 +56,5 @@ pub fn take_escaped_over_a_complete_stream<
         (to_x : X.State → S.State) → SameMeaning to_x X.meaning S.meaning →
         SameMeaning (λ z. (to_n z.0, to_k z.1, to_x z.2))
         ⟦<TakeEscaped<N, K, X, I, O, D, P, E> as Parser<I, I::Slice, E>>⟧.meaning
-        ⟦<TakeEscaped<Q, R, S, Partial<I>, O, D, P, T> as Parser<Partial<I>, I::Slice,
-            T>>⟧.meaning }
+        ⟦<TakeEscaped<Q, R, S, Partial<I>, O, D, P, T> as Parser<Partial<I>, I::Slice, T>>⟧.meaning }
 {}
