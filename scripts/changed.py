@@ -24,7 +24,7 @@ def main(words):
         ["git", "status", "--porcelain", "--untracked-files=all", "crates"],
         cwd=TOP, check=True, capture_output=True, text=True,
     ).stdout
-    own = set(re.findall(r"crates/(\w+)/(?:src|specs|proofs|edits|must-fail)/", said))
+    own = set(re.findall(r"crates/(\w+)/(?:(?:src|specs|proofs|must-fail)/|edits\.txt)", said))
     reached = set(own)
     for name, on in crates().items():
         if reached & set(on):
