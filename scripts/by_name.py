@@ -38,7 +38,7 @@ def rows():
         cells = [cell.strip() for cell in line.strip("|").split("|")]
         if not re.match(r"\| \[?`", line) or len(cells) < 2:
             continue
-        links = re.findall(r"\]\(\.\./([^)]+)\)", line)
+        links = re.findall(r"\]\(\.\./([^)]+/specs/[^)]+)\)", line)
         for name in re.findall(r"`(\w+)`", cells[0]) if links else ():
             found[name] = links
     return found

@@ -175,7 +175,6 @@ def main(words):
         path.write_text(text, encoding="utf-8")
     for crate in sorted({to.crate, *written()}):
         subprocess.run(["rt", "fmt"], cwd=crate, check=False, stdout=subprocess.DEVNULL)
-    subprocess.run([sys.executable, str(TOP / "scripts/api.py")], check=True, capture_output=True)
     shown = {"file": to.file, "impls": to.impls, "spec": to.spec}
     shown |= dict(zip(("test", "edit", "note"), more))
     shown["laws"] = to.spec.with_suffix("") / "Laws.antt"

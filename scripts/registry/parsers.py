@@ -1,6 +1,6 @@
 """The tables of parsers, `docs/PARSERS.md`, by purpose: each with how it is called, what goes in and
 comes out, its struct, its names in nom and its definition; and an index of nom's other names. What
-each does stands in `docs/api/`."""
+each does stands in the file that its name links."""
 import re
 
 from registry.common import CRATES, TOP, below_winnow, by_hand, camel, in_order, items_of
