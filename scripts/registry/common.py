@@ -32,10 +32,35 @@ def has_mark(path):
     return FROM_HERE in read(path)
 
 
+def lines_of_crates():
+    """The lines of `crates.txt` that name crates, by their names, as they stand."""
+    found = {}
+    for line in read(TOP / "crates.txt").splitlines():
+        name, colon, _ = line.partition(":")
+        if colon and not line.startswith("#"):
+            found[name.split()[0]] = line
+    return found
+
+
+def crates():
+    """The crates, as `crates.txt` has them, each with those that it stands on."""
+    return {name: line.partition(":")[2].split() for name, line in lines_of_crates().items()}
+
+
+def below(name, known):
+    """The crates of those that are known which a crate stands on, itself among them."""
+    found, left = set(), [name]
+    while left:
+        name = left.pop()
+        if name in known and name not in found:
+            found.add(name)
+            left += known[name]
+    return found
+
+
 def below_winnow():
     """The crates that the library's own names stand in, lowest first."""
-    found = re.search(r"^winnow:(.*)$", read(TOP / "crates.txt"), re.MULTILINE)
-    return found[1].split()
+    return crates()["winnow"]
 
 
 def camel(name):

@@ -1,33 +1,10 @@
-#!/usr/bin/env python3
-"""Compares the places of faults that `format_json` tells with those of Python's `json`:
-`scripts/json_faults_beside_python`, or with a count behind.
+"""Where a text stops being JSON: the first place at which no text goes on, by recursive descent,
+and why Python's `json` tells another one.
 
-The texts are those of `scripts/json_values_beside_python`, of which only those are kept that Python
-refuses, as many as the count. Of each a program over `format_json`, run unproved by `rt try`, says
-the byte of the fault. Beside it stand two others: the first place at which no text goes on, as the
-reader by recursive descent below finds it, and `pos` of Python's error.
-
-The first is to be the same always. Python's is the same where it says what it expects and where it
-finds more than one text. Elsewhere it tells where a token begins, and the fault is later, in the
-token; or it goes on behind half of a surrogate pair, by which no character is meant. The kinds are
-named at `KINDS`, with why. A text where the places differ otherwise is written,
-and the last lines say how many agree, and how many differ of each kind.
+Python's place is the same where it says what it expects and where it finds more than one text.
+Elsewhere it tells where a token begins, and the fault is later, in the token; or it goes on behind
+half of a surrogate pair, by which no character is meant.
 """
-import importlib.machinery
-import importlib.util
-import json
-import pathlib
-import subprocess
-import sys
-import tempfile
-from collections import Counter
-
-HERE = pathlib.Path(__file__).resolve().parent
-sys.path.insert(0, str(HERE))
-from laid import lay  # noqa: E402
-
-COUNT = 2000
-BETWEEN = b"\xff"
 HEX = "0123456789abcdefABCDEF"
 DIGITS = "0123456789"
 WORDS = {"n": "null", "t": "true", "f": "false"}
@@ -44,32 +21,6 @@ KINDS = [
     ("an item after a last comma", "Illegal trailing comma before end of array"),
     ("an item after a last comma", "Illegal trailing comma before end of object"),
 ]
-
-PROGRAM = """\
-//! Says of each text on standard input where `format_json` finds its fault.
-#![tactic(auto)]
-
-use format_json::{Fault, from_text};
-use std::io::{self, BufWriter, Read, Write};
-
-fn main(rt: HostRuntime) -> io::Result<()> {
-    let mut bytes = Vec::new(rt.alloc());
-    rt.stdin().read_to_end(&mut bytes)?;
-    let mut output = BufWriter::new(rt.alloc(), rt.stdout())?;
-    for row in bytes.split(|b| *b == 255) {
-        if let Ok(text) = std::str::from_utf8(row) {
-            match from_text(rt.alloc(), 1000, text) {
-                Ok(_) => writeln!(output, "row none")?,
-                Err(fault) => match fault.location() {
-                    Some(at) => writeln!(output, "row {}", at.offset)?,
-                    None => writeln!(output, "row memory")?,
-                },
-            }
-        }
-    }
-    output.flush()
-}
-"""
 
 
 class Stop(Exception):
@@ -198,35 +149,6 @@ def place(text, halves=False):
     return None if reader.at == len(text) else reader.at
 
 
-def beside(name):
-    """The module that another script is."""
-    loader = importlib.machinery.SourceFileLoader(name, str(HERE / name))
-    made = importlib.util.module_from_spec(importlib.util.spec_from_loader(name, loader))
-    loader.exec_module(made)
-    return made
-
-
-def refused(count):
-    """Texts that Python refuses, each with its error."""
-    made = beside("json_values_beside_python")
-
-    def constant(name):
-        raise ValueError(name)
-
-    decoder = json.JSONDecoder(parse_constant=constant)
-    found = []
-    for _, text in made.texts(100 * count):
-        if len(found) == count:
-            break
-        try:
-            decoder.decode(text)
-        except json.JSONDecodeError as error:
-            found.append((text, error))
-        except ValueError:
-            pass
-    return found
-
-
 def kind_of(error, text, at):
     """Why Python tells another place, where it is for a reason that is named."""
     if place(text, halves=True) != at:
@@ -243,53 +165,3 @@ def kind_of(error, text, at):
         if name not in ("a word that breaks off", "a number that breaks off"):
             return name
     return None
-
-
-def run(given):
-    """What the program says of the texts."""
-    with tempfile.TemporaryDirectory() as folder:
-        room = pathlib.Path(folder)
-        on = {"json_rows": ["format_json"]}
-        lay(room, on, ["format_json"])
-        main = room / "crates/json_rows/src/main.rt"
-        main.parent.mkdir(parents=True)
-        main.write_text(PROGRAM, encoding="utf-8")
-        ran = subprocess.run(
-            ["rt", "try", "--steps", str(10**10)],
-            cwd=main.parent.parent,
-            input=given,
-            stdout=subprocess.PIPE,
-            check=False,
-        )
-    return ran.stdout.decode(errors="replace")
-
-
-def main():
-    rows = refused(int(sys.argv[1]) if len(sys.argv) > 1 else COUNT)
-    ran = run(BETWEEN.join(text.encode() for text, _ in rows))
-    told = [line.split()[1] for line in ran.splitlines() if line.startswith("row ")]
-    same, kinds, wrong = 0, Counter(), 0
-    if len(told) != len(rows):
-        sys.exit(f"{len(told)} rows of {len(rows)}")
-    for (text, error), answer in zip(rows, told):
-        at = place(text)
-        mine = len(text.encode()[: int(answer)].decode()) if answer.isdigit() else None
-        if mine != at or mine is None:
-            wrong += 1
-            print(f"{text!r}: {answer} here, {at} by descent")
-        elif mine == error.pos:
-            same += 1
-        else:
-            kind = kind_of(error, text, mine)
-            kinds[kind or "no kind that is named"] += 1
-            if kind is None:
-                wrong += 1
-                print(f"{text!r}: {mine} here, {error.pos} in Python ({error.msg})")
-    for kind, count in sorted(kinds.items()):
-        print(f"{count} differ: {kind}")
-    print(f"{len(rows)} texts: {same} places as in Python, {wrong} that are not told by descent")
-    return 1 if wrong else 0
-
-
-if __name__ == "__main__":
-    sys.exit(main())
