@@ -14,14 +14,11 @@ must refuse, whose name begins with the parser's and with no longer parser's, of
 struct, as one calls each adapter of `Parser` and each call of a stream, so that each is seen to
 type-check at a concrete type. It fails where one lacks any of these.
 """
-import pathlib
 import re
 import sys
 
 from edits_read import edits_of, must_fail_of
-
-TOP = pathlib.Path(__file__).resolve().parent.parent
-CRATES = TOP / "crates"
+from registry.common import CRATES, TOP, crates
 
 
 def parsers():
@@ -50,16 +47,6 @@ def tests():
     for path in (TOP / "tests").glob("**/*.rs"):
         names.update(re.findall(r"\bfn (\w+)|\"(\w+)\"", path.read_text(encoding="utf-8")))
     return {name for pair in names for name in pair if name}
-
-
-def below():
-    """Each crate's own name and those of the crates that it stands on."""
-    found = {}
-    for line in (TOP / "crates.txt").read_text(encoding="utf-8").splitlines():
-        name, colon, others = line.partition(":")
-        if colon and not line.startswith("#"):
-            found[name.strip()] = {name.strip(), *others.split()}
-    return found
 
 
 def edits():
@@ -111,7 +98,8 @@ def lacks(crate, name, table, names, edited, on):
 
 
 def main():
-    table, names, edited, on = rows(), tests(), set(edits()), below()
+    table, names, edited = rows(), tests(), set(edits())
+    on = {name: {name, *others} for name, others in crates().items()}
     missing = [
         (crate, name, what)
         for crate, name in parsers()
