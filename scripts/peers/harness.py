@@ -147,7 +147,7 @@ class Room:
 
 def crate_of(comparison):
     """The crate of a comparison's program; those with one program share it."""
-    return f"beside_{comparison.program.split()[0]}"
+    return "beside_" + comparison.program.replace(" ", "_")
 
 
 # ---- comparing
