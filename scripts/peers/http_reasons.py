@@ -21,6 +21,9 @@ ROWS = {
     "no reason and no space before it": (RESPONSE, "HTTP/1.1 200\r\nA: b\r\n\r\n", "yyy"),
     "a reason with bytes of 128 and above": (RESPONSE, "HTTP/1.1 200 \xe9\r\n\r\n", "yyy"),
     "a reason with a byte of 127": (RESPONSE, "HTTP/1.1 200 \x7f\r\n\r\n", "nny"),
+    "a reason with a byte of 0": (RESPONSE, "HTTP/1.1 200 \0\r\n\r\n", "nny"),
+    "a carriage return before a status line": (RESPONSE, "\rHTTP/1.1 200 \r\n\r\n", "nny"),
+    "a status line that ends in two": (RESPONSE, "HTTP/1.1 200 \r\rA: b\r\n\r\n", "nny"),
     "lengths where there is no body": (
         RESPONSE, "HTTP/1.1 304 \r\nContent-Length: a\r\n\r\n", "yyn"),
     "a line that goes on after white space": (
@@ -35,6 +38,9 @@ ROWS = {
         REQUEST, "POST / HTTP/1.1\r\nContent-Length: 42, 42\r\n\r\n", "yyn"),
     "a tab behind Content-Length": (
         REQUEST, "POST / HTTP/1.1\r\nContent-Length: 1\t\r\n\r\n", "yyn"),
+    "Transfer-Encoding with no coding": (
+        REQUEST, "GET / HTTP/1.1\r\nTransfer-Encoding:\r\n\r\n", "nyy"),
+    "a space before the method": (REQUEST, " GET / HTTP/1.1\r\n\r\n", "nyn"),
     "Transfer-Encoding before version 1.1": (
         REQUEST, "POST / HTTP/1.0\r\nTransfer-Encoding: chunked\r\n\r\n", "nyy"),
 }
@@ -52,9 +58,9 @@ def lengths_of(text):
     return [value for name, value in fields_of(text) if name == b"content-length"]
 
 
-def has_coding(text):
-    """Whether there is a Transfer-Encoding field."""
-    return any(name == b"transfer-encoding" for name, _ in fields_of(text))
+def codings_of(text):
+    """The values of the Transfer-Encoding fields."""
+    return [value for name, value in fields_of(text) if name == b"transfer-encoding"]
 
 
 def words(text):
@@ -106,7 +112,8 @@ LLHTTP_REFUSES = {
 EMPTY_LINES = {"empty lines": lambda text: text[:1] in (b"\r", b"\n")}
 OLD_CODING = {
     "Transfer-Encoding before version 1.1": lambda text:
-        has_coding(text) and version_of(text) < b"1.1",
+        bool(codings_of(text)) and version_of(text) < b"1.1",
+    "Transfer-Encoding with no coding": lambda text: b"" in codings_of(text),
 }
 LLHTTP_TAKES = {
     REQUEST: EMPTY_LINES | OLD_CODING | {
@@ -114,7 +121,8 @@ LLHTTP_TAKES = {
         "no version": lambda text: len(words(text)) == 2,
     },
     RESPONSE: EMPTY_LINES | OLD_CODING | {
-        "a reason": lambda text: b"\x7f" in text.split(b"\n")[0],
+        "a reason": lambda text: bool(re.match(rb"[^\n]*[\0-\x08\x0b\x0c\x0e-\x1f\x7f]", text)),
+        "two carriage returns": lambda text: bool(re.match(rb"[^\n]*\r\r", text)),
     },
 }
 HTTPARSE_REFUSES = {
@@ -131,6 +139,7 @@ HTTPARSE_TAKES = {
     REQUEST: ENDS | {
         "the target": lambda text: any(byte >= 128 for byte in words(text)[1]),
         "the method": lambda text: bool(re.search(rb"[,:;/]", words(text)[0])),
+        "a space before the method": lambda text: text.lstrip(b"\r\n")[:1] == b" ",
     },
     RESPONSE: ENDS,
 }
