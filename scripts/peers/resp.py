@@ -1,9 +1,9 @@
 """RESP2 and RESP3 beside a server of Redis, and a decoder in Python written from the protocol.
 
-A server on a free port of this machine's own is sent commands that answer replies of each kind, and
-as many random ones as the count says: in RESP2, and in RESP3, which `HELLO 3` asks for, in which the
-server also sends messages and invalidations of its own. Of each reply as it was sent, with another
-after it, the program says what `read_reply` reads and what it leaves; whether `write_reply` writes
+A server on a free port of this machine's own is sent commands that answer replies of each kind,
+and as many random ones as the count says: in RESP2, and in RESP3, which `HELLO 3` asks for, in
+which the server also sends messages and invalidations of its own. Of each reply as it was sent,
+with another after it, the program says what `read_reply` reads and what it leaves; whether `write_reply` writes
 the bytes that were sent; and of how many of its beginnings, cut at each place of short replies and
 at some of long ones, it answers anything but that more is wanted, which must be none. Of RESP2 it
 also says after how many bytes `Extent` finds the end, given the same pieces.
