@@ -15,6 +15,7 @@ sys.path[:0] = [str(TOP / "scripts"), str(TOP / "bench")]
 from header import SOURCE, items, kind_of  # noqa: E402
 from laid import copy_crate  # noqa: E402
 from llvm import compiled  # noqa: E402
+from registry import common  # noqa: E402
 
 CPU = "x86-64-v2"
 PROGRAM = """//! Calls each export.
@@ -35,18 +36,9 @@ LLVM = {"u8": "i8", "u32": "i32", "u64": "i64", "i64": "i64", "usize": "i64"}
 
 def below(crate):
     """The crates that a crate stands on and itself, each with what it names."""
-    lines = {}
-    for line in (TOP / "crates.txt").read_text(encoding="utf-8").splitlines():
-        name, colon, others = line.partition(":")
-        if colon and not line.startswith("#"):
-            lines[name.split()[0]] = others.split()
-    found, left = set(), [crate]
-    while left:
-        name = left.pop()
-        if name in lines and name not in found:
-            found.add(name)
-            left += lines[name]
-    return {name: on for name, on in lines.items() if name in found}
+    known = common.crates()
+    found = common.below(crate, known)
+    return {name: on for name, on in known.items() if name in found}
 
 
 def taken(text):

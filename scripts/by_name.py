@@ -9,17 +9,16 @@ A public parser is a struct in a file of its own under `src/*/impls/` of a libra
 `impls.rt` beside that folder re-exports, and its name is that of the file. It has a row in
 `docs/PARSERS.md`, which links its definition, a file of `specs/`; a test, a function of `tests/`
 whose name begins with the parser's, or a row that is labelled with it; and an edit that the prover
-must refuse, `must-fail/NAME_*.edit` or `edits/NAME_*.edit`, of its crate or of one that it stands
-on, where no longer parser's name begins the edit's. And a test calls its function or runs its
+must refuse, whose name begins with the parser's and with no longer parser's, of `edits.txt` or
+`must-fail/` of its crate or of one that it stands on. And a test calls its function or runs its
 struct, as one calls each adapter of `Parser` and each call of a stream, so that each is seen to
 type-check at a concrete type. It fails where one lacks any of these.
 """
-import pathlib
 import re
 import sys
 
-TOP = pathlib.Path(__file__).resolve().parent.parent
-CRATES = TOP / "crates"
+from edits_read import edits_of, must_fail_of
+from registry.common import CRATES, TOP, crates
 
 
 def parsers():
@@ -36,7 +35,7 @@ def rows():
         cells = [cell.strip() for cell in line.strip("|").split("|")]
         if not re.match(r"\| \[?`", line) or len(cells) < 2:
             continue
-        links = re.findall(r"\]\(\.\./([^)]+)\)", line)
+        links = re.findall(r"\]\(\.\./([^)]+/specs/[^)]+)\)", line)
         for name in re.findall(r"`(\w+)`", cells[0]) if links else ():
             found[name] = links
     return found
@@ -50,23 +49,14 @@ def tests():
     return {name for pair in names for name in pair if name}
 
 
-def below():
-    """Each crate's own name and those of the crates that it stands on."""
-    found = {}
-    for line in (TOP / "crates.txt").read_text(encoding="utf-8").splitlines():
-        name, colon, others = line.partition(":")
-        if colon and not line.startswith("#"):
-            found[name.strip()] = {name.strip(), *others.split()}
-    return found
-
-
 def edits():
     """The edits, each by its crate and the longest of the parsers' names that its own begins with."""
     known = {name for _, name in parsers()}
-    for path in [*CRATES.glob("*/must-fail/*.edit"), *CRATES.glob("*/edits/*.edit")]:
-        names = [name for name in known if path.stem.startswith(name + "_")]
-        if names:
-            yield path.relative_to(CRATES).parts[0], max(names, key=len)
+    for crate in [it.name for it in CRATES.iterdir()]:
+        for edit in [*edits_of(crate), *must_fail_of(crate)]:
+            names = [name for name in known if edit.name.startswith(name + "_")]
+            if names:
+                yield crate, max(names, key=len)
 
 
 def calls():
@@ -108,7 +98,8 @@ def lacks(crate, name, table, names, edited, on):
 
 
 def main():
-    table, names, edited, on = rows(), tests(), set(edits()), below()
+    table, names, edited = rows(), tests(), set(edits())
+    on = {name: {name, *others} for name, others in crates().items()}
     missing = [
         (crate, name, what)
         for crate, name in parsers()

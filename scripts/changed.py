@@ -1,22 +1,11 @@
 #!/usr/bin/env python3
 """Prints the crates that changed against the last commit and those that stand on them, lowest
 first; with `--own` only those that changed."""
-import pathlib
 import re
 import subprocess
 import sys
 
-TOP = pathlib.Path(__file__).resolve().parent.parent
-
-
-def crates():
-    """The crates, lowest first as they are listed, each with those that it stands on."""
-    found = {}
-    for line in (TOP / "crates.txt").read_text(encoding="utf-8").splitlines():
-        name, colon, others = line.partition(":")
-        if colon and not line.startswith("#"):
-            found[name.split()[0]] = others.split()
-    return found
+from registry.common import TOP, crates
 
 
 def main(words):
@@ -24,7 +13,7 @@ def main(words):
         ["git", "status", "--porcelain", "--untracked-files=all", "crates"],
         cwd=TOP, check=True, capture_output=True, text=True,
     ).stdout
-    own = set(re.findall(r"crates/(\w+)/(?:src|specs|proofs|edits|must-fail)/", said))
+    own = set(re.findall(r"crates/(\w+)/(?:(?:src|specs|proofs|must-fail)/|edits\.txt)", said))
     reached = set(own)
     for name, on in crates().items():
         if reached & set(on):

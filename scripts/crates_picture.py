@@ -11,7 +11,7 @@ order in a row is one with few crossings. It prints the name of the picture wher
 import html
 import random
 
-from registry.common import TOP, read, write
+from registry.common import TOP, crates, write
 
 ROW, HIGH, LINE, GAP, LETTER, EDGE = 74, 26, 16, 14, 7.1, 12
 BEGINNINGS = 100
@@ -49,10 +49,8 @@ rect { stroke: #57606a; }
 def stands_on():
     """The crates that each crate stands on."""
     found = {}
-    for line in read(TOP / "crates.txt").splitlines():
-        name, colon, others = line.partition(":")
-        if colon and not line.startswith("#"):
-            found[name.split()[0]] = [it for it in others.split() if it in found]
+    for name, others in crates().items():
+        found[name] = [it for it in others if it in found]
     return found
 
 

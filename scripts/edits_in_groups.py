@@ -81,9 +81,9 @@ def function_at(path, text, at):
 class Edit:
     """An edit of a crate: the pairs of lines that it changes."""
 
-    def __init__(self, file):
-        self.name, self.pairs, path, old = file.stem, [], "", None
-        for line in file.read_text(encoding="utf-8").split("\n"):
+    def __init__(self, written):
+        self.name, self.pairs, path, old = written.name, [], "", None
+        for line in written.text.split("\n"):
             if line.startswith("file: "):
                 path = line[len("file: ") :].strip()
             elif line.startswith("old: "):

@@ -1,21 +1,23 @@
 """Lays the library into another folder, for what is run over it."""
 import shutil
 
-from registry.common import CRATES, TOP, below_winnow, read
+from registry.common import CRATES, TOP, crates, lines_of_crates
 
 
 def library(*above):
-    """The lines of `crates.txt` that name the library's crates, lowest first, and these above."""
-    lines = {}
-    for line in read(TOP / "crates.txt").splitlines():
-        name, colon, _ = line.partition(":")
-        if colon and not line.startswith("#"):
-            lines[name.strip()] = line
-    found = dict.fromkeys([*below_winnow(), "winnow"])
-    for name in above:
-        found |= dict.fromkeys([it for it in lines[name].partition(":")[2].split() if it in lines])
-        found[name] = None
-    return {name: lines[name] for name in found}
+    """The lines of `crates.txt` that name the library's crates, lowest first, and these above, with
+    all that they stand on."""
+    found, known, lines = {}, crates(), lines_of_crates()
+
+    def add(name):
+        for it in known[name]:
+            if it in known and it not in found:
+                add(it)
+        found[name] = lines[name]
+
+    for name in (*known["winnow"], "winnow", *above):
+        add(name)
+    return found
 
 
 def copy_crate(name, folder):

@@ -34,7 +34,7 @@ NEXT = """Now change, in this order:
   {laws}: that its runs leave an end, stay on longer inputs, mean the same over streams that are
     read alike, and keep what is claimed: one input decides them, and they read by its grammar
   {test}: what it answers, by values from outside
-  {edit}: a line of the code, and a wrong one in its place
+  {edit}, `{name}_..`: a line of the code, and a wrong one in its place
   {note}: a line for the release
 `./x quick` says what is missing."""
 # The same in other words, so that a line of the model stays the only one of its kind in its file: an
@@ -175,7 +175,6 @@ def main(words):
         path.write_text(text, encoding="utf-8")
     for crate in sorted({to.crate, *written()}):
         subprocess.run(["rt", "fmt"], cwd=crate, check=False, stdout=subprocess.DEVNULL)
-    subprocess.run([sys.executable, str(TOP / "scripts/api.py")], check=True, capture_output=True)
     shown = {"file": to.file, "impls": to.impls, "spec": to.spec}
     shown |= dict(zip(("test", "edit", "note"), more))
     shown["laws"] = to.spec.with_suffix("") / "Laws.antt"

@@ -1,6 +1,7 @@
 """What `scripts/new.py` lays out beside a parser: its test, an edit and a note."""
 import re
 
+from edits_read import Written, edits_of, text_of
 from registry.common import TOP, camel, read
 
 # Where the tests of a crate's parsers stand, a file each: the folder, and the file that names them.
@@ -116,12 +117,13 @@ def beside(kind, place):
     test, text, root, named = test_of(kind, place)
     what, old, new = EDIT[kind]
     file = place.impls.relative_to(place.crate)
-    edit = f"file: {file}\nold: {old}\nnew: {new}\n".format(name=place.name)
+    lines = f"file: {file}\nold: {old}\nnew: {new}\n".format(name=place.name)
+    edit = Written(place.crate.name, f"{place.name}_{what}", lines)
     note = TOP / "changes" / f"{place.name}.md"
     notes = read(note) if note.is_file() else ""
     return {
         test: text,
-        place.crate / "edits" / f"{place.name}_{what}.edit": edit,
+        place.crate / "edits.txt": text_of([*edits_of(place.crate.name), edit]),
         note: f"{notes}- `{place.name}`: {summary(place)}\n",
         root: named,
     }

@@ -9,6 +9,7 @@ import re
 import subprocess
 import sys
 
+from edits_read import Written, edits_of, text_of
 from formats import FORMATS
 from registry.common import CRATES, HEAD, TOP, read
 from vendor_beside import taken_names
@@ -22,9 +23,8 @@ COPIES = {
     "specs/SettingsFile/Read.antt": "specs/SettingsRead.antt",
     "proofs/settings_file/settings/Answers.antt": "proofs/reader/settings/Answers.antt",
     "proofs/settings_file/parse_settings/Answers.antt": "proofs/reader/parse_file/Answers.antt",
-    "edits/settings_file_ends_keys_at_a_colon.edit": "edits/parse_file_ends_keys_at_a_colon.edit",
-    "edits/settings_file_wants_a_value.edit": "edits/parse_file_wants_a_value.edit",
 }
+EDITS = ("ends_keys_at_a_colon", "wants_a_value")
 TEST = TOP / "tests/example_first_proofs/settings_file.rs"
 # How names of the model are called in the new crate, whose name is `FORMAT`.
 RENAMED = {
@@ -88,7 +88,7 @@ NEXT = """{crate} is laid out. Now change, in this order (docs/FIRST_PROOF.md is
   {at}/specs/SettingsRead.antt: the grammar of each part, and a lemma each
   tests/{crate}/lib.rs: what it returns, by values from outside
   {at}/proofs: the two answers
-  {at}/edits: a wrong line for each meaning
+  {at}/edits.txt: a wrong line for each meaning
   {at}/README.md, and in docs/GUARANTEES.md the row of {crate}
   scripts/registry/readers.py, docs/ARCHITECTURE.md, crates.txt, changes/{crate}.md: what it reads
   CONTRIBUTING.md: what its proof costs
@@ -118,9 +118,11 @@ def renamed(text, crate):
 def files(crate):
     """The files of the crate and of its tests, each with its text."""
     for old, new in COPIES.items():
-        text = renamed(read(MODEL / old), crate)
-        is_code = new.endswith((".rt", ".antt"))
-        yield CRATES / crate / new, wrapped(text, new.endswith(".antt")) if is_code else text
+        text = wrapped(renamed(read(MODEL / old), crate), new.endswith(".antt"))
+        yield CRATES / crate / new, text
+    of = {it.name: renamed(it.text, crate) for it in edits_of("examples")}
+    edits = [Written(crate, f"parse_file_{it}", of[f"settings_file_{it}"]) for it in EDITS]
+    yield CRATES / crate / "edits.txt", text_of(edits)
     yield CRATES / crate / "src/lib.rt", ROOT
     yield CRATES / crate / "specs/Lib.antt", f"-- {HEAD}\npub mod Settings\npub mod SettingsRead\n"
     yield CRATES / crate / "README.md", PAGE.format(crate=crate, what=WHAT)

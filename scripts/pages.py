@@ -13,21 +13,13 @@ import re
 import sys
 
 sys.path.insert(0, str(pathlib.Path(__file__).resolve().parent))
-from registry.common import CRATES, TOP, read  # noqa: E402
+from registry.common import CRATES, TOP, crates, read  # noqa: E402
 
 MOST_LINES = 20
 ARCHITECTURE = TOP / "docs/ARCHITECTURE.md"
 # What the page of `winnow` says in the place of a long list.
 ALL = "Stands on each crate of the library."
 LINK = re.compile(r"\]\(([^()\s]+)\)")
-
-
-def crates():
-    """The crates, each with those that it stands on."""
-    for line in read(TOP / "crates.txt").splitlines():
-        name, colon, others = line.partition(":")
-        if colon and not line.startswith("#"):
-            yield name.split()[0], others.split()
 
 
 def prose(path):
@@ -91,7 +83,7 @@ def faults_of_page(name, others):
 def main():
     documents = [*sorted(TOP.glob("*.md")), *sorted((TOP / "docs").glob("*.md"))]
     found = []
-    for name, others in crates():
+    for name, others in crates().items():
         page = CRATES / name / "README.md"
         found += [(page, it) for it in faults_of_page(name, others)]
         documents += [page] if page.is_file() else []

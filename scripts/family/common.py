@@ -1,10 +1,9 @@
 """What the writers of the families share."""
-import pathlib
 import textwrap
 
 import wrap
+from registry.common import TOP, camel  # noqa: F401 (the families take `camel` from here)
 
-TOP = pathlib.Path(__file__).resolve().parent.parent.parent
 HEAD = "Written by scripts/families.py: do not edit."
 MOST = 6
 NUMBER = ["no", "one", "two", "three", "four", "five", "six"]
@@ -60,10 +59,6 @@ def write(path, text, **parts):
     path.parent.mkdir(parents=True, exist_ok=True)
     text = wrap.wrapped(text.format(head=HEAD, **parts), path.suffix == ".antt")
     path.write_text(text, encoding="utf-8")
-
-
-def camel(name):
-    return "".join(part.capitalize() for part in name.split("_"))
 
 
 def block(parameters, trait, kind, where, members):

@@ -1,16 +1,16 @@
-"""The API reference, `docs/api/`: a page a module, or more where it is long, and an index. Each
-item has its signature, its documentation, and the names of its clauses."""
+"""The index of all public items, `docs/API.md`, and the API reference, `docs/api/`, which git does
+not keep: a page a module, or more where it is long, and an index. There each item has its
+signature, its documentation, and the names of its clauses."""
 import re
 import textwrap
 
-from registry.common import CRATES, TOP, below_winnow, in_order, write
+from registry.common import CRATES, HEAD, TOP, below_winnow, in_order, write
 from registry.facade import FACADE
 from registry.items import find, module, sources
 from registry.pages import NOTES, PAGES
 from registry.parsers import header, sentence
 
-FOLDER = TOP / "docs/api"
-HEAD = "Written by scripts/api.py: do not edit."
+INDEX, FOLDER = TOP / "docs/API.md", TOP / "docs/api"
 WIDTH = 100
 # What stands in the crate `winnow` as a whole module of another crate.
 MODULES = {"token": ("winnow_token", ["token"]), "binary::bits": ("winnow_bits", ["bits"])}
@@ -121,19 +121,18 @@ class Reference:
     def title(self, item):
         return f"{item.owner}::{item.name}" if item.owner else item.name
 
-    def link(self, item, label, near):
-        """A link to an item from a page, or from another document where there is none."""
+    def link(self, item, label, near=""):
+        """A link to an item from a page, or from the index of the pages."""
         anchor = self.anchor.get(id(item), item.owner.lower())
         stem = self.place[id(item)]
-        page = "" if stem == near else f"{'' if near is not None else 'api/'}{stem}.md"
-        return f"[{label}]({page}#{anchor})"
+        return f"[{label}]({'' if stem == near else f'{stem}.md'}#{anchor})"
 
     def of_parser(self, crate, name):
-        """The link of a parser's name from `docs/`."""
+        """The link of a parser's name from `docs/`, to its file."""
         whole = [it for it, _ in self.all.values() if it.crate == crate]
         for item in [*whole, *(inner for it in whole for inner in it.inside)]:
             if item.name == name and item.kind in ("fn", "method"):
-                return self.link(item, f"`{name}`", None)
+                return file_link(item, f"`{name}`")
         return f"`{name}`"
 
     def meant(self, item, target):
@@ -261,7 +260,7 @@ class Reference:
 
     def page(self, stem, title, of):
         whole = f"winnow{'::' * bool(of)}{of}"
-        text = f"<!-- {HEAD} -->\n\n# {title}\n\nOf `{whole}`. [All items](README.md).\n\n"
+        text = f"# {title}\n\nOf `{whole}`. [All items](README.md).\n\n"
         text += wrapped(NOTES[stem]) + "\n" if stem in NOTES else ""
         for item in self.pages[stem]:
             text += self.section(item, stem, 2)
@@ -272,42 +271,60 @@ class Reference:
             text += "".join(self.section(it, stem, 3) for it in self.below(item, stem))
         return text.rstrip() + "\n"
 
-    def row(self, item):
-        """The line of an item in the index, with links to what it has."""
+    def rows(self, item, link):
+        """The lines of an item in the index, and of what it has."""
         inner = [it for it in item.inside if it.kind not in ("part", "type")]
-        inner = [self.link(it, f"`{it.name}`", "README") for it in inner]
-        about = sentence_of(item.doc).replace("|", "\\|")
-        has = f" Has {', '.join(inner)}." if inner else ""
-        return f"| {self.link(item, f'`{item.name}`', 'README')} | {item.kind} | {about}{has} |\n"
+        for it in [item, *inner]:
+            head = "law" if self.is_law(it) else f"`{line_of(it.signature)}`"
+            cells = [link(it, f"`{self.title(it)}`"), head, sentence_of(it.doc)]
+            yield "| " + " | ".join(cell.replace("|", "\\|") for cell in cells) + " |\n"
 
-    def index(self, of_structs):
-        """A line for each item, by the modules of the crate `winnow`: of the modules `impls`, or
-        of the others."""
-        text = f"<!-- {HEAD} -->\n\n# {'Structs' if of_structs else 'API reference'}\n\n"
-        text += ABOUT_STRUCTS if of_structs else INTRODUCTION
-        done = set()
+    def index(self, head, link):
+        """A line for each item, by the modules of the crate `winnow`."""
+        text, done = head, set()
         for name in sorted(self.modules, key=lambda it: (it == "prelude", "impls" in it, it)):
             items = [it for it in self.modules[name] if id(it) not in done]
             done.update(id(it) for it in items)
-            if name.endswith("impls") == of_structs:
-                again = [it for it in self.modules[name] if it not in items]
-                text += f"\n## winnow{'::' * bool(name)}{name}\n\n{about_of(name)}\n\n"
-                links = ", ".join(self.link(it, f"`{it.name}`", "README") for it in again)
-                text += f"Also {links}.\n\n" if again else ""
-                text += "| Item | Kind | Is |\n|---|---|---|\n" if items else ""
-                text += "".join(self.row(it) for it in items)
+            again = [it for it in self.modules[name] if it not in items]
+            text += f"\n## winnow{'::' * bool(name)}{name}\n\n{about_of(name)}\n\n"
+            links = ", ".join(link(it, f"`{it.name}`") for it in again)
+            text += f"Also {links}.\n\n" if again else ""
+            text += "| Item | Signature | Is |\n|---|---|---|\n" if items else ""
+            text += "".join(line for it in items for line in self.rows(it, link))
         return re.sub(r"\n\n\n+", "\n\n", text).rstrip() + "\n"
 
 
-INTRODUCTION = """Each public item of the crate `winnow`, by its modules: its signature, its
-documentation with examples, and the names of the clauses of its contract, which stands in the file
-that is linked. A law has its contract with it. The definitions that clauses name stand in `specs/`
-of the same crate. Tables by purpose stand in [PARSERS.md](../PARSERS.md), and the items of the
-modules `impls` in [another index](structs.md).
+ABOUT_INDEX = f"""<!-- {HEAD} -->
+
+# Index
+
+Each public item of the crate `winnow`, by its modules. The file that is linked has its documentation
+with examples, and its contract; the definitions that clauses name stand in `specs/` of the same
+crate. Tables by purpose stand in [PARSERS.md](PARSERS.md). The modules `impls`, which stand last,
+have the structs of parsers, each of which stands for its parser wherever one is passed.
+
+`python3 scripts/api.py` writes all of this into pages, `docs/api/`: documentation, signatures, the
+names of clauses, and what implements each trait.
 """
-ABOUT_STRUCTS = """The items of the modules `impls`; [all others](README.md) have another index. The
-struct of a parser stands for it wherever a parser is passed.
+ABOUT_PAGES = """# API reference
+
+Each public item of the crate `winnow`, by its modules: its signature, its documentation with
+examples, and the names of the clauses of its contract, which stands in the file that is linked. A
+law has its contract with it. The definitions that clauses name stand in `specs/` of the same crate.
+Tables by purpose stand in [PARSERS.md](../PARSERS.md). The modules `impls` stand last.
 """
+
+
+def file_link(item, label):
+    """A link to the file of an item from `docs/`."""
+    return f"[{label}](../{item.path.relative_to(TOP)})"
+
+
+def line_of(signature):
+    """A signature in one line, without what stands in braces."""
+    line = " ".join(signature.partition("{")[0].split()).removeprefix("pub ").rstrip(", ")
+    line = line.replace("/* private fields */", "..")
+    return re.sub(r"(?<=[<(]) |,? (?=[)>])|,(?= *$)", "", line)
 
 
 def sentence_of(doc):
@@ -331,15 +348,18 @@ def about_of(name):
     return header(path)
 
 
+def write_index(reference):
+    write(INDEX, reference.index(ABOUT_INDEX, file_link))
+
+
 def write_api(reference):
     """Writes the pages, and takes away those that are none any more."""
     FOLDER.mkdir(exist_ok=True)
     for stem, (title, of) in reference.list.items():
         write(FOLDER / f"{stem}.md", reference.page(stem, title, of))
-    write(FOLDER / "README.md", reference.index(False))
-    write(FOLDER / "structs.md", reference.index(True))
+    write(FOLDER / "README.md", reference.index(ABOUT_PAGES, reference.link))
     for path in FOLDER.glob("*.md"):
-        if path.stem not in [*reference.pages, "README", "structs"]:
+        if path.stem not in [*reference.pages, "README"]:
             path.unlink()
             print(path.relative_to(TOP))
     for line in dict.fromkeys(reference.said):

@@ -22,6 +22,12 @@ def write(path, text):
         print(path.relative_to(TOP))
 
 
+def contents(folder):
+    """The files of a folder, each with what it has."""
+    kept = (it for it in folder.rglob("*") if it.is_file() and "__pycache__" not in it.parts)
+    return {str(it.relative_to(folder)): it.read_bytes() for it in kept}
+
+
 def by_hand(path, comment, end=""):
     """The part of a file above its mark, with the mark."""
     mark = f"{comment} {FROM_HERE}{end}\n"
@@ -32,10 +38,35 @@ def has_mark(path):
     return FROM_HERE in read(path)
 
 
+def lines_of_crates():
+    """The lines of `crates.txt` that name crates, by their names, as they stand."""
+    found = {}
+    for line in read(TOP / "crates.txt").splitlines():
+        name, colon, _ = line.partition(":")
+        if colon and not line.startswith("#"):
+            found[name.split()[0]] = line
+    return found
+
+
+def crates():
+    """The crates, as `crates.txt` has them, each with those that it stands on."""
+    return {name: line.partition(":")[2].split() for name, line in lines_of_crates().items()}
+
+
+def below(name, known):
+    """The crates of those that are known which a crate stands on, itself among them."""
+    found, left = set(), [name]
+    while left:
+        name = left.pop()
+        if name in known and name not in found:
+            found.add(name)
+            left += known[name]
+    return found
+
+
 def below_winnow():
     """The crates that the library's own names stand in, lowest first."""
-    found = re.search(r"^winnow:(.*)$", read(TOP / "crates.txt"), re.MULTILINE)
-    return found[1].split()
+    return crates()["winnow"]
 
 
 def camel(name):
@@ -54,6 +85,16 @@ def items_of(path, kinds="fn|struct|trait|enum|const|type"):
     for one, several in re.findall(r"^pub use [\w:]+::(?:(\w+)|\{([^}]*)\});", text, re.MULTILINE):
         names += [one] if one else re.findall(r"\w+", several)
     return sorted(set(names), key=in_order)
+
+
+def closing(text, at, opened="<", closed=">"):
+    """Where the bracket that stands first at `at` or after it is closed."""
+    depth = 0
+    for place in range(at, len(text)):
+        depth += (text[place] == opened) - (text[place] == closed and text[place - 1] != "-")
+        if not depth:
+            return place + 1
+    raise SystemExit(f"{text[at:at + 40]} is not closed")
 
 
 def split(text):

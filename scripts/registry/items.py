@@ -4,7 +4,7 @@ import functools
 import re
 from dataclasses import dataclass, field
 
-from registry.common import CRATES, read
+from registry.common import CRATES, closing, read
 
 # What is no structure: comments, texts, characters.
 QUIET = re.compile(
@@ -214,20 +214,10 @@ def module(crate, path):
     return items, blocks, uses
 
 
-def angle(text, at):
-    """Where the `<` at `at` is closed."""
-    depth = 0
-    for place in range(at, len(text)):
-        depth += (text[place] == "<") - (text[place] == ">" and text[place - 1] != "-")
-        if not depth:
-            return place + 1
-    raise SystemExit(f"{text[at:at + 60]} is not closed")
-
-
 def block(crate, path, text, plain, at, head, doc):
     """The `impl` block at `at`."""
     whole = " ".join(text[at:head].split())
-    start = angle(whole, 4) if whole[4] == "<" else 4
+    start = closing(whole, 4) if whole[4] == "<" else 4
     rest = whole[start:].strip().partition(" where ")[0]
     cut = re.search(r" for (?!<)", rest)
     trait, of = (rest[: cut.start()], rest[cut.end() :]) if cut else ("", rest)

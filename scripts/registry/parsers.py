@@ -1,10 +1,10 @@
 """The tables of parsers, `docs/PARSERS.md`, by purpose: each with how it is called, what goes in and
 comes out, its struct, its names in nom and its definition; and an index of nom's other names. What
-each does stands in `docs/api/`."""
+each does stands in the file that its name links."""
 import re
 
-from registry.common import CRATES, TOP, below_winnow, by_hand, camel, in_order, items_of
-from registry.common import read, split, write
+from registry.common import CRATES, TOP, below_winnow, by_hand, camel, closing, in_order
+from registry.common import items_of, read, split, write
 from registry.facade import title
 from registry.purposes import PURPOSES, SAME, in_nom, others
 
@@ -24,16 +24,6 @@ def sentence(comment):
     return found[0] if found else text
 
 
-def closing(text, at, opened, closed):
-    """Where the bracket that stands first after `at` is closed."""
-    depth = 0
-    for place in range(at, len(text)):
-        depth += (text[place] == opened) - (text[place] == closed and text[place - 1] != "-")
-        if not depth:
-            return place + 1
-    raise SystemExit(f"{text[at:at + 40]} is not closed")
-
-
 def header(path):
     """What the head of a module says of it."""
     return " ".join(re.findall(r"^//! (.*)$", read(path).partition("\n//!\n")[0], re.MULTILINE))
@@ -41,7 +31,7 @@ def header(path):
 
 def call(text, at, name):
     """How the function whose name ends at `at` is called: its parameters, with their types."""
-    start = closing(text, at, "<", ">") if text[at] == "<" else at
+    start = closing(text, at) if text[at] == "<" else at
     whole = " ".join(text[start + 1 : closing(text, start, "(", ")") - 1].split()).rstrip(", ")
     inner = re.sub(r"^(?:&mut |mut )?self(?:, )?", "", whole)
     return f"{'.' if inner != whole else ''}{name}({inner})"
@@ -62,7 +52,7 @@ def block(path):
     input, the output and the error, and the struct."""
     text = read(path)
     for found in re.finditer(r"^impl<", text, re.MULTILINE):
-        end = closing(text, found.end() - 1, "<", ">")
+        end = closing(text, found.end() - 1)
         rest = " ".join(text[end : text.index("{\n", end)].split())
         if not re.match(r"Parser<|Iterator for ", rest):
             continue
@@ -72,7 +62,7 @@ def block(path):
         struct = re.search(r"\bfor (\w+)", rest)[1]
         if rest.startswith("Iterator"):
             return bounds, ["I", "an iterator over `O`", "E"], struct
-        types = split(rest[len("Parser<") : closing(rest, 6, "<", ">") - 1])
+        types = split(rest[len("Parser<") : closing(rest, 6) - 1])
         return bounds, [types[0], f"`{types[1]}`", types[2]], struct
     raise SystemExit(f"{path}: no block makes it a parser")
 

@@ -1,0 +1,128 @@
+"""CSV beside Python's `csv`, in dialects of four delimiters, two quotes and three line ends.
+
+Python's strict reader takes carriage returns and line feeds for ends of lines each, and reads what
+stands behind a quote in the middle of a field. So it is given the lines of a text as they are cut
+here, and a text where no such one stands outside of quotes.
+"""
+import csv
+import io
+
+from peers.harness import Comparison, each, often_changed, some
+
+DELIMITERS, QUOTES = ",;\t|", "\"'"
+# Carriage returns with line feeds, line feeds, and either.
+ENDS = (("\r\n",), ("\n",), ("\r\n", "\n"))
+
+
+def field(rng, delimiter, quote, end):
+    """The text of a field."""
+    sizes = (0, 1, 1, 2, 5)
+    if rng.random() < 0.5:
+        return some(rng, [it for it in "ab \t\0\x7f\xe9" if it != delimiter], sizes)
+    parts = ["a", " ", delimiter, quote * 2, "\r", "\n", end, "\xe9"]
+    return quote + some(rng, parts, sizes) + quote
+
+
+def document(rng, delimiter, quote, ends):
+    """A document, the last of whose lines may have no end."""
+    text, count = "", rng.choice((0, 1, 1, 2, 3, 5))
+    for line in range(count):
+        end = rng.choice(ends)
+        size = rng.choice((1, 1, 2, 3))
+        text += delimiter.join(field(rng, delimiter, quote, end) for _ in range(size))
+        text += end if line + 1 < count or rng.random() < 0.5 else ""
+    return text
+
+
+def texts(rng, count, kinds=2, delimiters=",", quotes='"'):
+    """Which line ends, the delimiter, the quote, and a text."""
+    for _ in range(count):
+        which, delimiter, quote = rng.randrange(kinds), rng.choice(delimiters), rng.choice(quotes)
+        parts = [*"\r\n \t\0\x7f\xe9ab", delimiter, quote, "\r\n", quote * 2, quote + delimiter]
+        parts += [quote + delimiter + quote, quote + "\r\n", delimiter * 2, "\n\n"]
+        parts += [f"{quote}a{quote}"]
+        text = document(rng, delimiter, quote, ENDS[which])
+        yield which, delimiter, quote, often_changed(rng, text, parts)
+
+
+def in_dialects(rng, count):
+    return texts(rng, count, 3, DELIMITERS, QUOTES)
+
+
+def cut(text, delimiter, quote, ends):
+    """The lines of a text, where quotes hide line ends; or none, where outside of quotes stands a
+    quote in the middle of a field, or what ends a line for Python alone."""
+    lines, start, at, within = [], 0, 0, False
+    while at < len(text):
+        end = next((it for it in ends if text.startswith(it, at)), None)
+        if text[at] == quote:
+            begins = at == start or text[at - 1] == delimiter
+            if not within and not begins:
+                return None
+            if within and text[at + 1 : at + 2] == quote:
+                at += 1
+            else:
+                within = not within
+        elif not within and end:
+            lines.append(text[start:at])
+            start = at = at + len(end)
+            continue
+        elif not within and text[at] in "\r\n":
+            return None
+        at += 1
+    return lines + ([text[start:]] if start < len(text) else [])
+
+
+def records(row):
+    """The records that Python reads, or none."""
+    which, delimiter, quote, text = row
+    lines, found = cut(text, delimiter, quote, ENDS[which]), []
+    form = {"delimiter": delimiter, "quotechar": quote, "strict": True}
+    try:
+        for line in lines if lines is not None else ():
+            (read,) = csv.reader([line], **form) if line else ([""],)
+            found.append(read)
+    except (csv.Error, ValueError):
+        return None
+    return None if lines is None else found
+
+
+def told(row):
+    """What Python says of a text."""
+    found = records(row)
+    if found is None:
+        return "none"
+    shown = ("".join(str(list(it.encode("latin-1"))) for it in record) for record in found)
+    return "some" + "".join(f" [{fields}]" for fields in shown)
+
+
+def told_and_written(row):
+    """The same, and what Python writes of it: it quotes what has a byte of its line end, and here
+    both bytes are quoted in each dialect."""
+    which, delimiter, quote, _ = row
+    said, again = told(row), ""
+    if said == "none":
+        return said
+    for record in records(row):
+        written = io.StringIO(newline="")
+        form = {"delimiter": delimiter, "quotechar": quote, "lineterminator": "\r\n"}
+        csv.writer(written, **form).writerow(record)
+        again += written.getvalue()[:-2] + ("\n" if which == 1 else "\r\n")
+    return f"{said} {list(again.encode('latin-1'))}"
+
+
+def given(row):
+    which, delimiter, quote, text = row
+    return (chr(which) + delimiter + quote + text).encode("latin-1")
+
+
+COMPARISONS = [
+    Comparison(
+        "csv/documents", "Python's csv", "format_csv", "csv",
+        texts, given, each(told), seed=4180,
+    ),
+    Comparison(
+        "csv/dialects", "Python's csv, and its writer", "format_csv_records", "csv_dialects",
+        in_dialects, given, each(told_and_written), seed=4180, count=3000,
+    ),
+]

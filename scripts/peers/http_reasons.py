@@ -1,0 +1,145 @@
+"""The table of differences of heads in `docs/READERS.md`, and how each row is seen in a text."""
+import functools
+import json
+import re
+import subprocess
+
+REQUEST, RESPONSE = 1, 2
+
+# The rows of the table: which kind, the text, and who takes it of here, httparse and llhttp.
+ROWS = {
+    "a line feed alone as a line end": (REQUEST, "GET / HTTP/1.1\nA: b\n\n", "nyn"),
+    "empty lines before the first line": (REQUEST, "\r\n\r\nGET / HTTP/1.1\r\n\r\n", "nyy"),
+    "a method of its own": (REQUEST, "BREW / HTTP/1.1\r\n\r\n", "yyn"),
+    "a target in UTF-8": (REQUEST, "GET /\xc3\xa9 HTTP/1.1\r\n\r\n", "nnn"),
+    "a target with <": (REQUEST, "GET /< HTTP/1.1\r\n\r\n", "yny"),
+    "a target that is no URI": (REQUEST, "GET a HTTP/1.1\r\n\r\n", "yyn"),
+    "two spaces between words": (REQUEST, "GET  / HTTP/1.1\r\n\r\n", "nny"),
+    "no version": (REQUEST, "GET /\r\n\r\n", "nny"),
+    "version 1.2": (REQUEST, "GET / HTTP/1.2\r\n\r\n", "ynn"),
+    "version 2.0": (REQUEST, "GET / HTTP/2.0\r\n\r\n", "yny"),
+    "no reason and no space before it": (RESPONSE, "HTTP/1.1 200\r\nA: b\r\n\r\n", "yyy"),
+    "a reason with bytes of 128 and above": (RESPONSE, "HTTP/1.1 200 \xe9\r\n\r\n", "yyy"),
+    "a reason with a byte of 127": (RESPONSE, "HTTP/1.1 200 \x7f\r\n\r\n", "nny"),
+    "a reason with a byte of 0": (RESPONSE, "HTTP/1.1 200 \0\r\n\r\n", "nny"),
+    "a carriage return before a status line": (RESPONSE, "\rHTTP/1.1 200 \r\n\r\n", "nny"),
+    "a status line that ends in two": (RESPONSE, "HTTP/1.1 200 \r\rA: b\r\n\r\n", "nny"),
+    "lengths where there is no body": (
+        RESPONSE, "HTTP/1.1 304 \r\nContent-Length: a\r\n\r\n", "yyn"),
+    "a line that goes on after white space": (
+        REQUEST, "GET / HTTP/1.1\r\nA: b\r\n c\r\n\r\n", "nnn"),
+    "white space before a colon": (REQUEST, "GET / HTTP/1.1\r\nA : b\r\n\r\n", "nnn"),
+    "Transfer-Encoding beside Content-Length": (
+        REQUEST, "POST / HTTP/1.1\r\nContent-Length: 1\r\nTransfer-Encoding: chunked\r\n\r\n",
+        "nyn"),
+    "two Content-Length fields of one number": (
+        REQUEST, "POST / HTTP/1.1\r\nContent-Length: 1\r\nContent-Length: 1\r\n\r\n", "yyn"),
+    "Content-Length as a list": (
+        REQUEST, "POST / HTTP/1.1\r\nContent-Length: 42, 42\r\n\r\n", "yyn"),
+    "a tab behind Content-Length": (
+        REQUEST, "POST / HTTP/1.1\r\nContent-Length: 1\t\r\n\r\n", "yyn"),
+    "Transfer-Encoding with no coding": (
+        REQUEST, "GET / HTTP/1.1\r\nTransfer-Encoding:\r\n\r\n", "nyy"),
+    "a space before the method": (REQUEST, " GET / HTTP/1.1\r\n\r\n", "nyn"),
+    "Transfer-Encoding before version 1.1": (
+        REQUEST, "POST / HTTP/1.0\r\nTransfer-Encoding: chunked\r\n\r\n", "nyy"),
+}
+
+
+def fields_of(text):
+    """The names, in small letters, and values of field lines."""
+    lines = text.split(b"\n")[1:]
+    pairs = (line.partition(b":") for line in lines if b":" in line)
+    return [(name.lower(), value.strip(b" \t\r")) for name, _, value in pairs]
+
+
+def lengths_of(text):
+    """The values of the Content-Length fields."""
+    return [value for name, value in fields_of(text) if name == b"content-length"]
+
+
+def codings_of(text):
+    """The values of the Transfer-Encoding fields."""
+    return [value for name, value in fields_of(text) if name == b"transfer-encoding"]
+
+
+def words(text):
+    """The words of the first line."""
+    return text.lstrip(b"\r\n").split(b"\n")[0].strip(b"\r").split(b" ")
+
+
+def version_of(text):
+    """The version in the first line."""
+    found = re.search(rb"HTTP/(\d\.\d)", text)
+    return found.group(1) if found else b""
+
+
+def has_no_body(text):
+    """Whether a response has a status that has no body."""
+    return bool(re.match(rb"HTTP/\d\.\d (1\d\d|204|304)", text))
+
+
+@functools.cache
+def methods():
+    """The methods that llhttp knows."""
+    said = subprocess.run(["node", "--no-deprecation", "-p",
+                           "JSON.stringify(process.binding('http_parser').allMethods)"],
+                          stdout=subprocess.PIPE, check=True)
+    return json.loads(said.stdout)
+
+
+# What llhttp takes for no length, though white space may stand behind a value.
+TAB_BEHIND = re.compile(rb"(?im)^content-length:[ \t]*\d+ *\t")
+
+# Why one takes a head that the other refuses: a row of the table of differences, and what is so of
+# the text then. First those for which this library takes it.
+COUNTED = {
+    "two Content-Length fields": lambda text: len(lengths_of(text)) > 1,
+    "Content-Length as a list": lambda text: any(b"," in it for it in lengths_of(text)),
+    "a tab behind Content-Length": lambda text: bool(TAB_BEHIND.search(text)),
+}
+LLHTTP_REFUSES = {
+    REQUEST: COUNTED | {
+        "the method": lambda text: words(text)[0].decode("latin-1") not in methods(),
+        "the target": lambda text: not re.match(rb"/|\*|[A-Za-z]+://", words(text)[1]),
+        "the version": lambda text: version_of(text) not in (b"0.9", b"1.0", b"1.1", b"2.0"),
+    },
+    RESPONSE: COUNTED | {
+        "the version": lambda text: version_of(text) not in (b"0.9", b"1.0", b"1.1", b"2.0"),
+        "lengths where there is no body": has_no_body,
+    },
+}
+EMPTY_LINES = {"empty lines": lambda text: text[:1] in (b"\r", b"\n")}
+OLD_CODING = {
+    "Transfer-Encoding before version 1.1": lambda text:
+        bool(codings_of(text)) and version_of(text) < b"1.1",
+    "Transfer-Encoding with no coding": lambda text: b"" in codings_of(text),
+}
+LLHTTP_TAKES = {
+    REQUEST: EMPTY_LINES | OLD_CODING | {
+        "two spaces": lambda text: b"" in words(text),
+        "no version": lambda text: len(words(text)) == 2,
+    },
+    RESPONSE: EMPTY_LINES | OLD_CODING | {
+        "a reason": lambda text: bool(re.match(rb"[^\n]*[\0-\x08\x0b\x0c\x0e-\x1f\x7f]", text)),
+        "two carriage returns": lambda text: bool(re.match(rb"[^\n]*\r\r", text)),
+    },
+}
+HTTPARSE_REFUSES = {
+    REQUEST: {
+        "the version": lambda text: version_of(text) not in (b"1.0", b"1.1"),
+        "the target": lambda text: bool(re.search(rb"[<>]", words(text)[1])),
+    },
+    RESPONSE: {"the version": lambda text: version_of(text) not in (b"1.0", b"1.1")},
+}
+ENDS = EMPTY_LINES | {
+    "a line feed alone": lambda text: bool(re.search(rb"(^|[^\r])\n", text)),
+}
+HTTPARSE_TAKES = {
+    REQUEST: ENDS | {
+        "the target": lambda text: any(byte >= 128 for byte in words(text)[1]),
+        "the method": lambda text: bool(re.search(rb"[,:;/]", words(text)[0])),
+        "a space before the method": lambda text: text.lstrip(b"\r\n")[:1] == b" ",
+    },
+    RESPONSE: ENDS,
+}
