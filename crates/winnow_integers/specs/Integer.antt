@@ -14,6 +14,7 @@ pub mod Grammar
 pub mod Known
 pub mod Laws
 pub mod Reads
+pub mod Says
 pub mod Std
 pub mod Values
 pub mod Written
