@@ -81,7 +81,7 @@ def allowed():
 
 def fits(name, path):
     """Whether a name that is allowed is that of a declaration, or of a module above it."""
-    return path == name or (name.endswith(".*") and path.startswith(name[:-1]))
+    return path == name or (name.endswith((".*", "::*")) and path.startswith(name[:-1]))
 
 
 def main():

@@ -17,6 +17,7 @@ import subprocess
 import sys
 
 sys.path.insert(0, str(pathlib.Path(__file__).resolve().parent))
+from family.complete import write_laws  # noqa: E402
 from new_beside import beside  # noqa: E402
 from new_names import fault_of_name, fault_of_place  # noqa: E402
 from new_reader import lay_reader  # noqa: E402
@@ -31,8 +32,8 @@ NEXT = """Now change, in this order:
   {spec}: the definition, `{kind}Runs`, a line a case
   {file}: the clauses and the documentation of `{name}`, and what it runs
   {impls}: the struct `{kind}`, its parser with what it claims, and that it is stable
-  {laws}: that its runs leave an end, stay on longer inputs, mean the same over streams that are
-    read alike, and keep what is claimed: one input decides them, and they read by its grammar
+  {laws}: that its runs leave an end, stay on longer inputs, and keep what is claimed: one
+    input decides them, and they read by its grammar
   {test}: what it answers, by values from outside
   {edit}, `{name}_..`: a line of the code, and a wrong one in its place
   {note}: a line for the release
@@ -173,6 +174,7 @@ def main(words):
     for path, text in more.items():
         path.parent.mkdir(parents=True, exist_ok=True)
         path.write_text(text, encoding="utf-8")
+    write_laws(to.crate.name)
     for crate in sorted({to.crate, *written()}):
         subprocess.run(["rt", "fmt"], cwd=crate, check=False, stdout=subprocess.DEVNULL)
     shown = {"file": to.file, "impls": to.impls, "spec": to.spec}

@@ -2,101 +2,16 @@
 read off the blocks that make them parsers."""
 import collections
 import re
+import shutil
 
-from family.common import MOST, NUMBER, TOP, documented, upto, write
-from registry.common import CRATES, WIDTH, split
-from registry.parsers import closing
+from family.along import write_along
+from family.blocks import blocks, mentions, used
+from family.common import documented, write
+from registry.common import CRATES
 
 SAME = "Rattle.winnow_core.specs.SameMeaning"
-# Parsers that call a function of one stream, or whose parts have laws of their own.
-LEFT = {"Func<F>", "Expression<I, O, P, Pre, Post, Pix, F, G, H, E, A>", "AltParser<A, I, O, E>", "OperandPlace<P, R>", "OperatorPlace<P, R>"}
 # Parsers of one type of errors, which a closure or a conversion takes.
 ONE_ERROR = {"MapErr", "MapErrKept", "ErrInto", "AndThen"}
-# What a value that is a parser of itself is called in a law.
-NAMES = {
-    "&'t [u8]": "bytes",
-    "&'t [u8; N]": "array",
-    "&'t str": "text",
-    "Caseless<&'t [u8]>": "caseless_bytes",
-    "Caseless<&'t [u8; N]>": "caseless_array",
-    "Caseless<&'t str>": "caseless_text",
-    "Infix<F>": "infix_operator",
-    "Prefix<F>": "prefix_operator",
-    "Postfix<F>": "postfix_operator",
-    "()": "nothing",
-    "AltParser<[P; N], I, O, E>": "alt_of_an_array",
-    "AltParser<&'a mut [P], I, O, E>": "alt_of_a_slice",
-}
-
-
-def one_line(text):
-    return " ".join(text.split())
-
-
-def snake(name):
-    return re.sub(r"(?<=[a-z0-9])(?=[A-Z])|(?<=[a-z])(?=[0-9]{2,})", "_", name).lower().replace("_u", "_u")
-
-
-class Block:
-    """A block that makes a type a parser."""
-
-    def __init__(self, path, text):
-        self.path = path
-        self.head = one_line(text[: text.index("{\n")])
-        at = self.head.index("<")
-        end = closing(self.head, at, "<", ">")
-        self.parameters = [tuple(one_line(x) for x in (it.split(":", 1) + [""])[:2]) for it in split(self.head[at + 1 : end - 1])]
-        rest = self.head[end:].strip()
-        trait = rest[: rest.index("<")]
-        inner = closing(rest, len(trait), "<", ">")
-        self.stream, self.output, self.error = split(rest[len(trait) + 1 : inner - 1])
-        kind, _, self.where = rest[inner:].strip()[len("for ") :].partition(" where ")
-        self.kind, self.where = kind.strip(), self.where.strip().rstrip(",")
-        if trait == "Alt":
-            self.kind = "AltParser<%s, I, O, E>" % self.kind
-        self.state_type = self.member(text, "State")
-        self.meaning = self.member(text, "meaning")
-        self.file = path.read_text(encoding="utf-8")
-        if "Bits<I>" in self.head:
-            self.over_bytes()
-
-    def over_bytes(self):
-        """Bits are those of bytes: a bound at bits of any stream is not stated."""
-        byte = lambda text: re.sub(r"(?<![\w:'])I\b(?!::)", "&'i [u8]", text).replace("I::Slice", "&'i [u8]")
-        self.meaning = self.meaning.replace("I.reading", "bytes_reading")
-        self.parameters = [("'i", "")] + [(x, byte(b)) for x, b in self.parameters if x != "I"]
-        self.stream, self.output, self.error, self.kind = map(byte, (self.stream, self.output, self.error, self.kind))
-
-    @staticmethod
-    def member(text, name):
-        return one_line(re.search(r"ghost %s = \{(.*?)\};" % name, text, re.DOTALL)[1])
-
-    @property
-    def name(self):
-        if self.kind in NAMES:
-            return NAMES[self.kind]
-        if self.kind.startswith("("):
-            return "tuple%d" % len(split(self.kind[1:-1]))
-        if self.kind.startswith("AltParser<("):
-            return "alt%d" % len(split(self.kind[len("AltParser<(") : self.kind.index(")")]))
-        return snake(re.match(r"\w+", self.kind)[0]) if self.kind[0].isupper() else self.kind
-
-
-def blocks(crate):
-    for path in sorted((CRATES / crate / "src").rglob("*.rt")):
-        text = path.read_text(encoding="utf-8")
-        for found in re.finditer(r"^impl<.*?^\}", text, re.MULTILINE | re.DOTALL):
-            head = one_line(found[0][: found[0].index("{\n")])
-            if head[closing(head, head.index("<"), "<", ">") :].strip().startswith(("Parser<", "Alt<")):
-                block = Block(path, found[0])
-                if block.kind not in LEFT:
-                    yield block
-
-
-def mentions(text, names):
-    return any(re.search(r"(?<![\w:'])%s\b(?!::)" % it, text) for it in names)
-
-
 # The parser that a closure makes is of one type, and is a parser over both streams.
 MADE = ("⟦<H as Parser<I, O2, E>>⟧", "⟦<H as Parser<Partial<I>, O2, QE>>⟧")
 MAKES_CLAUSE = """    ensures flat_map { (f : F.State → QF.State) → SameMeaning f F.meaning QF.meaning
@@ -287,43 +202,6 @@ def trait_of(item, bound):
     return found[:1]
 
 
-def public(path, name, base):
-    """Where a name of a crate is public, if a module above makes it so."""
-    src = CRATES / path.relative_to(CRATES).parts[0] / "src"
-    for file in sorted(src.rglob("*.rt"), key=lambda it: (len(it.parts), it)):
-        for it in re.findall(r"^pub use ([^;]*);", file.read_text(encoding="utf-8"), re.MULTILINE):
-            if re.search(r"\b%s\b" % name, it):
-                return "::".join(["crate", *[it for it in file.relative_to(src).with_suffix("").parts if it != "lib"]])
-    return base
-
-
-def used(text, blocks, ghost):
-    """The imports of names that a text has, as the files of the blocks have them."""
-    found = {}
-    for block in blocks:
-        crate = "::".join(["crate", *block.path.relative_to(TOP).with_suffix("").parts[3:]])
-        crate = re.sub(r"::impls::.*", "::impls", crate)
-        for line in re.findall(r"^(?:pub )?%suse ([^;]*);" % ("ghost " if ghost else ""), block.file, re.MULTILINE):
-            line = one_line(line)
-            base, _, names = line.partition("{")
-            names = split(names.rstrip("}")) if names else [re.split(r"::|\.", line)[-1]]
-            base = base.rstrip(":.") if "{" in line else line[: -len(names[0])].rstrip(":.")
-            for name in names:
-                if ghost or name[0].isupper():
-                    found[name] = base
-        if not ghost:
-            for name in re.findall(r"^pub (?:struct|enum|trait) (\w+)", block.file, re.MULTILINE):
-                found[name] = crate
-    if not ghost:
-        found |= {name: public(blocks[0].path, name, base) for name, base in found.items() if base.startswith("crate::")}
-    lines = collections.defaultdict(list)
-    for name, base in sorted(found.items()):
-        word = name.split(" as ")[-1].strip("◌")
-        if re.search(r"(?<![\w])%s(?![\w])" % re.escape(word), text):
-            lines[base].append(name)
-    return lines
-
-
 def law_groups(crate, module):
     groups = collections.defaultdict(list)
     for block in blocks(crate):
@@ -336,20 +214,29 @@ def law_groups(crate, module):
 
 
 def title(laws):
+    """What a law is named after: its parsers, or the first of them."""
     names = [it.block.name for it in laws]
     whole = "_and_".join(names)
     return whole if len(whole) < 32 else names[0] + "_and_its_like"
 
 
 def file_of(block):
-    """The file of laws in which a block's stands: values that are parsers have one of their own."""
+    """The file of laws in which a block's stands."""
     return "complete" if block.kind[0].isupper() and "Caseless" not in block.kind else "complete_values"
 
 
+def drop_others(folder, names):
+    """Drops the proofs of laws that have another name now."""
+    for it in folder.glob("*"):
+        if it.name not in names:
+            shutil.rmtree(it)
+
+
 def write_crate(crate, module):
-    functions, every_block = [], []
+    functions, every_block, names = [], [], []
     for (parameters, where, has_parts), laws in law_groups(crate, module).items():
         name = title(laws) + "_over_a_complete_stream"
+        names.append(name)
         parts = ", where its parts do" if has_parts else ""
         said = "Over a partial stream `%s` means what it means over the plain one%s." % (laws[0].block.name, parts)
         if len(laws) > 1:
@@ -379,6 +266,7 @@ def write_crate(crate, module):
         text = "-- {head}\n%suse Rattle.%s.proofs.laws.%s.%s.Goals as goal\n\npub returns : goal.returns\n%s\n" % (specs, crate, module, name, answers)
         write("crates/%s/proofs/laws/%s/%s/Answers.antt" % (crate, module, name), text.replace("{", "{{").replace("}", "}}").replace("{{head}}", "{head}"))
         every_block += [it.block for it in laws]
+    drop_others(CRATES / crate / "proofs/laws" / module, names)
     if not functions:
         return
     body = "\n\n".join(functions)
@@ -391,67 +279,15 @@ def write_crate(crate, module):
     write("crates/%s/src/laws/%s.rt" % (crate, module), text.replace("{", "{{").replace("}", "}}").replace("{{head}}", "{head}"))
 
 
-ALONG = """-- What holds of meanings and themselves holds of those that are one, of two to six at once.
--- {head}
-use Rattle.std.specs.Prelude.{{◌≡◌, List, [], ◌∷◌, map}}
-use Rattle.std.proofs.Common.{{refl, ap, subst, sym}}
-use Rattle.winnow_core.specs.Runs.{{Meaning}}
-use Rattle.winnow_core.specs.SameMeaning.{{SameMeaning, along1, same_refl}}
-
-mapped_by_none : {{X : Type 0}} (xs : List X) → map (λ (x : X). x) xs ≡ xs
-mapped_by_none [] = refl
-mapped_by_none (x ∷ xs) = ap (λ ys. x ∷ ys) (mapped_by_none xs)
-
--- A meaning over lists of states is one with itself along the map of what stays,
-pub same_map : {{S T O : Type 0}} (m : Meaning (List S) T O) → SameMeaning (map (λ s. s)) m m
-same_map {{S}} m =
-    let P : (List S → List S) → Type 0 = λ f. SameMeaning f m m in
-    subst P (sym (λ i xs. mapped_by_none xs i)) (same_refl m)
-
--- and so it is beside something else.
-pub same_map_beside : {{S G T O : Type 0}} (m : Meaning (List S × G) T O) → SameMeaning (λ z. (map (λ s. s) z.0, z.1)) m m
-same_map_beside {{S}} m =
-    let P : (List S → List S) → Type 0 = λ f. SameMeaning (λ z. (f z.0, z.1)) m m in
-    subst P (sym (λ i xs. mapped_by_none xs i)) (same_refl m)
-
-{family}
-"""
-
-
-def each(n, text, joined=" "):
-    return joined.join(text.replace("#", str(k)) for k in upto(n))
-
-
-def along(n):
-    """What holds of n meanings and themselves holds of those that are one with them."""
-    kinds = each(n, "(S# U# : Type 0) → (S# → U#) → Meaning S# T# O# → Meaning U# T# O#", " → ")
-    same = each(n, "(S# : Type 0) (m# : Meaning S# T# O#)") + " → P " + each(n, "S# S# (λ s. s) m# m#")
-    given = each(n, "{S# U# : Type 0} {m# : Meaning S# T# O#} {n# : Meaning U# T# O#}")
-    ones = each(n, "(f# : S# → U#) → SameMeaning f# m# n#", " → ")
-    rest = " ".join("S{0} U{0} f{0} m{0} n{0}".format(k) for k in range(2, n + 1))
-    others = " ".join("f%d one%d" % (k, k) for k in range(2, n + 1))
-    named = " ".join("{{S{0} = S{0}}} {{U{0} = U{0}}} {{m{0} = m{0}}} {{n{0} = n{0}}}".format(k) for k in range(2, n + 1))
-    return "\n".join(
-        [
-            "-- ... %s" % NUMBER[n],
-            "pub along%d : {%s : Type 0} (P : %s → Type 0) → (%s) → %s → %s → P %s"
-            % (n, each(n, "T# O#"), kinds, same, given, ones, each(n, "S# U# f# m# n#")),
-            "along%d P same %s f1 one1 %s =" % (n, named, others),
-            "    along1 (λ S U f m n. P S U f m n %s)" % rest,
-            "    (λ S m. along%d (P S S (λ s. s) m m) (same S m) %s) f1 one1" % (n - 1, others),
-        ]
-    )
-
-
-def write_along():
-    write("crates/winnow_core/specs/SameMeaning/Along.antt", ALONG, family="\n\n".join(along(n) for n in range(2, MOST + 1)))
-
-
 CRATES_OF_PARSERS = "winnow_core winnow_token winnow_comb winnow_repeat winnow_separated winnow_ascii winnow_numbers winnow_escapes winnow_integers winnow_binary winnow_bits winnow_expression winnow_recovery".split()
+
+
+def write_laws(crate):
+    for module in "complete", "complete_values":
+        write_crate(crate, module)
 
 
 def write_complete():
     write_along()
     for crate in CRATES_OF_PARSERS:
-        write_crate(crate, "complete")
-        write_crate(crate, "complete_values")
+        write_laws(crate)

@@ -6,6 +6,8 @@ from registry.common import CRATES, WIDTH, below_winnow, by_hand, has_mark, impo
 from registry.common import items_of, read, write
 
 FACADE = CRATES / "winnow"
+# The laws of one parser each, which a caller proves of its own composition in a line.
+OF_A_PARSER = "_over_a_complete_stream"
 # The modules of which the items stand in other modules: where they stand.
 PLACES = {"error": ("stream_errors", "*"), "laws": ("", "laws/**/*")}
 
@@ -30,7 +32,7 @@ def write_module(path):
     lines = []
     for crate in sorted(below_winnow()):
         for name, file in modules_of(crate, module):
-            items = [it for it in items_of(file) if it not in known]
+            items = [it for it in items_of(file) if it not in known and not it.endswith(OF_A_PARSER)]
             if items:
                 lines.append(imports(f"{crate}::{name}", items))
     write(path, text + "".join(sorted(lines)))

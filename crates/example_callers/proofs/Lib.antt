@@ -1,4 +1,5 @@
 pub mod ItemLemmas
+pub mod MovedRuns
 pub mod PlaceLemmas
 pub mod PremiseLemmas
 pub mod WordRuns

@@ -2,6 +2,7 @@
 #![tactic(auto)]
 
 pub mod choices;
+pub mod complete_streams;
 pub mod first_line;
 pub mod functions;
 pub mod identifiers;

@@ -1,18 +1,6 @@
 //! Laws of the parsers and combinators: functions that do nothing, whose contracts are the laws. A
 //! caller calls one, and then knows what it says.
 // What stands below is written by scripts/registries.py: do not edit.
-pub use winnow_ascii::laws::complete::{
-    alpha0_and_its_like_over_a_complete_stream, crlf_and_line_ending_over_a_complete_stream,
-    newline_and_tab_over_a_complete_stream, till_line_ending_over_a_complete_stream,
-};
-pub use winnow_binary::laws::complete::{
-    i128_and_its_like_over_a_complete_stream, length_and_then_over_a_complete_stream,
-    length_repeat_over_a_complete_stream, length_take_over_a_complete_stream,
-};
-pub use winnow_bits::laws::complete::{
-    bits_parser_over_a_complete_stream, bool_over_a_complete_stream, bytes_over_a_complete_stream,
-    pattern_and_take_over_a_complete_stream,
-};
 pub use winnow_bits::laws::{
     bits_stays_on_an_error, bytes_stays_on_an_error, taken_bits_and_the_rest_are_the_input,
 };
@@ -21,38 +9,10 @@ pub use winnow_comb::laws::choices::{
     alt_of_six_answers_as_the_first, alt_of_three_answers_as_the_first,
     alt_of_two_answers_as_the_first,
 };
-pub use winnow_comb::laws::complete::{
-    alt1_over_a_complete_stream, alt2_over_a_complete_stream, alt3_over_a_complete_stream,
-    alt4_over_a_complete_stream, alt5_over_a_complete_stream, alt6_over_a_complete_stream,
-    alt_of_a_slice_over_a_complete_stream, alt_of_an_array_over_a_complete_stream,
-    backtrack_err_and_cut_err_over_a_complete_stream, cond_and_opt_and_peek_over_a_complete_stream,
-    delimited_over_a_complete_stream, empty_over_a_complete_stream, fail_over_a_complete_stream,
-    not_over_a_complete_stream, preceded_over_a_complete_stream,
-    separated_pair_over_a_complete_stream, terminated_over_a_complete_stream,
-};
 pub use winnow_comb::laws::items::{
     alt_of_a_slice_answers_as_the_first, alt_of_an_array_answers_as_the_first,
 };
 pub use winnow_comb::laws::{not_goes_back, opt_goes_back_on_none, peek_goes_back};
-pub use winnow_core::laws::complete::{
-    and_then_over_a_complete_stream, by_ref_over_a_complete_stream,
-    complete_err_and_with_taken_over_a_complete_stream, context_over_a_complete_stream,
-    context_with_over_a_complete_stream, default_value_over_a_complete_stream,
-    eof_over_a_complete_stream, err_into_over_a_complete_stream, flat_map_over_a_complete_stream,
-    map_err_and_map_err_kept_over_a_complete_stream, map_over_a_complete_stream,
-    output_into_over_a_complete_stream, parse_to_over_a_complete_stream,
-    span_over_a_complete_stream, take_and_void_over_a_complete_stream,
-    try_map_over_a_complete_stream, value_over_a_complete_stream, verify_map_over_a_complete_stream,
-    verify_over_a_complete_stream, with_span_over_a_complete_stream,
-};
-pub use winnow_core::laws::complete_values::{
-    array_over_a_complete_stream, bytes_over_a_complete_stream,
-    caseless_array_over_a_complete_stream, caseless_bytes_over_a_complete_stream,
-    caseless_text_over_a_complete_stream, char_over_a_complete_stream,
-    nothing_over_a_complete_stream, text_over_a_complete_stream, tuple1_over_a_complete_stream,
-    tuple2_over_a_complete_stream, tuple3_over_a_complete_stream, tuple4_over_a_complete_stream,
-    tuple5_over_a_complete_stream, tuple6_over_a_complete_stream, u8_over_a_complete_stream,
-};
 pub use winnow_core::laws::{
     a_complete_stream_is_answered_as_the_plain_one, a_cut_input_is_answered_as_each_longer_one,
     a_longer_input_gets_the_answer_of_a_cut_one, and_then_goes_back,
@@ -64,16 +24,11 @@ pub use winnow_core::laws::{
     tokens_with_the_output_and_the_rest_are_the_input, try_map_goes_back, verify_goes_back,
     verify_map_goes_back,
 };
-pub use winnow_escapes::laws::complete::{
-    escaped_over_a_complete_stream, take_escaped_over_a_complete_stream,
-};
 pub use winnow_escapes::laws::{
     escaped_bytes_and_the_rest_are_the_input, escaped_text_and_the_rest_are_the_input,
     the_escaped_slice_and_the_rest_are_the_input,
 };
 pub use winnow_exact::laws::a_decided_answer_stays_on_longer_inputs;
-pub use winnow_expression::laws::complete::prefix_operator_and_its_like_over_a_complete_stream;
-pub use winnow_expression::laws::expression_over_a_complete_stream;
 pub use winnow_expression_trees::laws::parts::{
     a_byte_consumes, a_choice_consumes, a_decided_part_is_stateless, a_value_consumes,
 };
@@ -81,7 +36,6 @@ pub use winnow_expression_trees::laws::{
     Likeness, at_most_one_tree_keeps_the_powers, expression_reads_the_one_tree,
     no_tree_where_an_assert_rule_refuses,
 };
-pub use winnow_integers::laws::complete::be_i128_and_its_like_over_a_complete_stream;
 pub use winnow_integers::laws::little_endian_is_big_endian_of_the_reversed_bytes;
 pub use winnow_meanings::laws::compositions::{
     DigitsUpTo, InBytes, Outputs, Signed, SignedBetween, SignedList, SignedOutput,
@@ -97,30 +51,11 @@ pub use winnow_meanings::laws::memory::{
     a_sequence_never_hides_want_of_memory, an_option_never_hides_want_of_memory,
     repeat_till_never_hides_want_of_memory,
 };
-pub use winnow_numbers::laws::complete::{
-    dec_int_over_a_complete_stream, dec_uint_over_a_complete_stream,
-    hex_uint_parser_over_a_complete_stream,
-};
-pub use winnow_recovery::laws::complete::resume_after_and_retry_after_over_a_complete_stream;
 pub use winnow_recovery::laws::{
     no_error_is_a_whole_parse, resume_after_leaves_an_end, retry_after_leaves_an_end,
 };
-pub use winnow_repeat::laws::complete::{
-    fill_over_a_complete_stream, repeat_fold_over_a_complete_stream, repeat_over_a_complete_stream,
-    repeat_till_over_a_complete_stream, repeat_try_fold_over_a_complete_stream,
-    repeat_verify_fold_over_a_complete_stream,
-};
 pub use winnow_repeat::laws::repeat_runs_at_most_once_a_unit;
-pub use winnow_separated::laws::complete::{
-    separated_foldl1_over_a_complete_stream, separated_foldr1_over_a_complete_stream,
-    separated_over_a_complete_stream,
-};
 pub use winnow_separated::laws::{
     separated_folds_fold_the_same, separated_leaves_a_separator_without_an_element,
-};
-pub use winnow_token::laws::complete::{
-    any_and_take_over_a_complete_stream, literal_over_a_complete_stream,
-    none_of_and_one_of_over_a_complete_stream, rest_and_rest_len_over_a_complete_stream,
-    take_till_and_take_while_over_a_complete_stream, take_until_over_a_complete_stream,
 };
 pub use winnow_token::laws::{complete_err_is_not_stable, rest_is_not_stable};
