@@ -3,3 +3,6 @@
 
 #[cfg(test)]
 mod callers;
+
+#[cfg(test)]
+mod outcomes;

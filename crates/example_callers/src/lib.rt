@@ -10,6 +10,7 @@ pub mod items;
 pub mod looks;
 pub mod numbers;
 pub mod numerals;
+pub mod outcomes;
 pub mod percentages;
 pub mod pieces;
 pub mod places;

@@ -1,0 +1,66 @@
+//! Outcomes in use: a parser of several parts tells what it did with the tokens, on whole input and
+//! in pieces.
+#![tactic(auto)]
+
+ghost use Rattle.std.specs.Prelude.{◌≡◌, ⊤, ℕ};
+ghost use Rattle.winnow.specs.Class.Says.{SeenOnce};
+ghost use Rattle.winnow.specs.Form.{answer_by};
+ghost use Rattle.winnow.specs.Outcome.{outcome_of};
+ghost use Rattle.winnow.specs.Says.{Tells};
+ghost use Rattle.winnow.specs.Says.Longer.{EachLongerGets};
+
+use winnow::Parser;
+use winnow::ascii::impls::Digit1;
+use winnow::error::{EmptyError, ErrMode, ParserError};
+use winnow::laws::a_longer_input_gets_the_answer_of_a_cut_one;
+use winnow::stream::{AsChar, Compare, Partial, StreamIsPartial};
+
+/// A time, as `12:30`, from any stream: what is returned, and where an error leaves the input, is
+/// what digits, a colon and digits say of the tokens.
+pub fn time<I, E>(input: &mut I) -> Result<(I::Slice, u8, I::Slice), E>
+where
+    I: StreamIsPartial + Compare<u8>,
+    I::Token: AsChar,
+    E: ParserError<I>,
+    requires seen { SeenOnce I.seen_as I.Token.code }
+    ensures tells { Tells
+        (⟦<(Digit1, u8, Digit1) as Parser<I, (I::Slice, u8, I::Slice), E>>⟧.says (tt, 58, tt))
+        E.form (I.view input.old)
+        (outcome_of (answer_by E.kind result) (I.view input.new).left.tokens) }
+{
+    (Digit1, b':', Digit1).read_outcome(input)
+}
+
+/// Each longer input gets the time, or the error, that a cut input got.
+pub fn time_is_for_good<I, E>()
+where
+    I: StreamIsPartial + Compare<u8>,
+    I::Token: AsChar,
+    E: ParserError<I>,
+    requires seen { SeenOnce I.seen_as I.Token.code }
+    ensures { EachLongerGets (tt, 58, tt)
+        ⟦<(Digit1, u8, Digit1) as Parser<I, (I::Slice, u8, I::Slice), E>>⟧.meaning
+        (⟦<(Digit1, u8, Digit1) as Parser<I, (I::Slice, u8, I::Slice), E>>⟧.says
+        (tt, 58, tt)).alike }
+{
+    a_longer_input_gets_the_answer_of_a_cut_one::<
+        (Digit1, u8, Digit1),
+        I,
+        (I::Slice, u8, I::Slice),
+        E,
+    >();
+}
+
+/// A time of bytes.
+pub fn time_of_bytes<'i>(
+    input: &mut &'i [u8],
+) -> Result<(&'i [u8], u8, &'i [u8]), ErrMode<EmptyError>> {
+    time(input)
+}
+
+/// A time of bytes of which more may come.
+pub fn time_in_pieces<'i>(
+    input: &mut Partial<&'i [u8]>,
+) -> Result<(&'i [u8], u8, &'i [u8]), ErrMode<EmptyError>> {
+    time(input)
+}

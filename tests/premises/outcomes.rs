@@ -1,0 +1,52 @@
+//! A time where it is read, and how it fails, whole and in pieces.
+use example_callers::outcomes::{time_in_pieces, time_of_bytes};
+use std::process::Abort;
+use winnow::Parser;
+use winnow::ascii::impls::Digit1;
+use winnow::error::{EmptyError, ErrMode, Needed};
+use winnow::stream::Partial;
+
+#[test]
+fn time_of_whole_bytes(rt: HostRuntime) {
+    let mut input = b"12:30;".as_slice();
+    assert_eq!(
+        rt;
+        time_of_bytes(&mut input),
+        Ok((b"12".as_slice(), b':', b"30".as_slice()))
+    );
+    assert_eq!(rt; input, b";".as_slice());
+    for (text, rest) in [
+        (b"12;".as_slice(), b";".as_slice()),
+        (b"12:", b""),
+        (b";", b";"),
+    ] {
+        let mut input = text;
+        assert!(rt; matches!(time_of_bytes(&mut input), Err(ErrMode::Backtrack(_))));
+        assert_eq!(rt; input, rest);
+    }
+}
+
+#[test]
+fn time_of_pieces(rt: HostRuntime) {
+    for text in [b"".as_slice(), b"12", b"12:", b"12:30"] {
+        let mut input = Partial::new(text);
+        assert_eq!(rt; time_in_pieces(&mut input), Err(ErrMode::Incomplete(Needed::new(1))));
+    }
+    let mut input = Partial::new(b"12:30;".as_slice());
+    assert_eq!(
+        rt;
+        time_in_pieces(&mut input),
+        Ok((b"12".as_slice(), b':', b"30".as_slice()))
+    );
+    assert_eq!(rt; *input.as_inner(), b";".as_slice());
+    let mut input = Partial::new(b"12;".as_slice());
+    assert!(rt; matches!(time_in_pieces(&mut input), Err(ErrMode::Backtrack(_))));
+}
+
+#[test]
+fn digits_by_outcome(rt: HostRuntime) {
+    let mut input = b"12;".as_slice();
+    let digits: Result<&[u8], ErrMode<EmptyError>> = Digit1.read_outcome(&mut input);
+    assert_eq!(rt; digits, Ok(b"12".as_slice()));
+    assert_eq!(rt; input, b";".as_slice());
+}
