@@ -19,6 +19,7 @@ use crate::resp::places::reply_at;
 use crate::span::{MOST_IN_PIECES, NOWHERE, Span};
 use format_resp::extent::Refused;
 use format_resp::read::read_reply;
+use format_resp::reply::Protocol;
 use std::alloc::Global;
 use winnow::error::ParserError;
 use winnow::stream::{Partial, StreamIsPartial};
@@ -124,7 +125,7 @@ pub extern "C" fn exported_resp_reply(
     }
     let mut whole = Partial::new(bytes);
     whole.complete();
-    match read_reply(alloc, levels, &mut whole) {
+    match read_reply(alloc, Protocol::Resp2, levels, &mut whole) {
         Ok(found) => {
             *out = reply_at(bytes, levels, &found, whole.into_inner().len());
             DONE
@@ -172,7 +173,7 @@ pub extern "C" fn exported_resp_reply_in_pieces(
         return REFUSED;
     }
     let mut pieces = Partial::new(bytes);
-    match read_reply(alloc, levels, &mut pieces) {
+    match read_reply(alloc, Protocol::Resp2, levels, &mut pieces) {
         Ok(found) => {
             *out = reply_at(bytes, levels, &found, pieces.into_inner().len());
             DONE
