@@ -1,26 +1,27 @@
 pub mod AlikeReplies
-mod Bodies
+pub mod Bodies
 pub mod BulkEnds
 pub mod Deeper
+pub mod Digits
 pub mod Dues
-mod EndedLines
-mod FirstBytes
+pub mod EndedLines
+pub mod FirstBytes
 pub mod FirstLines
-mod Integers
-mod Leaves
+pub mod Integers
+pub mod Leaves
 pub mod LineEnds
-mod Made
-mod Marks
-mod NumberTexts
-mod PartsStand
+pub mod Made
+pub mod Marks
+pub mod NumberTexts
+pub mod PartsStand
 pub mod Passing
-mod Plain
-mod Putting
+pub mod Plain
+pub mod Putting
 pub mod Read
 pub mod ReadBack
 pub mod Refusals
-mod Rows
-mod Sayings
-mod Told
+pub mod Rows
+pub mod Sayings
+pub mod Told
 pub mod Writing
 pub mod WrittenTexts

@@ -241,11 +241,15 @@ pub none_whole : (these : List ℕ → Type 0) (tokens : List ℕ) → NoneStand
     → these tokens → ⊥
 none_whole these tokens none is = none tokens [] is (sym (append-nil tokens))
 
-pub number_whole : (tokens rest : List ℕ) → Leaves IsBigNumber tokens rest → rest ≡ []
-    → IsBigNumber tokens
-number_whole tokens rest (front, a, e, not) none =
-    let P : List ℕ → Type 0 = λ l. IsBigNumber l in
-    subst P (sym (append-nil front) ∙ ap (λ l. front ++ l) (sym none) ∙ sym e) a
+pub all_whole : (these : List ℕ → Type 0) (tokens rest : List ℕ) → Leaves these tokens rest
+    → rest ≡ [] → these tokens
+all_whole these tokens rest (front, a, e, not) none =
+    subst these (sym (append-nil front) ∙ ap (λ l. front ++ l) (sym none) ∙ sym e) a
+
+pub digits_more : (tokens rest : List ℕ) → Leaves AreDigits tokens rest → (rest ≡ [] → ⊥)
+    → AreDigits tokens → ⊥
+digits_more tokens rest (front, a, e, not) some b =
+    some (same_digits front tokens rest [] a.0 b.0 not tt (sym e ∙ sym (append-nil tokens)))
 
 pub number_more : (tokens rest : List ℕ) → Leaves IsBigNumber tokens rest → (rest ≡ [] → ⊥)
     → IsBigNumber tokens → ⊥

@@ -1,10 +1,12 @@
 -- That the parts of a reply of RESP2 stand where its definition says.
-use Rattle.std.specs.Prelude.{◌≡◌, ℕ, List, [], ◌∷◌, ◌++◌, Option, None, Some, zero, suc, ⊤}
+use Rattle.std.specs.Prelude.{◌≡◌, ◌⊎◌, ℕ, ℤ, List, [], ◌∷◌, ◌++◌, Option, None, Some, zero}
+use Rattle.std.specs.Prelude.{suc, ⊤}
 use Rattle.std.specs.Borrow.{Bor}
 use Rattle.std.specs.List.{AllByRecursion}
-use Rattle.std.proofs.Common.{◌∙◌, ap, append_assoc, arith, refl, subst, sym}
+use Rattle.std.specs.declared.vec.Vec.{Vec}
+use Rattle.std.proofs.Common.{◌∙◌, ap, append_assoc, arith, inl, inr, refl, subst, sym}
 use Rattle.winnow.specs.InTurn.{First, Led}
-use Rattle.winnow.specs.Texts.{CountedText, EachText}
+use Rattle.winnow.specs.Texts.{CountedText, EachText, Text}
 use Rattle.format_resp.proofs.FirstBytes.{not_resp3}
 use Rattle.format_resp.proofs.Integers.{size_plain}
 use Rattle.format_resp.proofs.Made.{array_is, bulk_is, error_is, integer_is, null_array_is}
@@ -19,6 +21,7 @@ use Rattle.format_resp.specs.declared.marks.LineMark.TheVariants.{Colon, Comma, 
 use Rattle.format_resp.specs.declared.marks.LineMark.TheVariants.{Parenthesis, Plus, Underscore}
 use Rattle.format_resp.specs.declared.marks.Mark.TheVariants.{Aggregate, Data, Line}
 use Rattle.format_resp.specs.declared.reply.Protocol.TheVariants.{Resp2}
+use Rattle.format_resp.specs.declared.reply.Reply as made
 use Rattle.format_resp.specs.declared.reply.Reply.{out-Reply}
 use Rattle.format_resp.specs.declared.reply.Reply.TheOpen.{Reply-F}
 
@@ -155,3 +158,60 @@ pub stands_as : {A : Type 0} (level : ℕ) (input rest : List ℕ) (reply : Repl
 stands_as {A} level input rest reply kind is same =
     let P : Opened A → Type 0 = λ r. StandsBy level input r rest in
     subst P same (parts_stand level input rest reply is)
+
+-- one of the kinds of RESP2
+abbrev pub IsMadeOfResp2 : {A : Type 0} → Replies A → Type 0
+IsMadeOfResp2 {A} reply =
+    ((x : Bor (List ℕ)) × (reply ≡ made.Simple x))
+    ⊎ (((x : Bor (List ℕ)) × (reply ≡ made.Error x))
+    ⊎ (((n : ℤ) × (reply ≡ made.Integer n)) ⊎ (((x : Bor (List ℕ)) × (reply ≡ made.Bulk x))
+    ⊎ ((reply ≡ made.NullBulk) ⊎ (((l : Vec (Replies A) A) × (reply ≡ made.Array l))
+    ⊎ (reply ≡ made.NullArray))))))
+
+module _ {A : Type 0} where
+  made_of_data : (size : Option ℕ) (reply : Replies A) (tokens : List ℕ)
+      → DataBehind Dollar size reply tokens → IsMadeOfResp2 reply
+  made_of_data None reply tokens (is, none) = inr (inr (inr (inr (inl is))))
+  made_of_data (Some n) reply tokens (bytes, (x, is, a), t) = inr (inr (inr (inl (x, is))))
+
+  made_of_list : (elements : Text ℕ (List (Replies A))) (size : Option ℕ) (reply : Replies A)
+      (tokens : List ℕ) → AggregateBehind elements Star size reply tokens → IsMadeOfResp2 reply
+  made_of_list elements None reply tokens (is, none) = inr (inr (inr (inr (inr (inr is)))))
+  made_of_list elements (Some n) reply tokens (l, is, a) =
+      inr (inr (inr (inr (inr (inl (l, is))))))
+
+  pub made_of_resp2 : (level : ℕ) (input rest : List ℕ) (reply : Replies A)
+      → First (ReplyText Resp2 level) input reply rest → IsMadeOfResp2 reply
+  unfolding First Led MarkText Ended
+  made_of_resp2 level input rest reply
+      (front, (Line Plus, us, vs, m, (xs, (x, is, a), e), f), g) = inl (x, is)
+  made_of_resp2 level input rest reply
+      (front, (Line Minus, us, vs, m, (xs, (x, is, a), e), f), g) = inr (inl (x, is))
+  made_of_resp2 level input rest reply
+      (front, (Line Colon, us, vs, m, (xs, (n, is, a), e), f), g) = inr (inr (inl (n, is)))
+  made_of_resp2 level input rest reply
+      (front, (Data Dollar, us, vs, m, (size, ss, bs, s, b, e), f), g) =
+      made_of_data size reply bs b
+  made_of_resp2 level input rest reply
+      (front, (Aggregate Star, us, vs, m, (size, ss, bs, s, b, e), f), g) =
+      made_of_list (Elements Resp2 level) size reply bs b
+  made_of_resp2 level input rest reply (front, (Line Underscore, us, vs, (in2, m), x), g) =
+      not_resp3 in2
+  made_of_resp2 level input rest reply (front, (Line Hash, us, vs, (in2, m), x), g) =
+      not_resp3 in2
+  made_of_resp2 level input rest reply (front, (Line Comma, us, vs, (in2, m), x), g) =
+      not_resp3 in2
+  made_of_resp2 level input rest reply (front, (Line Parenthesis, us, vs, (in2, m), x), g) =
+      not_resp3 in2
+  made_of_resp2 level input rest reply (front, (Data Exclamation, us, vs, (in2, m), x), g) =
+      not_resp3 in2
+  made_of_resp2 level input rest reply (front, (Data Equals, us, vs, (in2, m), x), g) =
+      not_resp3 in2
+  made_of_resp2 level input rest reply (front, (Aggregate Percent, us, vs, (in2, m), x), g) =
+      not_resp3 in2
+  made_of_resp2 level input rest reply (front, (Aggregate Tilde, us, vs, (in2, m), x), g) =
+      not_resp3 in2
+  made_of_resp2 level input rest reply (front, (Aggregate Greater, us, vs, (in2, m), x), g) =
+      not_resp3 in2
+  made_of_resp2 level input rest reply (front, (Aggregate Bar, us, vs, (in2, m), x), g) =
+      not_resp3 in2

@@ -179,7 +179,7 @@ fn write_elements<A: Allocator, B: Allocator>(
 
 /// Puts an aggregate after what is there.
 #[cycle(write)]
-fn write_aggregate<A: Allocator, B: Allocator>(
+fn write_list<A: Allocator, B: Allocator>(
     protocol: Protocol,
     level: usize,
     mark: AggregateMark,
@@ -232,12 +232,18 @@ fn write_nested<A: Allocator, B: Allocator>(
         Reply::NullBulk => Ok(write_line(b'$', b"-1", into)?),
         Reply::BulkError(bytes) => Ok(write_data(b'!', bytes, into)?),
         Reply::Verbatim(bytes) => write_verbatim(bytes, into),
-        Reply::Array(replies) => write_aggregate(protocol, level, AggregateMark::Star, replies, into),
+        Reply::Array(replies) => write_list(protocol, level, AggregateMark::Star, replies, into),
         Reply::NullArray => Ok(write_line(b'*', b"-1", into)?),
-        Reply::Map(replies) => write_aggregate(protocol, level, AggregateMark::Percent, replies, into),
-        Reply::Set(replies) => write_aggregate(protocol, level, AggregateMark::Tilde, replies, into),
-        Reply::Push(replies) => write_aggregate(protocol, level, AggregateMark::Greater, replies, into),
-        Reply::Attributed(replies) => write_aggregate(protocol, level, AggregateMark::Bar, replies, into),
+        Reply::Map(replies) => write_list(protocol, level, AggregateMark::Percent, replies, into),
+        Reply::Set(replies) => write_list(protocol, level, AggregateMark::Tilde, replies, into),
+        Reply::Push(replies) => write_list(protocol, level, AggregateMark::Greater, replies, into),
+        Reply::Attributed(replies) => write_list(
+            protocol,
+            level,
+            AggregateMark::Bar,
+            replies,
+            into,
+        ),
     }
 }
 

@@ -1,5 +1,5 @@
 use Rattle.format_resp.proofs.Leaves.{is_none, is_some}
-use Rattle.format_resp.proofs.NumberTexts.{none_whole, more_left, whole}
+use Rattle.format_resp.proofs.NumberTexts.{all_whole, digits_more, none_whole}
 use Rattle.format_resp.proofs.Told.{bool_on}
 use Rattle.format_resp.specs.Numbers.{AreDigits}
 use Rattle.format_resp.proofs.numbers.are_digits.Goals as goal
@@ -8,9 +8,9 @@ pub returns-in-Some : goal.returns-in-Some
 returns-in-Some c =
     let rest = c.in-Some.rest.now in
     bool_on _ _ c.is_empty.result
-    (λ is. whole c.args.bytes.now rest c.in-Some.ensures
+    (λ is. all_whole AreDigits c.args.bytes.now rest c.in-Some.ensures
     (is_none rest c.is_empty.result c.is_empty.ensures is))
-    (λ not. more_left c.args.bytes.now rest c.in-Some.ensures
+    (λ not. digits_more c.args.bytes.now rest c.in-Some.ensures
     (is_some rest c.is_empty.result c.is_empty.ensures not))
 
 pub returns-in-None : goal.returns-in-None

@@ -1,5 +1,5 @@
 use Rattle.format_resp.proofs.Leaves.{is_none, is_some}
-use Rattle.format_resp.proofs.NumberTexts.{none_whole, number_more, number_whole}
+use Rattle.format_resp.proofs.NumberTexts.{all_whole, none_whole, number_more}
 use Rattle.format_resp.proofs.Told.{bool_on}
 use Rattle.format_resp.specs.Numbers.{IsBigNumber}
 use Rattle.format_resp.proofs.numbers.is_big_number.Goals as goal
@@ -8,7 +8,7 @@ pub returns-in-Some : goal.returns-in-Some
 returns-in-Some c =
     let rest = c.in-Some.rest.now in
     bool_on _ _ c.is_empty.result
-    (λ is. number_whole c.args.bytes.now rest c.in-Some.ensures
+    (λ is. all_whole IsBigNumber c.args.bytes.now rest c.in-Some.ensures
     (is_none rest c.is_empty.result c.is_empty.ensures is))
     (λ not. number_more c.args.bytes.now rest c.in-Some.ensures
     (is_some rest c.is_empty.result c.is_empty.ensures not))

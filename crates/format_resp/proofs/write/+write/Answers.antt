@@ -43,21 +43,21 @@ write_elements-returns-in_err-write_nested-clause-kept g t c =
 
 -- ---- aggregates
 
-pub write_aggregate-returns-then-level-eq0-clause-refused :
-    goal.write_aggregate-returns-then-level-eq0-clause-refused
-write_aggregate-returns-then-level-eq0-clause-refused g t c =
+pub write_list-returns-then-level-eq0-clause-refused :
+    goal.write_list-returns-then-level-eq0-clause-refused
+write_list-returns-then-level-eq0-clause-refused g t c =
     deep_aggregate c.args.mark c.args.replies.now (omega arith)
 
-pub write_aggregate-returns-in-None-clause-refused :
-    goal.write_aggregate-returns-in-None-clause-refused
-write_aggregate-returns-in-None-clause-refused g t c =
+pub write_list-returns-in-None-clause-refused :
+    goal.write_list-returns-in-None-clause-refused
+write_list-returns-in-None-clause-refused g t c =
     refused_count c.args.level c.args.mark c.args.replies.now
     (c.len.ensures ∙ c.args.replies.now.ok.0)
     (c.in-None.ensures.none refl)
 
-pub write_aggregate-returns-in_ok-write_size-in-Some-clause-written :
-    goal.write_aggregate-returns-in_ok-write_size-in-Some-clause-written
-write_aggregate-returns-in_ok-write_size-in-Some-clause-written g t c =
+pub write_list-returns-in_ok-write_size-in-Some-clause-written :
+    goal.write_list-returns-in_ok-write_size-in-Some-clause-written
+write_list-returns-in_ok-write_size-in-Some-clause-written g t c =
     on_ok_weaker c.write_elements.result
     (aggregate_put c.args.mark c.in-Some.size (c.args.level - 1) c.args.replies.now
     c.requires
@@ -66,16 +66,16 @@ write_aggregate-returns-in_ok-write_size-in-Some-clause-written g t c =
     c.byte.ensures c.in_ok-write_size-in-Some.ensures.written)
     c.write_elements.ensures.written
 
-pub write_aggregate-returns-in_ok-write_size-in-Some-clause-refused :
-    goal.write_aggregate-returns-in_ok-write_size-in-Some-clause-refused
-write_aggregate-returns-in_ok-write_size-in-Some-clause-refused g t c =
+pub write_list-returns-in_ok-write_size-in-Some-clause-refused :
+    goal.write_list-returns-in_ok-write_size-in-Some-clause-refused
+write_list-returns-in_ok-write_size-in-Some-clause-refused g t c =
     IfErr-weaker c.write_elements.result _ _
     (λ e. refused_within (c.args.level - 1) c.args.mark c.args.replies.now e
     c.as_slice.ensures.value (omega arith)) c.write_elements.ensures.refused
 
-pub write_aggregate-returns-in_ok-write_size-in-Some-clause-kept :
-    goal.write_aggregate-returns-in_ok-write_size-in-Some-clause-kept
-write_aggregate-returns-in_ok-write_size-in-Some-clause-kept g t c =
+pub write_list-returns-in_ok-write_size-in-Some-clause-kept :
+    goal.write_list-returns-in_ok-write_size-in-Some-clause-kept
+write_list-returns-in_ok-write_size-in-Some-clause-kept g t c =
     keeps_trans c.in_ok-write_size-in-Some.ensures.kept c.write_elements.ensures.kept
 
 -- ---- replies
@@ -85,24 +85,24 @@ pub write_nested-returns-then-is_of-clause-refused :
 write_nested-returns-then-is_of-clause-refused g t c =
     refused_foreign c.args.level c.if-is_of.ensures
 
-pub write_nested-write_aggregate-in-Map-requires :
-    goal.write_nested-write_aggregate-in-Map-requires
-write_nested-write_aggregate-in-Map-requires g t c =
+pub write_nested-write_list-in-Map-requires :
+    goal.write_nested-write_list-in-Map-requires
+write_nested-write_list-in-Map-requires g t c =
     record { within = aggregate_within Percent _ c.in-Map.is c.if-is_of.ensures }
 
-pub write_nested-write_aggregate-in-Set-requires :
-    goal.write_nested-write_aggregate-in-Set-requires
-write_nested-write_aggregate-in-Set-requires g t c =
+pub write_nested-write_list-in-Set-requires :
+    goal.write_nested-write_list-in-Set-requires
+write_nested-write_list-in-Set-requires g t c =
     record { within = aggregate_within Tilde _ c.in-Set.is c.if-is_of.ensures }
 
-pub write_nested-write_aggregate-in-Push-requires :
-    goal.write_nested-write_aggregate-in-Push-requires
-write_nested-write_aggregate-in-Push-requires g t c =
+pub write_nested-write_list-in-Push-requires :
+    goal.write_nested-write_list-in-Push-requires
+write_nested-write_list-in-Push-requires g t c =
     record { within = aggregate_within Greater _ c.in-Push.is c.if-is_of.ensures }
 
-pub write_nested-write_aggregate-in-Attributed-requires :
-    goal.write_nested-write_aggregate-in-Attributed-requires
-write_nested-write_aggregate-in-Attributed-requires g t c =
+pub write_nested-write_list-in-Attributed-requires :
+    goal.write_nested-write_list-in-Attributed-requires
+write_nested-write_list-in-Attributed-requires g t c =
     record { within = aggregate_within Bar _ c.in-Attributed.is c.if-is_of.ensures }
 
 pub write_nested-returns-in-Simple-clause-written :
@@ -168,63 +168,63 @@ write_nested-returns-in-Verbatim-clause-refused g t c =
 pub write_nested-returns-in-Array-clause-written :
     goal.write_nested-returns-in-Array-clause-written
 write_nested-returns-in-Array-clause-written g t c =
-    on_ok_weaker c.write_aggregate.result (put_as c.args.level c.in-Array.is)
-    c.write_aggregate.ensures.written
+    on_ok_weaker c.write_list.result (put_as c.args.level c.in-Array.is)
+    c.write_list.ensures.written
 
 pub write_nested-returns-in-Array-clause-refused :
     goal.write_nested-returns-in-Array-clause-refused
 write_nested-returns-in-Array-clause-refused g t c =
-    IfErr-weaker c.write_aggregate.result _ _ (refused_form c.args.level c.in-Array.is)
-    c.write_aggregate.ensures.refused
+    IfErr-weaker c.write_list.result _ _ (refused_form c.args.level c.in-Array.is)
+    c.write_list.ensures.refused
 
 pub write_nested-returns-in-Map-clause-written :
     goal.write_nested-returns-in-Map-clause-written
 write_nested-returns-in-Map-clause-written g t c =
-    on_ok_weaker c.write_aggregate-in-Map.result (put_as c.args.level c.in-Map.is)
-    c.write_aggregate-in-Map.ensures.written
+    on_ok_weaker c.write_list-in-Map.result (put_as c.args.level c.in-Map.is)
+    c.write_list-in-Map.ensures.written
 
 pub write_nested-returns-in-Map-clause-refused :
     goal.write_nested-returns-in-Map-clause-refused
 write_nested-returns-in-Map-clause-refused g t c =
-    IfErr-weaker c.write_aggregate-in-Map.result _ _ (refused_form c.args.level c.in-Map.is)
-    c.write_aggregate-in-Map.ensures.refused
+    IfErr-weaker c.write_list-in-Map.result _ _ (refused_form c.args.level c.in-Map.is)
+    c.write_list-in-Map.ensures.refused
 
 pub write_nested-returns-in-Set-clause-written :
     goal.write_nested-returns-in-Set-clause-written
 write_nested-returns-in-Set-clause-written g t c =
-    on_ok_weaker c.write_aggregate-in-Set.result (put_as c.args.level c.in-Set.is)
-    c.write_aggregate-in-Set.ensures.written
+    on_ok_weaker c.write_list-in-Set.result (put_as c.args.level c.in-Set.is)
+    c.write_list-in-Set.ensures.written
 
 pub write_nested-returns-in-Set-clause-refused :
     goal.write_nested-returns-in-Set-clause-refused
 write_nested-returns-in-Set-clause-refused g t c =
-    IfErr-weaker c.write_aggregate-in-Set.result _ _ (refused_form c.args.level c.in-Set.is)
-    c.write_aggregate-in-Set.ensures.refused
+    IfErr-weaker c.write_list-in-Set.result _ _ (refused_form c.args.level c.in-Set.is)
+    c.write_list-in-Set.ensures.refused
 
 pub write_nested-returns-in-Push-clause-written :
     goal.write_nested-returns-in-Push-clause-written
 write_nested-returns-in-Push-clause-written g t c =
-    on_ok_weaker c.write_aggregate-in-Push.result (put_as c.args.level c.in-Push.is)
-    c.write_aggregate-in-Push.ensures.written
+    on_ok_weaker c.write_list-in-Push.result (put_as c.args.level c.in-Push.is)
+    c.write_list-in-Push.ensures.written
 
 pub write_nested-returns-in-Push-clause-refused :
     goal.write_nested-returns-in-Push-clause-refused
 write_nested-returns-in-Push-clause-refused g t c =
-    IfErr-weaker c.write_aggregate-in-Push.result _ _ (refused_form c.args.level c.in-Push.is)
-    c.write_aggregate-in-Push.ensures.refused
+    IfErr-weaker c.write_list-in-Push.result _ _ (refused_form c.args.level c.in-Push.is)
+    c.write_list-in-Push.ensures.refused
 
 pub write_nested-returns-in-Attributed-clause-written :
     goal.write_nested-returns-in-Attributed-clause-written
 write_nested-returns-in-Attributed-clause-written g t c =
-    on_ok_weaker c.write_aggregate-in-Attributed.result (put_as c.args.level c.in-Attributed.is)
-    c.write_aggregate-in-Attributed.ensures.written
+    on_ok_weaker c.write_list-in-Attributed.result (put_as c.args.level c.in-Attributed.is)
+    c.write_list-in-Attributed.ensures.written
 
 pub write_nested-returns-in-Attributed-clause-refused :
     goal.write_nested-returns-in-Attributed-clause-refused
 write_nested-returns-in-Attributed-clause-refused g t c =
-    IfErr-weaker c.write_aggregate-in-Attributed.result _ _
+    IfErr-weaker c.write_list-in-Attributed.result _ _
     (refused_form c.args.level c.in-Attributed.is)
-    c.write_aggregate-in-Attributed.ensures.refused
+    c.write_list-in-Attributed.ensures.refused
 
 pub write_nested-returns-in_ok-write_integer-in-Integer-clause-written :
     goal.write_nested-returns-in_ok-write_integer-in-Integer-clause-written

@@ -11,8 +11,8 @@ decreases-write_elements g l = 3 * l.level + 3
 abbrev pub decreases-write_nested : goal.decreases-write_nested
 decreases-write_nested g l = 3 * l.level + 2
 
-abbrev pub decreases-write_aggregate : goal.decreases-write_aggregate
-decreases-write_aggregate g l = 3 * l.level + 1
+abbrev pub decreases-write_list : goal.decreases-write_list
+decreases-write_list g l = 3 * l.level + 1
 
 -- what ends the replies from here ends them from the first on
 abbrev pub invariant-write_elements-loop-reply : goal.invariant-write_elements-loop-reply
