@@ -1,9 +1,51 @@
-"""The programs that `scripts/resp_beside_redis` runs, over `format_resp` and over `format_resp3`."""
+"""The programs that `scripts/resp_beside_redis` runs over `format_resp`, one for each version."""
 
 # What stands after each reply.
 NEXT = b"+NEXT\r\n"
 
 PARTS = """\
+//! Says of each reply on standard input, which stands behind its length, what is read of it.
+#![tactic(auto)]
+
+use format_resp::extent::Extent;
+use format_resp::read::{SAFE_LEVEL, read_reply};
+use format_resp::reply::{Protocol, Reply, split_verbatim};
+use format_resp::write::write_reply;
+use std::alloc::{Allocator, Global};
+use std::io::{self, BufWriter, Read, Write};
+use winnow::error::ErrMode;
+use winnow::stream::Partial;
+
+fn say_reply<'i, A: Allocator, W: Write>(
+    output: &mut W,
+    reply: &Reply<&'i [u8], A>,
+) -> io::Result<()> {
+    match reply {
+        Reply::Simple(text) => say_bytes(output, "+", text),
+        Reply::Error(text) => say_bytes(output, "-", text),
+        Reply::Integer(number) => write!(output, ":{} ", *number),
+        Reply::Null => write!(output, "_ "),
+        Reply::Boolean(boolean) => write!(output, "#{} ", *boolean),
+        Reply::Double(text) => say_bytes(output, ",", text),
+        Reply::BigNumber(text) => say_bytes(output, "(", text),
+        Reply::Bulk(bytes) => say_bytes(output, "$", bytes),
+        Reply::NullBulk => write!(output, "$-1 "),
+        Reply::BulkError(bytes) => say_bytes(output, "!", bytes),
+        Reply::Verbatim(bytes) => match split_verbatim(bytes) {
+            Some((format, text)) => {
+                say_bytes(output, "=", format)?;
+                say_bytes(output, "=", text)
+            }
+            None => write!(output, "=? "),
+        },
+        Reply::Array(list) => say_list(output, "*", list),
+        Reply::NullArray => write!(output, "*-1 "),
+        Reply::Map(list) => say_list(output, "%", list),
+        Reply::Set(list) => say_list(output, "~", list),
+        Reply::Push(list) => say_list(output, ">", list),
+        Reply::Attributed(list) => say_list(output, "|", list),
+    }
+}
 
 /// Writes how many bytes there are, and a sum in which each counts by its place.
 fn say_bytes<W: Write>(output: &mut W, mark: &str, bytes: &[u8]) -> io::Result<()> {
@@ -34,7 +76,7 @@ fn say_written<W: Write>(
     bytes: &[u8],
 ) -> io::Result<()> {
     let mut written = Vec::new(alloc);
-    match write_reply(SAFE_LEVEL, reply, &mut written) {
+    match write_reply(PROTOCOL, SAFE_LEVEL, reply, &mut written) {
         Ok(()) => write!(output, "written {} ", written.as_slice() == bytes),
         Err(_) => write!(output, "unwritten "),
     }
@@ -42,7 +84,7 @@ fn say_written<W: Write>(
 
 fn say_whole<W: Write>(alloc: Global, output: &mut W, bytes: &[u8]) -> io::Result<()> {
     let mut input = Partial::new(bytes);
-    match read_reply(alloc, SAFE_LEVEL, &mut input) {
+    match read_reply(alloc, PROTOCOL, SAFE_LEVEL, &mut input) {
         Ok(reply) => {
             say_reply(output, &reply)?;
             let left = input.as_inner().len();
@@ -79,32 +121,7 @@ fn main(rt: HostRuntime) -> io::Result<()> {
 }
 """.replace("NEXT", str(len(NEXT)))
 
-SECOND = """\
-//! Says of each reply on standard input, which stands behind its length, what is read of it.
-#![tactic(auto)]
-
-use format_resp::extent::Extent;
-use format_resp::read::{SAFE_LEVEL, read_reply};
-use format_resp::reply::Reply;
-use format_resp::write::write_reply;
-use std::alloc::{Allocator, Global};
-use std::io::{self, BufWriter, Read, Write};
-use winnow::stream::Partial;
-
-fn say_reply<'i, A: Allocator, W: Write>(
-    output: &mut W,
-    reply: &Reply<&'i [u8], A>,
-) -> io::Result<()> {
-    match reply {
-        Reply::Simple(text) => say_bytes(output, "+", text),
-        Reply::Error(text) => say_bytes(output, "-", text),
-        Reply::Integer(number) => write!(output, ":{} ", *number),
-        Reply::Bulk(bytes) => say_bytes(output, "$", bytes),
-        Reply::NullBulk => write!(output, "$-1 "),
-        Reply::NullArray => write!(output, "*-1 "),
-        Reply::Array(list) => say_list(output, "*", list),
-    }
-}
+SECOND = (PARTS + """\
 
 /// Writes of how many pieces of the reply one is read, and where the end of it is found.
 fn say_cut<W: Write>(
@@ -119,7 +136,7 @@ fn say_cut<W: Write>(
     let mut at = 0;
     while at < size {
         let piece = &bytes[..at];
-        if read_reply(alloc, SAFE_LEVEL, &mut Partial::new(piece)).is_ok() {
+        if read_reply(alloc, PROTOCOL, SAFE_LEVEL, &mut Partial::new(piece)).is_ok() {
             read += 1;
         }
         match extent.advance(piece) {
@@ -134,47 +151,9 @@ fn say_cut<W: Write>(
         Err(_) => writeln!(output, "answered {} refused", read),
     }
 }
-""" + PARTS
+""").replace("PROTOCOL", "Protocol::Resp2")
 
-THIRD = """\
-//! Says of each reply on standard input, which stands behind its length, what is read of it.
-#![tactic(auto)]
-
-use format_resp3::read::{SAFE_LEVEL, read_reply};
-use format_resp3::reply::Reply;
-use format_resp3::write::write_reply;
-use std::alloc::{Allocator, Global};
-use std::io::{self, BufWriter, Read, Write};
-use winnow::error::ErrMode;
-use winnow::stream::Partial;
-
-fn say_reply<'i, A: Allocator, W: Write>(
-    output: &mut W,
-    reply: &Reply<&'i [u8], A>,
-) -> io::Result<()> {
-    match reply {
-        Reply::Simple(text) => say_bytes(output, "+", text),
-        Reply::Error(text) => say_bytes(output, "-", text),
-        Reply::Integer(number) => write!(output, ":{} ", *number),
-        Reply::Null => write!(output, "_ "),
-        Reply::Boolean(boolean) => write!(output, "#{} ", *boolean),
-        Reply::Double(text) => say_bytes(output, ",", text),
-        Reply::BigNumber(text) => say_bytes(output, "(", text),
-        Reply::Bulk(bytes) => say_bytes(output, "$", bytes),
-        Reply::NullBulk => write!(output, "$-1 "),
-        Reply::BulkError(bytes) => say_bytes(output, "!", bytes),
-        Reply::Verbatim(format, text) => {
-            say_bytes(output, "=", format)?;
-            say_bytes(output, "=", text)
-        }
-        Reply::Array(list) => say_list(output, "*", list),
-        Reply::NullArray => write!(output, "*-1 "),
-        Reply::Map(list) => say_list(output, "%", list),
-        Reply::Set(list) => say_list(output, "~", list),
-        Reply::Push(list) => say_list(output, ">", list),
-        Reply::Attributed(list) => say_list(output, "|", list),
-    }
-}
+THIRD = (PARTS + """\
 
 /// Writes of how many pieces of the reply anything is answered but that more is wanted.
 fn say_cut<W: Write>(
@@ -187,7 +166,7 @@ fn say_cut<W: Write>(
     let mut answered = 0;
     let mut at = 0;
     while at < size {
-        match read_reply(alloc, SAFE_LEVEL, &mut Partial::new(&bytes[..at])) {
+        match read_reply(alloc, PROTOCOL, SAFE_LEVEL, &mut Partial::new(&bytes[..at])) {
             Err(ErrMode::Incomplete(_)) => {}
             _ => answered += 1,
         }
@@ -195,4 +174,4 @@ fn say_cut<W: Write>(
     }
     writeln!(output, "answered {}", answered)
 }
-""" + PARTS
+""").replace("PROTOCOL", "Protocol::Resp3")
