@@ -8,7 +8,7 @@ use Rattle.winnow.specs.Equal.{same_first}
 use Rattle.winnow.specs.InTurn.{First, Led}
 use Rattle.winnow.specs.Texts.{Text}
 use Rattle.format_resp.proofs.Integers.{one_number, size_splits}
-use Rattle.format_resp.proofs.Read.{one_line}
+use Rattle.format_resp.proofs.ReadParts.{one_line}
 use Rattle.format_resp.proofs.Rows.{Pairs, led_parts, rows_alike, same_bytes}
 use Rattle.format_resp.proofs.Bodies.{reply_unique}
 use Rattle.format_resp.proofs.FirstBytes.{mark_splits}

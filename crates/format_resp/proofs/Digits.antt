@@ -9,6 +9,7 @@ use Rattle.std.specs.List.{AllByRecursion}
 use Rattle.std.proofs.Common.{refl, sym, ap, subst, inl, inr, ◌∙◌, arith, take, get_or}
 use Rattle.std.proofs.Common.{length-append}
 use Rattle.std.proofs.Math.Seq.{take-length}
+use Rattle.std.proofs.lemmas.Bool.{cases_lt}
 use Rattle.std.proofs.lemmas.Bool.Decides.{nat_tests}
 use Rattle.std.proofs.lemmas.Int.Digits.{digits_value_more}
 use Rattle.std.proofs.lemmas.Str.Parse.{digits_value-take-le}
@@ -53,7 +54,7 @@ pub digits_none : (digits : List ℕ) (r : Option ℕ)
 digits_none digits (Some n) fits e m a = absurd cc
 digits_none digits None large e m (are, is) =
     let P : ℕ → Type 0 = λ k. (k < 2 ^ 64) → ⊥ in
-    let not : m < 2 ^ 64 → ⊥ = subst P is large in grind (arith, not)
+    elim (cases_lt m (2 ^ 64)) [ | inl small ↦ absurd (subst P is large small) | inr most ↦ most ]
 
 -- ---- what signs stand before
 

@@ -11,7 +11,7 @@ use Rattle.format_resp.proofs.Deeper.{deeper, list_for, row_as}
 use Rattle.format_resp.proofs.FirstBytes.{not_resp3}
 use Rattle.format_resp.proofs.FirstLines.{head_splits}
 use Rattle.format_resp.proofs.Integers.{size_small}
-use Rattle.format_resp.proofs.Read.{data_unique}
+use Rattle.format_resp.proofs.ReadParts.{data_unique}
 use Rattle.format_resp.specs.Extents.{AreDue, AreReplies, IsReply, Stands, count_after}
 use Rattle.format_resp.specs.Extents.{data_after}
 use Rattle.format_resp.specs.Heads.{HeadText, Says, array_head, bulk_head}
@@ -140,9 +140,9 @@ array_back (Some n) us xs s many =
     (suc level, made.Array list, (list, refl, subst P (sym same) (count, row)))
 
 -- nothing is after the line
-flat : {head : Head} {us vs line : List ℕ} → head ≡ heads.Ends → Behind head vs
+flat : {head : Head} (us vs line : List ℕ) → head ≡ heads.Ends → Behind head vs
     → us ≡ line ++ line_end → us ++ vs ≡ line ++ line_end
-flat {head} {us} {vs} is behind e =
+flat {head} us vs line is behind e =
     let P : Head → Type 0 = λ h. Behind h vs in
     ap (λ l. us ++ l) (subst P is behind) ∙ append-nil us ∙ e
 
@@ -152,12 +152,12 @@ body_back : (mark : Mark) (head : Head) (us vs : List ℕ) → Ended (Says mark)
 unfolding Led Ended SizeText Shown
 body_back (Line Plus) head us vs (line, (is, all), e) behind =
     let (slice, shown) = slice_for line in
-    (0, made.Simple slice, (line, (slice, refl, (all, shown)), flat is behind e))
+    (0, made.Simple slice, (line, (slice, refl, (all, shown)), flat us vs line is behind e))
 body_back (Line Minus) head us vs (line, (is, all), e) behind =
     let (slice, shown) = slice_for line in
-    (0, made.Error slice, (line, (slice, refl, (all, shown)), flat is behind e))
+    (0, made.Error slice, (line, (slice, refl, (all, shown)), flat us vs line is behind e))
 body_back (Line Colon) head us vs (line, (is, (n, a)), e) behind =
-    (0, made.Integer n, (line, (n, refl, a), flat is behind e))
+    (0, made.Integer n, (line, (n, refl, a), flat us vs line is behind e))
 body_back (Data Dollar) head us vs (line, (size, is, a), e) behind =
     let P : Head → Type 0 = λ h. Behind h vs in
     let (reply, b) = bulk_back size vs (subst P is behind) in

@@ -11,7 +11,7 @@ use Rattle.winnow.specs.InTurn.{Failed, First, Splits, Stood, failed_as, stood_a
 use Rattle.winnow.specs.Input.{Input}
 use Rattle.winnow.specs.Kind.{Kind, backtrack}
 use Rattle.winnow.specs.Texts.{Members, Text}
-use Rattle.format_resp.proofs.Read.{one_line}
+use Rattle.format_resp.proofs.ReadParts.{one_line}
 use Rattle.format_resp.specs.Resp.{Ended, InLine, LineText}
 
 -- Texts in which no byte is of a line end.

@@ -139,16 +139,16 @@ module _ {A : Type 0} (level : ℕ) (input rest : List ℕ) where
       bulk_stands reply size front us vs ss bs m s b e f g
   parts_stand reply (front, (Aggregate Star, us, vs, (in2, m), (size, ss, bs, s, b, e), f), g) =
       array_stands reply size front us vs ss bs m s b e f g
-  parts_stand reply (front, (Line Underscore, us, vs, (in2, m), x), g) = not_resp3 in2
-  parts_stand reply (front, (Line Hash, us, vs, (in2, m), x), g) = not_resp3 in2
-  parts_stand reply (front, (Line Comma, us, vs, (in2, m), x), g) = not_resp3 in2
-  parts_stand reply (front, (Line Parenthesis, us, vs, (in2, m), x), g) = not_resp3 in2
-  parts_stand reply (front, (Data Exclamation, us, vs, (in2, m), x), g) = not_resp3 in2
-  parts_stand reply (front, (Data Equals, us, vs, (in2, m), x), g) = not_resp3 in2
-  parts_stand reply (front, (Aggregate Percent, us, vs, (in2, m), x), g) = not_resp3 in2
-  parts_stand reply (front, (Aggregate Tilde, us, vs, (in2, m), x), g) = not_resp3 in2
-  parts_stand reply (front, (Aggregate Greater, us, vs, (in2, m), x), g) = not_resp3 in2
-  parts_stand reply (front, (Aggregate Bar, us, vs, (in2, m), x), g) = not_resp3 in2
+  parts_stand reply (front, (Line Underscore, us, vs, (in2, m), x, f), g) = not_resp3 in2
+  parts_stand reply (front, (Line Hash, us, vs, (in2, m), x, f), g) = not_resp3 in2
+  parts_stand reply (front, (Line Comma, us, vs, (in2, m), x, f), g) = not_resp3 in2
+  parts_stand reply (front, (Line Parenthesis, us, vs, (in2, m), x, f), g) = not_resp3 in2
+  parts_stand reply (front, (Data Exclamation, us, vs, (in2, m), x, f), g) = not_resp3 in2
+  parts_stand reply (front, (Data Equals, us, vs, (in2, m), x, f), g) = not_resp3 in2
+  parts_stand reply (front, (Aggregate Percent, us, vs, (in2, m), x, f), g) = not_resp3 in2
+  parts_stand reply (front, (Aggregate Tilde, us, vs, (in2, m), x, f), g) = not_resp3 in2
+  parts_stand reply (front, (Aggregate Greater, us, vs, (in2, m), x, f), g) = not_resp3 in2
+  parts_stand reply (front, (Aggregate Bar, us, vs, (in2, m), x, f), g) = not_resp3 in2
 
 -- what stands, where it is known what the reply is
 pub stands_as : {A : Type 0} (level : ℕ) (input rest : List ℕ) (reply : Replies A)
@@ -195,23 +195,23 @@ module _ {A : Type 0} where
   made_of_resp2 level input rest reply
       (front, (Aggregate Star, us, vs, m, (size, ss, bs, s, b, e), f), g) =
       made_of_list (Elements Resp2 level) size reply bs b
-  made_of_resp2 level input rest reply (front, (Line Underscore, us, vs, (in2, m), x), g) =
+  made_of_resp2 level input rest reply (front, (Line Underscore, us, vs, (in2, m), x, f), g) =
       not_resp3 in2
-  made_of_resp2 level input rest reply (front, (Line Hash, us, vs, (in2, m), x), g) =
+  made_of_resp2 level input rest reply (front, (Line Hash, us, vs, (in2, m), x, f), g) =
       not_resp3 in2
-  made_of_resp2 level input rest reply (front, (Line Comma, us, vs, (in2, m), x), g) =
+  made_of_resp2 level input rest reply (front, (Line Comma, us, vs, (in2, m), x, f), g) =
       not_resp3 in2
-  made_of_resp2 level input rest reply (front, (Line Parenthesis, us, vs, (in2, m), x), g) =
+  made_of_resp2 level input rest reply (front, (Line Parenthesis, us, vs, (in2, m), x, f), g) =
       not_resp3 in2
-  made_of_resp2 level input rest reply (front, (Data Exclamation, us, vs, (in2, m), x), g) =
+  made_of_resp2 level input rest reply (front, (Data Exclamation, us, vs, (in2, m), x, f), g) =
       not_resp3 in2
-  made_of_resp2 level input rest reply (front, (Data Equals, us, vs, (in2, m), x), g) =
+  made_of_resp2 level input rest reply (front, (Data Equals, us, vs, (in2, m), x, f), g) =
       not_resp3 in2
-  made_of_resp2 level input rest reply (front, (Aggregate Percent, us, vs, (in2, m), x), g) =
+  made_of_resp2 level input rest reply (front, (Aggregate Percent, us, vs, (in2, m), x, f), g) =
       not_resp3 in2
-  made_of_resp2 level input rest reply (front, (Aggregate Tilde, us, vs, (in2, m), x), g) =
+  made_of_resp2 level input rest reply (front, (Aggregate Tilde, us, vs, (in2, m), x, f), g) =
       not_resp3 in2
-  made_of_resp2 level input rest reply (front, (Aggregate Greater, us, vs, (in2, m), x), g) =
+  made_of_resp2 level input rest reply (front, (Aggregate Greater, us, vs, (in2, m), x, f), g) =
       not_resp3 in2
-  made_of_resp2 level input rest reply (front, (Aggregate Bar, us, vs, (in2, m), x), g) =
+  made_of_resp2 level input rest reply (front, (Aggregate Bar, us, vs, (in2, m), x, f), g) =
       not_resp3 in2

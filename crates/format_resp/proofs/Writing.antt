@@ -8,7 +8,7 @@ use Rattle.std.specs.List.{AllByRecursion}
 use Rattle.std.specs.declared.vec.Vec.{Vec}
 use Rattle.std.proofs.Common.{refl, sym, ap, subst, inl, inr, ◌∙◌, arith}
 use Rattle.winnow.specs.Texts.{EachText}
-use Rattle.format_resp.proofs.Marks.{marked_aggregate}
+use Rattle.format_resp.proofs.FirstMarks.{marked_aggregate}
 use Rattle.format_resp.proofs.Putting.{adds, put_two}
 use Rattle.format_resp.proofs.Sayings.{shown_is}
 use Rattle.format_resp.proofs.WrittenTexts.{written_text}
@@ -35,7 +35,7 @@ use Rattle.format_resp.specs.declared.write.WriteError.TheVariants.{NoParts, Out
 
 -- ---- what is put
 
-module _ {A : Type 0} {protocol : Protocol} (level : ℕ) {reply : Replies A}
+module _ {A : Type 0} (protocol : Protocol) (level : ℕ) {reply : Replies A}
     (within : IsIn protocol (first_mark reply)) {before after : List ℕ} where
   line_put : (mark : LineMark) (line : List ℕ) → LineWritten mark reply line
       → after ≡ before ++ marked (byte_of (Line mark)) line
@@ -114,7 +114,7 @@ module _ {A : Type 0} {protocol : Protocol} (level : ℕ) {reply : Replies A}
   null_array_put is = adds (marked 42 (45 ∷ 49 ∷ [])) (within, inr (inr (inr (inr (is, refl)))))
 
 -- the size of an aggregate, and its elements
-pub aggregate_put : {A : Type 0} {protocol : Protocol} (mark : AggregateMark) (size below : ℕ) {level : ℕ}
+pub aggregate_put : {A : Type 0} (protocol : Protocol) (mark : AggregateMark) (size below : ℕ) {level : ℕ}
     (list : Vec (Replies A) A) {items : List (Replies A)} {byte : ℕ}
     {before between after : List ℕ} → IsIn protocol (Aggregate mark) → items ≡ list.items
     → length list.items ≡ many mark size → level ≡ below + 1 → byte ≡ byte_of (Aggregate mark)
@@ -122,7 +122,7 @@ pub aggregate_put : {A : Type 0} {protocol : Protocol} (mark : AggregateMark) (s
     → Adds (EachText (WrittenText protocol below)) items between after
     → Adds (WrittenText protocol level) (gathered mark list) before after
 unfolding WrittenElements
-aggregate_put {A} {protocol} mark size below {level} list {items} {byte} {before} {between}
+aggregate_put {A} protocol mark size below {level} list {items} {byte} {before} {between}
     {after} within same count is first e added =
     let P : ℕ → Type 0 = λ l. Adds (WrittenText protocol l) (gathered mark list) before after in
     let Q : List (Replies A) → Type 0 = λ l. EachText (WrittenText protocol below) l added.tokens in
@@ -140,17 +140,17 @@ aggregate_put {A} {protocol} mark size below {level} list {items} {byte} {before
     })
 
 -- an aggregate of a version of the protocol
-pub aggregate_within : {A : Type 0} {protocol : Protocol} (mark : AggregateMark)
+pub aggregate_within : {A : Type 0} (protocol : Protocol) (mark : AggregateMark)
     {reply : Replies A} (list : Vec (Replies A) A) → reply ≡ gathered mark list
     → IsIn protocol (first_mark reply) → IsIn protocol (Aggregate mark)
-aggregate_within {protocol = protocol} mark {reply} list is within =
+aggregate_within protocol mark {reply} list is within =
     subst (λ m. IsIn protocol m) (marked_aggregate mark reply list is) within
 
 -- what was put as another reply, which it is
-pub put_as : {A : Type 0} {protocol : Protocol} (level : ℕ) {reply form : Replies A} {before after : List ℕ}
+pub put_as : {A : Type 0} (protocol : Protocol) (level : ℕ) {reply form : Replies A} {before after : List ℕ}
     → reply ≡ form → Adds (WrittenText protocol level) form before after
     → Adds (WrittenText protocol level) reply before after
-put_as {A} {protocol} level {before = before} {after = after} is added =
+put_as {A} protocol level {before = before} {after = after} is added =
     let P : Replies A → Type 0 = λ r. Adds (WrittenText protocol level) r before after in
     subst P (sym is) added
 
@@ -165,7 +165,7 @@ adds_text protocol level {reply} added = record {
 
 -- ---- what is not written
 
-module _ {A : Type 0} {protocol : Protocol} where
+module _ {A : Type 0} where
   or_itself : (such : Replies A → Type 0) (level : ℕ) (reply : Replies A) → such reply
       → IsOrHas such level reply
   unfolding IsOrHas
@@ -178,6 +178,7 @@ module _ {A : Type 0} {protocol : Protocol} where
   unfolding IsOrHas
   or_within such below mark list element among is = inr (mark, list, refl, element, among, is)
 
+module _ {A : Type 0} (protocol : Protocol) where
   -- an error that says so
   as_error : (level : ℕ) (reply : Replies A) (error : WriteError) (P : Type 0)
       → ((P → ⊥) → IsRefused protocol level reply error) → (e : WriteError) → IsRefusedAs error P e

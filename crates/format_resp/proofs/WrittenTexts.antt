@@ -10,8 +10,8 @@ use Rattle.winnow.specs.InTurn.{Led}
 use Rattle.winnow.specs.Texts.{CountedText, Text}
 use Rattle.format_resp.proofs.Deeper.{row_as}
 use Rattle.format_resp.proofs.Integers.{null_text, signed_text, size_text}
-use Rattle.format_resp.proofs.Marks.{marked_aggregate, marked_data, marked_line, marked_null_array}
-use Rattle.format_resp.proofs.Marks.{marked_null_bulk}
+use Rattle.format_resp.proofs.FirstMarks.{marked_aggregate, marked_data, marked_line, marked_null_array}
+use Rattle.format_resp.proofs.FirstMarks.{marked_null_bulk}
 use Rattle.format_resp.specs.Numbers.{SignedText}
 use Rattle.format_resp.specs.Resp.{Body, DataBehind, DataSays, DataText, Elements, Ended, IsIn}
 use Rattle.format_resp.specs.Resp.{LineSays, MarkText, Replies, ReplyText, byte_of, gathered}

@@ -2,7 +2,7 @@
 ghost use Rattle.format_resp.specs.Heads.{IsLessStart, IsStart, Says};
 ghost use Rattle.format_resp.specs.Resp.{InLine};
 ghost use Rattle.format_resp.specs.declared.heads.Head.{Head};
-ghost use Rattle.format_resp.specs.declared.marks.Mark.TheVariants.{Aggregate, Data, Line};
+ghost use Rattle.format_resp.specs.declared.marks.Mark.TheVariants as marks;
 ghost use Rattle.std.specs.List.{AllByRecursion};
 ghost use Rattle.std.specs.Prelude.{◌≡◌, None, IfSome, drop, length, take};
 
@@ -34,8 +34,8 @@ pub(crate) enum Start<'i> {
 /// What a line says after the mark of a reply that is one.
 fn line_head(mark: LineMark, line: &[u8]) -> Option<Head>
     ensures some { IfSome result (λ head. AllByRecursion InLine line.now
-        → Says (Line mark) head line.now) }
-    ensures none { result ≡ None → (head : Head) → Says (Line mark) head line.now → ⊥ }
+        → Says (marks.Line mark) head line.now) }
+    ensures none { result ≡ None → (head : Head) → Says (marks.Line mark) head line.now → ⊥ }
 {
     match mark {
         LineMark::Plus => Some(Head::Ends),
@@ -53,8 +53,8 @@ fn line_head(mark: LineMark, line: &[u8]) -> Option<Head>
 
 /// What a line says after the mark of a reply of so many bytes.
 fn data_head(mark: DataMark, line: &[u8]) -> Option<Head>
-    ensures some { IfSome result (λ head. Says (Data mark) head line.now) }
-    ensures none { result ≡ None → (head : Head) → Says (Data mark) head line.now → ⊥ }
+    ensures some { IfSome result (λ head. Says (marks.Data mark) head line.now) }
+    ensures none { result ≡ None → (head : Head) → Says (marks.Data mark) head line.now → ⊥ }
 {
     match mark {
         DataMark::Dollar => match size_line(line) {
@@ -69,8 +69,8 @@ fn data_head(mark: DataMark, line: &[u8]) -> Option<Head>
 
 /// What a line says after the mark of an aggregate.
 fn aggregate_head(mark: AggregateMark, line: &[u8]) -> Option<Head>
-    ensures some { IfSome result (λ head. Says (Aggregate mark) head line.now) }
-    ensures none { result ≡ None → (head : Head) → Says (Aggregate mark) head line.now → ⊥ }
+    ensures some { IfSome result (λ head. Says (marks.Aggregate mark) head line.now) }
+    ensures none { result ≡ None → (head : Head) → Says (marks.Aggregate mark) head line.now → ⊥ }
 {
     match mark {
         AggregateMark::Star => match size_line(line) {

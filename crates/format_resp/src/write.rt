@@ -335,8 +335,8 @@ fn write_parts<B: Allocator>(parts: &[&[u8]], into: &mut Vec<u8, B>) -> Result<(
 pub fn write_command<B: Allocator>(parts: &[&[u8]], into: &mut Vec<u8, B>) -> Result<(), WriteError>
     ensures written { OnOk result (into.new.items ≡ into.old.items ++ command_of parts.now) }
     ensures some { OnOk result (parts.now ≡ [] → ⊥) }
-    ensures refused { IfErr result (λ e. (e ≡ OutOfMemory)
-        ⊎ ((e ≡ NoParts) × (parts.now ≡ []))) }
+    ensures refused { IfErr result (λ e. (e ≡ errors.OutOfMemory)
+        ⊎ ((e ≡ errors.NoParts) × (parts.now ≡ []))) }
     ensures kept { OnErr result (into.new.items ≡ into.old.items) }
 {
     if parts.is_empty() {

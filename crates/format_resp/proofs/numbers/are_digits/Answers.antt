@@ -1,4 +1,4 @@
-use Rattle.format_resp.proofs.Leaves.{is_none, is_some}
+use Rattle.format_resp.proofs.LeafTexts.{is_none, is_some}
 use Rattle.format_resp.proofs.NumberTexts.{all_whole, digits_more, none_whole}
 use Rattle.format_resp.proofs.Told.{bool_on}
 use Rattle.format_resp.specs.Numbers.{AreDigits}

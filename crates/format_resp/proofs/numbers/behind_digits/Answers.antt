@@ -1,5 +1,5 @@
 use Rattle.std.proofs.Common.{refl, inl, inr}
-use Rattle.format_resp.proofs.Leaves.{not_wanting}
+use Rattle.format_resp.proofs.LeafTexts.{not_wanting}
 use Rattle.format_resp.proofs.NumberTexts.{digits_none, digits_there}
 use Rattle.format_resp.proofs.numbers.behind_digits.Goals as goal
 

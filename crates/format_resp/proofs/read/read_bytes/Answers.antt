@@ -2,7 +2,7 @@ use Rattle.std.proofs.Common.{refl}
 use Rattle.winnow.specs.InTurn.{failed, led_failed, led_none, led_stood, passed}
 use Rattle.winnow.specs.InTurn.{stood, told_err, told_ok}
 use Rattle.format_resp.proofs.Integers.{size_splits}
-use Rattle.format_resp.proofs.Read.{alone_stood}
+use Rattle.format_resp.proofs.ReadParts.{alone_stood}
 use Rattle.format_resp.proofs.Bodies.{data_failed, data_none, data_stood, no_null_data}
 use Rattle.format_resp.specs.Resp.{DataBehind, SizeText}
 use Rattle.format_resp.specs.declared.reply.Reply as made

@@ -12,9 +12,8 @@ use Rattle.winnow.specs.Reading.{Reading}
 use Rattle.winnow.specs.Growth.{grown}
 use Rattle.winnow.specs.Grammar.{IsUnique}
 use Rattle.winnow.specs.Grammar.Lengths.{same_beginnings}
-use Rattle.winnow.specs.Grammar.Unique.{unique_by}
 use Rattle.winnow.specs.InTurn.{First, Stood}
-use Rattle.winnow.specs.Texts.{CountedText, Text}
+use Rattle.winnow.specs.Texts.{CountedText}
 use Rattle.format_resp.specs.Resp.{DataText, Ended, InLine, line_end}
 
 -- where a value is made of nothing
@@ -24,22 +23,6 @@ unfolding First
 alone_stood {reading = reading} {i = i} value = record {
   ends = is_end_of_refl reading i;
   stands = λ more c. ([], (refl, refl), refl);
-}
-
--- what is made of what leaves one rest leaves one
-pub made_unique : {T O R : Type 0} (text : Text T O) (make : O → R) → IsUnique (First text)
-    → IsUnique (First (λ r xs. (o : O) × (r ≡ make o) × text o xs))
-unfolding First
-made_unique text make = unique_by (λ tokens r rest (front, (o, is, a), e). (o, (front, a, e)))
-
--- and nothing leaves what there is
-pub nothing_unique : {T R : Type 0} (value : R)
-    → IsUnique (First (λ r (xs : List T). (r ≡ value) × (xs ≡ [])))
-unfolding First
-nothing_unique value = record {
-  ends = λ tokens r rest (front, a, e). (front, e);
-  one = λ tokens r s rest other (xs, (is, empty), e) (ys, (are, none), d).
-      ap (λ l. l ++ rest) (sym empty) ∙ sym e ∙ d ∙ ap (λ l. l ++ other) none;
 }
 
 -- ---- lines and bytes
