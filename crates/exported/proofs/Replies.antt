@@ -1,6 +1,7 @@
 -- What stands in replies, and where.
 use Rattle.std.proofs.Common.{◌≡◌, ◌∙◌, ◌+◌, ◌-◌, ◌≤◌, ◌++◌, ◌∷◌, [], ℕ, List, Global, ap}
-use Rattle.std.proofs.Common.{append-nil, append_assoc, arith, inl, inr, length, length-append, pos, subst}
+use Rattle.std.proofs.Common.{append-nil, append_assoc, arith, inl, inr, length, length-append, pos}
+use Rattle.std.proofs.Common.{subst}
 use Rattle.std.proofs.Common.{sym, ℤ}
 use Rattle.std.specs.Borrow.{Bor}
 use Rattle.std.specs.declared.vec.Vec.{Vec}

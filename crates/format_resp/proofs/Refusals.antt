@@ -274,7 +274,8 @@ module _ {A : Type 0} (protocol : Protocol) where
       All-cons (HasText level) o os (xs, a) (row_has level os ys more)
 
   elements_have : (level : ℕ) (items : List (Replies A)) (tokens : List ℕ)
-      → Elements protocol level items tokens → (inner : ℕ) × (level ≡ suc inner) × All (HasText inner) items
+      → Elements protocol level items tokens
+          → (inner : ℕ) × (level ≡ suc inner) × All (HasText inner) items
   unfolding Elements
   elements_have zero items tokens never = absurd never
   elements_have (suc inner) items tokens row = (inner, refl, row_has inner items tokens row)
@@ -285,7 +286,8 @@ module _ {A : Type 0} (protocol : Protocol) where
       → (inner : ℕ) × (level ≡ suc inner) × All (HasText inner) list.items
   unfolding Led
   element_has level mark list reply is (tokens, (other, xs, ys, m, a, e)) =
-      let (zs, are) = body_has (Elements protocol level) other reply ys a (gathered_items mark list is) in
+      let (zs, are) =
+          body_has (Elements protocol level) other reply ys a (gathered_items mark list is) in
       elements_have level list.items zs are
 
   at : (P : Replies A → Type 0) (os : List (Replies A)) (o : Replies A) → All P os

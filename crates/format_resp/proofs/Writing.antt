@@ -56,7 +56,8 @@ module _ {A : Type 0} (protocol : Protocol) (level : ℕ) {reply : Replies A}
       (text, is, shown_is (AllByRecursion InLine) text all) e
 
   pub integer_put : {n : ℤ} → after ≡ before ++ marked 58 (signed_decimal n)
-      → reply ≡ made.Integer n → FitsSigned w64 n → Adds (WrittenText protocol level) reply before after
+      → reply ≡ made.Integer n → FitsSigned w64 n
+          → Adds (WrittenText protocol level) reply before after
   integer_put {n} e is fits = line_put Colon (signed_decimal n) (n, is, fits, refl) e
 
   pub null_put : reply ≡ made.Null → after ≡ before ++ marked 95 []
@@ -114,7 +115,8 @@ module _ {A : Type 0} (protocol : Protocol) (level : ℕ) {reply : Replies A}
   null_array_put is = adds (marked 42 (45 ∷ 49 ∷ [])) (within, inr (inr (inr (inr (is, refl)))))
 
 -- the size of an aggregate, and its elements
-pub aggregate_put : {A : Type 0} (protocol : Protocol) (mark : AggregateMark) (size below : ℕ) {level : ℕ}
+pub aggregate_put : {A : Type 0} (protocol : Protocol) (mark : AggregateMark) (size below : ℕ)
+    {level : ℕ}
     (list : Vec (Replies A) A) {items : List (Replies A)} {byte : ℕ}
     {before between after : List ℕ} → IsIn protocol (Aggregate mark) → items ≡ list.items
     → length list.items ≡ many mark size → level ≡ below + 1 → byte ≡ byte_of (Aggregate mark)
@@ -147,7 +149,8 @@ aggregate_within protocol mark {reply} list is within =
     subst (λ m. IsIn protocol m) (marked_aggregate mark reply list is) within
 
 -- what was put as another reply, which it is
-pub put_as : {A : Type 0} (protocol : Protocol) (level : ℕ) {reply form : Replies A} {before after : List ℕ}
+pub put_as : {A : Type 0} (protocol : Protocol) (level : ℕ) {reply form : Replies A}
+    {before after : List ℕ}
     → reply ≡ form → Adds (WrittenText protocol level) form before after
     → Adds (WrittenText protocol level) reply before after
 put_as {A} protocol level {before = before} {after = after} is added =
@@ -155,8 +158,10 @@ put_as {A} protocol level {before = before} {after = after} is added =
     subst P (sym is) added
 
 -- what is written for a reply is a text of it
-pub adds_text : {A : Type 0} (protocol : Protocol) (level : ℕ) {reply : Replies A} {before after : List ℕ}
-    → Adds (WrittenText protocol level) reply before after → Adds (ReplyText protocol level) reply before after
+pub adds_text : {A : Type 0} (protocol : Protocol) (level : ℕ) {reply : Replies A}
+    {before after : List ℕ}
+    → Adds (WrittenText protocol level) reply before after
+        → Adds (ReplyText protocol level) reply before after
 adds_text protocol level {reply} added = record {
   tokens = added.tokens;
   is = written_text protocol level reply added.tokens added.is;
@@ -186,7 +191,8 @@ module _ {A : Type 0} (protocol : Protocol) where
   as_error level reply error P why e (inl memory) =
       let R : WriteError → Type 0 = λ x. IsRefused protocol level reply x in subst R (sym memory) tt
   as_error level reply error P why e (inr (is, not)) =
-      let R : WriteError → Type 0 = λ x. IsRefused protocol level reply x in subst R (sym is) (why not)
+      let R : WriteError → Type 0 =
+          λ x. IsRefused protocol level reply x in subst R (sym is) (why not)
 
   module _ (level : ℕ) {reply : Replies A} where
     pub refused_simple : (text : Bor (List ℕ)) → reply ≡ made.Simple text → (e : WriteError)
@@ -246,7 +252,8 @@ module _ {A : Type 0} (protocol : Protocol) where
       subst P (sym is) (mark, list, refl)
 
   in_element : (below : ℕ) (mark : AggregateMark) (list : Vec (Replies A) A) (e : WriteError)
-      → IsRefusedAmong protocol below list.items e → IsRefused protocol (suc below) (gathered mark list) e
+      → IsRefusedAmong protocol below list.items e
+          → IsRefused protocol (suc below) (gathered mark list) e
   unfolding IsDeeper
   in_element below mark list e (inl memory) =
       let P : WriteError → Type 0 = λ x. IsRefused protocol (suc below) (gathered mark list) x in

@@ -10,7 +10,8 @@ use Rattle.winnow.specs.InTurn.{Led}
 use Rattle.winnow.specs.Texts.{CountedText, Text}
 use Rattle.format_resp.proofs.Deeper.{row_as}
 use Rattle.format_resp.proofs.Integers.{null_text, signed_text, size_text}
-use Rattle.format_resp.proofs.FirstMarks.{marked_aggregate, marked_data, marked_line, marked_null_array}
+use Rattle.format_resp.proofs.FirstMarks.{marked_aggregate, marked_data, marked_line}
+use Rattle.format_resp.proofs.FirstMarks.{marked_null_array}
 use Rattle.format_resp.proofs.FirstMarks.{marked_null_bulk}
 use Rattle.format_resp.specs.Numbers.{SignedText}
 use Rattle.format_resp.specs.Resp.{Body, DataBehind, DataSays, DataText, Elements, Ended, IsIn}
@@ -72,7 +73,8 @@ module _ {A : Type 0} (protocol : Protocol) (elements : Text ℕ (List (Replies 
   within_as mark is = subst (λ m. IsIn protocol m) is within
 
   line_text : (mark : LineMark) (line : List ℕ) → LineWritten mark reply line
-      → tokens ≡ marked (byte_of (Line mark)) line → Led (MarkText protocol) (Body elements) reply tokens
+      → tokens ≡ marked (byte_of (Line mark)) line
+          → Led (MarkText protocol) (Body elements) reply tokens
   unfolding Led MarkText Ended
   line_text mark line is e = (
     Line mark,

@@ -25,7 +25,8 @@ fn read_whole<'i, A: Allocator + Copy>(
 ) -> Result<(Reply<&'i [u8], A>, &'i [u8]), WriteError>
     requires stands { (reply : Replies A) × (rest : List ℕ)
         × First (ReplyText protocol level) bytes.now reply rest }
-    ensures reads { IfOk result (λ both. First (ReplyText protocol level) bytes.now both.0 both.1.now) }
+    ensures reads { IfOk result
+          (λ both. First (ReplyText protocol level) bytes.now both.0 both.1.now) }
     ensures memory { IfErr result (λ e. e ≡ OutOfMemory) }
 {
     let mut whole = Partial::new(bytes);
@@ -119,7 +120,8 @@ pub fn command_reads_back<'i, A: Allocator + Copy, B: Allocator>(
 /// ```
 pub fn what_is_written_reads_back<A: Allocator>()
     ensures { (protocol : Protocol) (level : ℕ) (written read : Replies A) (text more rest : List ℕ)
-        → ReplyText protocol level written text → First (ReplyText protocol level) (text ++ more) read rest
+        → ReplyText protocol level written text
+            → First (ReplyText protocol level) (text ++ more) read rest
         → AreAlike level written read × (rest ≡ more) }
 {}
 
@@ -135,7 +137,8 @@ pub fn what_is_written_reads_back<A: Allocator>()
 /// }
 /// ```
 pub fn what_is_refused_has_no_text<A: Allocator>()
-    ensures { (protocol : Protocol) (level above : ℕ) (reply : Replies A) (error : WriteError) (text : List ℕ)
+    ensures { (protocol : Protocol) (level above : ℕ) (reply : Replies A) (error : WriteError)
+        (text : List ℕ)
         → IsRefused protocol level reply error → ReplyText protocol above reply text
         → (error ≡ OutOfMemory) ⊎ ((error ≡ Level) × (level < above)) }
 {}

@@ -9,9 +9,10 @@ ghost use Rattle.winnow.specs.Bytes.{bytes_input, bytes_reading};
 ghost use Rattle.winnow.specs.Digits.{value_in};
 ghost use Rattle.winnow.specs.Exact.{IsSpared, Reads};
 ghost use Rattle.winnow.specs.Grammar.{Class};
-ghost use Rattle.format_resp.specs.Numbers.{AreDigits, DigitsText, IsBigNumber, IsDecimal, IsDouble};
+ghost use Rattle.format_resp.specs.Numbers.{AreDigits, DigitsText, IsBigNumber, IsDecimal};
+ghost use Rattle.format_resp.specs.Numbers.{IsDouble};
 ghost use Rattle.format_resp.specs.Numbers.{IsExponent, IsTail, Leaves, NoneStands, SignedText};
-ghost use Rattle.format_resp.specs.Numbers.{SignsOff, SizeLine, UnsignedText};
+ghost use Rattle.format_resp.specs.Numbers.{SignsOff, SizeLine, UnsignedText, signed};
 
 use winnow::Parser;
 use winnow::ascii::impls::Digit1;
@@ -84,13 +85,24 @@ fn digits_of(bytes: &[u8]) -> Option<u64>
     }
 }
 
+/// The number, or what is as far below 0.
+fn with_sign(negative: bool, number: u64) -> i128
+    ensures { result ≡ signed negative number }
+{
+    if negative {
+        -(number as i128)
+    } else {
+        number as i128
+    }
+}
+
 /// The integer of 64 bits that bytes are the digits of, with a minus sign before them or not.
 fn signed_of(negative: bool, bytes: &[u8]) -> Option<i64>
     ensures some { IfSome result (λ n. UnsignedText negative n bytes.now) }
     ensures none { result ≡ None → (n : ℤ) → UnsignedText negative n bytes.now → ⊥ }
 {
-    let digits = digits_of(bytes)? as i128;
-    match i64::try_from(if negative { -digits } else { digits }) {
+    let digits = digits_of(bytes)?;
+    match i64::try_from(with_sign(negative, digits)) {
         Ok(number) => Some(number),
         Err(_) => None,
     }
@@ -221,7 +233,8 @@ fn is_decimal(bytes: &[u8]) -> bool
 }
 
 /// Whether the bytes, all of them, are the text of a double of RESP3: `inf`, `-inf`, `nan`, `-nan`,
-/// which servers send too, or digits with a sign before them or none, and after them a point and digits or none, and then the
+/// which servers send too, or digits with a sign before them or none, and after them a point and
+/// digits or none, and then the
 /// letter E and digits, with a sign before these or none, or no exponent.
 ///
 /// ```

@@ -5,7 +5,8 @@ ghost use Rattle.winnow.specs.Texts.{EachText};
 ghost use Rattle.format_resp.specs.Numbers.{IsBigNumber, IsDouble};
 ghost use Rattle.format_resp.specs.Resp.{BooleanText, InLine, IsIn, IsVerbatim, ReplyText};
 ghost use Rattle.format_resp.specs.Resp.{gathered};
-ghost use Rattle.format_resp.specs.Written.{Adds, IsForeign, IsRefused, IsRefusedAmong, IsRefusedAs};
+ghost use Rattle.format_resp.specs.Written.{Adds, IsForeign, IsRefused, IsRefusedAmong};
+ghost use Rattle.format_resp.specs.Written.{IsRefusedAs};
 ghost use Rattle.format_resp.specs.Written.{Keeps, WrittenText, bulks_of, command_of, data_of};
 ghost use Rattle.format_resp.specs.Written.{first_mark, marked};
 ghost use Rattle.format_resp.specs.declared.marks.Mark.TheVariants.{Aggregate};
@@ -166,7 +167,8 @@ fn write_elements<A: Allocator, B: Allocator>(
     replies: &[Reply<&[u8], A>],
     into: &mut Vec<u8, B>,
 ) -> Result<(), WriteError>
-    ensures written { OnOk result (Adds (EachText (WrittenText protocol level)) replies.now into.old.items
+    ensures written { OnOk result
+          (Adds (EachText (WrittenText protocol level)) replies.now into.old.items
         into.new.items) }
     ensures refused { IfErr result (IsRefusedAmong protocol level replies.now) }
     ensures kept { Keeps into.old.items into.new.items }
@@ -257,7 +259,8 @@ fn write_nested<A: Allocator, B: Allocator>(
 /// [`SAFE_LEVEL`](crate::read::SAFE_LEVEL) two megabytes of stack suffice.
 ///
 /// Of an error but `Level` and `OutOfMemory` a reply in it is the cause, as the error says, and no
-/// text of that version and of any level is one of it. `Level` says that more aggregates stand in one another, and
+/// text of that version and of any level is one of it. `Level` says that more aggregates stand in
+/// one another, and
 /// `OutOfMemory` that a request for memory was refused. Where several are so it may be any of them.
 /// With an error the buffer is as it was.
 ///
@@ -283,7 +286,8 @@ pub fn write_reply<A: Allocator, B: Allocator>(
 ) -> Result<(), WriteError>
     ensures written { OnOk result (Adds (WrittenText protocol level) reply.now into.old.items
         into.new.items) }
-    ensures text { OnOk result (Adds (ReplyText protocol level) reply.now into.old.items into.new.items) }
+    ensures text { OnOk result
+          (Adds (ReplyText protocol level) reply.now into.old.items into.new.items) }
     ensures refused { IfErr result (IsRefused protocol level reply.now) }
     ensures kept { OnErr result (into.new.items ≡ into.old.items) }
 {

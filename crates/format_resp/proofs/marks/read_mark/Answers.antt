@@ -15,5 +15,6 @@ returns-in-Some c =
 
 pub returns-in-None : goal.returns-in-None
 returns-in-None c =
-    told_err (no_mark c.args.protocol c.in_ok-byte.byte c.from_input.ensures (c.in-None.ensures.none refl)
+    told_err (no_mark c.args.protocol c.in_ok-byte.byte c.from_input.ensures
+            (c.in-None.ensures.none refl)
     (stood c.in_ok-byte.ensures))

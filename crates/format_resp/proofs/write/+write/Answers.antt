@@ -1,7 +1,8 @@
 use Rattle.std.proofs.Common.{◌-◌, ◌∙◌, arith, inr, refl, rules, sym}
 use Rattle.std.proofs.lemmas.Result.{IfErr-weaker, on_ok_weaker}
 use Rattle.format_resp.proofs.Putting.{among, if_error, keeps_trans, row_end, row_more}
-use Rattle.format_resp.proofs.Writing.{aggregate_put, aggregate_within, big_number_put, boolean_put, bulk_error_put}
+use Rattle.format_resp.proofs.Writing.{aggregate_put, aggregate_within, big_number_put, boolean_put}
+use Rattle.format_resp.proofs.Writing.{bulk_error_put}
 use Rattle.format_resp.proofs.Writing.{deep_aggregate, double_put, error_put, integer_put}
 use Rattle.format_resp.proofs.Writing.{null_put, put_as, refused_big_number, refused_count}
 use Rattle.format_resp.proofs.Writing.{refused_double, refused_error, refused_form, refused_simple}
@@ -108,61 +109,72 @@ write_nested-write_list-in-Attributed-requires g t c =
 pub write_nested-returns-in-Simple-clause-written :
     goal.write_nested-returns-in-Simple-clause-written
 write_nested-returns-in-Simple-clause-written g t c =
-    on_ok_weaker c.write_text.result (simple_put c.args.protocol c.args.level c.if-is_of.ensures _ c.in-Simple.is)
+    on_ok_weaker c.write_text.result
+          (simple_put c.args.protocol c.args.level c.if-is_of.ensures _ c.in-Simple.is)
     c.write_text.ensures.written
 
 pub write_nested-returns-in-Simple-clause-refused :
     goal.write_nested-returns-in-Simple-clause-refused
 write_nested-returns-in-Simple-clause-refused g t c =
-    IfErr-weaker c.write_text.result _ _ (refused_simple c.args.protocol c.args.level _ c.in-Simple.is)
+    IfErr-weaker c.write_text.result _ _
+          (refused_simple c.args.protocol c.args.level _ c.in-Simple.is)
     c.write_text.ensures.refused
 
 pub write_nested-returns-in-Error-clause-written :
     goal.write_nested-returns-in-Error-clause-written
 write_nested-returns-in-Error-clause-written g t c =
-    on_ok_weaker c.write_text-in-Error.result (error_put c.args.protocol c.args.level c.if-is_of.ensures _ c.in-Error.is)
+    on_ok_weaker c.write_text-in-Error.result
+          (error_put c.args.protocol c.args.level c.if-is_of.ensures _ c.in-Error.is)
     c.write_text-in-Error.ensures.written
 
 pub write_nested-returns-in-Error-clause-refused :
     goal.write_nested-returns-in-Error-clause-refused
 write_nested-returns-in-Error-clause-refused g t c =
-    IfErr-weaker c.write_text-in-Error.result _ _ (refused_error c.args.protocol c.args.level _ c.in-Error.is)
+    IfErr-weaker c.write_text-in-Error.result _ _
+          (refused_error c.args.protocol c.args.level _ c.in-Error.is)
     c.write_text-in-Error.ensures.refused
 
 pub write_nested-returns-in-Double-clause-written :
     goal.write_nested-returns-in-Double-clause-written
 write_nested-returns-in-Double-clause-written g t c =
-    on_ok_weaker c.write_double.result (double_put c.args.protocol c.args.level c.if-is_of.ensures _ c.in-Double.is)
+    on_ok_weaker c.write_double.result
+          (double_put c.args.protocol c.args.level c.if-is_of.ensures _ c.in-Double.is)
     c.write_double.ensures.written
 
 pub write_nested-returns-in-Double-clause-refused :
     goal.write_nested-returns-in-Double-clause-refused
 write_nested-returns-in-Double-clause-refused g t c =
-    IfErr-weaker c.write_double.result _ _ (refused_double c.args.protocol c.args.level _ c.in-Double.is)
+    IfErr-weaker c.write_double.result _ _
+          (refused_double c.args.protocol c.args.level _ c.in-Double.is)
     c.write_double.ensures.refused
 
 pub write_nested-returns-in-BigNumber-clause-written :
     goal.write_nested-returns-in-BigNumber-clause-written
 write_nested-returns-in-BigNumber-clause-written g t c =
-    on_ok_weaker c.write_big_number.result (big_number_put c.args.protocol c.args.level c.if-is_of.ensures _ c.in-BigNumber.is)
+    on_ok_weaker c.write_big_number.result
+          (big_number_put c.args.protocol c.args.level c.if-is_of.ensures _ c.in-BigNumber.is)
     c.write_big_number.ensures.written
 
 pub write_nested-returns-in-BigNumber-clause-refused :
     goal.write_nested-returns-in-BigNumber-clause-refused
 write_nested-returns-in-BigNumber-clause-refused g t c =
-    IfErr-weaker c.write_big_number.result _ _ (refused_big_number c.args.protocol c.args.level _ c.in-BigNumber.is)
+    IfErr-weaker c.write_big_number.result _ _
+          (refused_big_number c.args.protocol c.args.level _ c.in-BigNumber.is)
     c.write_big_number.ensures.refused
 
 pub write_nested-returns-in-Verbatim-clause-written :
     goal.write_nested-returns-in-Verbatim-clause-written
 write_nested-returns-in-Verbatim-clause-written g t c =
-    on_ok_weaker c.write_verbatim.result (verbatim_put c.args.protocol c.args.level c.if-is_of.ensures _ c.in-Verbatim.is (search rules))
+    on_ok_weaker c.write_verbatim.result
+          (verbatim_put c.args.protocol c.args.level c.if-is_of.ensures _ c.in-Verbatim.is
+            (search rules))
     c.write_verbatim.ensures.written
 
 pub write_nested-returns-in-Verbatim-clause-refused :
     goal.write_nested-returns-in-Verbatim-clause-refused
 write_nested-returns-in-Verbatim-clause-refused g t c =
-    IfErr-weaker c.write_verbatim.result _ _ (refused_verbatim c.args.protocol c.args.level _ c.in-Verbatim.is)
+    IfErr-weaker c.write_verbatim.result _ _
+          (refused_verbatim c.args.protocol c.args.level _ c.in-Verbatim.is)
     c.write_verbatim.ensures.refused
 
 pub write_nested-returns-in-Array-clause-written :
@@ -186,7 +198,8 @@ write_nested-returns-in-Map-clause-written g t c =
 pub write_nested-returns-in-Map-clause-refused :
     goal.write_nested-returns-in-Map-clause-refused
 write_nested-returns-in-Map-clause-refused g t c =
-    IfErr-weaker c.write_list-in-Map.result _ _ (refused_form c.args.protocol c.args.level c.in-Map.is)
+    IfErr-weaker c.write_list-in-Map.result _ _
+          (refused_form c.args.protocol c.args.level c.in-Map.is)
     c.write_list-in-Map.ensures.refused
 
 pub write_nested-returns-in-Set-clause-written :
@@ -198,7 +211,8 @@ write_nested-returns-in-Set-clause-written g t c =
 pub write_nested-returns-in-Set-clause-refused :
     goal.write_nested-returns-in-Set-clause-refused
 write_nested-returns-in-Set-clause-refused g t c =
-    IfErr-weaker c.write_list-in-Set.result _ _ (refused_form c.args.protocol c.args.level c.in-Set.is)
+    IfErr-weaker c.write_list-in-Set.result _ _
+          (refused_form c.args.protocol c.args.level c.in-Set.is)
     c.write_list-in-Set.ensures.refused
 
 pub write_nested-returns-in-Push-clause-written :
@@ -210,13 +224,15 @@ write_nested-returns-in-Push-clause-written g t c =
 pub write_nested-returns-in-Push-clause-refused :
     goal.write_nested-returns-in-Push-clause-refused
 write_nested-returns-in-Push-clause-refused g t c =
-    IfErr-weaker c.write_list-in-Push.result _ _ (refused_form c.args.protocol c.args.level c.in-Push.is)
+    IfErr-weaker c.write_list-in-Push.result _ _
+          (refused_form c.args.protocol c.args.level c.in-Push.is)
     c.write_list-in-Push.ensures.refused
 
 pub write_nested-returns-in-Attributed-clause-written :
     goal.write_nested-returns-in-Attributed-clause-written
 write_nested-returns-in-Attributed-clause-written g t c =
-    on_ok_weaker c.write_list-in-Attributed.result (put_as c.args.protocol c.args.level c.in-Attributed.is)
+    on_ok_weaker c.write_list-in-Attributed.result
+          (put_as c.args.protocol c.args.level c.in-Attributed.is)
     c.write_list-in-Attributed.ensures.written
 
 pub write_nested-returns-in-Attributed-clause-refused :
@@ -229,24 +245,28 @@ write_nested-returns-in-Attributed-clause-refused g t c =
 pub write_nested-returns-in_ok-write_integer-in-Integer-clause-written :
     goal.write_nested-returns-in_ok-write_integer-in-Integer-clause-written
 write_nested-returns-in_ok-write_integer-in-Integer-clause-written g t c =
-    integer_put c.args.protocol c.args.level c.if-is_of.ensures c.in_ok-write_integer-in-Integer.ensures.written
+    integer_put c.args.protocol c.args.level c.if-is_of.ensures
+          c.in_ok-write_integer-in-Integer.ensures.written
     (search (rules, c.in-Integer.is)) (search rules)
 
 pub write_nested-returns-in_ok-write_line-in-Null-clause-written :
     goal.write_nested-returns-in_ok-write_line-in-Null-clause-written
 write_nested-returns-in_ok-write_line-in-Null-clause-written g t c =
-    null_put c.args.protocol c.args.level c.if-is_of.ensures c.in-Null.is c.in_ok-write_line-in-Null.ensures.written
+    null_put c.args.protocol c.args.level c.if-is_of.ensures c.in-Null.is
+          c.in_ok-write_line-in-Null.ensures.written
 
 pub write_nested-returns-in_ok-write_line-in-Boolean-clause-written :
     goal.write_nested-returns-in_ok-write_line-in-Boolean-clause-written
 write_nested-returns-in_ok-write_line-in-Boolean-clause-written g t c =
-    boolean_put c.args.protocol c.args.level c.if-is_of.ensures _ _ c.in-Boolean.is c.boolean_text.ensures
+    boolean_put c.args.protocol c.args.level c.if-is_of.ensures _ _ c.in-Boolean.is
+          c.boolean_text.ensures
     c.in_ok-write_line-in-Boolean.ensures.written
 
 pub write_nested-returns-in_ok-write_data-in-BulkError-clause-written :
     goal.write_nested-returns-in_ok-write_data-in-BulkError-clause-written
 write_nested-returns-in_ok-write_data-in-BulkError-clause-written g t c =
-    bulk_error_put c.args.protocol c.args.level c.if-is_of.ensures _ c.in-BulkError.is (search rules)
+    bulk_error_put c.args.protocol c.args.level c.if-is_of.ensures _ c.in-BulkError.is
+          (search rules)
     c.in_ok-write_data-in-BulkError.ensures.written
 
 pub write_nested-returns-in_ok-write_data-in-Bulk-clause-written :

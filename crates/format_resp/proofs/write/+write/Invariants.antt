@@ -17,7 +17,8 @@ decreases-write_list g l = 3 * l.level + 1
 -- what ends the replies from here ends them from the first on
 abbrev pub invariant-write_elements-loop-reply : goal.invariant-write_elements-loop-reply
 invariant-write_elements-loop-reply g l = record {
-  ends : (after : List ℕ) → Adds (EachText (WrittenText l.protocol l.level)) (drop l.reply-index l.replies)
+  ends : (after : List ℕ)
+      → Adds (EachText (WrittenText l.protocol l.level)) (drop l.reply-index l.replies)
       l.into.items after
       → Adds (EachText (WrittenText l.protocol l.level)) l.replies l.initial.into.items after;
   kept : Keeps l.initial.into.items l.into.items;
