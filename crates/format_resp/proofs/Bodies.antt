@@ -176,9 +176,9 @@ module _ {A : Type 0} {i : Input ℕ} (protocol : Protocol) (level : ℕ) (mark 
   pub aggregate_stood : {j : Input ℕ} (inner count : ℕ) → level ≡ suc inner → count ≡ many mark n
       → (list : Vec (Replies A) A) (reply : Replies A) → reply ≡ gathered mark list
       → Stood bytes_reading bytes_follow (First (RowOf (ReplyText protocol inner) count)) i
-            list.items j
+      list.items j
       → Stood bytes_reading bytes_follow
-            (First (AggregateBehind (Elements protocol level) mark (Some n))) i
+      (First (AggregateBehind (Elements protocol level) mark (Some n))) i
       reply j
   unfolding First Elements
   aggregate_stood inner count e m list reply is = rw e (stood_as (λ tokens rest
@@ -187,7 +187,7 @@ module _ {A : Type 0} {i : Input ℕ} (protocol : Protocol) (level : ℕ) (mark 
   pub aggregate_failed : {j : Input ℕ} {k : Kind} (inner count : ℕ) → level ≡ suc inner
       → count ≡ many mark n
       → Failed bytes_reading bytes_follow
-            (First (RowOf (ReplyText {A = A} protocol inner) count)) i k j
+      (First (RowOf (ReplyText {A = A} protocol inner) count)) i k j
       → Failed bytes_reading bytes_follow
       (First (AggregateBehind (Elements {A = A} protocol level) mark (Some n))) i k j
   unfolding First Elements

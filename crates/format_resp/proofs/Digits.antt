@@ -54,7 +54,7 @@ pub digits_none : (digits : List ℕ) (r : Option ℕ)
 digits_none digits (Some n) fits e m a = absurd cc
 digits_none digits None large e m (are, is) =
     let P : ℕ → Type 0 = λ k. (k < 2 ^ 64) → ⊥ in
-    elim (cases_lt m (2 ^ 64)) [ | inl small ↦ absurd (subst P is large small) | inr most ↦ most ]
+    elim (cases_lt m (2 ^ 64)) [ inl small ↦ absurd (subst P is large small) | inr most ↦ most ]
 
 -- ---- what signs stand before
 

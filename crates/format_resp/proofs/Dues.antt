@@ -47,8 +47,8 @@ gather (suc n) xs (ys, zs, (a, o, t), many, e) =
         zs,
         deeper Resp2 b a o ys t,
         subst P same
-              (row_as (ReplyText Resp2 b) (ReplyText Resp2 (a + b)) (deeper Resp2 a b) os zs
-                row),
+            (row_as (ReplyText Resp2 b) (ReplyText Resp2 (a + b)) (deeper Resp2 a b) os zs
+            row),
         e,
       ),
     )

@@ -250,7 +250,7 @@ module _ {A : Type 0} where
   pub command_back : (parts : List (Bor (List ℕ))) (list : Vec (Replies A) A) (read : Replies A)
       (tokens more rest : List ℕ) → list.items ≡ bulk_replies parts
       → First (ReplyText Resp2 1) tokens (made.Array list) more
-          → First (ReplyText Resp2 1) tokens read rest
+      → First (ReplyText Resp2 1) tokens read rest
       → IsCommand parts read × (rest ≡ more)
   unfolding AreAlike
   command_back parts list read tokens more rest are a b =

@@ -275,7 +275,7 @@ module _ {A : Type 0} (protocol : Protocol) where
 
   elements_have : (level : ℕ) (items : List (Replies A)) (tokens : List ℕ)
       → Elements protocol level items tokens
-          → (inner : ℕ) × (level ≡ suc inner) × All (HasText inner) items
+      → (inner : ℕ) × (level ≡ suc inner) × All (HasText inner) items
   unfolding Elements
   elements_have zero items tokens never = absurd never
   elements_have (suc inner) items tokens row = (inner, refl, row_has inner items tokens row)
@@ -287,7 +287,7 @@ module _ {A : Type 0} (protocol : Protocol) where
   unfolding Led
   element_has level mark list reply is (tokens, (other, xs, ys, m, a, e)) =
       let (zs, are) =
-          body_has (Elements protocol level) other reply ys a (gathered_items mark list is) in
+      body_has (Elements protocol level) other reply ys a (gathered_items mark list is) in
       elements_have level list.items zs are
 
   at : (P : Replies A → Type 0) (os : List (Replies A)) (o : Replies A) → All P os

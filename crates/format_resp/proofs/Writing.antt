@@ -57,7 +57,7 @@ module _ {A : Type 0} (protocol : Protocol) (level : ℕ) {reply : Replies A}
 
   pub integer_put : {n : ℤ} → after ≡ before ++ marked 58 (signed_decimal n)
       → reply ≡ made.Integer n → FitsSigned w64 n
-          → Adds (WrittenText protocol level) reply before after
+      → Adds (WrittenText protocol level) reply before after
   integer_put {n} e is fits = line_put Colon (signed_decimal n) (n, is, fits, refl) e
 
   pub null_put : reply ≡ made.Null → after ≡ before ++ marked 95 []
@@ -161,7 +161,7 @@ put_as {A} protocol level {before = before} {after = after} is added =
 pub adds_text : {A : Type 0} (protocol : Protocol) (level : ℕ) {reply : Replies A}
     {before after : List ℕ}
     → Adds (WrittenText protocol level) reply before after
-        → Adds (ReplyText protocol level) reply before after
+    → Adds (ReplyText protocol level) reply before after
 adds_text protocol level {reply} added = record {
   tokens = added.tokens;
   is = written_text protocol level reply added.tokens added.is;
@@ -192,7 +192,7 @@ module _ {A : Type 0} (protocol : Protocol) where
       let R : WriteError → Type 0 = λ x. IsRefused protocol level reply x in subst R (sym memory) tt
   as_error level reply error P why e (inr (is, not)) =
       let R : WriteError → Type 0 =
-          λ x. IsRefused protocol level reply x in subst R (sym is) (why not)
+      λ x. IsRefused protocol level reply x in subst R (sym is) (why not)
 
   module _ (level : ℕ) {reply : Replies A} where
     pub refused_simple : (text : Bor (List ℕ)) → reply ≡ made.Simple text → (e : WriteError)
@@ -253,7 +253,7 @@ module _ {A : Type 0} (protocol : Protocol) where
 
   in_element : (below : ℕ) (mark : AggregateMark) (list : Vec (Replies A) A) (e : WriteError)
       → IsRefusedAmong protocol below list.items e
-          → IsRefused protocol (suc below) (gathered mark list) e
+      → IsRefused protocol (suc below) (gathered mark list) e
   unfolding IsDeeper
   in_element below mark list e (inl memory) =
       let P : WriteError → Type 0 = λ x. IsRefused protocol (suc below) (gathered mark list) x in

@@ -74,7 +74,7 @@ module _ {A : Type 0} (protocol : Protocol) (elements : Text ℕ (List (Replies 
 
   line_text : (mark : LineMark) (line : List ℕ) → LineWritten mark reply line
       → tokens ≡ marked (byte_of (Line mark)) line
-          → Led (MarkText protocol) (Body elements) reply tokens
+      → Led (MarkText protocol) (Body elements) reply tokens
   unfolding Led MarkText Ended
   line_text mark line is e = (
     Line mark,

@@ -26,7 +26,7 @@ fn read_whole<'i, A: Allocator + Copy>(
     requires stands { (reply : Replies A) × (rest : List ℕ)
         × First (ReplyText protocol level) bytes.now reply rest }
     ensures reads { IfOk result
-          (λ both. First (ReplyText protocol level) bytes.now both.0 both.1.now) }
+        (λ both. First (ReplyText protocol level) bytes.now both.0 both.1.now) }
     ensures memory { IfErr result (λ e. e ≡ OutOfMemory) }
 {
     let mut whole = Partial::new(bytes);
@@ -121,7 +121,7 @@ pub fn command_reads_back<'i, A: Allocator + Copy, B: Allocator>(
 pub fn what_is_written_reads_back<A: Allocator>()
     ensures { (protocol : Protocol) (level : ℕ) (written read : Replies A) (text more rest : List ℕ)
         → ReplyText protocol level written text
-            → First (ReplyText protocol level) (text ++ more) read rest
+        → First (ReplyText protocol level) (text ++ more) read rest
         → AreAlike level written read × (rest ≡ more) }
 {}
 

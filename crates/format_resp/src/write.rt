@@ -151,12 +151,16 @@ fn begins<A: Allocator>(reply: &Reply<&[u8], A>) -> Mark
     }
 }
 
-/// Whether a reply is of that version of the protocol.
-fn is_of<A: Allocator>(protocol: Protocol, reply: &Reply<&[u8], A>) -> bool
-    ensures { MatchBool result (IsIn protocol (first_mark reply.now))
-        (IsForeign protocol reply.now) }
+/// Whether a reply is of a kind that the version of the protocol does not have.
+fn is_foreign<A: Allocator>(protocol: Protocol, reply: &Reply<&[u8], A>) -> bool
+    ensures { MatchBool result (IsForeign protocol reply.now)
+        (IsIn protocol (first_mark reply.now)) }
 {
-    is_in(protocol, begins(reply))
+    if is_in(protocol, begins(reply)) {
+        false
+    } else {
+        true
+    }
 }
 
 /// Puts replies after what is there.
@@ -168,7 +172,7 @@ fn write_elements<A: Allocator, B: Allocator>(
     into: &mut Vec<u8, B>,
 ) -> Result<(), WriteError>
     ensures written { OnOk result
-          (Adds (EachText (WrittenText protocol level)) replies.now into.old.items
+        (Adds (EachText (WrittenText protocol level)) replies.now into.old.items
         into.new.items) }
     ensures refused { IfErr result (IsRefusedAmong protocol level replies.now) }
     ensures kept { Keeps into.old.items into.new.items }
@@ -219,7 +223,7 @@ fn write_nested<A: Allocator, B: Allocator>(
     ensures refused { IfErr result (IsRefused protocol level reply.now) }
     ensures kept { Keeps into.old.items into.new.items }
 {
-    if !is_of(protocol, reply) {
+    if is_foreign(protocol, reply) {
         return Err(WriteError::Foreign);
     }
     match reply {
@@ -287,7 +291,7 @@ pub fn write_reply<A: Allocator, B: Allocator>(
     ensures written { OnOk result (Adds (WrittenText protocol level) reply.now into.old.items
         into.new.items) }
     ensures text { OnOk result
-          (Adds (ReplyText protocol level) reply.now into.old.items into.new.items) }
+        (Adds (ReplyText protocol level) reply.now into.old.items into.new.items) }
     ensures refused { IfErr result (IsRefused protocol level reply.now) }
     ensures kept { OnErr result (into.new.items ≡ into.old.items) }
 {

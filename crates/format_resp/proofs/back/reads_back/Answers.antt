@@ -23,10 +23,10 @@ returns-in_err-write_reply-clause-refused g c =
 pub returns-clause-alike : goal.returns-clause-alike
 returns-clause-alike g c =
     let here = put_first (ReplyText c.args.protocol c.args.level) c.args.more.now
-          c.clear.ensures.items
+    c.clear.ensures.items
     c.in_ok-write_reply.ensures.text c.in_ok-extend_from_slice.ensures.items
     c.as_slice.ensures.value in
     IfOk-weaker c.read_whole.result _ _ (λ both a.
     one_reply c.args.protocol c.args.level c.args.reply.now both.0 _ c.args.more.now both.1.now
-          here a)
+    here a)
     c.read_whole.ensures.reads

@@ -16,5 +16,5 @@ returns-in-Some c =
 pub returns-in-None : goal.returns-in-None
 returns-in-None c =
     told_err (no_mark c.args.protocol c.in_ok-byte.byte c.from_input.ensures
-            (c.in-None.ensures.none refl)
+    (c.in-None.ensures.none refl)
     (stood c.in_ok-byte.ensures))

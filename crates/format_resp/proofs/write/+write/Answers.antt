@@ -81,100 +81,100 @@ write_list-returns-in_ok-write_size-in-Some-clause-kept g t c =
 
 -- ---- replies
 
-pub write_nested-returns-then-is_of-clause-refused :
-    goal.write_nested-returns-then-is_of-clause-refused
-write_nested-returns-then-is_of-clause-refused g t c =
-    refused_foreign c.args.protocol c.args.level c.if-is_of.ensures
+pub write_nested-returns-then-is_foreign-clause-refused :
+    goal.write_nested-returns-then-is_foreign-clause-refused
+write_nested-returns-then-is_foreign-clause-refused g t c =
+    refused_foreign c.args.protocol c.args.level c.if-is_foreign.ensures
 
-pub write_nested-write_list-in-Map-requires :
-    goal.write_nested-write_list-in-Map-requires
-write_nested-write_list-in-Map-requires g t c =
-    record { within = aggregate_within c.args.protocol Percent _ c.in-Map.is c.if-is_of.ensures }
+pub write_nested-write_list-requires-in-Map :
+    goal.write_nested-write_list-requires-in-Map
+write_nested-write_list-requires-in-Map g t c =
+    record { within = aggregate_within c.args.protocol Percent _ c.in-Map.is c.if-is_foreign.ensures }
 
-pub write_nested-write_list-in-Set-requires :
-    goal.write_nested-write_list-in-Set-requires
-write_nested-write_list-in-Set-requires g t c =
-    record { within = aggregate_within c.args.protocol Tilde _ c.in-Set.is c.if-is_of.ensures }
+pub write_nested-write_list-requires-in-Set :
+    goal.write_nested-write_list-requires-in-Set
+write_nested-write_list-requires-in-Set g t c =
+    record { within = aggregate_within c.args.protocol Tilde _ c.in-Set.is c.if-is_foreign.ensures }
 
-pub write_nested-write_list-in-Push-requires :
-    goal.write_nested-write_list-in-Push-requires
-write_nested-write_list-in-Push-requires g t c =
-    record { within = aggregate_within c.args.protocol Greater _ c.in-Push.is c.if-is_of.ensures }
+pub write_nested-write_list-requires-in-Push :
+    goal.write_nested-write_list-requires-in-Push
+write_nested-write_list-requires-in-Push g t c =
+    record { within = aggregate_within c.args.protocol Greater _ c.in-Push.is c.if-is_foreign.ensures }
 
-pub write_nested-write_list-in-Attributed-requires :
-    goal.write_nested-write_list-in-Attributed-requires
-write_nested-write_list-in-Attributed-requires g t c =
-    record { within = aggregate_within c.args.protocol Bar _ c.in-Attributed.is c.if-is_of.ensures }
+pub write_nested-write_list-requires-in-Attributed :
+    goal.write_nested-write_list-requires-in-Attributed
+write_nested-write_list-requires-in-Attributed g t c =
+    record { within = aggregate_within c.args.protocol Bar _ c.in-Attributed.is c.if-is_foreign.ensures }
 
 pub write_nested-returns-in-Simple-clause-written :
     goal.write_nested-returns-in-Simple-clause-written
 write_nested-returns-in-Simple-clause-written g t c =
     on_ok_weaker c.write_text.result
-          (simple_put c.args.protocol c.args.level c.if-is_of.ensures _ c.in-Simple.is)
+    (simple_put c.args.protocol c.args.level c.if-is_foreign.ensures _ c.in-Simple.is)
     c.write_text.ensures.written
 
 pub write_nested-returns-in-Simple-clause-refused :
     goal.write_nested-returns-in-Simple-clause-refused
 write_nested-returns-in-Simple-clause-refused g t c =
     IfErr-weaker c.write_text.result _ _
-          (refused_simple c.args.protocol c.args.level _ c.in-Simple.is)
+    (refused_simple c.args.protocol c.args.level _ c.in-Simple.is)
     c.write_text.ensures.refused
 
 pub write_nested-returns-in-Error-clause-written :
     goal.write_nested-returns-in-Error-clause-written
 write_nested-returns-in-Error-clause-written g t c =
     on_ok_weaker c.write_text-in-Error.result
-          (error_put c.args.protocol c.args.level c.if-is_of.ensures _ c.in-Error.is)
+    (error_put c.args.protocol c.args.level c.if-is_foreign.ensures _ c.in-Error.is)
     c.write_text-in-Error.ensures.written
 
 pub write_nested-returns-in-Error-clause-refused :
     goal.write_nested-returns-in-Error-clause-refused
 write_nested-returns-in-Error-clause-refused g t c =
     IfErr-weaker c.write_text-in-Error.result _ _
-          (refused_error c.args.protocol c.args.level _ c.in-Error.is)
+    (refused_error c.args.protocol c.args.level _ c.in-Error.is)
     c.write_text-in-Error.ensures.refused
 
 pub write_nested-returns-in-Double-clause-written :
     goal.write_nested-returns-in-Double-clause-written
 write_nested-returns-in-Double-clause-written g t c =
     on_ok_weaker c.write_double.result
-          (double_put c.args.protocol c.args.level c.if-is_of.ensures _ c.in-Double.is)
+    (double_put c.args.protocol c.args.level c.if-is_foreign.ensures _ c.in-Double.is)
     c.write_double.ensures.written
 
 pub write_nested-returns-in-Double-clause-refused :
     goal.write_nested-returns-in-Double-clause-refused
 write_nested-returns-in-Double-clause-refused g t c =
     IfErr-weaker c.write_double.result _ _
-          (refused_double c.args.protocol c.args.level _ c.in-Double.is)
+    (refused_double c.args.protocol c.args.level _ c.in-Double.is)
     c.write_double.ensures.refused
 
 pub write_nested-returns-in-BigNumber-clause-written :
     goal.write_nested-returns-in-BigNumber-clause-written
 write_nested-returns-in-BigNumber-clause-written g t c =
     on_ok_weaker c.write_big_number.result
-          (big_number_put c.args.protocol c.args.level c.if-is_of.ensures _ c.in-BigNumber.is)
+    (big_number_put c.args.protocol c.args.level c.if-is_foreign.ensures _ c.in-BigNumber.is)
     c.write_big_number.ensures.written
 
 pub write_nested-returns-in-BigNumber-clause-refused :
     goal.write_nested-returns-in-BigNumber-clause-refused
 write_nested-returns-in-BigNumber-clause-refused g t c =
     IfErr-weaker c.write_big_number.result _ _
-          (refused_big_number c.args.protocol c.args.level _ c.in-BigNumber.is)
+    (refused_big_number c.args.protocol c.args.level _ c.in-BigNumber.is)
     c.write_big_number.ensures.refused
 
 pub write_nested-returns-in-Verbatim-clause-written :
     goal.write_nested-returns-in-Verbatim-clause-written
 write_nested-returns-in-Verbatim-clause-written g t c =
     on_ok_weaker c.write_verbatim.result
-          (verbatim_put c.args.protocol c.args.level c.if-is_of.ensures _ c.in-Verbatim.is
-            (search rules))
+    (verbatim_put c.args.protocol c.args.level c.if-is_foreign.ensures _ c.in-Verbatim.is
+    (search rules))
     c.write_verbatim.ensures.written
 
 pub write_nested-returns-in-Verbatim-clause-refused :
     goal.write_nested-returns-in-Verbatim-clause-refused
 write_nested-returns-in-Verbatim-clause-refused g t c =
     IfErr-weaker c.write_verbatim.result _ _
-          (refused_verbatim c.args.protocol c.args.level _ c.in-Verbatim.is)
+    (refused_verbatim c.args.protocol c.args.level _ c.in-Verbatim.is)
     c.write_verbatim.ensures.refused
 
 pub write_nested-returns-in-Array-clause-written :
@@ -199,7 +199,7 @@ pub write_nested-returns-in-Map-clause-refused :
     goal.write_nested-returns-in-Map-clause-refused
 write_nested-returns-in-Map-clause-refused g t c =
     IfErr-weaker c.write_list-in-Map.result _ _
-          (refused_form c.args.protocol c.args.level c.in-Map.is)
+    (refused_form c.args.protocol c.args.level c.in-Map.is)
     c.write_list-in-Map.ensures.refused
 
 pub write_nested-returns-in-Set-clause-written :
@@ -212,7 +212,7 @@ pub write_nested-returns-in-Set-clause-refused :
     goal.write_nested-returns-in-Set-clause-refused
 write_nested-returns-in-Set-clause-refused g t c =
     IfErr-weaker c.write_list-in-Set.result _ _
-          (refused_form c.args.protocol c.args.level c.in-Set.is)
+    (refused_form c.args.protocol c.args.level c.in-Set.is)
     c.write_list-in-Set.ensures.refused
 
 pub write_nested-returns-in-Push-clause-written :
@@ -225,14 +225,14 @@ pub write_nested-returns-in-Push-clause-refused :
     goal.write_nested-returns-in-Push-clause-refused
 write_nested-returns-in-Push-clause-refused g t c =
     IfErr-weaker c.write_list-in-Push.result _ _
-          (refused_form c.args.protocol c.args.level c.in-Push.is)
+    (refused_form c.args.protocol c.args.level c.in-Push.is)
     c.write_list-in-Push.ensures.refused
 
 pub write_nested-returns-in-Attributed-clause-written :
     goal.write_nested-returns-in-Attributed-clause-written
 write_nested-returns-in-Attributed-clause-written g t c =
     on_ok_weaker c.write_list-in-Attributed.result
-          (put_as c.args.protocol c.args.level c.in-Attributed.is)
+    (put_as c.args.protocol c.args.level c.in-Attributed.is)
     c.write_list-in-Attributed.ensures.written
 
 pub write_nested-returns-in-Attributed-clause-refused :
@@ -245,44 +245,44 @@ write_nested-returns-in-Attributed-clause-refused g t c =
 pub write_nested-returns-in_ok-write_integer-in-Integer-clause-written :
     goal.write_nested-returns-in_ok-write_integer-in-Integer-clause-written
 write_nested-returns-in_ok-write_integer-in-Integer-clause-written g t c =
-    integer_put c.args.protocol c.args.level c.if-is_of.ensures
-          c.in_ok-write_integer-in-Integer.ensures.written
+    integer_put c.args.protocol c.args.level c.if-is_foreign.ensures
+    c.in_ok-write_integer-in-Integer.ensures.written
     (search (rules, c.in-Integer.is)) (search rules)
 
 pub write_nested-returns-in_ok-write_line-in-Null-clause-written :
     goal.write_nested-returns-in_ok-write_line-in-Null-clause-written
 write_nested-returns-in_ok-write_line-in-Null-clause-written g t c =
-    null_put c.args.protocol c.args.level c.if-is_of.ensures c.in-Null.is
-          c.in_ok-write_line-in-Null.ensures.written
+    null_put c.args.protocol c.args.level c.if-is_foreign.ensures c.in-Null.is
+    c.in_ok-write_line-in-Null.ensures.written
 
 pub write_nested-returns-in_ok-write_line-in-Boolean-clause-written :
     goal.write_nested-returns-in_ok-write_line-in-Boolean-clause-written
 write_nested-returns-in_ok-write_line-in-Boolean-clause-written g t c =
-    boolean_put c.args.protocol c.args.level c.if-is_of.ensures _ _ c.in-Boolean.is
-          c.boolean_text.ensures
+    boolean_put c.args.protocol c.args.level c.if-is_foreign.ensures _ _ c.in-Boolean.is
+    c.boolean_text.ensures
     c.in_ok-write_line-in-Boolean.ensures.written
 
 pub write_nested-returns-in_ok-write_data-in-BulkError-clause-written :
     goal.write_nested-returns-in_ok-write_data-in-BulkError-clause-written
 write_nested-returns-in_ok-write_data-in-BulkError-clause-written g t c =
-    bulk_error_put c.args.protocol c.args.level c.if-is_of.ensures _ c.in-BulkError.is
-          (search rules)
+    bulk_error_put c.args.protocol c.args.level c.if-is_foreign.ensures _ c.in-BulkError.is
+    (search rules)
     c.in_ok-write_data-in-BulkError.ensures.written
 
 pub write_nested-returns-in_ok-write_data-in-Bulk-clause-written :
     goal.write_nested-returns-in_ok-write_data-in-Bulk-clause-written
 write_nested-returns-in_ok-write_data-in-Bulk-clause-written g t c =
-    bulk_put c.args.protocol c.args.level c.if-is_of.ensures _ c.in-Bulk.is (search rules)
+    bulk_put c.args.protocol c.args.level c.if-is_foreign.ensures _ c.in-Bulk.is (search rules)
     c.in_ok-write_data-in-Bulk.ensures.written
 
 pub write_nested-returns-in_ok-write_line-in-NullBulk-clause-written :
     goal.write_nested-returns-in_ok-write_line-in-NullBulk-clause-written
 write_nested-returns-in_ok-write_line-in-NullBulk-clause-written g t c =
-    null_bulk_put c.args.protocol c.args.level c.if-is_of.ensures c.in-NullBulk.is
+    null_bulk_put c.args.protocol c.args.level c.if-is_foreign.ensures c.in-NullBulk.is
     c.in_ok-write_line-in-NullBulk.ensures.written
 
 pub write_nested-returns-in_ok-write_line-in-NullArray-clause-written :
     goal.write_nested-returns-in_ok-write_line-in-NullArray-clause-written
 write_nested-returns-in_ok-write_line-in-NullArray-clause-written g t c =
-    null_array_put c.args.protocol c.args.level c.if-is_of.ensures c.in-NullArray.is
+    null_array_put c.args.protocol c.args.level c.if-is_foreign.ensures c.in-NullArray.is
     c.in_ok-write_line-in-NullArray.ensures.written
