@@ -123,11 +123,17 @@ pub fn number_of(line: &[u8]) -> Option<i64>
     ensures none { result ≡ None → (n : ℤ) → SignedText n line.now → ⊥ }
 {
     let (first, behind) = line.split_first()?;
-    match *first {
-        b'-' => signed_of(true, behind),
-        b'+' => signed_of(false, behind),
-        _ => signed_of(false, line),
+    let first = *first;
+    if first == b'-' {
+        let below = signed_of(true, behind);
+        return below;
     }
+    if first == b'+' {
+        let above = signed_of(false, behind);
+        return above;
+    }
+    let plain = signed_of(false, line);
+    plain
 }
 
 /// The most bytes or replies that a size counts.

@@ -89,22 +89,30 @@ write_nested-returns-then-is_foreign-clause-refused g t c =
 pub write_nested-write_list-requires-in-Map :
     goal.write_nested-write_list-requires-in-Map
 write_nested-write_list-requires-in-Map g t c =
-    record { within = aggregate_within c.args.protocol Percent _ c.in-Map.is c.if-is_foreign.ensures }
+    record {
+      within = aggregate_within c.args.protocol Percent _ c.in-Map.is c.if-is_foreign.ensures;
+    }
 
 pub write_nested-write_list-requires-in-Set :
     goal.write_nested-write_list-requires-in-Set
 write_nested-write_list-requires-in-Set g t c =
-    record { within = aggregate_within c.args.protocol Tilde _ c.in-Set.is c.if-is_foreign.ensures }
+    record {
+      within = aggregate_within c.args.protocol Tilde _ c.in-Set.is c.if-is_foreign.ensures;
+    }
 
 pub write_nested-write_list-requires-in-Push :
     goal.write_nested-write_list-requires-in-Push
 write_nested-write_list-requires-in-Push g t c =
-    record { within = aggregate_within c.args.protocol Greater _ c.in-Push.is c.if-is_foreign.ensures }
+    record {
+      within = aggregate_within c.args.protocol Greater _ c.in-Push.is c.if-is_foreign.ensures;
+    }
 
 pub write_nested-write_list-requires-in-Attributed :
     goal.write_nested-write_list-requires-in-Attributed
 write_nested-write_list-requires-in-Attributed g t c =
-    record { within = aggregate_within c.args.protocol Bar _ c.in-Attributed.is c.if-is_foreign.ensures }
+    record {
+      within = aggregate_within c.args.protocol Bar _ c.in-Attributed.is c.if-is_foreign.ensures;
+    }
 
 pub write_nested-returns-in-Simple-clause-written :
     goal.write_nested-returns-in-Simple-clause-written
