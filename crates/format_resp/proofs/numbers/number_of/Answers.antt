@@ -11,7 +11,8 @@ returns-in_err-first-clause-none c e n a =
 pub returns-then-first-eq45-clause-some : goal.returns-then-first-eq45-clause-some
 returns-then-first-eq45-clause-some c =
     some_as _ _ c.signed_of-below.result (λ n. minus_first c.args.line.now c.in_ok-first.behind.now
-    c.in_ok-first.first.now n c.in_ok-first.ensures.cases.0 c.if-first-eq45.true) c.signed_of-below.ensures.some
+    c.in_ok-first.first.now n c.in_ok-first.ensures.cases.0 c.if-first-eq45.true)
+    c.signed_of-below.ensures.some
 
 pub returns-then-first-eq45-clause-none : goal.returns-then-first-eq45-clause-none
 returns-then-first-eq45-clause-none c e n a =
