@@ -224,8 +224,9 @@ module _ {A : Type 0} (protocol : Protocol) where
     refused_verbatim bytes is = as_error level reply Format (IsVerbatim bytes.now)
         (λ not. or_itself IsUnformatted level reply (bytes, is, not))
 
-    pub refused_foreign : IsForeign protocol reply → IsRefused protocol level reply Foreign
-    refused_foreign = or_itself (IsForeign protocol) level reply
+  pub refused_foreign : (level : ℕ) (reply : Replies A) → IsForeign protocol reply
+      → IsRefused protocol level reply Foreign
+  refused_foreign level reply = or_itself (IsForeign protocol) level reply
 
   -- an error of another reply, which it is
   pub refused_form : (level : ℕ) {reply form : Replies A} → reply ≡ form → (e : WriteError)

@@ -192,8 +192,8 @@ fn write_list<A: Allocator, B: Allocator>(
     replies: &Vec<Reply<&[u8], A>, A>,
     into: &mut Vec<u8, B>,
 ) -> Result<(), WriteError>
-    requires within { IsIn protocol (Aggregate mark) }
-    ensures written { OnOk result (Adds (WrittenText protocol level) (gathered mark replies.now)
+    ensures written { OnOk result (IsIn protocol (Aggregate mark)
+        → Adds (WrittenText protocol level) (gathered mark replies.now)
         into.old.items into.new.items) }
     ensures refused { IfErr result (IsRefused protocol level (gathered mark replies.now)) }
     ensures kept { Keeps into.old.items into.new.items }

@@ -60,11 +60,10 @@ pub write_list-returns-in_ok-write_size-in-Some-clause-written :
     goal.write_list-returns-in_ok-write_size-in-Some-clause-written
 write_list-returns-in_ok-write_size-in-Some-clause-written g t c =
     on_ok_weaker c.write_elements.result
-    (aggregate_put c.args.protocol c.args.mark c.in-Some.size (c.args.level - 1) c.args.replies.now
-    c.requires.within
-    c.as_slice.ensures.value
+    (λ added within. aggregate_put c.args.protocol c.args.mark c.in-Some.size (c.args.level - 1)
+    c.args.replies.now within c.as_slice.ensures.value
     (sym (c.len.ensures ∙ c.args.replies.now.ok.0) ∙ c.in-Some.ensures.some) (omega arith)
-    c.byte.ensures c.in_ok-write_size-in-Some.ensures.written)
+    c.byte.ensures c.in_ok-write_size-in-Some.ensures.written added)
     c.write_elements.ensures.written
 
 pub write_list-returns-in_ok-write_size-in-Some-clause-refused :
@@ -84,35 +83,7 @@ write_list-returns-in_ok-write_size-in-Some-clause-kept g t c =
 pub write_nested-returns-then-is_foreign-clause-refused :
     goal.write_nested-returns-then-is_foreign-clause-refused
 write_nested-returns-then-is_foreign-clause-refused g t c =
-    refused_foreign c.args.protocol c.args.level c.if-is_foreign.ensures
-
-pub write_nested-write_list-requires-in-Map :
-    goal.write_nested-write_list-requires-in-Map
-write_nested-write_list-requires-in-Map g t c =
-    record {
-      within = aggregate_within c.args.protocol Percent _ c.in-Map.is c.if-is_foreign.ensures;
-    }
-
-pub write_nested-write_list-requires-in-Set :
-    goal.write_nested-write_list-requires-in-Set
-write_nested-write_list-requires-in-Set g t c =
-    record {
-      within = aggregate_within c.args.protocol Tilde _ c.in-Set.is c.if-is_foreign.ensures;
-    }
-
-pub write_nested-write_list-requires-in-Push :
-    goal.write_nested-write_list-requires-in-Push
-write_nested-write_list-requires-in-Push g t c =
-    record {
-      within = aggregate_within c.args.protocol Greater _ c.in-Push.is c.if-is_foreign.ensures;
-    }
-
-pub write_nested-write_list-requires-in-Attributed :
-    goal.write_nested-write_list-requires-in-Attributed
-write_nested-write_list-requires-in-Attributed g t c =
-    record {
-      within = aggregate_within c.args.protocol Bar _ c.in-Attributed.is c.if-is_foreign.ensures;
-    }
+    refused_foreign c.args.protocol c.args.level c.args.reply.now c.if-is_foreign.ensures
 
 pub write_nested-returns-in-Simple-clause-written :
     goal.write_nested-returns-in-Simple-clause-written
@@ -188,7 +159,8 @@ write_nested-returns-in-Verbatim-clause-refused g t c =
 pub write_nested-returns-in-Array-clause-written :
     goal.write_nested-returns-in-Array-clause-written
 write_nested-returns-in-Array-clause-written g t c =
-    on_ok_weaker c.write_list.result (put_as c.args.protocol c.args.level c.in-Array.is)
+    on_ok_weaker c.write_list.result (λ told.
+    put_as c.args.protocol c.args.level c.in-Array.is (told tt))
     c.write_list.ensures.written
 
 pub write_nested-returns-in-Array-clause-refused :
@@ -200,7 +172,9 @@ write_nested-returns-in-Array-clause-refused g t c =
 pub write_nested-returns-in-Map-clause-written :
     goal.write_nested-returns-in-Map-clause-written
 write_nested-returns-in-Map-clause-written g t c =
-    on_ok_weaker c.write_list-in-Map.result (put_as c.args.protocol c.args.level c.in-Map.is)
+    on_ok_weaker c.write_list-in-Map.result (λ told.
+    put_as c.args.protocol c.args.level c.in-Map.is (told (aggregate_within c.args.protocol Percent _
+    c.in-Map.is c.if-is_foreign.ensures)))
     c.write_list-in-Map.ensures.written
 
 pub write_nested-returns-in-Map-clause-refused :
@@ -213,7 +187,9 @@ write_nested-returns-in-Map-clause-refused g t c =
 pub write_nested-returns-in-Set-clause-written :
     goal.write_nested-returns-in-Set-clause-written
 write_nested-returns-in-Set-clause-written g t c =
-    on_ok_weaker c.write_list-in-Set.result (put_as c.args.protocol c.args.level c.in-Set.is)
+    on_ok_weaker c.write_list-in-Set.result (λ told.
+    put_as c.args.protocol c.args.level c.in-Set.is (told (aggregate_within c.args.protocol Tilde _
+    c.in-Set.is c.if-is_foreign.ensures)))
     c.write_list-in-Set.ensures.written
 
 pub write_nested-returns-in-Set-clause-refused :
@@ -226,7 +202,9 @@ write_nested-returns-in-Set-clause-refused g t c =
 pub write_nested-returns-in-Push-clause-written :
     goal.write_nested-returns-in-Push-clause-written
 write_nested-returns-in-Push-clause-written g t c =
-    on_ok_weaker c.write_list-in-Push.result (put_as c.args.protocol c.args.level c.in-Push.is)
+    on_ok_weaker c.write_list-in-Push.result (λ told.
+    put_as c.args.protocol c.args.level c.in-Push.is (told (aggregate_within c.args.protocol Greater _
+    c.in-Push.is c.if-is_foreign.ensures)))
     c.write_list-in-Push.ensures.written
 
 pub write_nested-returns-in-Push-clause-refused :
@@ -240,7 +218,9 @@ pub write_nested-returns-in-Attributed-clause-written :
     goal.write_nested-returns-in-Attributed-clause-written
 write_nested-returns-in-Attributed-clause-written g t c =
     on_ok_weaker c.write_list-in-Attributed.result
-    (put_as c.args.protocol c.args.level c.in-Attributed.is)
+    (λ told.
+    put_as c.args.protocol c.args.level c.in-Attributed.is (told (aggregate_within c.args.protocol Bar _
+    c.in-Attributed.is c.if-is_foreign.ensures)))
     c.write_list-in-Attributed.ensures.written
 
 pub write_nested-returns-in-Attributed-clause-refused :
