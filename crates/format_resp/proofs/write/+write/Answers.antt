@@ -173,8 +173,8 @@ pub write_nested-returns-in-Map-clause-written :
     goal.write_nested-returns-in-Map-clause-written
 write_nested-returns-in-Map-clause-written g t c =
     on_ok_weaker c.write_list-in-Map.result (λ told.
-    put_as c.args.protocol c.args.level c.in-Map.is (told (aggregate_within c.args.protocol Percent _
-    c.in-Map.is c.if-is_foreign.ensures)))
+    put_as c.args.protocol c.args.level c.in-Map.is (told
+    (aggregate_within c.args.protocol Percent _ c.in-Map.is c.if-is_foreign.ensures)))
     c.write_list-in-Map.ensures.written
 
 pub write_nested-returns-in-Map-clause-refused :
@@ -188,8 +188,8 @@ pub write_nested-returns-in-Set-clause-written :
     goal.write_nested-returns-in-Set-clause-written
 write_nested-returns-in-Set-clause-written g t c =
     on_ok_weaker c.write_list-in-Set.result (λ told.
-    put_as c.args.protocol c.args.level c.in-Set.is (told (aggregate_within c.args.protocol Tilde _
-    c.in-Set.is c.if-is_foreign.ensures)))
+    put_as c.args.protocol c.args.level c.in-Set.is (told
+    (aggregate_within c.args.protocol Tilde _ c.in-Set.is c.if-is_foreign.ensures)))
     c.write_list-in-Set.ensures.written
 
 pub write_nested-returns-in-Set-clause-refused :
@@ -203,8 +203,8 @@ pub write_nested-returns-in-Push-clause-written :
     goal.write_nested-returns-in-Push-clause-written
 write_nested-returns-in-Push-clause-written g t c =
     on_ok_weaker c.write_list-in-Push.result (λ told.
-    put_as c.args.protocol c.args.level c.in-Push.is (told (aggregate_within c.args.protocol Greater _
-    c.in-Push.is c.if-is_foreign.ensures)))
+    put_as c.args.protocol c.args.level c.in-Push.is (told
+    (aggregate_within c.args.protocol Greater _ c.in-Push.is c.if-is_foreign.ensures)))
     c.write_list-in-Push.ensures.written
 
 pub write_nested-returns-in-Push-clause-refused :
@@ -219,8 +219,8 @@ pub write_nested-returns-in-Attributed-clause-written :
 write_nested-returns-in-Attributed-clause-written g t c =
     on_ok_weaker c.write_list-in-Attributed.result
     (λ told.
-    put_as c.args.protocol c.args.level c.in-Attributed.is (told (aggregate_within c.args.protocol Bar _
-    c.in-Attributed.is c.if-is_foreign.ensures)))
+    put_as c.args.protocol c.args.level c.in-Attributed.is (told
+    (aggregate_within c.args.protocol Bar _ c.in-Attributed.is c.if-is_foreign.ensures)))
     c.write_list-in-Attributed.ensures.written
 
 pub write_nested-returns-in-Attributed-clause-refused :
