@@ -1,5 +1,5 @@
 -- Replies of which texts stand first in the same tokens are alike.
-use Rattle.std.specs.Prelude.{◌≡◌, Bool, true, false, ℕ, zero, suc, List, [], ◌∷◌, ◌++◌, length}
+use Rattle.std.specs.Prelude.{◌≡◌, Bool, true, false, ℕ, zero, suc, List, [], ◌∷◌}
 use Rattle.std.specs.Prelude.{Option, Some, None}
 use Rattle.std.specs.Borrow.{Bor}
 use Rattle.std.specs.declared.vec.Vec.{Vec}
@@ -32,7 +32,6 @@ use Rattle.format_resp.specs.declared.marks.LineMark.TheVariants.{Parenthesis, P
 use Rattle.format_resp.specs.declared.marks.Mark.{Mark}
 use Rattle.format_resp.specs.declared.marks.Mark.TheVariants.{Aggregate, Data, Line}
 use Rattle.format_resp.specs.declared.reply.Protocol.{Protocol}
-use Rattle.format_resp.specs.declared.reply.Reply as made
 use Rattle.format_resp.specs.declared.reply.Reply.{out-Reply}
 use Rattle.format_resp.specs.declared.reply.Reply.TheOpen.{Reply-F}
 

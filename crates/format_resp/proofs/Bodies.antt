@@ -16,7 +16,7 @@ use Rattle.winnow.specs.Texts.{Text}
 use Rattle.format_resp.proofs.Rows.{same_bytes}
 use Rattle.format_resp.proofs.Integers.{size_small, size_splits}
 use Rattle.format_resp.proofs.ReadParts.{data_unique}
-use Rattle.format_resp.specs.Resp.{DataText, Ended, SizeText}
+use Rattle.format_resp.specs.Resp.{DataText, SizeText}
 use Rattle.format_resp.proofs.EndedLines.{ended_unique}
 use Rattle.format_resp.proofs.FirstBytes.{mark_splits}
 use Rattle.format_resp.proofs.Plain.{line_plain}

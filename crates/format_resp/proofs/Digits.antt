@@ -1,8 +1,7 @@
 -- The numbers of decimal digits.
-use Rattle.std.specs.Prelude.{◌≡◌, ◌⊎◌, ◌<◌, ◌≤◌, ◌+◌, ◌*◌, ◌^◌, Bool, true, false, ℕ, ℤ, List, []}
-use Rattle.std.specs.Prelude.{◌∷◌, ◌++◌, length, Option, Some, None, IfSome, FitsSigned}
+use Rattle.std.specs.Prelude.{◌≡◌, ◌⊎◌, ◌<◌, ◌≤◌, ◌+◌, ◌*◌, ◌^◌, true, false, ℕ, ℤ, List, []}
+use Rattle.std.specs.Prelude.{◌∷◌, ◌++◌, length, Option, Some, None, IfSome}
 use Rattle.std.specs.Char.{digit_value}
-use Rattle.std.specs.Int.{w64}
 use Rattle.std.specs.Option.{SomeIff}
 use Rattle.std.specs.Str.Parse.{digits_value}
 use Rattle.std.specs.List.{AllByRecursion}
@@ -17,7 +16,7 @@ use Rattle.winnow.specs.AsChar.{IsDecDigit}
 use Rattle.winnow.specs.Digits.{value_in}
 use Rattle.winnow.specs.Digits.Known.{value_is}
 use Rattle.winnow.specs.Equal.{same_first, same_others}
-use Rattle.format_resp.specs.Numbers.{AreDigits, DigitsText, IsSignOf, SignedText, UnsignedText}
+use Rattle.format_resp.specs.Numbers.{AreDigits, DigitsText, SignedText, UnsignedText}
 
 -- what is no digit and no letter counts 36
 pub most_value : (c : ℕ) → digit_value c ≤ 36

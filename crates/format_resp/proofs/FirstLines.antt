@@ -1,5 +1,5 @@
 -- What the first line of a reply says is one thing, and stands where a line does.
-use Rattle.std.specs.Prelude.{◌≡◌, ◌≤◌, ℕ, List, [], ◌∷◌, ◌++◌, length, take, drop, Option}
+use Rattle.std.specs.Prelude.{◌≡◌, ◌≤◌, ℕ, List, [], ◌∷◌, ◌++◌, length, take, drop}
 use Rattle.std.specs.List.{AllByRecursion}
 use Rattle.std.proofs.Common.{refl, sym, inl, ap, subst, ◌∙◌, append_assoc}
 use Rattle.winnow.specs.Equal.{same_first, same_others}

@@ -1,7 +1,7 @@
 -- What the texts of a reply begin with.
 use Rattle.std.specs.Prelude.{◌≡◌, ℕ, List, Option, Some, None}
 use Rattle.std.specs.declared.vec.Vec.{Vec}
-use Rattle.std.proofs.Common.{refl, sym, ap, subst, ◌∙◌}
+use Rattle.std.proofs.Common.{sym, ap, subst, ◌∙◌}
 use Rattle.winnow.specs.InTurn.{Led}
 use Rattle.winnow.specs.Texts.{Text}
 use Rattle.format_resp.proofs.Made.{array_is, attributed_is, big_number_is, boolean_is}

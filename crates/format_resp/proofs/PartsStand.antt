@@ -1,6 +1,6 @@
 -- That the parts of a reply of RESP2 stand where its definition says.
 use Rattle.std.specs.Prelude.{◌≡◌, ◌⊎◌, ℕ, ℤ, List, [], ◌∷◌, ◌++◌, Option, None, Some, zero}
-use Rattle.std.specs.Prelude.{suc, ⊤}
+use Rattle.std.specs.Prelude.{suc}
 use Rattle.std.specs.Borrow.{Bor}
 use Rattle.std.specs.List.{AllByRecursion}
 use Rattle.std.specs.declared.vec.Vec.{Vec}

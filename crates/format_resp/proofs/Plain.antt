@@ -1,10 +1,8 @@
 -- In what stands on the line of a reply no byte is of a line end.
-use Rattle.std.specs.Prelude.{◌≡◌, Bool, true, false, ℕ, List, [], ◌∷◌, ◌++◌}
-use Rattle.std.specs.List.{AllByRecursion}
-use Rattle.std.proofs.Common.{sym, subst, inl, inr, arith}
+use Rattle.std.specs.Prelude.{Bool, true, false, ℕ, List, [], ◌∷◌, ◌++◌}
+use Rattle.std.proofs.Common.{inl, inr, arith}
 use Rattle.format_resp.proofs.Integers.{Plainly, byte_plain, digits_plain, plain_as, signed_plain}
 use Rattle.format_resp.proofs.LineEnds.{all_append}
-use Rattle.format_resp.specs.Resp.{InLine}
 use Rattle.format_resp.proofs.EndedLines.{IsPlain}
 use Rattle.format_resp.specs.Numbers.{IsBigNumber, IsDecimal, IsDouble, IsExponent, IsFraction}
 use Rattle.format_resp.specs.Numbers.{IsSign, IsTail}

@@ -1,5 +1,5 @@
 -- What is put after bytes for replies, and why some are not written.
-use Rattle.std.specs.Prelude.{◌≡◌, ◌⊎◌, ◌+◌, ◌*◌, ◌<◌, ◌^◌, ⊤, Bool, ℕ, ℤ, List, [], ◌∷◌, ◌++◌}
+use Rattle.std.specs.Prelude.{◌≡◌, ◌+◌, ◌<◌, ◌^◌, ⊤, Bool, ℕ, ℤ, List, [], ◌∷◌, ◌++◌}
 use Rattle.std.specs.Prelude.{zero, suc, length, Contains, FitsSigned}
 use Rattle.std.specs.Borrow.{Bor}
 use Rattle.std.specs.Fmt.{decimal, signed_decimal}
