@@ -13,7 +13,7 @@ FORMATS = {
     "ini": ["readers", "format_ini"],
     "json": ["format_json"],
     "json_extents": ["format_json_extents"],
-    "resp": ["format_resp", "format_resp3"],
+    "resp": ["format_resp"],
     "toml": ["format_toml_document", "format_toml", "format_toml_tree", "format_toml_nodes"],
 }
 

@@ -8,7 +8,7 @@ use std::alloc::Global;
 use std::str;
 use format_csv::{LineEnd, Record, parse_document};
 use format_resp::read::read_reply;
-use format_resp::reply::Reply;
+use format_resp::reply::{Protocol, Reply};
 use winnow::stream::{Partial, Stream};
 
 /// How many bytes a text or a number has.
@@ -128,7 +128,7 @@ fn read_replies(alloc: Global, input: &mut Partial<&[u8]>) -> Outcome {
     let mut left = input.eof_offset();
     // No more replies stand there than bytes.
     for _ in 0..left {
-        match read_reply(alloc, 4, input) {
+        match read_reply(alloc, Protocol::Resp2, 4, input) {
             Ok(reply) => {
                 count = count.wrapping_add(1);
                 sum = sum.wrapping_add(reply_bytes(&reply));

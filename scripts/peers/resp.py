@@ -24,8 +24,8 @@ from peers.resp_commands import ONLY_PUSHED, commands
 NEXT = b"+NEXT\r\n"
 # At how many places a long reply is cut, and from how many bytes on a reply is long.
 CUTS, LONG = 12, 64
-# A double: [<+|->]<integral>[.<fractional>][<E|e>[sign]<exponent>], or one of three words.
-DOUBLE = re.compile(rb"inf|-inf|nan|[+-]?[0-9]+(\.[0-9]+)?([Ee][+-]?[0-9]+)?")
+# A double: [<+|->]<integral>[.<fractional>][<E|e>[sign]<exponent>], or one of four words.
+DOUBLE = re.compile(rb"-?inf|-?nan|[+-]?[0-9]+(\.[0-9]+)?([Ee][+-]?[0-9]+)?")
 BIG_NUMBER = re.compile(rb"[+-]?[0-9]+")
 
 
@@ -161,7 +161,7 @@ def kind(row, ours, theirs):
     return said[: 3 if raw[1:3] == b"-1" and raw[:1] in b"$*" else 1]
 
 
-def comparison(version, crate):
+def comparison(version):
     """The row of a version."""
 
     def peer(rows):
@@ -170,9 +170,9 @@ def comparison(version, crate):
         return [said + begin + end for (_, said), end in zip(rows, ends)]
 
     return Comparison(
-        f"resp/{version}", "a server of Redis", f"{crate} winnow", f"resp{version} resp",
+        f"resp/{version}", "a server of Redis", "format_resp winnow", f"resp resp{version}",
         replies(version), given, peer, kind=kind, seed=6379, count=1000,
     )
 
 
-COMPARISONS = [comparison(2, "format_resp"), comparison(3, "format_resp3")]
+COMPARISONS = [comparison(2), comparison(3)]

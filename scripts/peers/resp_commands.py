@@ -58,6 +58,8 @@ PROGRAMS = [
     "redis.setresp(3) return redis.call('hgetall', 'hash')",
     "redis.setresp(3) return {big_number = '123456789012345678901234567890'}",
     "redis.setresp(3) return {verbatim_string = {format = 'txt', string = 'a\\r\\nb'}}",
+    "redis.setresp(3) return {double = 0 / 0}", "redis.setresp(3) return {double = 1 / 0}",
+    "redis.setresp(3) return {double = -1 / 0}",
 ]
 
 

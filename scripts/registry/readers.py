@@ -35,12 +35,10 @@ READERS = [
     ("INI files, in any dialect", "format_ini", "no",
         "`Ok` exactly where the text is lines of the dialect, with what they say; else the first "
         "line that says nothing of it, and why"),
-    ("RESP2", "format_resp", "yes",
-        "the reply that bytes begin with, nested to a level, whole and in pieces; where it ends, "
-        "by one pass over pieces; the text of a reply or a command, which reads back"),
-    ("RESP3", "format_resp3", "yes",
+    ("RESP2, RESP3", "format_resp", "yes",
         "the reply that bytes begin with, of each type and nested to a level, whole and in pieces; "
-        "the text of a reply, which reads back"),
+        "where one of RESP2 ends, by one pass over pieces; the text of a reply or a command, which "
+        "reads back"),
     ("JSON (RFC 8259): numbers, strings, words", "format_json_scalars", "yes",
         "the number, string or word that a text begins with, its escapes undone"),
     ("JSON: values", "format_json_values", "yes",
@@ -99,8 +97,7 @@ BRIEF = [
     ("INI", ["readers", "format_ini"], "exactly"),
     ("JSON", ["format_json"], "exactly; first, in pieces; written values read back"),
     ("JSON extents", ["format_json_extents"], "where the first value ends"),
-    ("RESP2", ["format_resp"], "first, in pieces"),
-    ("RESP3", ["format_resp3"], "first, in pieces"),
+    ("RESP2, RESP3", ["format_resp"], "first, in pieces"),
     ("TOML 1.0", ["format_toml", "format_toml_tree"], "exactly"),
 ]
 

@@ -1,6 +1,5 @@
-//! The parts of replies: lines, sizes, bytes and integers, whole and cut.
+//! The parts of replies: lines, sizes and bytes, whole and cut.
 use crate::replies::same;
-use format_resp::heads::number_of;
 use format_resp::leaves::{read_data, read_line, read_size};
 use winnow::error::ErrMode;
 use winnow::stream::{Partial, StreamIsPartial};
@@ -33,10 +32,12 @@ fn read_line_of_bytes(rt: HostRuntime) {
 
 #[test]
 fn read_size_of_bytes(rt: HostRuntime) {
-    let rows: [(&[u8], Option<Option<usize>>); 10] = [
+    let rows: [(&[u8], Option<Option<usize>>); 12] = [
         (b"0\r\n", Some(Some(0))),
         (b"12\r\n:", Some(Some(12))),
-        (b"+3\r\n", Some(Some(3))),
+        (b"03\r\n", Some(Some(3))),
+        (b"+3\r\n", None),
+        (b"-01\r\n", None),
         (b"9223372036854775807\r\n", Some(Some(9223372036854775807))),
         (b"-1\r\n", Some(None)),
         (b"-2\r\n", None),
@@ -70,26 +71,5 @@ fn read_data_of_bytes(rt: HostRuntime) {
     for text in [b"".as_slice(), b"foo".as_slice(), b"foo\r".as_slice()] {
         let told = read_data(3, &mut Partial::new(text));
         same(&rt, text, matches!(told, Err(ErrMode::Incomplete(_))), true);
-    }
-}
-
-#[test]
-fn number_of_lines(rt: HostRuntime) {
-    let rows: [(&[u8], Option<i64>); 12] = [
-        (b"0", Some(0)),
-        (b"-7", Some(-7)),
-        (b"+7", Some(7)),
-        (b"9223372036854775807", Some(i64::MAX)),
-        (b"-9223372036854775808", Some(i64::MIN)),
-        (b"9223372036854775808", None),
-        (b"", None),
-        (b"-", None),
-        (b"07", None),
-        (b"-0", None),
-        (b"7 ", None),
-        (b"1.5", None),
-    ];
-    for (line, want) in rows {
-        same(&rt, line, number_of(line), want);
     }
 }

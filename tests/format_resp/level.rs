@@ -2,10 +2,11 @@
 use std::alloc::Global;
 use std::thread::Builder;
 use format_resp::read::{SAFE_LEVEL, read_reply};
+use format_resp::reply::Protocol;
 use winnow::stream::{Partial, StreamIsPartial};
 
-/// Whether an integer in so many arrays is read at the safe level.
-fn is_read(alloc: Global, level: usize) -> bool {
+/// Whether an integer in so many aggregates is read at the safe level.
+fn is_read(alloc: Global, protocol: Protocol, level: usize) -> bool {
     let mut bytes = Vec::new(alloc);
     for _ in 0..level {
         if bytes.extend_from_slice(b"*1\r\n".as_slice()).is_err() {
@@ -17,14 +18,19 @@ fn is_read(alloc: Global, level: usize) -> bool {
     }
     let mut input = Partial::new(bytes.as_slice());
     input.complete();
-    read_reply(alloc, SAFE_LEVEL, &mut input).is_ok()
+    read_reply(alloc, protocol, SAFE_LEVEL, &mut input).is_ok()
+}
+
+/// Whether the safe level is that up to which replies are read.
+fn is_the_level(alloc: Global, protocol: Protocol) -> bool {
+    is_read(alloc, protocol, SAFE_LEVEL) && !is_read(alloc, protocol, SAFE_LEVEL + 1)
 }
 
 #[test]
 fn read_reply_at_the_safe_level(rt: HostRuntime) {
     let alloc = rt.alloc();
     let thread = Builder::new().stack_size(2 << 20).spawn(&rt, move || {
-        is_read(alloc, SAFE_LEVEL) && !is_read(alloc, SAFE_LEVEL + 1)
+        is_the_level(alloc, Protocol::Resp2) && is_the_level(alloc, Protocol::Resp3)
     });
     assert!(rt; thread.is_ok_and(|it| it.join(&rt)));
 }

@@ -1,4 +1,5 @@
-//! Replies of Redis, whole and at every cut, and how many bytes are asked for.
+//! Replies of Redis, of RESP2 and RESP3, whole and at every cut, how many bytes are asked for, and
+//! the texts of their numbers.
 #![tactic(auto)]
 
 #[cfg(test)]
@@ -7,6 +8,8 @@ mod extents;
 mod leaves;
 #[cfg(test)]
 mod level;
+#[cfg(test)]
+mod numbers;
 #[cfg(test)]
 mod pieces;
 #[cfg(test)]

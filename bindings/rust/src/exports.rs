@@ -1089,7 +1089,8 @@ extern "C" {
     /// which no more than `levels` arrays stand in one another. The elements of an array are read by
     /// further calls, of the bytes at its place and of those after each element.
     ///
-    /// A number has no leading zero, and 0 has no sign; a size may have a plus sign before it.
+    /// An integer may have a sign before it and zeros first, a size zeros first; `-1` is the size of a
+    /// null.
     ///
     /// `DONE`: the reply is written. `REFUSED`: the bytes begin with none. `TOO_DEEP`: more than 512
     /// levels are asked for. `NO_MEMORY`. With these three all that is written is 0.

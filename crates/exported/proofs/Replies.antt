@@ -1,14 +1,16 @@
 -- What stands in replies, and where.
 use Rattle.std.proofs.Common.{◌≡◌, ◌∙◌, ◌+◌, ◌-◌, ◌≤◌, ◌++◌, ◌∷◌, [], ℕ, List, Global, ap}
-use Rattle.std.proofs.Common.{append-nil, append_assoc, arith, length, length-append, pos, subst}
+use Rattle.std.proofs.Common.{append-nil, append_assoc, arith, inl, inr, length, length-append, pos}
+use Rattle.std.proofs.Common.{subst}
 use Rattle.std.proofs.Common.{sym, ℤ}
 use Rattle.std.specs.Borrow.{Bor}
 use Rattle.std.specs.declared.vec.Vec.{Vec}
 use Rattle.winnow.specs.Equal.{same_first, same_others}
-use Rattle.format_resp.specs.Parts.{IsBehindFeed, IsLine, NoFeed, Opened, StandsBy, array_is}
-use Rattle.format_resp.specs.Parts.{bulk_is, error_is, integer_is, null_array_is, null_bulk_is}
-use Rattle.format_resp.specs.Parts.{simple_is, stands_as}
-use Rattle.format_resp.specs.Resp.{line_end}
+use Rattle.format_resp.proofs.Made.{array_is, bulk_is, error_is, integer_is, null_array_is}
+use Rattle.format_resp.proofs.Made.{null_bulk_is, simple_is}
+use Rattle.format_resp.proofs.PartsStand.{made_of_resp2, stands_as}
+use Rattle.format_resp.specs.Parts.{IsBehindFeed, IsLine, NoFeed, StandsBy}
+use Rattle.format_resp.specs.Resp.{Opened, line_end}
 use Rattle.format_resp.specs.declared.reply.Reply as made
 use Rattle.format_resp.specs.declared.reply.Reply.{out-Reply}
 use Rattle.format_resp.specs.declared.reply.Reply.TheOpen.{Reply-F}
@@ -116,6 +118,23 @@ module _ (level : ℕ) (input : List ℕ) (reply : Found) (rest : List ℕ)
   pub array_stands : (list : Vec Found Global) → reply ≡ made.Array list
       → StandsBy level input (Reply-F.Array list) rest
   array_stands list same = opened (Reply-F.Array list) (made.Array list) same (array_is list)
+
+  -- it is of one of the kinds of RESP2
+  pub none_else : ((x : Bor (List ℕ)) → reply ≡ made.Simple x → ⊥)
+      → ((x : Bor (List ℕ)) → reply ≡ made.Error x → ⊥)
+      → ((n : ℤ) → reply ≡ made.Integer n → ⊥)
+      → ((x : Bor (List ℕ)) → reply ≡ made.Bulk x → ⊥) → (reply ≡ made.NullBulk → ⊥)
+      → ((l : Vec Found Global) → reply ≡ made.Array l → ⊥) → (reply ≡ made.NullArray → ⊥) → ⊥
+  none_else simple error integer bulk null array none =
+      elim (made_of_resp2 level input rest reply is) [
+        | inl (x, e) ↦ simple x e
+        | inr (inl (x, e)) ↦ error x e
+        | inr (inr (inl (n, e))) ↦ integer n e
+        | inr (inr (inr (inl (x, e)))) ↦ bulk x e
+        | inr (inr (inr (inr (inl e)))) ↦ null e
+        | inr (inr (inr (inr (inr (inl (l, e)))))) ↦ array l e
+        | inr (inr (inr (inr (inr (inr e))))) ↦ none e
+      ]
 
 -- ---- what is told of a reply that is made so
 

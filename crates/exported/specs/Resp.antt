@@ -2,8 +2,9 @@
 use Rattle.std.specs.Prelude.{◌≡◌, ◌+◌, ℕ, ℤ, pos, List, ◌++◌, length, suc}
 use Rattle.std.specs.Borrow.{Bor}
 use Rattle.std.specs.declared.alloc.Global.{Global}
-use Rattle.format_resp.specs.Parts.{IsBehindFeed, Opened}
-use Rattle.format_resp.specs.Resp.{Replies, ReplyText, line_end}
+use Rattle.format_resp.specs.Parts.{IsBehindFeed}
+use Rattle.format_resp.specs.Resp.{Opened, Replies, ReplyText, line_end}
+use Rattle.format_resp.specs.declared.reply.Protocol.TheVariants.{Resp2}
 use Rattle.format_resp.specs.declared.reply.Reply.{out-Reply}
 use Rattle.format_resp.specs.declared.reply.Reply.TheOpen.{Reply-F}
 use Rattle.winnow.specs.InTurn.{First}
@@ -18,7 +19,7 @@ Found = Replies Global
 
 -- The bytes begin with this reply, in which no more than that many arrays stand in one another.
 abbrev pub IsReply : ℕ → List ℕ → Found → List ℕ → Type 0
-IsReply level input reply rest = First (ReplyText level) input reply rest
+IsReply level input reply rest = First (ReplyText Resp2 level) input reply rest
 
 -- Whatever comes after the bytes, they begin with it.
 abbrev pub IsReplyForGood : ℕ → List ℕ → Found → List ℕ → Type 0
@@ -45,7 +46,7 @@ pub record AreElements (level : ℕ) (input rest : List ℕ) (elements : List Fo
   pub inner : ℕ
   pub deeper : level ≡ suc inner
   pub bytes : List ℕ
-  pub are : EachText (ReplyText inner) elements bytes
+  pub are : EachText (ReplyText Resp2 inner) elements bytes
   pub behind_line : IsBehindFeed input (bytes ++ rest)
   pub stand : StandsAt input it.place bytes rest
 
@@ -60,7 +61,7 @@ abbrev pub TellsText : ℕ → List ℕ → List ℕ → List ℕ → Reply → 
 TellsText kind input rest text it =
     Tells it kind (pos 0) 0 × StandsAt input it.place text (line_end ++ rest)
 
--- What is told of a reply of the input, after which the rest comes, by what it is.
+-- What is told of a reply of the input, after which the rest comes, by what it is: one of RESP2.
 abbrev pub IsShownBy : ℕ → List ℕ → List ℕ → Opened Global → Reply → Type 0
 IsShownBy level input rest (Reply-F.Simple text) it = TellsText 0 input rest text.now it
 IsShownBy level input rest (Reply-F.Error text) it = TellsText 1 input rest text.now it
@@ -71,6 +72,7 @@ IsShownBy level input rest Reply-F.NullBulk it = Tells it 4 (pos 0) 0 × (it.pla
 IsShownBy level input rest (Reply-F.Array list) it =
     Tells it 5 (pos 0) (length list.items) × AreElements level input rest list.items it
 IsShownBy level input rest Reply-F.NullArray it = Tells it 6 (pos 0) 0 × (it.place ≡ nowhere)
+IsShownBy level input rest kind it = ⊥
 
 abbrev pub IsShown : ℕ → List ℕ → List ℕ → Found → Reply → Type 0
 IsShown level input rest reply it =

@@ -19,6 +19,7 @@ use crate::resp::places::reply_at;
 use crate::span::{MOST_IN_PIECES, NOWHERE, Span};
 use format_resp::extent::Refused;
 use format_resp::read::read_reply;
+use format_resp::reply::Protocol;
 use std::alloc::Global;
 use winnow::error::ParserError;
 use winnow::stream::{Partial, StreamIsPartial};
@@ -94,7 +95,8 @@ pub(crate) const NONE: Reply = Reply {
 /// which no more than `levels` arrays stand in one another. The elements of an array are read by
 /// further calls, of the bytes at its place and of those after each element.
 ///
-/// A number has no leading zero, and 0 has no sign; a size may have a plus sign before it.
+/// An integer may have a sign before it and zeros first, a size zeros first; `-1` is the size of a
+/// null.
 ///
 /// `DONE`: the reply is written. `REFUSED`: the bytes begin with none. `TOO_DEEP`: more than 512
 /// levels are asked for. `NO_MEMORY`. With these three all that is written is 0.
@@ -124,7 +126,7 @@ pub extern "C" fn exported_resp_reply(
     }
     let mut whole = Partial::new(bytes);
     whole.complete();
-    match read_reply(alloc, levels, &mut whole) {
+    match read_reply(alloc, Protocol::Resp2, levels, &mut whole) {
         Ok(found) => {
             *out = reply_at(bytes, levels, &found, whole.into_inner().len());
             DONE
@@ -172,7 +174,7 @@ pub extern "C" fn exported_resp_reply_in_pieces(
         return REFUSED;
     }
     let mut pieces = Partial::new(bytes);
-    match read_reply(alloc, levels, &mut pieces) {
+    match read_reply(alloc, Protocol::Resp2, levels, &mut pieces) {
         Ok(found) => {
             *out = reply_at(bytes, levels, &found, pieces.into_inner().len());
             DONE

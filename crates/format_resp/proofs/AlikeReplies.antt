@@ -1,56 +1,50 @@
 -- Replies of which texts stand first in the same tokens are alike.
-use Rattle.std.specs.Prelude.{◌≡◌, ℕ, zero, suc, List, [], ◌∷◌, ◌++◌, length, Option, Some, None}
+use Rattle.std.specs.Prelude.{◌≡◌, Bool, true, false, ℕ, zero, suc, List, [], ◌∷◌}
+use Rattle.std.specs.Prelude.{Option, Some, None}
 use Rattle.std.specs.Borrow.{Bor}
-use Rattle.std.proofs.Common.{refl, sym, ap, subst, ◌∙◌, arith, append_assoc}
-use Rattle.std.proofs.lemmas.List.Elements.{recursion_from_All}
-use Rattle.winnow.specs.Grammar.{IsUnique}
-use Rattle.winnow.specs.Grammar.Lengths.{same_beginnings}
+use Rattle.std.specs.declared.vec.Vec.{Vec}
+use Rattle.std.proofs.Common.{refl, sym, ap, subst, ◌∙◌, arith}
+use Rattle.winnow.specs.Equal.{same_first}
 use Rattle.winnow.specs.InTurn.{First, Led}
-use Rattle.winnow.specs.Texts.{CountedText, EachText, Members, Text}
+use Rattle.winnow.specs.Texts.{Text}
+use Rattle.format_resp.proofs.Integers.{one_number, size_splits}
+use Rattle.format_resp.proofs.ReadParts.{one_line}
+use Rattle.format_resp.proofs.Rows.{Pairs, led_parts, rows_alike, same_bytes}
+use Rattle.format_resp.proofs.Bodies.{reply_unique}
+use Rattle.format_resp.proofs.FirstBytes.{mark_splits}
+use Rattle.format_resp.proofs.Made.{array_is, attributed_is, big_number_is, boolean_is}
+use Rattle.format_resp.proofs.Made.{bulk_error_is, bulk_is, double_is, error_is, integer_is}
+use Rattle.format_resp.proofs.Made.{map_is, null_array_is, null_bulk_is, null_is, push_is, set_is}
+use Rattle.format_resp.proofs.Made.{simple_is, verbatim_is}
+use Rattle.format_resp.proofs.Plain.{line_plain}
 use Rattle.format_resp.specs.Alike.{AreAlike, AreAlikeAs, AreAlikeBy, ArePairwise}
-use Rattle.format_resp.specs.Parts.{Opened, array_is, bulk_is, error_is, integer_is}
-use Rattle.format_resp.specs.Parts.{null_array_is, null_bulk_is, simple_is}
-use Rattle.format_resp.specs.Read.{integer_splits, mark_splits, one_line, reply_unique, size_splits}
-use Rattle.format_resp.specs.Resp.{ArrayBehind, Body, BulkBehind, DataText, Elements, Ended, InLine}
-use Rattle.format_resp.specs.Resp.{For, IntegerText, LineText, MarkText, Replies, ReplyText}
-use Rattle.format_resp.specs.Resp.{SizeText, line_end}
-use Rattle.format_resp.specs.declared.leaves.Mark.{Mark}
-use Rattle.format_resp.specs.declared.leaves.Mark.TheVariants.{Colon, Dollar, Minus, Plus, Star}
-use Rattle.format_resp.specs.declared.reply.Reply as made
+use Rattle.format_resp.specs.Resp.{AggregateBehind, Body, BooleanText, DataBehind, DataSays}
+use Rattle.format_resp.specs.Resp.{Elements, Ended, LineSays, MarkText, Opened, Replies}
+use Rattle.format_resp.specs.Resp.{ReplyText, Shown, SizeText, gathered}
+use Rattle.format_resp.specs.declared.marks.AggregateMark.{AggregateMark}
+use Rattle.format_resp.specs.declared.marks.AggregateMark.TheVariants.{Bar, Greater, Percent, Star}
+use Rattle.format_resp.specs.declared.marks.AggregateMark.TheVariants.{Tilde}
+use Rattle.format_resp.specs.declared.marks.DataMark.{DataMark}
+use Rattle.format_resp.specs.declared.marks.DataMark.TheVariants.{Dollar, Equals, Exclamation}
+use Rattle.format_resp.specs.declared.marks.LineMark.{LineMark}
+use Rattle.format_resp.specs.declared.marks.LineMark.TheVariants.{Colon, Comma, Hash, Minus}
+use Rattle.format_resp.specs.declared.marks.LineMark.TheVariants.{Parenthesis, Plus, Underscore}
+use Rattle.format_resp.specs.declared.marks.Mark.{Mark}
+use Rattle.format_resp.specs.declared.marks.Mark.TheVariants.{Aggregate, Data, Line}
+use Rattle.format_resp.specs.declared.reply.Protocol.{Protocol}
 use Rattle.format_resp.specs.declared.reply.Reply.{out-Reply}
 use Rattle.format_resp.specs.declared.reply.Reply.TheOpen.{Reply-F}
 
--- a text that leads, and what is after it
-pub led_parts : {X O : Type 0} (first : Text ℕ X) (behind : X → Text ℕ O) (tokens : List ℕ) (o : O)
-    (rest : List ℕ) → First (Led first behind) tokens o rest
-    → (x : X) × (mid : List ℕ) × First first tokens x mid × First (behind x) mid o rest
-unfolding First Led
-led_parts first behind tokens o rest (front, (x, xs, ys, a, b, d), e) = (
-  x,
-  ys ++ rest,
-  (xs, a, e ∙ ap (λ l. l ++ rest) d ∙ append_assoc xs ys rest),
-  (ys, b, refl),
-)
+-- ---- booleans
 
--- ---- lines and bytes
+t_is_no_f : {P : Type 0} {line : List ℕ} → line ≡ 116 ∷ [] → line ≡ 102 ∷ [] → P
+t_is_no_f e f = let d = same_first (sym e ∙ f) in absurd (omega (arith, d))
 
-pub same_lines : (x y : Bor (List ℕ)) (tokens rest other : List ℕ) → First LineText tokens x rest
-    → First LineText tokens y other → x.now ≡ y.now
-unfolding First LineText Ended Members
-same_lines x y tokens rest other (front, (xs, (all, enough, shown), e), d)
-    (back, (ys, (each, some, see), f), h) =
-    shown ∙ (one_line tokens front back xs ys rest other (recursion_from_All InLine xs all)
-    (recursion_from_All InLine ys each) e d f h).0 ∙ sym see
-
-pub same_bytes : (n : ℕ) (x y : Bor (List ℕ)) (tokens rest other : List ℕ)
-    → First (DataText n) tokens x rest → First (DataText n) tokens y other → x.now ≡ y.now
-unfolding First DataText Ended CountedText
-same_bytes n x y tokens rest other (front, (xs, (many, shown), e), d)
-    (back, (ys, (also, see), f), h) =
-    let split = sym (append_assoc xs line_end rest) ∙ ap (λ l. l ++ rest) (sym e) ∙ sym d ∙ h
-    ∙ ap (λ l. l ++ other) f ∙ append_assoc ys line_end other in
-    shown ∙ (same_beginnings xs ys (line_end ++ rest) (line_end ++ other) (many ∙ sym also)
-    split).0 ∙ sym see
+one_boolean : (m n : Bool) (line : List ℕ) → BooleanText m line → BooleanText n line → m ≡ n
+one_boolean true true line a b = refl
+one_boolean true false line a b = t_is_no_f a b
+one_boolean false true line a b = t_is_no_f b a
+one_boolean false false line a b = refl
 
 -- ---- by what the replies are
 
@@ -64,119 +58,141 @@ module _ {A : Type 0} (alike : Replies A → Replies A → Type 0) where
       subst Q (sym (ap (out-Reply (Bor (List ℕ)) A) f ∙ are))
       (subst P (sym (ap (out-Reply (Bor (List ℕ)) A) e ∙ is)) a)
 
-  simple_alike : (v w : Replies A) (tokens rest other : List ℕ)
-      → First (For (λ line. made.Simple line) LineText) tokens v rest
-      → First (For (λ line. made.Simple line) LineText) tokens w other → AreAlikeBy alike v w
-  unfolding First
-  simple_alike v w tokens rest other (front, (x, e, a), d) (back, (y, f, b), h) =
-      alike_as (Reply-F.Simple x) (Reply-F.Simple y) e (simple_is x) f (simple_is y)
-      (same_lines x y tokens rest other (front, a, d) (back, b, h))
-
-  error_alike : (v w : Replies A) (tokens rest other : List ℕ)
-      → First (For (λ line. made.Error line) LineText) tokens v rest
-      → First (For (λ line. made.Error line) LineText) tokens w other → AreAlikeBy alike v w
-  unfolding First
-  error_alike v w tokens rest other (front, (x, e, a), d) (back, (y, f, b), h) =
-      alike_as (Reply-F.Error x) (Reply-F.Error y) e (error_is x) f (error_is y)
-      (same_lines x y tokens rest other (front, a, d) (back, b, h))
-
-  number_alike : (v w : Replies A) (tokens rest other : List ℕ)
-      → First (For (λ n. made.Integer n) IntegerText) tokens v rest
-      → First (For (λ n. made.Integer n) IntegerText) tokens w other → AreAlikeBy alike v w
-  unfolding First
-  number_alike v w tokens rest other (front, (m, e, a), d) (back, (n, f, b), h) =
+  -- of lines that say the same
+  line_alike : (mark : LineMark) (v w : Replies A) (line : List ℕ) → LineSays mark v line
+      → LineSays mark w line → AreAlikeBy alike v w
+  unfolding Shown
+  line_alike Plus v w line (x, e, (a, s)) (y, f, (b, t)) =
+      alike_as (Reply-F.Simple x) (Reply-F.Simple y) e (simple_is x) f (simple_is y) (s ∙ sym t)
+  line_alike Minus v w line (x, e, (a, s)) (y, f, (b, t)) =
+      alike_as (Reply-F.Error x) (Reply-F.Error y) e (error_is x) f (error_is y) (s ∙ sym t)
+  line_alike Colon v w line (m, e, a) (n, f, b) =
       alike_as (Reply-F.Integer m) (Reply-F.Integer n) e (integer_is m) f (integer_is n)
-      (integer_splits.one m n tokens rest other (front, a, d) (back, b, h)).0
+      (one_number m n line a b)
+  line_alike Underscore v w line (e, a) (f, b) =
+      alike_as Reply-F.Null Reply-F.Null e null_is f null_is tt
+  line_alike Hash v w line (m, e, a) (n, f, b) =
+      alike_as (Reply-F.Boolean m) (Reply-F.Boolean n) e (boolean_is m) f (boolean_is n)
+      (one_boolean m n line a b)
+  line_alike Comma v w line (x, e, (a, s)) (y, f, (b, t)) =
+      alike_as (Reply-F.Double x) (Reply-F.Double y) e (double_is x) f (double_is y) (s ∙ sym t)
+  line_alike Parenthesis v w line (x, e, (a, s)) (y, f, (b, t)) =
+      alike_as (Reply-F.BigNumber x) (Reply-F.BigNumber y) e (big_number_is x) f
+      (big_number_is y) (s ∙ sym t)
 
-  bulk_alike : (size : Option ℕ) (v w : Replies A) (tokens rest other : List ℕ)
-      → First (BulkBehind size) tokens v rest → First (BulkBehind size) tokens w other
+  -- of the same bytes
+  data_alike : (mark : DataMark) (v w : Replies A) (bytes : List ℕ) → DataSays mark v bytes
+      → DataSays mark w bytes → AreAlikeBy alike v w
+  unfolding Shown
+  data_alike Dollar v w bytes (x, e, (a, s)) (y, f, (b, t)) =
+      alike_as (Reply-F.Bulk x) (Reply-F.Bulk y) e (bulk_is x) f (bulk_is y) (s ∙ sym t)
+  data_alike Exclamation v w bytes (x, e, (a, s)) (y, f, (b, t)) =
+      alike_as (Reply-F.BulkError x) (Reply-F.BulkError y) e (bulk_error_is x) f
+      (bulk_error_is y) (s ∙ sym t)
+  data_alike Equals v w bytes (x, e, (a, s)) (y, f, (b, t)) =
+      alike_as (Reply-F.Verbatim x) (Reply-F.Verbatim y) e (verbatim_is x) f (verbatim_is y)
+      (s ∙ sym t)
+
+  -- of replies that are alike in their places
+  gathered_alike : (mark : AggregateMark) (v w : Replies A) (l m : Vec (Replies A) A)
+      → v ≡ gathered mark l → w ≡ gathered mark m → ArePairwise alike l.items m.items
+      → AreAlikeBy alike v w
+  gathered_alike Star v w l m e f =
+      alike_as (Reply-F.Array l) (Reply-F.Array m) e (array_is l) f (array_is m)
+  gathered_alike Percent v w l m e f =
+      alike_as (Reply-F.Map l) (Reply-F.Map m) e (map_is l) f (map_is m)
+  gathered_alike Tilde v w l m e f =
+      alike_as (Reply-F.Set l) (Reply-F.Set m) e (set_is l) f (set_is m)
+  gathered_alike Greater v w l m e f =
+      alike_as (Reply-F.Push l) (Reply-F.Push m) e (push_is l) f (push_is m)
+  gathered_alike Bar v w l m e f =
+      alike_as (Reply-F.Attributed l) (Reply-F.Attributed m) e (attributed_is l) f
+      (attributed_is m)
+
+  -- ---- by what stands first
+
+  ended_alike : (mark : LineMark) (v w : Replies A) (tokens rest other : List ℕ)
+      → First (Ended (LineSays mark)) tokens v rest
+      → First (Ended (LineSays mark)) tokens w other → AreAlikeBy alike v w
+  unfolding First Ended
+  ended_alike mark v w tokens rest other (front, (xs, a, e), d) (back, (ys, b, f), h) =
+      let plain = line_plain {A = A} mark in
+      let same = (one_line tokens front back xs ys rest other (plain.plain v xs a)
+      (plain.plain w ys b) e d f h).0 in
+      let P : List ℕ → Type 0 = λ l. LineSays mark w l in
+      line_alike mark v w xs a (subst P (sym same) b)
+
+  bytes_alike : (mark : DataMark) (size : Option ℕ) (v w : Replies A)
+      (tokens rest other : List ℕ)
+      → First (DataBehind mark size) tokens v rest → First (DataBehind mark size) tokens w other
       → AreAlikeBy alike v w
   unfolding First
-  bulk_alike None v w tokens rest other (front, (e, a), d) (back, (f, b), h) =
+  bytes_alike mark (Some n) v w tokens rest other (front, (x, says, a), d)
+      (back, (y, also, b), h) =
+      let same = same_bytes n x y tokens rest other (front, a, d) (back, b, h) in
+      let P : List ℕ → Type 0 = λ l. DataSays mark w l in
+      data_alike mark v w x.now says (subst P (sym same) also)
+  bytes_alike Dollar None v w tokens rest other (front, (e, a), d) (back, (f, b), h) =
       alike_as Reply-F.NullBulk Reply-F.NullBulk e null_bulk_is f null_bulk_is tt
-  bulk_alike (Some n) v w tokens rest other (front, (x, e, a), d) (back, (y, f, b), h) =
-      alike_as (Reply-F.Bulk x) (Reply-F.Bulk y) e (bulk_is x) f (bulk_is y)
-      (same_bytes n x y tokens rest other (front, a, d) (back, b, h))
-
--- Lists of which texts stand first in the same tokens are pairwise alike, if they are as long.
-abbrev pub Pairs : {O : Type 0} → (O → O → Type 0) → Text ℕ (List O) → Type 0
-Pairs {O} alike elements =
-    (os ps : List O) (xs ys rest other : List ℕ) → elements os xs → elements ps ys
-    → xs ++ rest ≡ ys ++ other → length os ≡ length ps → ArePairwise alike os ps
-
-pub rows_alike : {O : Type 0} (text : Text ℕ O) (alike : O → O → Type 0)
-    → IsUnique (First text) → ((v w : O) (tokens rest other : List ℕ)
-    → First text tokens v rest → First text tokens w other
-    → alike v w) → Pairs alike (EachText text)
-unfolding First EachText
-rows_alike text alike unique each [] [] xs ys rest other a b e n = tt
-rows_alike text alike unique each [] (p ∷ ps) xs ys rest other a b e n =
-    absurd (omega (arith, n))
-rows_alike text alike unique each (o ∷ os) [] xs ys rest other a b e n =
-    absurd (omega (arith, n))
-rows_alike text alike unique each (o ∷ os) (p ∷ ps) xs ys rest other (us, vs, a, more, d)
-    (ws, zs, b, also, f) e n =
-    let all = us ++ (vs ++ rest) in
-    let one : all ≡ ws ++ (zs ++ other) =
-    sym (append_assoc us vs rest) ∙ ap (λ l. l ++ rest) (sym d) ∙ e
-    ∙ ap (λ l. l ++ other) f ∙ append_assoc ws zs other in (
-      each o p all (vs ++ rest) (zs ++ other) (us, a, refl) (ws, b, one),
-      rows_alike text alike unique each os ps vs zs rest other more also
-          (unique.one all o p (vs ++ rest) (zs ++ other) (us, a, refl) (ws, b, one))
-          (omega (arith, n)),
-    )
+  bytes_alike Exclamation None v w tokens rest other (front, never, d) b = absurd never
+  bytes_alike Equals None v w tokens rest other (front, never, d) b = absurd never
 
 module _ {A : Type 0} (alike : Replies A → Replies A → Type 0)
-    (elements : List (Replies A) → List ℕ → Type 0) (pairs : Pairs alike elements) where
-  array_alike : (size : Option ℕ) (v w : Replies A) (tokens rest other : List ℕ)
-      → First (ArrayBehind elements size) tokens v rest
-      → First (ArrayBehind elements size) tokens w other → AreAlikeBy alike v w
+    (elements : Text ℕ (List (Replies A))) (pairs : Pairs alike elements) where
+  aggregate_alike : (mark : AggregateMark) (size : Option ℕ) (v w : Replies A)
+      (tokens rest other : List ℕ)
+      → First (AggregateBehind elements mark size) tokens v rest
+      → First (AggregateBehind elements mark size) tokens w other → AreAlikeBy alike v w
   unfolding First
-  array_alike None v w tokens rest other (front, (e, a), d) (back, (f, b), h) =
-      alike_as alike Reply-F.NullArray Reply-F.NullArray e null_array_is f null_array_is tt
-  array_alike (Some n) v w tokens rest other (front, (l, e, (many, a)), d)
+  aggregate_alike mark (Some n) v w tokens rest other (front, (l, e, (many, a)), d)
       (back, (m, f, (also, b)), h) =
-      alike_as alike (Reply-F.Array l) (Reply-F.Array m) e (array_is l) f (array_is m)
+      gathered_alike alike mark v w l m e f
       (pairs l.items m.items front back rest other a b (sym d ∙ h) (many ∙ sym also))
+  aggregate_alike Star None v w tokens rest other (front, (e, a), d) (back, (f, b), h) =
+      alike_as alike Reply-F.NullArray Reply-F.NullArray e null_array_is f null_array_is tt
+  aggregate_alike Percent None v w tokens rest other (front, never, d) b = absurd never
+  aggregate_alike Tilde None v w tokens rest other (front, never, d) b = absurd never
+  aggregate_alike Greater None v w tokens rest other (front, never, d) b = absurd never
+  aggregate_alike Bar None v w tokens rest other (front, never, d) b = absurd never
 
   body_alike : (mark : Mark) (v w : Replies A) (tokens rest other : List ℕ)
       → First (Body elements mark) tokens v rest → First (Body elements mark) tokens w other
       → AreAlikeBy alike v w
-  body_alike Plus = simple_alike alike
-  body_alike Minus = error_alike alike
-  body_alike Colon = number_alike alike
-  body_alike Dollar = λ v w tokens rest other a b.
-      let (m, mid, t, s) = led_parts SizeText BulkBehind tokens v rest a in
-      let (n, end, u, r) = led_parts SizeText BulkBehind tokens w other b in
+  body_alike (Line mark) = ended_alike alike mark
+  body_alike (Data mark) = λ v w tokens rest other a b.
+      let (m, mid, t, s) = led_parts SizeText (DataBehind mark) tokens v rest a in
+      let (n, end, u, r) = led_parts SizeText (DataBehind mark) tokens w other b in
       let (same, left) = size_splits.one m n tokens mid end t u in
-      let P : Option ℕ → Type 0 = λ z. First (BulkBehind z) end w other in
-      let Q : List ℕ → Type 0 = λ z. First (BulkBehind m) z w other in
-      bulk_alike alike m v w mid rest other s (subst Q (sym left) (subst P (sym same) r))
-  body_alike Star = λ v w tokens rest other a b.
-      let (m, mid, t, s) = led_parts SizeText (ArrayBehind elements) tokens v rest a in
-      let (n, end, u, r) = led_parts SizeText (ArrayBehind elements) tokens w other b in
+      let P : Option ℕ → Type 0 = λ z. First (DataBehind mark z) end w other in
+      let Q : List ℕ → Type 0 = λ z. First (DataBehind mark m) z w other in
+      bytes_alike alike mark m v w mid rest other s (subst Q (sym left) (subst P (sym same) r))
+  body_alike (Aggregate mark) = λ v w tokens rest other a b.
+      let (m, mid, t, s) = led_parts SizeText (AggregateBehind elements mark) tokens v rest a in
+      let (n, end, u, r) = led_parts SizeText (AggregateBehind elements mark) tokens w other b in
       let (same, left) = size_splits.one m n tokens mid end t u in
-      let P : Option ℕ → Type 0 = λ z. First (ArrayBehind elements z) end w other in
-      let Q : List ℕ → Type 0 = λ z. First (ArrayBehind elements m) z w other in
-      array_alike m v w mid rest other s (subst Q (sym left) (subst P (sym same) r))
+      let P : Option ℕ → Type 0 = λ z. First (AggregateBehind elements mark z) end w other in
+      let Q : List ℕ → Type 0 = λ z. First (AggregateBehind elements mark m) z w other in
+      aggregate_alike mark m v w mid rest other s (subst Q (sym left) (subst P (sym same) r))
 
-  marked_alike : (v w : Replies A) (tokens rest other : List ℕ)
-      → First (Led MarkText (Body elements)) tokens v rest
-      → First (Led MarkText (Body elements)) tokens w other → AreAlikeBy alike v w
-  marked_alike v w tokens rest other a b =
-      let (m, mid, t, s) = led_parts MarkText (Body elements) tokens v rest a in
-      let (n, end, u, r) = led_parts MarkText (Body elements) tokens w other b in
-      let (same, left) = mark_splits.one m n tokens mid end t u in
+  marked_alike : (protocol : Protocol) (v w : Replies A) (tokens rest other : List ℕ)
+      → First (Led (MarkText protocol) (Body elements)) tokens v rest
+      → First (Led (MarkText protocol) (Body elements)) tokens w other → AreAlikeBy alike v w
+  marked_alike protocol v w tokens rest other a b =
+      let (m, mid, t, s) = led_parts (MarkText protocol) (Body elements) tokens v rest a in
+      let (n, end, u, r) = led_parts (MarkText protocol) (Body elements) tokens w other b in
+      let (same, left) = (mark_splits protocol).one m n tokens mid end t u in
       let P : Mark → Type 0 = λ z. First (Body elements z) end w other in
       let Q : List ℕ → Type 0 = λ z. First (Body elements m) z w other in
       body_alike m v w mid rest other s (subst Q (sym left) (subst P (sym same) r))
 
 -- replies
-pub replies_alike : {A : Type 0} (level : ℕ) (v w : Replies A) (tokens rest other : List ℕ)
-    → First (ReplyText level) tokens v rest → First (ReplyText level) tokens w other
-    → AreAlike level v w
+pub replies_alike : {A : Type 0} (protocol : Protocol) (level : ℕ) (v w : Replies A)
+    (tokens rest other : List ℕ) → First (ReplyText protocol level) tokens v rest
+    → First (ReplyText protocol level) tokens w other → AreAlike level v w
 unfolding AreAlike Elements
-replies_alike {A} zero = marked_alike (λ v w. ⊥) (Elements zero)
-    (λ os ps xs ys rest other never. absurd never)
-replies_alike {A} (suc level) = marked_alike (AreAlike level) (Elements (suc level))
-    (rows_alike (ReplyText level) (AreAlike level) (reply_unique level) (replies_alike level))
+replies_alike {A} protocol zero = marked_alike (λ v w. ⊥) (Elements protocol zero)
+    (λ os ps xs ys rest other never. absurd never) protocol
+replies_alike {A} protocol (suc level) =
+    marked_alike (AreAlike level) (Elements protocol (suc level))
+    (rows_alike (ReplyText protocol level) (AreAlike level) (reply_unique protocol level)
+    (replies_alike protocol level)) protocol

@@ -11,7 +11,7 @@ use Rattle.winnow.specs.InTurn.{First}
 use Rattle.winnow.specs.Texts.{CountedText}
 use Rattle.format_resp.proofs.LineEnds.{unseen_rest}
 use Rattle.format_resp.specs.Extents.{IsDataEnd, IsLineEnd, IsPartOfData, PartFound}
-use Rattle.format_resp.specs.Read.{data_unique}
+use Rattle.format_resp.proofs.ReadParts.{data_unique}
 use Rattle.format_resp.specs.Resp.{DataText, Ended, line_end}
 
 -- that many bytes

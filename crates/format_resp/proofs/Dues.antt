@@ -1,36 +1,43 @@
 -- What is due after what is passed of a reply.
-use Rattle.std.specs.Prelude.{◌≡◌, ◌↔◌, ◌<◌, ◌≤◌, ◌+◌, ◌^◌, ⊤, ℕ, ℤ, zero, suc, List, [], ◌∷◌, ◌++◌}
-use Rattle.std.specs.Prelude.{length, Option, Some, None, pos, FitsSigned}
+use Rattle.std.specs.Prelude.{◌≡◌, ◌↔◌, ◌≤◌, ◌+◌, ◌^◌, ⊤, ℕ, zero, suc, List, [], ◌∷◌, ◌++◌}
+use Rattle.std.specs.Prelude.{length, Option, Some, None}
 use Rattle.std.specs.Borrow.{Bor}
-use Rattle.std.specs.Int.{w64}
 use Rattle.std.proofs.Common.{refl, sym, ap, subst, ◌∙◌, arith, append_assoc}
 use Rattle.std.proofs.lemmas.List.{append-nil}
+use Rattle.winnow.specs.Grammar.Known.{slice_for}
 use Rattle.winnow.specs.InTurn.{First, Led}
 use Rattle.winnow.specs.Texts.{EachText, Text}
 use Rattle.format_resp.proofs.Deeper.{deeper, list_for, row_as}
+use Rattle.format_resp.proofs.FirstBytes.{not_resp3}
 use Rattle.format_resp.proofs.FirstLines.{head_splits}
+use Rattle.format_resp.proofs.Integers.{size_small}
+use Rattle.format_resp.proofs.ReadParts.{data_unique}
 use Rattle.format_resp.specs.Extents.{AreDue, AreReplies, IsReply, Stands, count_after}
 use Rattle.format_resp.specs.Extents.{data_after}
 use Rattle.format_resp.specs.Heads.{HeadText, Says, array_head, bulk_head}
-use Rattle.format_resp.specs.Read.{data_unique}
-use Rattle.format_resp.specs.Resp.{ArrayBehind, Body, BulkBehind, DataText, Elements, Ended}
-use Rattle.format_resp.specs.Resp.{IntegerText, IsSize, LineText, MarkText, Replies}
-use Rattle.format_resp.specs.Resp.{ReplyText, SignedText, SizeText}
+use Rattle.format_resp.specs.Resp.{AggregateBehind, Body, DataBehind, DataText, Elements, Ended}
+use Rattle.format_resp.specs.Resp.{IsIn, MarkText, Replies, ReplyText, Shown, SizeText, line_end}
 use Rattle.format_resp.specs.declared.heads.Head.{Head}
 use Rattle.format_resp.specs.declared.heads.Head.TheVariants as heads
-use Rattle.format_resp.specs.declared.leaves.Mark.{Mark}
-use Rattle.format_resp.specs.declared.leaves.Mark.TheVariants.{Colon, Dollar, Minus, Plus, Star}
+use Rattle.format_resp.specs.declared.marks.AggregateMark.TheVariants.{Bar, Greater, Percent, Star}
+use Rattle.format_resp.specs.declared.marks.AggregateMark.TheVariants.{Tilde}
+use Rattle.format_resp.specs.declared.marks.DataMark.TheVariants.{Dollar, Equals, Exclamation}
+use Rattle.format_resp.specs.declared.marks.LineMark.TheVariants.{Colon, Comma, Hash, Minus}
+use Rattle.format_resp.specs.declared.marks.LineMark.TheVariants.{Parenthesis, Plus, Underscore}
+use Rattle.format_resp.specs.declared.marks.Mark.{Mark}
+use Rattle.format_resp.specs.declared.marks.Mark.TheVariants.{Aggregate, Data, Line}
+use Rattle.format_resp.specs.declared.reply.Protocol.TheVariants.{Resp2}
 use Rattle.format_resp.specs.declared.reply.Reply as made
 
 -- ---- replies of some levels, and of one
 
 gather : (n : ℕ) (xs : List ℕ) → AreReplies n xs → (level : ℕ) × (os : List (Replies ⊤))
-    × (length os ≡ n) × EachText (ReplyText level) os xs
+    × (length os ≡ n) × EachText (ReplyText Resp2 level) os xs
 unfolding EachText
 gather zero xs e = (0, [], refl, e)
 gather (suc n) xs (ys, zs, (a, o, t), many, e) =
     let (b, os, count, row) = gather n zs many in
-    let P : ℕ → Type 0 = λ k. EachText (ReplyText {A = ⊤} k) os zs in
+    let P : ℕ → Type 0 = λ k. EachText (ReplyText {A = ⊤} Resp2 k) os zs in
     let same : a + b ≡ b + a = omega arith in (
       b + a,
       o ∷ os,
@@ -38,8 +45,10 @@ gather (suc n) xs (ys, zs, (a, o, t), many, e) =
       (
         ys,
         zs,
-        deeper b a o ys t,
-        subst P same (row_as (ReplyText b) (ReplyText (a + b)) (deeper a b) os zs row),
+        deeper Resp2 b a o ys t,
+        subst P same
+            (row_as (ReplyText Resp2 b) (ReplyText Resp2 (a + b)) (deeper Resp2 a b) os zs
+            row),
         e,
       ),
     )
@@ -60,117 +69,115 @@ Behind (heads.Replies n) xs = AreReplies n xs
 
 module _ {A : Type 0} (elements : Text ℕ (List (Replies A)))
     (are : (os : List (Replies A)) (xs : List ℕ) → elements os xs → AreReplies (length os) xs) where
-  bulk_there : (size : Option ℕ) (reply : Replies A) (xs : List ℕ) → BulkBehind size reply xs
-      → Behind (bulk_head size) xs
+  bulk_there : (size : Option ℕ) (reply : Replies A) (xs : List ℕ)
+      → DataBehind Dollar size reply xs → Behind (bulk_head size) xs
   bulk_there None reply xs (is, empty) = empty
-  bulk_there (Some n) reply xs (bulk, is, t) = (bulk, t)
+  bulk_there (Some n) reply xs (bulk, says, t) = (bulk, t)
 
   array_there : (size : Option ℕ) (reply : Replies A) (xs : List ℕ)
-      → ArrayBehind elements size reply xs → Behind (array_head size) xs
+      → AggregateBehind elements Star size reply xs → Behind (array_head size) xs
   array_there None reply xs (is, empty) = empty
-  array_there (Some n) reply xs (list, is, (many, row)) =
-      let P : ℕ → Type 0 = λ k. AreReplies k xs in subst P many (are list.items xs row)
+  array_there (Some n) reply xs (list, is, (count, row)) =
+      let P : ℕ → Type 0 = λ k. AreReplies k xs in subst P count (are list.items xs row)
 
-  body_there : (mark : Mark) (reply : Replies A) (xs : List ℕ) → Body elements mark reply xs
-      → (head : Head) × (us : List ℕ) × (vs : List ℕ) × Says mark head us × Behind head vs
-      × (xs ≡ us ++ vs)
-  unfolding Led
-  body_there Plus reply xs (line, is, t) =
-      (heads.Ends, xs, [], (line, refl, t), refl, sym (append-nil xs))
-  body_there Minus reply xs (line, is, t) =
-      (heads.Ends, xs, [], (line, refl, t), refl, sym (append-nil xs))
-  body_there Colon reply xs (n, is, t) =
-      (heads.Ends, xs, [], (n, refl, t), refl, sym (append-nil xs))
-  body_there Dollar reply xs (size, us, vs, s, b, e) =
-      (bulk_head size, us, vs, (size, refl, s), bulk_there size reply vs b, e)
-  body_there Star reply xs (size, us, vs, s, b, e) =
-      (array_head size, us, vs, (size, refl, s), array_there size reply vs b, e)
+  body_there : (mark : Mark) (reply : Replies A) (xs : List ℕ) → IsIn Resp2 mark
+      → Body elements mark reply xs
+      → (head : Head) × (us : List ℕ) × (vs : List ℕ) × Ended (Says mark) head us
+      × Behind head vs × (xs ≡ us ++ vs)
+  unfolding Led Ended SizeText Shown
+  body_there (Line Plus) reply xs within (line, (text, is, (all, shown)), e) =
+      (heads.Ends, xs, [], (line, (refl, all), e), refl, sym (append-nil xs))
+  body_there (Line Minus) reply xs within (line, (text, is, (all, shown)), e) =
+      (heads.Ends, xs, [], (line, (refl, all), e), refl, sym (append-nil xs))
+  body_there (Line Colon) reply xs within (line, (n, is, a), e) =
+      (heads.Ends, xs, [], (line, (refl, (n, a)), e), refl, sym (append-nil xs))
+  body_there (Data Dollar) reply xs within (size, us, vs, (line, a, f), b, e) =
+      (bulk_head size, us, vs, (line, (size, refl, a), f), bulk_there size reply vs b, e)
+  body_there (Aggregate Star) reply xs within (size, us, vs, (line, a, f), b, e) =
+      (array_head size, us, vs, (line, (size, refl, a), f), array_there size reply vs b, e)
+  body_there (Line Underscore) reply xs within x = not_resp3 within
+  body_there (Line Hash) reply xs within x = not_resp3 within
+  body_there (Line Comma) reply xs within x = not_resp3 within
+  body_there (Line Parenthesis) reply xs within x = not_resp3 within
+  body_there (Data Exclamation) reply xs within x = not_resp3 within
+  body_there (Data Equals) reply xs within x = not_resp3 within
+  body_there (Aggregate Percent) reply xs within x = not_resp3 within
+  body_there (Aggregate Tilde) reply xs within x = not_resp3 within
+  body_there (Aggregate Greater) reply xs within x = not_resp3 within
+  body_there (Aggregate Bar) reply xs within x = not_resp3 within
 
-  led_there : (reply : Replies A) (xs : List ℕ) → Led MarkText (Body elements) reply xs
+  led_there : (reply : Replies A) (xs : List ℕ) → Led (MarkText Resp2) (Body elements) reply xs
       → (head : Head) × (us : List ℕ) × (vs : List ℕ) × HeadText head us × Behind head vs
       × (xs ≡ us ++ vs)
-  unfolding Led
-  led_there reply xs (mark, ms, bs, m, body, e) =
-      let (head, us, vs, says, behind, d) = body_there mark reply bs body in (
+  unfolding Led MarkText
+  led_there reply xs (mark, ms, bs, (within, m), body, e) =
+      let (head, us, vs, says, behind, d) = body_there mark reply bs within body in (
         head,
         ms ++ us,
         vs,
-        (mark, ms, us, m, says, refl),
+        (mark, ms, us, (within, m), says, refl),
         behind,
         e ∙ ap (λ l. ms ++ l) d ∙ sym (append_assoc ms us vs),
       )
 
 -- ---- and back
 
--- a size is small
-small_size : (n : ℕ) (z : ℤ) → FitsSigned w64 z → IsSize (Some n) z → n < 2 ^ 63
-small_size n (pos m) fits (positive, e) = omega (arith, fits, e)
-small_size n z fits (positive, e) = absurd positive
-
-size_small : (n : ℕ) (xs : List ℕ) → SizeText (Some n) xs → n < 2 ^ 63
-unfolding SizeText IntegerText Ended SignedText
-size_small n xs (z, (ys, (sign, digits, is, fits, d), e), s) = small_size n z fits s
-
 bulk_back : (size : Option ℕ) (xs : List ℕ) → Behind (bulk_head size) xs
-    → (reply : Replies ⊤) × BulkBehind size reply xs
+    → (reply : Replies ⊤) × DataBehind Dollar size reply xs
+unfolding Shown
 bulk_back None xs empty = (made.NullBulk, (refl, empty))
-bulk_back (Some n) xs (bulk, t) = (made.Bulk bulk, (bulk, refl, t))
+bulk_back (Some n) xs (bulk, t) = (made.Bulk bulk, (bulk, (bulk, refl, (tt, refl)), t))
 
 array_back : (size : Option ℕ) (us xs : List ℕ) → SizeText size us → Behind (array_head size) xs
-    → (level : ℕ) × (reply : Replies ⊤) × ArrayBehind (Elements level) size reply xs
+    → (level : ℕ) × (reply : Replies ⊤)
+    × AggregateBehind (Elements Resp2 level) Star size reply xs
 unfolding Elements
 array_back None us xs s empty = (0, made.NullArray, (refl, empty))
 array_back (Some n) us xs s many =
     let (level, os, count, row) = gather n xs many in
     let small = size_small n us s in
     let (list, same) = list_for tt os (omega (arith, count, small)) in
-    let P : List (Replies ⊤) → Type 0 = λ l. (length l ≡ n) × EachText (ReplyText level) l xs in
+    let P : List (Replies ⊤) → Type 0 = λ l.
+    (length l ≡ n) × EachText (ReplyText Resp2 level) l xs in
     (suc level, made.Array list, (list, refl, subst P (sym same) (count, row)))
 
-body_back : (mark : Mark) (head : Head) (us vs : List ℕ) → Says mark head us → Behind head vs
-    → (level : ℕ) × (reply : Replies ⊤) × Body (Elements level) mark reply (us ++ vs)
-unfolding Led
-body_back Plus head us vs (line, is, t) behind =
+-- nothing is after the line
+flat : {head : Head} (us vs line : List ℕ) → head ≡ heads.Ends → Behind head vs
+    → us ≡ line ++ line_end → us ++ vs ≡ line ++ line_end
+flat {head} us vs line is behind e =
     let P : Head → Type 0 = λ h. Behind h vs in
-    let Q : List ℕ → Type 0 = λ l. LineText line l in (
-      0,
-      made.Simple line,
-      (
-        line,
-        refl,
-        subst Q (sym (append-nil us) ∙ ap (λ l. us ++ l) (sym (subst P is behind))) t,
-      ),
-    )
-body_back Minus head us vs (line, is, t) behind =
-    let P : Head → Type 0 = λ h. Behind h vs in
-    let Q : List ℕ → Type 0 = λ l. LineText line l in (
-      0,
-      made.Error line,
-      (
-        line,
-        refl,
-        subst Q (sym (append-nil us) ∙ ap (λ l. us ++ l) (sym (subst P is behind))) t,
-      ),
-    )
-body_back Colon head us vs (n, is, t) behind =
-    let P : Head → Type 0 = λ h. Behind h vs in
-    let Q : List ℕ → Type 0 = λ l. IntegerText n l in (
-      0,
-      made.Integer n,
-      (
-        n,
-        refl,
-        subst Q (sym (append-nil us) ∙ ap (λ l. us ++ l) (sym (subst P is behind))) t,
-      ),
-    )
-body_back Dollar head us vs (size, is, s) behind =
+    ap (λ l. us ++ l) (subst P is behind) ∙ append-nil us ∙ e
+
+body_back : (mark : Mark) (head : Head) (us vs : List ℕ) → Ended (Says mark) head us
+    → Behind head vs → (level : ℕ) × (reply : Replies ⊤)
+    × Body (Elements Resp2 level) mark reply (us ++ vs)
+unfolding Led Ended SizeText Shown
+body_back (Line Plus) head us vs (line, (is, all), e) behind =
+    let (slice, shown) = slice_for line in
+    (0, made.Simple slice, (line, (slice, refl, (all, shown)), flat us vs line is behind e))
+body_back (Line Minus) head us vs (line, (is, all), e) behind =
+    let (slice, shown) = slice_for line in
+    (0, made.Error slice, (line, (slice, refl, (all, shown)), flat us vs line is behind e))
+body_back (Line Colon) head us vs (line, (is, (n, a)), e) behind =
+    (0, made.Integer n, (line, (n, refl, a), flat us vs line is behind e))
+body_back (Data Dollar) head us vs (line, (size, is, a), e) behind =
     let P : Head → Type 0 = λ h. Behind h vs in
     let (reply, b) = bulk_back size vs (subst P is behind) in
-    (0, reply, (size, us, vs, s, b, refl))
-body_back Star head us vs (size, is, s) behind =
+    (0, reply, (size, us, vs, (line, a, e), b, refl))
+body_back (Aggregate Star) head us vs (line, (size, is, a), e) behind =
     let P : Head → Type 0 = λ h. Behind h vs in
-    let (level, reply, b) = array_back size us vs s (subst P is behind) in
-    (level, reply, (size, us, vs, s, b, refl))
+    let (level, reply, b) = array_back size us vs (line, a, e) (subst P is behind) in
+    (level, reply, (size, us, vs, (line, a, e), b, refl))
+body_back (Line Underscore) head us vs (line, never, e) behind = absurd never
+body_back (Line Hash) head us vs (line, never, e) behind = absurd never
+body_back (Line Comma) head us vs (line, never, e) behind = absurd never
+body_back (Line Parenthesis) head us vs (line, never, e) behind = absurd never
+body_back (Data Exclamation) head us vs (line, never, e) behind = absurd never
+body_back (Data Equals) head us vs (line, never, e) behind = absurd never
+body_back (Aggregate Percent) head us vs (line, never, e) behind = absurd never
+body_back (Aggregate Tilde) head us vs (line, never, e) behind = absurd never
+body_back (Aggregate Greater) head us vs (line, never, e) behind = absurd never
+body_back (Aggregate Bar) head us vs (line, never, e) behind = absurd never
 
 pub head_back : (head : Head) (us vs : List ℕ) → HeadText head us → Behind head vs
     → IsReply (us ++ vs)
@@ -185,31 +192,31 @@ head_back head us vs (mark, ms, bs, m, says, d) behind =
 -- ---- replies of any allocator
 
 module _ {A : Type 0} where
-  are_replies : (level : ℕ) (os : List (Replies A)) (xs : List ℕ) → Elements level os xs
+  are_replies : (level : ℕ) (os : List (Replies A)) (xs : List ℕ) → Elements Resp2 level os xs
       → AreReplies (length os) xs
   unfolding Elements
   are_replies zero os xs never = absurd never
-  are_replies (suc level) os xs row = spread (ReplyText level) (λ o ys t.
+  are_replies (suc level) os xs row = spread (ReplyText Resp2 level) (λ o ys t.
       let (head, us, vs, text, behind, e) =
-      led_there (Elements level) (are_replies level) o ys t in
+      led_there (Elements Resp2 level) (are_replies level) o ys t in
       let P : List ℕ → Type 0 = λ l. IsReply l in
       subst P (sym e) (head_back head us vs text behind)) os xs row
 
-  pub reply_any : (level : ℕ) (reply : Replies A) (xs : List ℕ) → ReplyText level reply xs
+  pub reply_any : (level : ℕ) (reply : Replies A) (xs : List ℕ) → ReplyText Resp2 level reply xs
       → IsReply xs
   reply_any level reply xs t =
       let (head, us, vs, text, behind, e) =
-      led_there (Elements level) (are_replies level) reply xs t in
+      led_there (Elements Resp2 level) (are_replies level) reply xs t in
       let P : List ℕ → Type 0 = λ l. IsReply l in
       subst P (sym e) (head_back head us vs text behind)
 
 pub head_there : (xs : List ℕ) → IsReply xs → (head : Head) × (us : List ℕ) × (vs : List ℕ)
     × HeadText head us × Behind head vs × (xs ≡ us ++ vs)
-head_there xs (level, reply, t) = led_there (Elements level) (are_replies level) reply xs t
+head_there xs (level, reply, t) = led_there (Elements Resp2 level) (are_replies level) reply xs t
 
 -- what stands first as a reply of any allocator
 pub stands_any : {A : Type 0} (level : ℕ) (reply : Replies A) (tokens rest : List ℕ)
-    → First (ReplyText level) tokens reply rest → Stands IsReply tokens rest
+    → First (ReplyText Resp2 level) tokens reply rest → Stands IsReply tokens rest
 unfolding First
 stands_any level reply tokens rest (front, t, e) = (front, reply_any level reply front t, e)
 
@@ -316,26 +323,28 @@ data_passed size n bulk tokens left (hs, text, f) rest = (
 
 -- ---- how many
 
-says_small : (mark : Mark) (head : Head) (n : ℕ) (us : List ℕ) → Says mark head us
+says_small : (mark : Mark) (head : Head) (n : ℕ) (line : List ℕ) → Says mark head line
     → count_after head n ≤ n + 2 ^ 63
-says_small Plus head n us (line, is, t) =
-    let P : Head → Type 0 = λ h. count_after h n ≤ n + 2 ^ 63 in subst P (sym is) (omega arith)
-says_small Minus head n us (line, is, t) =
-    let P : Head → Type 0 = λ h. count_after h n ≤ n + 2 ^ 63 in subst P (sym is) (omega arith)
-says_small Colon head n us (m, is, t) =
-    let P : Head → Type 0 = λ h. count_after h n ≤ n + 2 ^ 63 in subst P (sym is) (omega arith)
-says_small Dollar head n us (None, is, s) =
-    let P : Head → Type 0 = λ h. count_after h n ≤ n + 2 ^ 63 in subst P (sym is) (omega arith)
-says_small Dollar head n us (Some k, is, s) =
-    let P : Head → Type 0 = λ h. count_after h n ≤ n + 2 ^ 63 in subst P (sym is) (omega arith)
-says_small Star head n us (None, is, s) =
-    let P : Head → Type 0 = λ h. count_after h n ≤ n + 2 ^ 63 in subst P (sym is) (omega arith)
-says_small Star head n us (Some k, is, s) =
-    let P : Head → Type 0 = λ h. count_after h n ≤ n + 2 ^ 63 in
-    subst P (sym is) (omega (arith, size_small k us s))
+says_small (Line Plus) head n line (is, a) = rw is (omega arith)
+says_small (Line Minus) head n line (is, a) = rw is (omega arith)
+says_small (Line Colon) head n line (is, a) = rw is (omega arith)
+says_small (Data Dollar) head n line (None, is, s) = rw is (omega arith)
+says_small (Data Dollar) head n line (Some k, is, s) = rw is (omega arith)
+says_small (Aggregate Star) head n line (None, is, s) = rw is (omega arith)
+says_small (Aggregate Star) head n line (Some k, is, (a, small)) = rw is (omega (arith, small))
+says_small (Line Underscore) head n line never = absurd never
+says_small (Line Hash) head n line never = absurd never
+says_small (Line Comma) head n line never = absurd never
+says_small (Line Parenthesis) head n line never = absurd never
+says_small (Data Exclamation) head n line never = absurd never
+says_small (Data Equals) head n line never = absurd never
+says_small (Aggregate Percent) head n line never = absurd never
+says_small (Aggregate Tilde) head n line never = absurd never
+says_small (Aggregate Greater) head n line never = absurd never
+says_small (Aggregate Bar) head n line never = absurd never
 
 -- a line says of fewer replies than a number of 64 bits counts
 pub small_head : (head : Head) (n : ℕ) (xs : List ℕ) → HeadText head xs
     → count_after head n ≤ n + 2 ^ 63
-unfolding Led
-small_head head n xs (mark, ys, zs, m, says, e) = says_small mark head n zs says
+unfolding Led Ended
+small_head head n xs (mark, ys, zs, m, (line, says, d), e) = says_small mark head n line says

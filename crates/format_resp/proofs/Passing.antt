@@ -59,7 +59,7 @@ no_data size n tokens none left (front, (bulk, xs, ys, t, many, e), d) =
 
 head_some : (head : Head) (xs : List ℕ) → HeadText head xs → 0 < length xs
 unfolding Led MarkText
-head_some head xs (mark, ys, zs, is, says, e) =
+head_some head xs (mark, ys, zs, (within, is), says, e) =
     omega (arith, ap (λ l. length l) e, ap (λ l. length l) is, length-append ys zs)
 
 data_some : (size : ℕ) (bulk : Bor (List ℕ)) (xs : List ℕ) → DataText size bulk xs → 0 < length xs

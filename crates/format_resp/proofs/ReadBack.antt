@@ -1,5 +1,5 @@
 -- What is read of what was written.
-use Rattle.std.specs.Prelude.{◌≡◌, ◌<◌, ◌≤◌, ◌^◌, ℕ, suc, List, [], ◌∷◌, ◌++◌, length, false}
+use Rattle.std.specs.Prelude.{◌≡◌, ◌<◌, ◌≤◌, ◌^◌, ⊤, ℕ, suc, List, [], ◌∷◌, ◌++◌, length, false}
 use Rattle.std.specs.Prelude.{Err, Ok}
 use Rattle.std.specs.Borrow.{Bor}
 use Rattle.std.specs.Fmt.{decimal}
@@ -17,27 +17,34 @@ use Rattle.format_resp.proofs.Deeper.{list_for}
 use Rattle.format_resp.proofs.WrittenTexts.{written_text}
 use Rattle.format_resp.specs.Alike.{AreAlike, AreAlikeAs, ArePairwise, IsBulkAs, IsCommand}
 use Rattle.format_resp.specs.Alike.{IsCommandAs}
-use Rattle.format_resp.specs.Parts.{Opened, array_is, bulk_is}
-use Rattle.format_resp.specs.Read.{reply_unique}
-use Rattle.format_resp.specs.Resp.{Replies, ReplyText, line_end}
+use Rattle.format_resp.proofs.Bodies.{reply_unique}
+use Rattle.format_resp.proofs.Made.{array_is, bulk_is}
+use Rattle.format_resp.proofs.Sayings.{shown_is}
+use Rattle.format_resp.specs.Resp.{IsIn, Opened, Replies, ReplyText, line_end}
 use Rattle.format_resp.specs.Written.{Adds, WrittenElements, WrittenText, bulk_of, bulks_of}
-use Rattle.format_resp.specs.Written.{command_of, marked}
+use Rattle.format_resp.specs.Written.{command_of, mark_in, marked}
+use Rattle.format_resp.specs.declared.marks.AggregateMark.TheVariants.{Star}
+use Rattle.format_resp.specs.declared.marks.DataMark.TheVariants.{Dollar}
+use Rattle.format_resp.specs.declared.reply.Protocol.{Protocol}
+use Rattle.format_resp.specs.declared.reply.Protocol.TheVariants.{Resp2}
 use Rattle.format_resp.specs.declared.reply.Reply as made
 use Rattle.format_resp.specs.declared.reply.Reply.{out-Reply}
 use Rattle.format_resp.specs.declared.reply.Reply.TheOpen.{Reply-F}
 
-module _ {A : Type 0} (level : ℕ) where
+module _ {A : Type 0} (protocol : Protocol) (level : ℕ) where
   -- what stands first where another reply does is alike, and leaves the same
   pub one_reply : (written read : Replies A) (tokens more rest : List ℕ)
-      → First (ReplyText level) tokens written more → First (ReplyText level) tokens read rest
+      → First (ReplyText protocol level) tokens written more
+      → First (ReplyText protocol level) tokens read rest
       → AreAlike level written read × (rest ≡ more)
   one_reply written read tokens more rest a b = (
-    replies_alike level written read tokens more rest a b,
-    (reply_unique level).one tokens read written rest more b a,
+    replies_alike protocol level written read tokens more rest a b,
+    (reply_unique protocol level).one tokens read written rest more b a,
   )
 
   pub written_back : (written read : Replies A) (text more rest : List ℕ)
-      → ReplyText level written text → First (ReplyText level) (text ++ more) read rest
+      → ReplyText protocol level written text
+      → First (ReplyText protocol level) (text ++ more) read rest
       → AreAlike level written read × (rest ≡ more)
   unfolding First
   written_back written read text more rest a b =
@@ -110,32 +117,47 @@ few_parts (part ∷ parts) =
     )
 
 bulks_row : (A : Type 0) (parts : List (Bor (List ℕ))) → length (bulks_of parts) < 2 ^ 63
-    → EachText (WrittenText {A = A} 0) (bulk_replies parts) (bulks_of parts)
+    → EachText (WrittenText {A = A} Resp2 0) (bulk_replies parts) (bulks_of parts)
 unfolding EachText
 bulks_row A [] small = refl
 bulks_row A (part ∷ parts) small =
     let long = length-append (bulk_of part.now) (bulks_of parts) in (
       bulk_of part.now,
       bulks_of parts,
-      inr (inr (inr (inl (part, refl, omega (arith, small, long, longer part.now), refl)))),
+      (
+        subst (λ m. IsIn Resp2 m) (sym (ap mark_in (bulk_is part))) tt,
+        inr (inl (
+          Dollar,
+          part.now,
+          (part, refl, shown_is (λ tokens. ⊤) part tt),
+          omega (arith, small, long, longer part.now),
+          refl,
+        )),
+      ),
       bulks_row A parts (omega (arith, small, long)),
       refl,
     )
 
 command_text : {A : Type 0} (parts : List (Bor (List ℕ))) (list : Vec (Replies A) A)
     → list.items ≡ bulk_replies parts → length (bulks_of parts) < 2 ^ 63
-    → ReplyText 1 (made.Array list) (command_of parts)
+    → ReplyText Resp2 1 (made.Array list) (command_of parts)
 unfolding WrittenElements
 command_text {A} parts list are small =
-    let P : List (Replies A) → Type 0 = λ l. EachText (WrittenText 0) l (bulks_of parts) in
+    let P : List (Replies A) → Type 0 = λ l. EachText (WrittenText Resp2 0) l (bulks_of parts) in
     let many : length list.items ≡ length parts = ap (λ l. length l) are ∙ as_many A parts in
-    written_text 1 (made.Array list) (command_of parts) (inr (inr (inr (inr (inr (inr (
-      list,
-      bulks_of parts,
-      refl,
-      subst P (sym are) (bulks_row A parts small),
-      ap (λ n. marked 42 (decimal n) ++ bulks_of parts) (sym many),
-    )))))))
+    written_text Resp2 1 (made.Array list) (command_of parts) (
+      subst (λ m. IsIn Resp2 m) (sym (ap mark_in (array_is list))) tt,
+      inr (inr (inl (
+        Star,
+        length parts,
+        list,
+        bulks_of parts,
+        refl,
+        many,
+        subst P (sym are) (bulks_row A parts small),
+        refl,
+      ))),
+    )
 
 -- where a command was put after nothing, an array stands first
 pub command_first : {A : Type 0} (alloc : A) (parts : List (Bor (List ℕ)))
@@ -143,7 +165,7 @@ pub command_first : {A : Type 0} (alloc : A) (parts : List (Bor (List ℕ)))
     → between ≡ before ++ command_of parts → length between < 2 ^ 63
     → after ≡ between ++ more → bytes ≡ after
     → (list : Vec (Replies A) A) × (list.items ≡ bulk_replies parts)
-    × First (ReplyText 1) bytes (made.Array list) more
+    × First (ReplyText Resp2 1) bytes (made.Array list) more
 unfolding First
 command_first {A} alloc parts {before} {between} more none put small e same =
     let is : between ≡ command_of parts = put ∙ ap (λ l. l ++ command_of parts) none in
@@ -174,6 +196,16 @@ module _ {A : Type 0} where
   bulk_kind alike part Reply-F.NullBulk never = never
   bulk_kind alike part (Reply-F.Array x) never = never
   bulk_kind alike part Reply-F.NullArray never = never
+  bulk_kind alike part Reply-F.Null never = never
+  bulk_kind alike part (Reply-F.Boolean x) never = never
+  bulk_kind alike part (Reply-F.Double x) never = never
+  bulk_kind alike part (Reply-F.BigNumber x) never = never
+  bulk_kind alike part (Reply-F.BulkError x) never = never
+  bulk_kind alike part (Reply-F.Verbatim x) never = never
+  bulk_kind alike part (Reply-F.Map x) never = never
+  bulk_kind alike part (Reply-F.Set x) never = never
+  bulk_kind alike part (Reply-F.Push x) never = never
+  bulk_kind alike part (Reply-F.Attributed x) never = never
 
   bulk_back : (part : Bor (List ℕ)) (reply : Replies A) → AreAlike 0 (made.Bulk part) reply
       → IsBulkAs part (out-Reply (Bor (List ℕ)) A reply)
@@ -203,15 +235,26 @@ module _ {A : Type 0} where
       let P : List (Replies A) → Type 0 = λ l. ArePairwise (AreAlike 0) l x.items in
       bulks_back parts x.items (subst P are pairs)
   command_kind parts list are Reply-F.NullArray never = never
+  command_kind parts list are Reply-F.Null never = never
+  command_kind parts list are (Reply-F.Boolean x) never = never
+  command_kind parts list are (Reply-F.Double x) never = never
+  command_kind parts list are (Reply-F.BigNumber x) never = never
+  command_kind parts list are (Reply-F.BulkError x) never = never
+  command_kind parts list are (Reply-F.Verbatim x) never = never
+  command_kind parts list are (Reply-F.Map x) never = never
+  command_kind parts list are (Reply-F.Set x) never = never
+  command_kind parts list are (Reply-F.Push x) never = never
+  command_kind parts list are (Reply-F.Attributed x) never = never
 
   -- what is read of it is the command
   pub command_back : (parts : List (Bor (List ℕ))) (list : Vec (Replies A) A) (read : Replies A)
       (tokens more rest : List ℕ) → list.items ≡ bulk_replies parts
-      → First (ReplyText 1) tokens (made.Array list) more → First (ReplyText 1) tokens read rest
+      → First (ReplyText Resp2 1) tokens (made.Array list) more
+      → First (ReplyText Resp2 1) tokens read rest
       → IsCommand parts read × (rest ≡ more)
   unfolding AreAlike
   command_back parts list read tokens more rest are a b =
-      let (alike, left) = one_reply 1 (made.Array list) read tokens more rest a b in
+      let (alike, left) = one_reply Resp2 1 (made.Array list) read tokens more rest a b in
       let P : Opened A → Type 0 = λ k.
       AreAlikeAs (AreAlike 0) k (out-Reply (Bor (List ℕ)) A read) in (
         command_kind parts list are (out-Reply (Bor (List ℕ)) A read)

@@ -1,146 +1,287 @@
--- What is put after bytes, part by part.
-use Rattle.std.specs.Prelude.{◌≡◌, ◌≤◌, ◌<◌, ◌+◌, ◌/◌, ◌%◌, ◌^◌, ℕ, suc, List, [], ◌∷◌, ◌++◌}
-use Rattle.std.specs.Prelude.{length}
-use Rattle.std.specs.Prelude.{drop, take, slice_index_or, Contains}
-use Rattle.std.specs.Prelude.{IfErr, Result}
+-- What is put after bytes for replies, and why some are not written.
+use Rattle.std.specs.Prelude.{◌≡◌, ◌+◌, ◌<◌, ◌^◌, ⊤, Bool, ℕ, ℤ, List, [], ◌∷◌, ◌++◌}
+use Rattle.std.specs.Prelude.{zero, suc, length, Contains, FitsSigned}
 use Rattle.std.specs.Borrow.{Bor}
-use Rattle.std.specs.Fmt.{decimal}
+use Rattle.std.specs.Fmt.{decimal, signed_decimal}
+use Rattle.std.specs.Int.{w64}
 use Rattle.std.specs.List.{AllByRecursion}
-use Rattle.std.specs.Result.{IsErrAnd}
 use Rattle.std.specs.declared.vec.Vec.{Vec}
-use Rattle.std.proofs.Common.{refl, sym, ap, subst, inl, inr, ◌∙◌, arith, append_assoc}
-use Rattle.std.proofs.lemmas.Fmt.{decimal_digit, decimal_step}
-use Rattle.std.proofs.lemmas.List.{append-nil, drop_all, drop_more}
-use Rattle.std.proofs.lemmas.Result.{err_from_is_err_and}
-use Rattle.winnow.specs.Texts.{EachText, Text}
+use Rattle.std.proofs.Common.{refl, sym, ap, subst, inl, inr, ◌∙◌, arith}
+use Rattle.winnow.specs.Texts.{EachText}
+use Rattle.format_resp.proofs.FirstMarks.{marked_aggregate}
+use Rattle.format_resp.proofs.Putting.{adds, put_two}
+use Rattle.format_resp.proofs.Sayings.{shown_is}
 use Rattle.format_resp.proofs.WrittenTexts.{written_text}
-use Rattle.format_resp.specs.Resp.{InLine, Replies, ReplyText}
-use Rattle.format_resp.specs.Written.{Adds, Keeps, WrittenElements, WrittenText}
-use Rattle.format_resp.specs.Written.{marked}
+use Rattle.format_resp.specs.Numbers.{IsBigNumber, IsDouble}
+use Rattle.format_resp.specs.Resp.{BooleanText, DataSays, InLine, IsIn, IsVerbatim, Replies}
+use Rattle.format_resp.specs.Resp.{ReplyText, byte_of, gathered, many}
+use Rattle.format_resp.specs.Written.{Adds, IsBroken, IsDeeper, IsForeign, IsNoBigNumber}
+use Rattle.format_resp.specs.Written.{IsNoDouble, IsOrHas, IsRefused, IsRefusedAmong, IsRefusedAs}
+use Rattle.format_resp.specs.Written.{IsUnformatted, IsUnpaired, LineWritten, WrittenElements}
+use Rattle.format_resp.specs.Written.{WrittenText, data_of, first_mark, marked}
+use Rattle.format_resp.specs.declared.marks.AggregateMark.{AggregateMark}
+use Rattle.format_resp.specs.declared.marks.DataMark.{DataMark}
+use Rattle.format_resp.specs.declared.marks.DataMark.TheVariants.{Dollar, Equals, Exclamation}
+use Rattle.format_resp.specs.declared.marks.LineMark.{LineMark}
+use Rattle.format_resp.specs.declared.marks.LineMark.TheVariants.{Colon, Comma, Hash, Minus}
+use Rattle.format_resp.specs.declared.marks.LineMark.TheVariants.{Parenthesis, Plus, Underscore}
+use Rattle.format_resp.specs.declared.marks.Mark.TheVariants.{Aggregate, Data, Line}
+use Rattle.format_resp.specs.declared.reply.Protocol.{Protocol}
 use Rattle.format_resp.specs.declared.reply.Reply as made
+use Rattle.format_resp.specs.declared.write.WriteError.{WriteError}
+use Rattle.format_resp.specs.declared.write.WriteError.TheVariants.{BigNumber, Double, Foreign}
+use Rattle.format_resp.specs.declared.write.WriteError.TheVariants.{Format, Level, LineBreak}
+use Rattle.format_resp.specs.declared.write.WriteError.TheVariants.{NoParts, OutOfMemory, Pairs}
 
-pub keeps_trans : {before between after : List ℕ} → Keeps before between → Keeps between after
-    → Keeps before after
-keeps_trans {before} first second = record {
-  more = first.more ++ second.more;
-  behind = second.behind ∙ ap (λ l. l ++ second.more) first.behind
-      ∙ append_assoc before first.more second.more;
-}
+-- ---- what is put
 
--- what is put in two parts
-pub put_two : (before : List ℕ) {between after : List ℕ} (xs ys : List ℕ) → between ≡ before ++ xs
-    → after ≡ between ++ ys → after ≡ before ++ (xs ++ ys)
-put_two before xs ys e f = f ∙ ap (λ l. l ++ ys) e ∙ append_assoc before xs ys
+module _ {A : Type 0} (protocol : Protocol) (level : ℕ) {reply : Replies A}
+    (within : IsIn protocol (first_mark reply)) {before after : List ℕ} where
+  line_put : (mark : LineMark) (line : List ℕ) → LineWritten mark reply line
+      → after ≡ before ++ marked (byte_of (Line mark)) line
+      → Adds (WrittenText protocol level) reply before after
+  line_put mark line is = adds (marked (byte_of (Line mark)) line)
+      (within, inl (mark, line, is, refl))
 
--- what holds of an error holds of a result that is this error
-pub if_error : {T E : Type 0} (P : E → Type 0) (result : Result T E) (e : E)
-    → IsErrAnd result (λ x. x ≡ e) → P e → IfErr result P
-if_error {T} {E} P result e is p =
-    let (x, same, there) = err_from_is_err_and result is in
-    let Q : Result T E → Type 0 = λ r. IfErr r P in
-    subst Q (sym same) (subst P (sym there) p)
-
--- ---- replies
-
--- what was put is all that is there after
-pub adds : {O : Type 0} {text : Text ℕ O} {o : O} {before after : List ℕ} (tokens : List ℕ)
-    → text o tokens → after ≡ before ++ tokens → Adds text o before after
-adds tokens is e = record { tokens = tokens; is = is; behind = e }
-
-module _ {A : Type 0} (level : ℕ) {before after : List ℕ} where
-  pub simple_put : (text : Bor (List ℕ)) {reply : Replies A} → reply ≡ made.Simple text
+  pub simple_put : (text : Bor (List ℕ)) → reply ≡ made.Simple text
       → AllByRecursion InLine text.now × (after ≡ before ++ marked 43 text.now)
-      → Adds (WrittenText level) reply before after
-  simple_put text is (all, e) = adds (marked 43 text.now) (inl (text, is, all, refl)) e
+      → Adds (WrittenText protocol level) reply before after
+  simple_put text is (all, e) = line_put Plus text.now
+      (text, is, shown_is (AllByRecursion InLine) text all) e
 
-  pub error_put : (text : Bor (List ℕ)) {reply : Replies A} → reply ≡ made.Error text
+  pub error_put : (text : Bor (List ℕ)) → reply ≡ made.Error text
       → AllByRecursion InLine text.now × (after ≡ before ++ marked 45 text.now)
-      → Adds (WrittenText level) reply before after
-  error_put text is (all, e) = adds (marked 45 text.now) (inr (inl (text, is, all, refl))) e
+      → Adds (WrittenText protocol level) reply before after
+  error_put text is (all, e) = line_put Minus text.now
+      (text, is, shown_is (AllByRecursion InLine) text all) e
 
--- the size of an array, and its elements
-pub array_put : {A : Type 0} (below : ℕ) {level : ℕ} (list : Vec (Replies A) A)
-    {items : List (Replies A)} {size : ℕ} {before between after : List ℕ} → items ≡ list.items
-    → size ≡ length list.items → level ≡ below + 1
-    → between ≡ before ++ marked 42 (decimal size)
-    → Adds (EachText (WrittenText below)) items between after
-    → Adds (WrittenText level) (made.Array list) before after
+  pub integer_put : {n : ℤ} → after ≡ before ++ marked 58 (signed_decimal n)
+      → reply ≡ made.Integer n → FitsSigned w64 n
+      → Adds (WrittenText protocol level) reply before after
+  integer_put {n} e is fits = line_put Colon (signed_decimal n) (n, is, fits, refl) e
+
+  pub null_put : reply ≡ made.Null → after ≡ before ++ marked 95 []
+      → Adds (WrittenText protocol level) reply before after
+  null_put is = line_put Underscore [] (is, refl)
+
+  pub boolean_put : (boolean : Bool) (line : List ℕ) → reply ≡ made.Boolean boolean
+      → BooleanText boolean line → after ≡ before ++ marked 35 line
+      → Adds (WrittenText protocol level) reply before after
+  boolean_put boolean line is says = line_put Hash line (boolean, is, says)
+
+  pub double_put : (text : Bor (List ℕ)) → reply ≡ made.Double text
+      → IsDouble text.now × (after ≡ before ++ marked 44 text.now)
+      → Adds (WrittenText protocol level) reply before after
+  double_put text is (it, e) = line_put Comma text.now (text, is, shown_is IsDouble text it) e
+
+  pub big_number_put : (text : Bor (List ℕ)) → reply ≡ made.BigNumber text
+      → IsBigNumber text.now × (after ≡ before ++ marked 40 text.now)
+      → Adds (WrittenText protocol level) reply before after
+  big_number_put text is (it, e) =
+      line_put Parenthesis text.now (text, is, shown_is IsBigNumber text it) e
+
+  data_put : (mark : DataMark) (bytes : List ℕ) → DataSays mark reply bytes
+      → length bytes < 2 ^ 63 → after ≡ before ++ data_of (byte_of (Data mark)) bytes
+      → Adds (WrittenText protocol level) reply before after
+  data_put mark bytes says small =
+      adds (data_of (byte_of (Data mark)) bytes)
+      (within, inr (inl (mark, bytes, says, small, refl)))
+
+  pub bulk_error_put : (bytes : Bor (List ℕ)) → reply ≡ made.BulkError bytes
+      → length bytes.now < 2 ^ 63 → after ≡ before ++ data_of 33 bytes.now
+      → Adds (WrittenText protocol level) reply before after
+  bulk_error_put bytes is small = data_put Exclamation bytes.now
+      (bytes, is, shown_is (λ tokens. ⊤) bytes tt) small
+
+  pub bulk_put : (bytes : Bor (List ℕ)) → reply ≡ made.Bulk bytes
+      → length bytes.now < 2 ^ 63 → after ≡ before ++ data_of 36 bytes.now
+      → Adds (WrittenText protocol level) reply before after
+  bulk_put bytes is small = data_put Dollar bytes.now
+      (bytes, is, shown_is (λ tokens. ⊤) bytes tt) small
+
+  pub verbatim_put : (bytes : Bor (List ℕ)) → reply ≡ made.Verbatim bytes
+      → length bytes.now < 2 ^ 63
+      → IsVerbatim bytes.now × (after ≡ before ++ data_of 61 bytes.now)
+      → Adds (WrittenText protocol level) reply before after
+  verbatim_put bytes is small (it, e) =
+      data_put Equals bytes.now (bytes, is, shown_is IsVerbatim bytes it) small e
+
+  pub null_bulk_put : reply ≡ made.NullBulk → after ≡ before ++ marked 36 (45 ∷ 49 ∷ [])
+      → Adds (WrittenText protocol level) reply before after
+  null_bulk_put is = adds (marked 36 (45 ∷ 49 ∷ [])) (within, inr (inr (inr (inl (is, refl)))))
+
+  pub null_array_put : reply ≡ made.NullArray → after ≡ before ++ marked 42 (45 ∷ 49 ∷ [])
+      → Adds (WrittenText protocol level) reply before after
+  null_array_put is = adds (marked 42 (45 ∷ 49 ∷ [])) (within, inr (inr (inr (inr (is, refl)))))
+
+-- the size of an aggregate, and its elements
+pub aggregate_put : {A : Type 0} (protocol : Protocol) (mark : AggregateMark) (size below : ℕ)
+    {level : ℕ}
+    (list : Vec (Replies A) A) {items : List (Replies A)} {byte : ℕ}
+    {before between after : List ℕ} → IsIn protocol (Aggregate mark) → items ≡ list.items
+    → length list.items ≡ many mark size → level ≡ below + 1 → byte ≡ byte_of (Aggregate mark)
+    → between ≡ before ++ marked byte (decimal size)
+    → Adds (EachText (WrittenText protocol below)) items between after
+    → Adds (WrittenText protocol level) (gathered mark list) before after
 unfolding WrittenElements
-array_put {A} below {level} list {items} {size} {before} {between} {after} same many is e added =
-    let P : ℕ → Type 0 = λ l. Adds (WrittenText l) (made.Array list) before after in
-    let Q : List (Replies A) → Type 0 = λ l. EachText (WrittenText below) l added.tokens in
+aggregate_put {A} protocol mark size below {level} list {items} {byte} {before} {between}
+    {after} within same count is first e added =
+    let P : ℕ → Type 0 = λ l. Adds (WrittenText protocol l) (gathered mark list) before after in
+    let Q : List (Replies A) → Type 0 = λ l. EachText (WrittenText protocol below) l added.tokens in
     let f : level ≡ suc below = omega (arith, is) in
-    let head = marked 42 (decimal (length list.items)) in
+    let head = marked (byte_of (Aggregate mark)) (decimal size) in
     subst P (sym f) (record {
       tokens = head ++ added.tokens;
-      is = inr (inr (inr (inr (inr (inr
-          (list, added.tokens, refl, subst Q same added.is, refl))))));
+      is = (
+        subst (λ m. IsIn protocol m) (sym (marked_aggregate mark (gathered mark list) list refl))
+            within,
+        inr (inr (inl (mark, size, list, added.tokens, refl, count, subst Q same added.is, refl))),
+      );
       behind = put_two before head added.tokens
-          (e ∙ ap (λ n. before ++ marked 42 (decimal n)) many) added.behind;
+          (e ∙ ap (λ b. before ++ marked b (decimal size)) first) added.behind;
     })
 
--- one more element
-pub row_more : {O : Type 0} {text : Text ℕ O} (os : List O) (k : ℕ) (o : O)
-    {before between after : List ℕ} → k < length os → o ≡ slice_index_or os k o
-    → Adds text o before between → Adds (EachText text) (drop (k + 1) os) between after
-    → Adds (EachText text) (drop k os) before after
-unfolding EachText
-row_more {O} {text} os k o {before} {between} {after} below is one more =
-    let P : List O → Type 0 = λ l. Adds (EachText text) l before after in
-    let here : drop k os ≡ o ∷ drop (k + 1) os =
-    drop_more os k o below ∙ ap (λ y. y ∷ drop (k + 1) os) (sym is) in
-    subst P (sym here) (record {
-      tokens = one.tokens ++ more.tokens;
-      is = (one.tokens, more.tokens, one.is, more.is, refl);
-      behind = put_two before one.tokens more.tokens one.behind more.behind;
-    })
+-- an aggregate of a version of the protocol
+pub aggregate_within : {A : Type 0} (protocol : Protocol) (mark : AggregateMark)
+    {reply : Replies A} (list : Vec (Replies A) A) → reply ≡ gathered mark list
+    → IsIn protocol (first_mark reply) → IsIn protocol (Aggregate mark)
+aggregate_within protocol mark {reply} list is within =
+    subst (λ m. IsIn protocol m) (marked_aggregate mark reply list is) within
 
--- no more
-pub row_end : {O : Type 0} (text : Text ℕ O) (os : List O) (k : ℕ) (bytes : List ℕ)
-    → length os ≤ k → Adds (EachText text) (drop k os) bytes bytes
-unfolding EachText
-row_end {O} text os k bytes most =
-    let P : List O → Type 0 = λ l. Adds (EachText text) l bytes bytes in
-    subst P (sym (drop_all k os most))
-    (record { tokens = []; is = refl; behind = sym (append-nil bytes) })
-
--- an element is among all
-pub among : {O : Type 0} (os : List O) (k : ℕ) (o : O) → k < length os
-    → o ≡ slice_index_or os k o → Contains os o
-among os k o below is = (k, below, sym is)
-
--- digits after those of a tenth
-pub digits_more : (n : ℕ) (before : List ℕ) {between after : List ℕ} → 10 ≤ n → n < 2 ^ 64
-    → between ≡ before ++ decimal (n / 10) → after ≡ between ++ (48 + n % 10) ∷ []
-    → after ≡ before ++ decimal n
-digits_more n before low high e f =
-    put_two before (decimal (n / 10)) ((48 + n % 10) ∷ []) e f
-    ∙ ap (λ l. before ++ l) (sym (decimal_step n low high))
-
-pub digit_alone : (n : ℕ) (before : List ℕ) {after : List ℕ} → n < 10
-    → after ≡ before ++ (48 + n) ∷ [] → after ≡ before ++ decimal n
-digit_alone n before small e = e ∙ ap (λ l. before ++ l) (sym (decimal_digit n small))
+-- what was put as another reply, which it is
+pub put_as : {A : Type 0} (protocol : Protocol) (level : ℕ) {reply form : Replies A}
+    {before after : List ℕ}
+    → reply ≡ form → Adds (WrittenText protocol level) form before after
+    → Adds (WrittenText protocol level) reply before after
+put_as {A} protocol level {before = before} {after = after} is added =
+    let P : Replies A → Type 0 = λ r. Adds (WrittenText protocol level) r before after in
+    subst P (sym is) added
 
 -- what is written for a reply is a text of it
-pub adds_text : {A : Type 0} (level : ℕ) {reply : Replies A} {before after : List ℕ}
-    → Adds (WrittenText level) reply before after → Adds (ReplyText level) reply before after
-adds_text level {reply} added = record {
+pub adds_text : {A : Type 0} (protocol : Protocol) (level : ℕ) {reply : Replies A}
+    {before after : List ℕ}
+    → Adds (WrittenText protocol level) reply before after
+    → Adds (ReplyText protocol level) reply before after
+adds_text protocol level {reply} added = record {
   tokens = added.tokens;
-  is = written_text level reply added.tokens added.is;
+  is = written_text protocol level reply added.tokens added.is;
   behind = added.behind;
 }
 
--- what is cut to the length of before is what was before
-pub cut_back : {n : ℕ} {before after cut : List ℕ} → Keeps before after → n ≡ length before
-    → cut ≡ take n after → cut ≡ before
-cut_back {n} {before} {after} kept many e =
-    e ∙ ap (λ k. take k after) many ∙ ap (λ l. take (length before) l) kept.behind
-    ∙ take_front before kept.more
-  where
-    all_none : (ys : List ℕ) → take 0 ys ≡ []
-    all_none [] = refl
-    all_none (y ∷ ys) = refl
+-- ---- what is not written
 
-    take_front : (xs ys : List ℕ) → take (length xs) (xs ++ ys) ≡ xs
-    take_front [] ys = all_none ys
-    take_front (x ∷ xs) ys = ap (λ l. x ∷ l) (take_front xs ys)
+module _ {A : Type 0} where
+  or_itself : (such : Replies A → Type 0) (level : ℕ) (reply : Replies A) → such reply
+      → IsOrHas such level reply
+  unfolding IsOrHas
+  or_itself such zero reply is = is
+  or_itself such (suc level) reply is = inl is
+
+  or_within : (such : Replies A → Type 0) (below : ℕ) (mark : AggregateMark)
+      (list : Vec (Replies A) A) (element : Replies A) → Contains list.items element
+      → IsOrHas such below element → IsOrHas such (suc below) (gathered mark list)
+  unfolding IsOrHas
+  or_within such below mark list element among is = inr (mark, list, refl, element, among, is)
+
+module _ {A : Type 0} (protocol : Protocol) where
+  -- an error that says so
+  as_error : (level : ℕ) (reply : Replies A) (error : WriteError) (P : Type 0)
+      → ((P → ⊥) → IsRefused protocol level reply error) → (e : WriteError) → IsRefusedAs error P e
+      → IsRefused protocol level reply e
+  as_error level reply error P why e (inl memory) =
+      let R : WriteError → Type 0 = λ x. IsRefused protocol level reply x in subst R (sym memory) tt
+  as_error level reply error P why e (inr (is, not)) =
+      let R : WriteError → Type 0 =
+      λ x. IsRefused protocol level reply x in subst R (sym is) (why not)
+
+  module _ (level : ℕ) {reply : Replies A} where
+    pub refused_simple : (text : Bor (List ℕ)) → reply ≡ made.Simple text → (e : WriteError)
+        → IsRefusedAs LineBreak (AllByRecursion InLine text.now) e
+        → IsRefused protocol level reply e
+    refused_simple text is = as_error level reply LineBreak (AllByRecursion InLine text.now)
+        (λ not. or_itself IsBroken level reply (text, inl is, not))
+
+    pub refused_error : (text : Bor (List ℕ)) → reply ≡ made.Error text → (e : WriteError)
+        → IsRefusedAs LineBreak (AllByRecursion InLine text.now) e
+        → IsRefused protocol level reply e
+    refused_error text is = as_error level reply LineBreak (AllByRecursion InLine text.now)
+        (λ not. or_itself IsBroken level reply (text, inr is, not))
+
+    pub refused_double : (text : Bor (List ℕ)) → reply ≡ made.Double text → (e : WriteError)
+        → IsRefusedAs Double (IsDouble text.now) e → IsRefused protocol level reply e
+    refused_double text is = as_error level reply Double (IsDouble text.now)
+        (λ not. or_itself IsNoDouble level reply (text, is, not))
+
+    pub refused_big_number : (text : Bor (List ℕ)) → reply ≡ made.BigNumber text
+        → (e : WriteError) → IsRefusedAs BigNumber (IsBigNumber text.now) e
+        → IsRefused protocol level reply e
+    refused_big_number text is = as_error level reply BigNumber (IsBigNumber text.now)
+        (λ not. or_itself IsNoBigNumber level reply (text, is, not))
+
+    pub refused_verbatim : (bytes : Bor (List ℕ)) → reply ≡ made.Verbatim bytes
+        → (e : WriteError) → IsRefusedAs Format (IsVerbatim bytes.now) e
+        → IsRefused protocol level reply e
+    refused_verbatim bytes is = as_error level reply Format (IsVerbatim bytes.now)
+        (λ not. or_itself IsUnformatted level reply (bytes, is, not))
+
+  pub refused_foreign : (level : ℕ) (reply : Replies A) → IsForeign protocol reply
+      → IsRefused protocol level reply Foreign
+  refused_foreign level reply = or_itself (IsForeign protocol) level reply
+
+  -- an error of another reply, which it is
+  pub refused_form : (level : ℕ) {reply form : Replies A} → reply ≡ form → (e : WriteError)
+      → IsRefused protocol level form e → IsRefused protocol level reply e
+  refused_form level is e =
+      let P : Replies A → Type 0 = λ r. IsRefused protocol level r e in subst P (sym is)
+
+  -- ---- aggregates
+
+  -- no aggregate has as many replies
+  pub refused_count : (level : ℕ) (mark : AggregateMark) (list : Vec (Replies A) A) {count : ℕ}
+      → count ≡ length list.items → ((size : ℕ) → count ≡ many mark size → ⊥)
+      → IsRefused protocol level (gathered mark list) Pairs
+  refused_count level mark list many_are none =
+      or_itself IsUnpaired level (gathered mark list)
+      (mark, list, refl, (λ size e. none size (many_are ∙ e)))
+
+  -- at level 0 each aggregate is too deep
+  pub deep_aggregate : {level : ℕ} (mark : AggregateMark) (list : Vec (Replies A) A) → level ≡ 0
+      → IsRefused protocol level (gathered mark list) Level
+  unfolding IsDeeper
+  deep_aggregate mark list is =
+      let P : ℕ → Type 0 = λ l. IsDeeper l (gathered mark list) in
+      subst P (sym is) (mark, list, refl)
+
+  in_element : (below : ℕ) (mark : AggregateMark) (list : Vec (Replies A) A) (e : WriteError)
+      → IsRefusedAmong protocol below list.items e
+      → IsRefused protocol (suc below) (gathered mark list) e
+  unfolding IsDeeper
+  in_element below mark list e (inl memory) =
+      let P : WriteError → Type 0 = λ x. IsRefused protocol (suc below) (gathered mark list) x in
+      subst P (sym memory) tt
+  in_element below mark list LineBreak (inr (reply, among, is)) =
+      or_within IsBroken below mark list reply among is
+  in_element below mark list Double (inr (reply, among, is)) =
+      or_within IsNoDouble below mark list reply among is
+  in_element below mark list BigNumber (inr (reply, among, is)) =
+      or_within IsNoBigNumber below mark list reply among is
+  in_element below mark list Format (inr (reply, among, is)) =
+      or_within IsUnformatted below mark list reply among is
+  in_element below mark list Pairs (inr (reply, among, is)) =
+      or_within IsUnpaired below mark list reply among is
+  in_element below mark list Foreign (inr (reply, among, is)) =
+      or_within (IsForeign protocol) below mark list reply among is
+  in_element below mark list NoParts (inr (reply, among, is)) = absurd is
+  in_element below mark list Level (inr (reply, among, is)) =
+      (mark, list, refl, reply, among, is)
+  in_element below mark list OutOfMemory (inr (reply, among, is)) = tt
+
+  -- an aggregate is refused where one of its elements is
+  pub refused_within : (below : ℕ) {level : ℕ} (mark : AggregateMark) (list : Vec (Replies A) A)
+      {items : List (Replies A)} (e : WriteError) → items ≡ list.items → level ≡ below + 1
+      → IsRefusedAmong protocol below items e → IsRefused protocol level (gathered mark list) e
+  refused_within below {level} mark list e same is among =
+      let P : ℕ → Type 0 = λ l. IsRefused protocol l (gathered mark list) e in
+      let Q : List (Replies A) → Type 0 = λ l. IsRefusedAmong protocol below l e in
+      let f : level ≡ suc below = omega (arith, is) in
+      subst P (sym f) (in_element below mark list e (subst Q same among))

@@ -1,4 +1,4 @@
--- Where a reply ends: what of some bytes is passed, and what is due after that.
+-- Where a reply of RESP2 ends: what of some bytes is passed, and what is due after that.
 use Rattle.std.specs.Prelude.{◌≡◌, ◌≤◌, ◌+◌, ◌*◌, ◌^◌, ◌<◌, ◌↔◌, ⊤, ℕ, zero, suc, List, []}
 use Rattle.std.specs.Prelude.{◌∷◌, ◌++◌, length, take, drop, Option, Some, None, Result, Ok, Err}
 use Rattle.std.specs.Borrow.{Bor}
@@ -10,11 +10,12 @@ use Rattle.format_resp.specs.declared.extent.Extent.{Extent}
 use Rattle.format_resp.specs.declared.extent.Refused.{Refused}
 use Rattle.format_resp.specs.declared.heads.Head.{Head}
 use Rattle.format_resp.specs.declared.heads.Head.TheVariants as heads
+use Rattle.format_resp.specs.declared.reply.Protocol.TheVariants.{Resp2}
 
 -- A reply is the bytes, all of them, in which arrays stand in one another to some level. Where in
 -- memory its elements would lie does not matter.
 abbrev pub IsReply : List ℕ → Type 0
-IsReply tokens = (level : ℕ) × (reply : Replies ⊤) × ReplyText level reply tokens
+IsReply tokens = (level : ℕ) × (reply : Replies ⊤) × ReplyText Resp2 level reply tokens
 
 -- Bytes that are so stand first, and the rest is after them.
 abbrev pub Stands : (List ℕ → Type 0) → List ℕ → List ℕ → Type 0

@@ -1,19 +1,22 @@
--- The first lines of replies, and what they say of the bytes after them.
+-- The first lines of replies of RESP2, and what they say of the bytes after them.
 use Rattle.std.specs.Prelude.{◌≡◌, ◌≤◌, ◌<◌, ⊤, ℕ, ℤ, List, ◌∷◌, ◌++◌, length, take, drop, Option}
 use Rattle.std.specs.Prelude.{Some, None}
-use Rattle.std.specs.Borrow.{Bor}
 use Rattle.std.specs.List.{AllByRecursion}
 use Rattle.winnow.specs.InTurn.{First, Led}
 use Rattle.winnow.specs.Texts.{Text}
-use Rattle.format_resp.specs.Resp.{For, InLine, IntegerText, IsSize, LineText, MarkText}
 use Rattle.format_resp.specs.Lines.{IsOpen}
-use Rattle.format_resp.specs.Resp.{SignedText, SizeText, byte_of}
+use Rattle.format_resp.specs.Numbers.{SignedText, SizeLine}
+use Rattle.format_resp.specs.Resp.{Ended, For, InLine, IsIn, MarkText, byte_of}
 use Rattle.format_resp.specs.declared.heads.Head.{Head}
 use Rattle.format_resp.specs.declared.heads.Head.TheVariants.{Data, Ends, Replies}
 use Rattle.format_resp.specs.declared.heads.Start.{Start}
 use Rattle.format_resp.specs.declared.heads.Start.TheVariants.{Never, Open, Whole}
-use Rattle.format_resp.specs.declared.leaves.Mark.{Mark}
-use Rattle.format_resp.specs.declared.leaves.Mark.TheVariants.{Colon, Dollar, Minus, Plus, Star}
+use Rattle.format_resp.specs.declared.marks.AggregateMark.TheVariants.{Star}
+use Rattle.format_resp.specs.declared.marks.DataMark.TheVariants.{Dollar}
+use Rattle.format_resp.specs.declared.marks.LineMark.TheVariants.{Colon, Minus, Plus}
+use Rattle.format_resp.specs.declared.marks.Mark.{Mark}
+use Rattle.format_resp.specs.declared.marks.Mark.TheVariants as marks
+use Rattle.format_resp.specs.declared.reply.Protocol.TheVariants.{Resp2}
 
 -- after the size of a bulk string its bytes are, and after that of an array its elements
 abbrev pub bulk_head : Option ℕ → Head
@@ -24,26 +27,23 @@ abbrev pub array_head : Option ℕ → Head
 array_head None = Ends
 array_head (Some n) = Replies n
 
--- the line after the first byte of a reply, as what it says
+-- the line after the first byte of a reply of RESP2, as what it says
 abbrev pub Says : Mark → Text ℕ Head
-Says Plus = For (λ (line : Bor (List ℕ)). Ends) LineText
-Says Minus = For (λ (line : Bor (List ℕ)). Ends) LineText
-Says Colon = For (λ (n : ℤ). Ends) IntegerText
-Says Dollar = For bulk_head SizeText
-Says Star = For array_head SizeText
+Says (marks.Line Plus) head line = (head ≡ Ends) × AllByRecursion InLine line
+Says (marks.Line Minus) head line = (head ≡ Ends) × AllByRecursion InLine line
+Says (marks.Line Colon) head line = (head ≡ Ends) × ((n : ℤ) × SignedText n line)
+Says (marks.Data Dollar) head line = For bulk_head SizeLine head line
+Says (marks.Aggregate Star) head line = For array_head SizeLine head line
+Says mark head line = ⊥
 
 -- the first line of a reply, as what it says
 abbrev pub HeadText : Text ℕ Head
-HeadText = Led MarkText Says
-
--- the size that a line is, without its end
-abbrev pub IsSizeOf : Option ℕ → List ℕ → Type 0
-IsSizeOf size line = (n : ℤ) × SignedText n line × IsSize size n
+HeadText = Led (MarkText Resp2) (λ mark. Ended (Says mark))
 
 -- A first line is begun, and its end is not there.
 pub record IsBegun (tokens : List ℕ) : Type 0 where
   pub marked : (byte : ℕ) (text : List ℕ) → tokens ≡ byte ∷ text
-      → (mark : Mark) × (byte ≡ byte_of mark)
+      → (mark : Mark) × IsIn Resp2 mark × (byte ≡ byte_of mark)
   pub begun : IsOpen (drop 1 tokens)
 
 -- What of a first line stands first: a line; or none yet, and that many bytes after the first have

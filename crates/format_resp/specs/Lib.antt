@@ -2,10 +2,8 @@
 pub mod Alike
 pub mod Extents
 pub mod Heads
-pub mod Leaves
 pub mod Lines
+pub mod Numbers
 pub mod Parts
-pub mod Read
 pub mod Resp
-pub mod Room
 pub mod Written

@@ -1,18 +1,34 @@
--- RESP2: which of the texts of a reply is written for it, what is written for a command, and which
--- replies are not written.
+-- Which of the texts of a reply is written for it, what is written for a command, and which replies
+-- are not written.
 use Rattle.std.specs.Prelude.{◌≡◌, ◌⊎◌, ◌<◌, ◌^◌, ⊤, ℕ, ℤ, zero, suc, List, [], ◌∷◌, ◌++◌, length}
 use Rattle.std.specs.Prelude.{Contains, FitsSigned}
 use Rattle.std.specs.Borrow.{Bor}
 use Rattle.std.specs.Fmt.{decimal, signed_decimal}
 use Rattle.std.specs.Int.{w64}
-use Rattle.std.specs.List.{All, AllByRecursion}
+use Rattle.std.specs.List.{AllByRecursion}
 use Rattle.std.specs.declared.vec.Vec.{Vec}
 use Rattle.winnow.specs.Texts.{EachText, Text}
-use Rattle.format_resp.specs.Resp.{InLine, Replies, ReplyText, line_end}
+use Rattle.format_resp.specs.Numbers.{IsBigNumber, IsDouble}
+use Rattle.format_resp.specs.Resp.{DataSays, InLine, IsIn, IsVerbatim, LineSays, Opened, Replies}
+use Rattle.format_resp.specs.Resp.{byte_of, gathered, line_end, many}
+use Rattle.format_resp.specs.declared.marks.AggregateMark.{AggregateMark}
+use Rattle.format_resp.specs.declared.marks.AggregateMark.TheVariants.{Bar, Greater, Percent, Star}
+use Rattle.format_resp.specs.declared.marks.AggregateMark.TheVariants.{Tilde}
+use Rattle.format_resp.specs.declared.marks.DataMark.{DataMark}
+use Rattle.format_resp.specs.declared.marks.DataMark.TheVariants.{Dollar, Equals, Exclamation}
+use Rattle.format_resp.specs.declared.marks.LineMark.{LineMark}
+use Rattle.format_resp.specs.declared.marks.LineMark.TheVariants.{Colon, Comma, Hash, Minus}
+use Rattle.format_resp.specs.declared.marks.LineMark.TheVariants.{Parenthesis, Plus, Underscore}
+use Rattle.format_resp.specs.declared.marks.Mark.{Mark}
+use Rattle.format_resp.specs.declared.marks.Mark.TheVariants.{Aggregate, Data, Line}
+use Rattle.format_resp.specs.declared.reply.Protocol.{Protocol}
 use Rattle.format_resp.specs.declared.reply.Reply as made
+use Rattle.format_resp.specs.declared.reply.Reply.{out-Reply}
+use Rattle.format_resp.specs.declared.reply.Reply.TheOpen.{Reply-F}
 use Rattle.format_resp.specs.declared.write.WriteError.{WriteError}
-use Rattle.format_resp.specs.declared.write.WriteError.TheVariants.{Level, LineBreak, NoParts}
-use Rattle.format_resp.specs.declared.write.WriteError.TheVariants.{OutOfMemory}
+use Rattle.format_resp.specs.declared.write.WriteError.TheVariants.{BigNumber, Double, Foreign}
+use Rattle.format_resp.specs.declared.write.WriteError.TheVariants.{Format, Level, LineBreak}
+use Rattle.format_resp.specs.declared.write.WriteError.TheVariants.{NoParts, OutOfMemory, Pairs}
 
 -- What stood there stands there, and more may be after it.
 pub record Keeps (before after : List ℕ) : Type 0 where
@@ -47,45 +63,136 @@ abbrev pub command_of : List (Bor (List ℕ)) → List ℕ
 command_of parts = marked 42 (decimal (length parts)) ++ bulks_of parts
 
 module _ {A : Type 0} where
-  -- what is written for a reply, by what is written for the elements of an array
+  -- what the texts of a reply begin with, by what it is
+  abbrev pub mark_in : Opened A → Mark
+  mark_in (Reply-F.Simple x) = Line Plus
+  mark_in (Reply-F.Error x) = Line Minus
+  mark_in (Reply-F.Integer n) = Line Colon
+  mark_in (Reply-F.Bulk x) = Data Dollar
+  mark_in Reply-F.NullBulk = Data Dollar
+  mark_in (Reply-F.Array l) = Aggregate Star
+  mark_in Reply-F.NullArray = Aggregate Star
+  mark_in Reply-F.Null = Line Underscore
+  mark_in (Reply-F.Boolean b) = Line Hash
+  mark_in (Reply-F.Double x) = Line Comma
+  mark_in (Reply-F.BigNumber x) = Line Parenthesis
+  mark_in (Reply-F.BulkError x) = Data Exclamation
+  mark_in (Reply-F.Verbatim x) = Data Equals
+  mark_in (Reply-F.Map l) = Aggregate Percent
+  mark_in (Reply-F.Set l) = Aggregate Tilde
+  mark_in (Reply-F.Push l) = Aggregate Greater
+  mark_in (Reply-F.Attributed l) = Aggregate Bar
+
+  abbrev pub first_mark : Replies A → Mark
+  first_mark reply = mark_in (out-Reply (Bor (List ℕ)) A reply)
+
+  -- what is written on the line of a reply that is a line: what it says, and of an integer its
+  -- digits, with a minus sign before them where it is negative
+  abbrev pub LineWritten : LineMark → Text ℕ (Replies A)
+  LineWritten Colon = λ reply tokens.
+      (n : ℤ) × (reply ≡ made.Integer n) × FitsSigned w64 n × (tokens ≡ signed_decimal n)
+  LineWritten Plus = LineSays Plus
+  LineWritten Minus = LineSays Minus
+  LineWritten Underscore = LineSays Underscore
+  LineWritten Hash = LineSays Hash
+  LineWritten Comma = LineSays Comma
+  LineWritten Parenthesis = LineSays Parenthesis
+
+  -- what is written for a reply, by what is written for the elements of an aggregate: a line; so
+  -- many bytes; so many replies; and the nulls of RESP2
+  abbrev pub IsWrittenSo : Text ℕ (List (Replies A)) → Text ℕ (Replies A)
+  IsWrittenSo elements reply tokens =
+      ((mark : LineMark) × (line : List ℕ) × LineWritten mark reply line
+      × (tokens ≡ marked (byte_of (Line mark)) line))
+      ⊎ (((mark : DataMark) × (bytes : List ℕ) × DataSays mark reply bytes
+      × (length bytes < 2 ^ 63) × (tokens ≡ data_of (byte_of (Data mark)) bytes))
+      ⊎ (((mark : AggregateMark) × (size : ℕ) × (list : Vec (Replies A) A) × (xs : List ℕ)
+      × (reply ≡ gathered mark list) × (length list.items ≡ many mark size)
+      × elements list.items xs
+      × (tokens ≡ marked (byte_of (Aggregate mark)) (decimal size) ++ xs))
+      ⊎ (((reply ≡ made.NullBulk) × (tokens ≡ marked 36 (45 ∷ 49 ∷ [])))
+      ⊎ ((reply ≡ made.NullArray) × (tokens ≡ marked 42 (45 ∷ 49 ∷ []))))))
+
+module _ {A : Type 0} (protocol : Protocol) where
+  -- and for one of that version of the protocol
   abbrev pub IsWritten : Text ℕ (List (Replies A)) → Text ℕ (Replies A)
   IsWritten elements reply tokens =
-      ((text : Bor (List ℕ)) × (reply ≡ made.Simple text) × AllByRecursion InLine text.now
-      × (tokens ≡ marked 43 text.now))
-      ⊎ (((text : Bor (List ℕ)) × (reply ≡ made.Error text) × AllByRecursion InLine text.now
-      × (tokens ≡ marked 45 text.now))
-      ⊎ (((n : ℤ) × (reply ≡ made.Integer n) × FitsSigned w64 n
-      × (tokens ≡ marked 58 (signed_decimal n)))
-      ⊎ (((bulk : Bor (List ℕ)) × (reply ≡ made.Bulk bulk) × (length bulk.now < 2 ^ 63)
-      × (tokens ≡ bulk_of bulk.now))
-      ⊎ (((reply ≡ made.NullBulk) × (tokens ≡ marked 36 (45 ∷ 49 ∷ [])))
-      ⊎ (((reply ≡ made.NullArray) × (tokens ≡ marked 42 (45 ∷ 49 ∷ [])))
-      ⊎ ((list : Vec (Replies A) A) × (xs : List ℕ) × (reply ≡ made.Array list)
-      × elements list.items xs
-      × (tokens ≡ marked 42 (decimal (length list.items)) ++ xs)))))))
+      IsIn protocol (first_mark reply) × IsWrittenSo elements reply tokens
 
-  -- for the elements of an array in which no more than that many arrays stand in one another,
-  -- itself one of them
+  -- for the elements of an aggregate in which no more than that many aggregates stand in one
+  -- another, itself one of them
   unfoldable pub WrittenElements : ℕ → Text ℕ (List (Replies A))
   WrittenElements zero replies tokens = ⊥
   WrittenElements (suc level) replies tokens =
       EachText (IsWritten (WrittenElements level)) replies tokens
 
-  -- for a reply in which no more than that many arrays stand in one another
+  -- for a reply in which no more than that many aggregates stand in one another
   abbrev pub WrittenText : ℕ → Text ℕ (Replies A)
   WrittenText level = IsWritten (WrittenElements level)
 
-  -- no more than that many arrays stand in one another in the reply
-  unfoldable pub Nests : ℕ → Replies A → Type 0
-  Nests zero reply = (list : Vec (Replies A) A) → reply ≡ made.Array list → ⊥
-  Nests (suc level) reply =
-      (list : Vec (Replies A) A) → reply ≡ made.Array list → All (Nests level) list.items
+module _ {A : Type 0} where
+  -- ---- what is not written
 
-  -- why a reply is not written: it has no text of any level; more arrays stand in one another than
-  -- the level lets; or memory was refused
+  -- an aggregate in which such a reply is
+  abbrev pub HasElement : (Replies A → Type 0) → Replies A → Type 0
+  HasElement such reply =
+      (mark : AggregateMark) × (list : Vec (Replies A) A) × (reply ≡ gathered mark list)
+      × (element : Replies A) × Contains list.items element × such element
+
+  -- such a reply, or one in which such a one is, within no more than that many aggregates
+  unfoldable pub IsOrHas : (Replies A → Type 0) → ℕ → Replies A → Type 0
+  IsOrHas such zero reply = such reply
+  IsOrHas such (suc level) reply = such reply ⊎ HasElement (IsOrHas such level) reply
+
+  -- more than that many aggregates stand in one another
+  unfoldable pub IsDeeper : ℕ → Replies A → Type 0
+  IsDeeper zero reply =
+      (mark : AggregateMark) × (list : Vec (Replies A) A) × (reply ≡ gathered mark list)
+  IsDeeper (suc level) reply = HasElement (IsDeeper level) reply
+
+  -- a simple string or an error with a byte of a line end
+  abbrev pub IsBroken : Replies A → Type 0
+  IsBroken reply =
+      (text : Bor (List ℕ)) × ((reply ≡ made.Simple text) ⊎ (reply ≡ made.Error text))
+      × (AllByRecursion InLine text.now → ⊥)
+
+  -- a double whose text is none
+  abbrev pub IsNoDouble : Replies A → Type 0
+  IsNoDouble reply =
+      (text : Bor (List ℕ)) × (reply ≡ made.Double text) × (IsDouble text.now → ⊥)
+
+  -- a big number whose text is none
+  abbrev pub IsNoBigNumber : Replies A → Type 0
+  IsNoBigNumber reply =
+      (text : Bor (List ℕ)) × (reply ≡ made.BigNumber text) × (IsBigNumber text.now → ⊥)
+
+  -- a verbatim string whose bytes are none
+  abbrev pub IsUnformatted : Replies A → Type 0
+  IsUnformatted reply =
+      (text : Bor (List ℕ)) × (reply ≡ made.Verbatim text) × (IsVerbatim text.now → ⊥)
+
+  -- an aggregate of as many replies as none of any size has: a map with a key that has no value, or
+  -- attributes of no reply
+  abbrev pub IsUnpaired : Replies A → Type 0
+  IsUnpaired reply =
+      (mark : AggregateMark) × (list : Vec (Replies A) A) × (reply ≡ gathered mark list)
+      × ((size : ℕ) → length list.items ≡ many mark size → ⊥)
+
+  -- a reply of a kind that the version of the protocol does not have
+  abbrev pub IsForeign : Protocol → Replies A → Type 0
+  IsForeign protocol reply = IsIn protocol (first_mark reply) → ⊥
+
+module _ {A : Type 0} (protocol : Protocol) where
+  -- why a reply is not written: what is wrong in it; more aggregates stand in one another than the
+  -- level lets; or memory was refused
   abbrev pub IsRefused : ℕ → Replies A → WriteError → Type 0
-  IsRefused level reply LineBreak = (above : ℕ) (tokens : List ℕ) → ReplyText above reply tokens → ⊥
-  IsRefused level reply Level = Nests level reply → ⊥
+  IsRefused level reply LineBreak = IsOrHas IsBroken level reply
+  IsRefused level reply Double = IsOrHas IsNoDouble level reply
+  IsRefused level reply BigNumber = IsOrHas IsNoBigNumber level reply
+  IsRefused level reply Format = IsOrHas IsUnformatted level reply
+  IsRefused level reply Pairs = IsOrHas IsUnpaired level reply
+  IsRefused level reply Foreign = IsOrHas (IsForeign protocol) level reply
+  IsRefused level reply Level = IsDeeper level reply
   IsRefused level reply NoParts = ⊥
   IsRefused level reply OutOfMemory = ⊤
 
@@ -95,7 +202,6 @@ module _ {A : Type 0} where
       (e ≡ OutOfMemory)
       ⊎ ((reply : Replies A) × Contains replies reply × IsRefused level reply e)
 
--- memory was refused, or a byte of a line end is in a text
-abbrev pub IsNoLine : List ℕ → WriteError → Type 0
-IsNoLine text e =
-    (e ≡ OutOfMemory) ⊎ ((e ≡ LineBreak) × (AllByRecursion InLine text → ⊥))
+-- memory was refused, or it is this error, and this is not so
+abbrev pub IsRefusedAs : WriteError → Type 0 → WriteError → Type 0
+IsRefusedAs error P e = (e ≡ OutOfMemory) ⊎ ((e ≡ error) × (P → ⊥))

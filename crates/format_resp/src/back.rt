@@ -1,13 +1,16 @@
 //! What is written is read back.
+ghost use Rattle.std.specs.Prelude.{◌≡◌, ◌⊎◌, ◌<◌, ◌++◌, [], ℕ, IfErr, IfOk, List};
+ghost use Rattle.winnow.specs.InTurn.{First};
 ghost use Rattle.format_resp.specs.Alike.{AreAlike, IsCommand};
 ghost use Rattle.format_resp.specs.Resp.{Replies, ReplyText};
 ghost use Rattle.format_resp.specs.Written.{IsRefused};
-ghost use Rattle.format_resp.specs.declared.write.WriteError.TheVariants.{NoParts, OutOfMemory};
-ghost use Rattle.std.specs.Prelude.{◌≡◌, ◌⊎◌, ◌++◌, [], ℕ, IfErr, IfOk, List};
-ghost use Rattle.winnow.specs.InTurn.{First};
+ghost use Rattle.format_resp.specs.declared.write.WriteError.{WriteError};
+ghost use Rattle.format_resp.specs.declared.reply.Protocol.{Protocol};
+ghost use Rattle.format_resp.specs.declared.write.WriteError.TheVariants.{Level, NoParts};
+ghost use Rattle.format_resp.specs.declared.write.WriteError.TheVariants.{OutOfMemory};
 
 use crate::read::read_reply;
-use crate::reply::Reply;
+use crate::reply::{Protocol, Reply};
 use crate::write::{WriteError, write_command, write_reply};
 use std::alloc::Allocator;
 use winnow::error::ParserError;
@@ -16,17 +19,19 @@ use winnow::stream::{Partial, StreamIsPartial};
 /// Reads a reply that is known to stand first in the bytes, and what is after it.
 fn read_whole<'i, A: Allocator + Copy>(
     alloc: A,
+    protocol: Protocol,
     level: usize,
     bytes: &'i [u8],
 ) -> Result<(Reply<&'i [u8], A>, &'i [u8]), WriteError>
     requires stands { (reply : Replies A) × (rest : List ℕ)
-        × First (ReplyText level) bytes.now reply rest }
-    ensures reads { IfOk result (λ both. First (ReplyText level) bytes.now both.0 both.1.now) }
+        × First (ReplyText protocol level) bytes.now reply rest }
+    ensures reads { IfOk result
+        (λ both. First (ReplyText protocol level) bytes.now both.0 both.1.now) }
     ensures memory { IfErr result (λ e. e ≡ OutOfMemory) }
 {
     let mut whole = Partial::new(bytes);
     whole.complete();
-    match read_reply(alloc, level, &mut whole) {
+    match read_reply(alloc, protocol, level, &mut whole) {
         Ok(reply) => Ok((reply, whole.into_inner())),
         Err(error) => {
             if ParserError::<Partial<&[u8]>>::is_memory(&error) {
@@ -44,16 +49,17 @@ fn read_whole<'i, A: Allocator + Copy>(
 ///
 /// ```
 /// use format_resp::back::reads_back;
-/// use format_resp::reply::Reply;
+/// use format_resp::reply::{Protocol, Reply};
 ///
-/// let reply = Reply::Bulk(b"foo".as_slice());
+/// let reply = Reply::Double(b"1.5".as_slice());
 /// let mut bytes = Vec::new(alloc);
-/// let both = reads_back(alloc, 0, &reply, b"+OK".as_slice(), &mut bytes);
-/// assert!(rt; matches!(both, Ok((Reply::Bulk(text), rest))
-///     if text == b"foo".as_slice() && rest == b"+OK".as_slice()));
+/// let both = reads_back(alloc, Protocol::Resp3, 0, &reply, b"_\r\n".as_slice(), &mut bytes);
+/// assert!(rt; matches!(both, Ok((Reply::Double(text), rest))
+///     if text == b"1.5".as_slice() && rest == b"_\r\n".as_slice()));
 /// ```
 pub fn reads_back<'i, A: Allocator + Copy, B: Allocator>(
     alloc: A,
+    protocol: Protocol,
     level: usize,
     reply: &Reply<&[u8], A>,
     more: &[u8],
@@ -61,12 +67,12 @@ pub fn reads_back<'i, A: Allocator + Copy, B: Allocator>(
 ) -> Result<(Reply<&'i [u8], A>, &'i [u8]), WriteError>
     ensures alike { IfOk result (λ both. AreAlike level reply.now both.0
         × (both.1.now ≡ more.now)) }
-    ensures refused { IfErr result (IsRefused level reply.now) }
+    ensures refused { IfErr result (IsRefused protocol level reply.now) }
 {
     into.clear();
-    write_reply(level, reply, into)?;
+    write_reply(protocol, level, reply, into)?;
     into.extend_from_slice(more)?;
-    read_whole(alloc, level, into.as_slice())
+    read_whole(alloc, protocol, level, into.as_slice())
 }
 
 /// What is read of a command that is written, with more after it, and what is left: an array of
@@ -96,12 +102,12 @@ pub fn command_reads_back<'i, A: Allocator + Copy, B: Allocator>(
     into.clear();
     write_command(parts, into)?;
     into.extend_from_slice(more)?;
-    read_whole(alloc, 1, into.as_slice())
+    read_whole(alloc, Protocol::Resp2, 1, into.as_slice())
 }
 
 /// Whatever is read of the text of a reply, with anything after it, is alike, and leaves what is
-/// after it. That such a text is written says the clause `text` of
-/// [`write_reply`](crate::write::write_reply), and that what is read stands first that of
+/// after it: so no bytes are texts of two replies. That such a text is written says the clause
+/// `text` of [`write_reply`](crate::write::write_reply), and that what is read stands first that of
 /// [`read_reply`](crate::read::read_reply); [`reads_back`] calls both.
 ///
 /// ```
@@ -113,7 +119,26 @@ pub fn command_reads_back<'i, A: Allocator + Copy, B: Allocator>(
 /// }
 /// ```
 pub fn what_is_written_reads_back<A: Allocator>()
-    ensures { (level : ℕ) (written read : Replies A) (text more rest : List ℕ)
-        → ReplyText level written text → First (ReplyText level) (text ++ more) read rest
+    ensures { (protocol : Protocol) (level : ℕ) (written read : Replies A) (text more rest : List ℕ)
+        → ReplyText protocol level written text
+        → First (ReplyText protocol level) (text ++ more) read rest
         → AreAlike level written read × (rest ≡ more) }
+{}
+
+/// A reply that is refused has no text: of its errors but `OutOfMemory` each says that no text of
+/// any level is one of it, and `Level` that none of this level or of a lower one is.
+///
+/// ```
+/// use format_resp::back::what_is_refused_has_no_text;
+/// use std::alloc::Allocator;
+///
+/// fn of_an_allocator<A: Allocator>() {
+///     what_is_refused_has_no_text::<A>();
+/// }
+/// ```
+pub fn what_is_refused_has_no_text<A: Allocator>()
+    ensures { (protocol : Protocol) (level above : ℕ) (reply : Replies A) (error : WriteError)
+        (text : List ℕ)
+        → IsRefused protocol level reply error → ReplyText protocol above reply text
+        → (error ≡ OutOfMemory) ⊎ ((error ≡ Level) × (level < above)) }
 {}

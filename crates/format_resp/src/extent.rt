@@ -1,4 +1,4 @@
-//! Where a reply ends whose bytes come in pieces.
+//! Where a reply of RESP2 ends whose bytes come in pieces.
 //!
 //! No byte is searched again for a line end, however many pieces there are, and those of a bulk
 //! string are not looked at: so a reply is found in a time that is linear in its bytes, and is then
@@ -7,6 +7,7 @@ ghost use Rattle.format_resp.specs.Extents.{IsDataEnd, IsLessPart, IsLineEnd, Is
 ghost use Rattle.format_resp.specs.Extents.{IsReply, IsTold, IsWanting, Passed, Stands};
 ghost use Rattle.format_resp.specs.Extents.{count_after, data_after};
 ghost use Rattle.format_resp.specs.Resp.{Replies, ReplyText};
+ghost use Rattle.format_resp.specs.declared.reply.Protocol.TheVariants.{Resp2};
 ghost use Rattle.std.specs.Prelude.{◌≡◌, ◌≤◌, ◌^◌, ◌++◌, ℕ, List, None, Some, length};
 ghost use Rattle.std.specs.Prelude.{IfOk, IfSome, OnOk, suc};
 ghost use Rattle.winnow.specs.InTurn.{First};
@@ -213,13 +214,15 @@ impl Extent {
     /// ```
     /// use format_resp::extent::Extent;
     /// use format_resp::read::{SAFE_LEVEL, read_reply};
+    /// use format_resp::reply::Protocol;
     /// use winnow::stream::Partial;
     ///
     /// let bytes = b"$6\r\nfoobar\r\n:1\r\n".as_slice();
     /// let mut extent = Extent::new();
     /// assert!(rt; matches!(extent.advance(&bytes[..7]), Ok(None)));
     /// assert!(rt; matches!(extent.advance(bytes), Ok(Some(12))));
-    /// assert!(rt; read_reply(alloc, SAFE_LEVEL, &mut Partial::new(&bytes[..12])).is_ok());
+    /// let mut whole = Partial::new(&bytes[..12]);
+    /// assert!(rt; read_reply(alloc, Protocol::Resp2, SAFE_LEVEL, &mut whole).is_ok());
     /// ```
     pub fn advance(&mut self, bytes: &[u8]) -> Result<Option<usize>, Refused>
         ensures told { IsOf self.old bytes.now → IsTold bytes.now result }
@@ -263,5 +266,5 @@ pub fn reply_length(bytes: &[u8]) -> Result<Option<usize>, Refused>
 /// ```
 pub fn a_reply_that_is_read_stands<A: Allocator>()
     ensures { (level : ℕ) (reply : Replies A) (tokens rest : List ℕ)
-        → First (ReplyText level) tokens reply rest → Stands IsReply tokens rest }
+        → First (ReplyText Resp2 level) tokens reply rest → Stands IsReply tokens rest }
 {}

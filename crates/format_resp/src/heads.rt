@@ -1,15 +1,15 @@
-//! The first lines of replies, and what they say of the bytes after them.
-ghost use Rattle.format_resp.specs.Heads.{HeadText, IsLessStart, IsSizeOf, IsStart, Says};
-ghost use Rattle.format_resp.specs.Resp.{DataText, InLine, SignedText, byte_of, line_end};
+//! The first lines of replies of RESP2, and what they say of the bytes after them.
+ghost use Rattle.format_resp.specs.Heads.{IsLessStart, IsStart, Says};
+ghost use Rattle.format_resp.specs.Resp.{InLine};
 ghost use Rattle.format_resp.specs.declared.heads.Head.{Head};
-ghost use Rattle.format_resp.specs.declared.leaves.Mark.{Mark};
+ghost use Rattle.format_resp.specs.declared.marks.Mark.TheVariants as marks;
 ghost use Rattle.std.specs.List.{AllByRecursion};
-ghost use Rattle.std.specs.Prelude.{◌≡◌, ◌<◌, ◌++◌, ◌∷◌, ℕ, ℤ, List, Option, None};
-ghost use Rattle.std.specs.Prelude.{IfErr, IfOk, IfSome, MatchOption, drop, length, take};
-ghost use Rattle.winnow.specs.InTurn.{First};
+ghost use Rattle.std.specs.Prelude.{◌≡◌, None, IfSome, drop, length, take};
 
-use crate::leaves::{Mark, read_signed};
 use crate::lines::{Line, line_of};
+use crate::marks::{AggregateMark, DataMark, LineMark, Mark, mark_of};
+use crate::numbers::{number_of, size_line};
+use crate::reply::Protocol;
 
 /// What the first line of a reply says of what is after it.
 pub(crate) enum Head {
@@ -31,79 +31,70 @@ pub(crate) enum Start<'i> {
     Never,
 }
 
-/// What a byte says of the reply that it begins.
-fn mark_of(byte: u8) -> Option<Mark>
-    ensures some { IfSome result (λ mark. byte ≡ byte_of mark) }
-    ensures none { result ≡ None → (mark : Mark) → byte ≡ byte_of mark → ⊥ }
-{
-    match byte {
-        b'+' => Some(Mark::Plus),
-        b'-' => Some(Mark::Minus),
-        b':' => Some(Mark::Colon),
-        b'$' => Some(Mark::Dollar),
-        b'*' => Some(Mark::Star),
-        _ => None,
-    }
-}
-
-/// The integer that a line is, without its end: digits with no zero before others, and a sign or
-/// none before them. `None` says that it is none of 64 bits.
-///
-/// ```
-/// use format_resp::heads::number_of;
-///
-/// assert!(rt; matches!(number_of(b"-7"), Some(-7)));
-/// assert!(rt; number_of(b"07").is_none());
-/// ```
-pub fn number_of(line: &[u8]) -> Option<i64>
-    ensures some { IfSome result (λ n. SignedText n line.now) }
-    ensures none { result ≡ None → (n : ℤ) → SignedText n line.now → ⊥ }
-{
-    let mut left = line;
-    match read_signed(&mut left) {
-        Ok(number) => { if left.is_empty() { Some(number) } else { None } }
-        Err(_) => None,
-    }
-}
-
-/// The size that a line is; none for null.
-fn size_of(line: &[u8]) -> Option<Option<usize>>
-    ensures some { IfSome result (λ size. IsSizeOf size line.now) }
-    ensures none { result ≡ None → (size : Option ℕ) → IsSizeOf size line.now → ⊥ }
-{
-    let number = number_of(line)?;
-    if number == -1 {
-        return Some(None);
-    }
-    match usize::try_from(number) {
-        Ok(size) => Some(Some(size)),
-        Err(_) => None,
-    }
-}
-
-/// What a line says after a mark.
-fn head_of(mark: Mark, line: &[u8]) -> Option<Head>
+/// What a line says after the mark of a reply that is one.
+fn line_head(mark: LineMark, line: &[u8]) -> Option<Head>
     ensures some { IfSome result (λ head. AllByRecursion InLine line.now
-        → Says mark head (line.now ++ line_end)) }
-    ensures none { result ≡ None → (head : Head) → Says mark head (line.now ++ line_end) → ⊥ }
+        → Says (marks.Line mark) head line.now) }
+    ensures none { result ≡ None → (head : Head) → Says (marks.Line mark) head line.now → ⊥ }
 {
     match mark {
-        Mark::Plus => Some(Head::Ends),
-        Mark::Minus => Some(Head::Ends),
-        Mark::Colon => match number_of(line) {
+        LineMark::Plus => Some(Head::Ends),
+        LineMark::Minus => Some(Head::Ends),
+        LineMark::Colon => match number_of(line) {
             Some(_) => Some(Head::Ends),
             None => None,
         },
-        Mark::Dollar => match size_of(line) {
+        LineMark::Underscore => None,
+        LineMark::Hash => None,
+        LineMark::Comma => None,
+        LineMark::Parenthesis => None,
+    }
+}
+
+/// What a line says after the mark of a reply of so many bytes.
+fn data_head(mark: DataMark, line: &[u8]) -> Option<Head>
+    ensures some { IfSome result (λ head. Says (marks.Data mark) head line.now) }
+    ensures none { result ≡ None → (head : Head) → Says (marks.Data mark) head line.now → ⊥ }
+{
+    match mark {
+        DataMark::Dollar => match size_line(line) {
             Some(Some(size)) => Some(Head::Data(size)),
             Some(None) => Some(Head::Ends),
             None => None,
         },
-        Mark::Star => match size_of(line) {
+        DataMark::Exclamation => None,
+        DataMark::Equals => None,
+    }
+}
+
+/// What a line says after the mark of an aggregate.
+fn aggregate_head(mark: AggregateMark, line: &[u8]) -> Option<Head>
+    ensures some { IfSome result (λ head. Says (marks.Aggregate mark) head line.now) }
+    ensures none { result ≡ None → (head : Head) → Says (marks.Aggregate mark) head line.now → ⊥ }
+{
+    match mark {
+        AggregateMark::Star => match size_line(line) {
             Some(Some(size)) => Some(Head::Replies(size)),
             Some(None) => Some(Head::Ends),
             None => None,
         },
+        AggregateMark::Percent => None,
+        AggregateMark::Tilde => None,
+        AggregateMark::Greater => None,
+        AggregateMark::Bar => None,
+    }
+}
+
+/// What a line says after a mark of RESP2.
+fn head_of(mark: Mark, line: &[u8]) -> Option<Head>
+    ensures some { IfSome result (λ head. AllByRecursion InLine line.now
+        → Says mark head line.now) }
+    ensures none { result ≡ None → (head : Head) → Says mark head line.now → ⊥ }
+{
+    match mark {
+        Mark::Line(mark) => line_head(mark, line),
+        Mark::Data(mark) => data_head(mark, line),
+        Mark::Aggregate(mark) => aggregate_head(mark, line),
     }
 }
 
@@ -116,7 +107,7 @@ pub(crate) fn start_of<'i>(bytes: &'i [u8], sought: usize) -> Start<'i>
 {
     match bytes.split_first() {
         None => Start::Open(0),
-        Some((byte, text)) => match mark_of(*byte) {
+        Some((byte, text)) => match mark_of(Protocol::Resp2, *byte) {
             None => Start::Never,
             Some(mark) => match line_of(text, sought) {
                 Line::Open(behind) => Start::Open(behind),

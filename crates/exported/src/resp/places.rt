@@ -100,5 +100,6 @@ pub fn reply_at(
             length,
             ..NONE
         },
+        _ => unreachable!(),
     }
 }

@@ -15,7 +15,7 @@ returns-in-None-mark_of-clause-told c all =
 pub returns-in-Open-clause-told : goal.returns-in-Open-clause-told
 returns-in-Open-clause-told c all =
     text_sought _ _ _ c.in-Open.behind c.in-Some-mark_of.mark c.in-Some.ensures.cases.0
-    c.in-Some-mark_of.ensures.some
+    c.in-Some-mark_of.ensures.some.0 c.in-Some-mark_of.ensures.some.1
     (c.in-Open.ensures.told (sought_text _ _ _ c.args.sought c.in-Some.ensures.cases.0 all))
 
 pub returns-in-Never-clause-told : goal.returns-in-Never-clause-told
@@ -29,13 +29,13 @@ returns-in-Some-head_of-clause-told c all =
     c.in-Whole.ensures.told (sought_text _ _ _ c.args.sought c.in-Some.ensures.cases.0 all) in
     start_stands c.in-Some-mark_of.mark c.in-Some-head_of.head c.in-Some.byte.now
     c.args.bytes.now c.in-Some.text.now c.in-Whole.line.now c.in-Whole.left.now
-    c.in-Some-mark_of.ensures.some c.in-Some.ensures.cases.0 ends
-    (c.in-Some-head_of.ensures.some ends.0)
+    c.in-Some-mark_of.ensures.some.0 c.in-Some-mark_of.ensures.some.1 c.in-Some.ensures.cases.0
+    ends (c.in-Some-head_of.ensures.some ends.0)
 
 pub returns-in-None-head_of-clause-told : goal.returns-in-None-head_of-clause-told
 returns-in-None-head_of-clause-told c all =
     start_silent c.args.bytes.now c.in-Some.text.now c.in-Whole.line.now c.in-Whole.left.now
     c.in-Some.byte.now c.in-Some-mark_of.mark c.in-Some.ensures.cases.0
-    c.in-Some-mark_of.ensures.some
+    c.in-Some-mark_of.ensures.some.1
     (c.in-Whole.ensures.told (sought_text _ _ _ c.args.sought c.in-Some.ensures.cases.0 all))
     (c.in-None-head_of.ensures.none refl)

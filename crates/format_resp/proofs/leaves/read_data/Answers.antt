@@ -1,4 +1,4 @@
-use Rattle.format_resp.specs.Leaves.{same_data}
+use Rattle.format_resp.proofs.LeafTexts.{same_data}
 use Rattle.winnow.specs.Cut.{reads_or_asks_as}
 use Rattle.format_resp.proofs.leaves.read_data.Goals as goal
 

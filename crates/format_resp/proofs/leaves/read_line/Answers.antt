@@ -1,4 +1,4 @@
-use Rattle.format_resp.specs.Leaves.{same_line}
+use Rattle.format_resp.proofs.LeafTexts.{same_line}
 use Rattle.winnow.specs.Cut.{reads_or_asks_as}
 use Rattle.format_resp.proofs.leaves.read_line.Goals as goal
 

@@ -6,16 +6,16 @@ use Rattle.winnow.specs.InTurn.Rows.{RowOf}
 use Rattle.format_resp.specs.Resp.{ReplyText}
 use Rattle.format_resp.proofs.read.+read.Given as goal
 
--- a reply calls for an array of its level, and an array for replies of one level less
-abbrev pub decreases-read_array : goal.decreases-read_array
-decreases-read_array g l = l.level + l.level
+-- a reply calls for an aggregate of its level, and an aggregate for replies of one level less
+abbrev pub decreases-read_aggregate : goal.decreases-read_aggregate
+decreases-read_aggregate g l = l.level + l.level
 
 abbrev pub decreases-read_reply : goal.decreases-read_reply
 decreases-read_reply g l = l.level + l.level + 1
 
 -- that many replies stand after the size
-abbrev pub invariant-read_array-loop : goal.invariant-read_array-loop
-invariant-read_array-loop g l =
-    Stood bytes_reading bytes_follow (First (RowOf (ReplyText l.inner) l.counter))
+abbrev pub invariant-read_aggregate-loop : goal.invariant-read_aggregate-loop
+invariant-read_aggregate-loop g l =
+    Stood bytes_reading bytes_follow (First (RowOf (ReplyText l.protocol l.inner) l.counter))
     (with_flag (bytes_input l.initial.input.input.now) l.initial.input.partial) l.replies.items
     (with_flag (bytes_input l.input.input.now) l.input.partial)

@@ -1,8 +1,15 @@
-use Rattle.std.proofs.Common.{◌-◌, arith, inr}
+use Rattle.std.proofs.Common.{◌-◌, ◌∙◌, arith, inr, refl, rules, sym}
 use Rattle.std.proofs.lemmas.Result.{IfErr-weaker, on_ok_weaker}
-use Rattle.format_resp.proofs.Refusals.{deep_array, refused_array, refused_error, refused_simple}
-use Rattle.format_resp.proofs.Writing.{among, array_put, error_put, if_error, keeps_trans}
-use Rattle.format_resp.proofs.Writing.{row_end, row_more, simple_put}
+use Rattle.format_resp.proofs.Putting.{among, if_error, keeps_trans, row_end, row_more}
+use Rattle.format_resp.proofs.Writing.{aggregate_put, aggregate_within, big_number_put, boolean_put}
+use Rattle.format_resp.proofs.Writing.{bulk_error_put}
+use Rattle.format_resp.proofs.Writing.{deep_aggregate, double_put, error_put, integer_put}
+use Rattle.format_resp.proofs.Writing.{null_put, put_as, refused_big_number, refused_count}
+use Rattle.format_resp.proofs.Writing.{refused_double, refused_error, refused_form, refused_simple}
+use Rattle.format_resp.proofs.Writing.{refused_verbatim, refused_within, simple_put, verbatim_put}
+use Rattle.format_resp.proofs.Writing.{null_array_put, null_bulk_put, bulk_put, refused_foreign}
+use Rattle.format_resp.specs.declared.marks.AggregateMark.TheVariants.{Bar, Greater, Percent}
+use Rattle.format_resp.specs.declared.marks.AggregateMark.TheVariants.{Tilde}
 use Rattle.format_resp.proofs.write.+write.Goals as goal
 
 -- ---- elements
@@ -30,51 +37,240 @@ write_elements-returns-in_err-write_nested-clause-refused g t c =
       c.in_err-write_nested.ensures.refused,
     ))
 
--- ---- arrays
+pub write_elements-returns-in_err-write_nested-clause-kept :
+    goal.write_elements-returns-in_err-write_nested-clause-kept
+write_elements-returns-in_err-write_nested-clause-kept g t c =
+    keeps_trans c.loop-reply.invariant.kept c.in_err-write_nested.ensures.kept
 
-pub write_array-returns-then-level-eq0-clause-refused :
-    goal.write_array-returns-then-level-eq0-clause-refused
-write_array-returns-then-level-eq0-clause-refused g t c =
-    deep_array c.args.replies.now (omega arith)
+-- ---- aggregates
 
-pub write_array-returns-clause-written : goal.write_array-returns-clause-written
-write_array-returns-clause-written g t c =
+pub write_list-returns-then-level-eq0-clause-refused :
+    goal.write_list-returns-then-level-eq0-clause-refused
+write_list-returns-then-level-eq0-clause-refused g t c =
+    deep_aggregate c.args.protocol c.args.mark c.args.replies.now (omega arith)
+
+pub write_list-returns-in-None-clause-refused :
+    goal.write_list-returns-in-None-clause-refused
+write_list-returns-in-None-clause-refused g t c =
+    refused_count c.args.protocol c.args.level c.args.mark c.args.replies.now
+    (c.len.ensures ∙ c.args.replies.now.ok.0)
+    (c.in-None.ensures.none refl)
+
+pub write_list-returns-in_ok-write_size-in-Some-clause-written :
+    goal.write_list-returns-in_ok-write_size-in-Some-clause-written
+write_list-returns-in_ok-write_size-in-Some-clause-written g t c =
     on_ok_weaker c.write_elements.result
-    (array_put (c.args.level - 1) c.args.replies.now c.as_slice.ensures.value (omega arith)
-    (omega arith) c.in_ok-write_size.ensures.written) c.write_elements.ensures.written
+    (λ added within. aggregate_put c.args.protocol c.args.mark c.in-Some.size (c.args.level - 1)
+    c.args.replies.now within c.as_slice.ensures.value
+    (sym (c.len.ensures ∙ c.args.replies.now.ok.0) ∙ c.in-Some.ensures.some) (omega arith)
+    c.byte.ensures c.in_ok-write_size-in-Some.ensures.written added)
+    c.write_elements.ensures.written
 
-pub write_array-returns-clause-refused : goal.write_array-returns-clause-refused
-write_array-returns-clause-refused g t c =
+pub write_list-returns-in_ok-write_size-in-Some-clause-refused :
+    goal.write_list-returns-in_ok-write_size-in-Some-clause-refused
+write_list-returns-in_ok-write_size-in-Some-clause-refused g t c =
     IfErr-weaker c.write_elements.result _ _
-    (λ e. refused_array (c.args.level - 1) c.args.replies.now e c.as_slice.ensures.value
-    (omega arith)) c.write_elements.ensures.refused
+    (λ e. refused_within c.args.protocol (c.args.level - 1) c.args.mark c.args.replies.now e
+    c.as_slice.ensures.value (omega arith)) c.write_elements.ensures.refused
 
-pub write_array-returns-clause-kept : goal.write_array-returns-clause-kept
-write_array-returns-clause-kept g t c =
-    keeps_trans c.in_ok-write_size.ensures.kept c.write_elements.ensures.kept
+pub write_list-returns-in_ok-write_size-in-Some-clause-kept :
+    goal.write_list-returns-in_ok-write_size-in-Some-clause-kept
+write_list-returns-in_ok-write_size-in-Some-clause-kept g t c =
+    keeps_trans c.in_ok-write_size-in-Some.ensures.kept c.write_elements.ensures.kept
 
 -- ---- replies
+
+pub write_nested-returns-then-is_foreign-clause-refused :
+    goal.write_nested-returns-then-is_foreign-clause-refused
+write_nested-returns-then-is_foreign-clause-refused g t c =
+    refused_foreign c.args.protocol c.args.level c.args.reply.now c.if-is_foreign.ensures
 
 pub write_nested-returns-in-Simple-clause-written :
     goal.write_nested-returns-in-Simple-clause-written
 write_nested-returns-in-Simple-clause-written g t c =
-    on_ok_weaker c.write_text.result (simple_put c.args.level _ c.in-Simple.is)
+    on_ok_weaker c.write_text.result
+    (simple_put c.args.protocol c.args.level c.if-is_foreign.ensures _ c.in-Simple.is)
     c.write_text.ensures.written
-
-pub write_nested-returns-in-Error-clause-written :
-    goal.write_nested-returns-in-Error-clause-written
-write_nested-returns-in-Error-clause-written g t c =
-    on_ok_weaker c.write_text-in-Error.result (error_put c.args.level _ c.in-Error.is)
-    c.write_text-in-Error.ensures.written
 
 pub write_nested-returns-in-Simple-clause-refused :
     goal.write_nested-returns-in-Simple-clause-refused
 write_nested-returns-in-Simple-clause-refused g t c =
-    IfErr-weaker c.write_text.result _ _ (refused_simple c.args.level _ c.in-Simple.is)
+    IfErr-weaker c.write_text.result _ _
+    (refused_simple c.args.protocol c.args.level _ c.in-Simple.is)
     c.write_text.ensures.refused
+
+pub write_nested-returns-in-Error-clause-written :
+    goal.write_nested-returns-in-Error-clause-written
+write_nested-returns-in-Error-clause-written g t c =
+    on_ok_weaker c.write_text-in-Error.result
+    (error_put c.args.protocol c.args.level c.if-is_foreign.ensures _ c.in-Error.is)
+    c.write_text-in-Error.ensures.written
 
 pub write_nested-returns-in-Error-clause-refused :
     goal.write_nested-returns-in-Error-clause-refused
 write_nested-returns-in-Error-clause-refused g t c =
-    IfErr-weaker c.write_text-in-Error.result _ _ (refused_error c.args.level _ c.in-Error.is)
+    IfErr-weaker c.write_text-in-Error.result _ _
+    (refused_error c.args.protocol c.args.level _ c.in-Error.is)
     c.write_text-in-Error.ensures.refused
+
+pub write_nested-returns-in-Double-clause-written :
+    goal.write_nested-returns-in-Double-clause-written
+write_nested-returns-in-Double-clause-written g t c =
+    on_ok_weaker c.write_double.result
+    (double_put c.args.protocol c.args.level c.if-is_foreign.ensures _ c.in-Double.is)
+    c.write_double.ensures.written
+
+pub write_nested-returns-in-Double-clause-refused :
+    goal.write_nested-returns-in-Double-clause-refused
+write_nested-returns-in-Double-clause-refused g t c =
+    IfErr-weaker c.write_double.result _ _
+    (refused_double c.args.protocol c.args.level _ c.in-Double.is)
+    c.write_double.ensures.refused
+
+pub write_nested-returns-in-BigNumber-clause-written :
+    goal.write_nested-returns-in-BigNumber-clause-written
+write_nested-returns-in-BigNumber-clause-written g t c =
+    on_ok_weaker c.write_big_number.result
+    (big_number_put c.args.protocol c.args.level c.if-is_foreign.ensures _ c.in-BigNumber.is)
+    c.write_big_number.ensures.written
+
+pub write_nested-returns-in-BigNumber-clause-refused :
+    goal.write_nested-returns-in-BigNumber-clause-refused
+write_nested-returns-in-BigNumber-clause-refused g t c =
+    IfErr-weaker c.write_big_number.result _ _
+    (refused_big_number c.args.protocol c.args.level _ c.in-BigNumber.is)
+    c.write_big_number.ensures.refused
+
+pub write_nested-returns-in-Verbatim-clause-written :
+    goal.write_nested-returns-in-Verbatim-clause-written
+write_nested-returns-in-Verbatim-clause-written g t c =
+    on_ok_weaker c.write_verbatim.result
+    (verbatim_put c.args.protocol c.args.level c.if-is_foreign.ensures _ c.in-Verbatim.is
+    (search rules))
+    c.write_verbatim.ensures.written
+
+pub write_nested-returns-in-Verbatim-clause-refused :
+    goal.write_nested-returns-in-Verbatim-clause-refused
+write_nested-returns-in-Verbatim-clause-refused g t c =
+    IfErr-weaker c.write_verbatim.result _ _
+    (refused_verbatim c.args.protocol c.args.level _ c.in-Verbatim.is)
+    c.write_verbatim.ensures.refused
+
+pub write_nested-returns-in-Array-clause-written :
+    goal.write_nested-returns-in-Array-clause-written
+write_nested-returns-in-Array-clause-written g t c =
+    on_ok_weaker c.write_list.result (λ told.
+    put_as c.args.protocol c.args.level c.in-Array.is (told tt))
+    c.write_list.ensures.written
+
+pub write_nested-returns-in-Array-clause-refused :
+    goal.write_nested-returns-in-Array-clause-refused
+write_nested-returns-in-Array-clause-refused g t c =
+    IfErr-weaker c.write_list.result _ _ (refused_form c.args.protocol c.args.level c.in-Array.is)
+    c.write_list.ensures.refused
+
+pub write_nested-returns-in-Map-clause-written :
+    goal.write_nested-returns-in-Map-clause-written
+write_nested-returns-in-Map-clause-written g t c =
+    on_ok_weaker c.write_list-in-Map.result (λ told.
+    put_as c.args.protocol c.args.level c.in-Map.is (told
+    (aggregate_within c.args.protocol Percent _ c.in-Map.is c.if-is_foreign.ensures)))
+    c.write_list-in-Map.ensures.written
+
+pub write_nested-returns-in-Map-clause-refused :
+    goal.write_nested-returns-in-Map-clause-refused
+write_nested-returns-in-Map-clause-refused g t c =
+    IfErr-weaker c.write_list-in-Map.result _ _
+    (refused_form c.args.protocol c.args.level c.in-Map.is)
+    c.write_list-in-Map.ensures.refused
+
+pub write_nested-returns-in-Set-clause-written :
+    goal.write_nested-returns-in-Set-clause-written
+write_nested-returns-in-Set-clause-written g t c =
+    on_ok_weaker c.write_list-in-Set.result (λ told.
+    put_as c.args.protocol c.args.level c.in-Set.is (told
+    (aggregate_within c.args.protocol Tilde _ c.in-Set.is c.if-is_foreign.ensures)))
+    c.write_list-in-Set.ensures.written
+
+pub write_nested-returns-in-Set-clause-refused :
+    goal.write_nested-returns-in-Set-clause-refused
+write_nested-returns-in-Set-clause-refused g t c =
+    IfErr-weaker c.write_list-in-Set.result _ _
+    (refused_form c.args.protocol c.args.level c.in-Set.is)
+    c.write_list-in-Set.ensures.refused
+
+pub write_nested-returns-in-Push-clause-written :
+    goal.write_nested-returns-in-Push-clause-written
+write_nested-returns-in-Push-clause-written g t c =
+    on_ok_weaker c.write_list-in-Push.result (λ told.
+    put_as c.args.protocol c.args.level c.in-Push.is (told
+    (aggregate_within c.args.protocol Greater _ c.in-Push.is c.if-is_foreign.ensures)))
+    c.write_list-in-Push.ensures.written
+
+pub write_nested-returns-in-Push-clause-refused :
+    goal.write_nested-returns-in-Push-clause-refused
+write_nested-returns-in-Push-clause-refused g t c =
+    IfErr-weaker c.write_list-in-Push.result _ _
+    (refused_form c.args.protocol c.args.level c.in-Push.is)
+    c.write_list-in-Push.ensures.refused
+
+pub write_nested-returns-in-Attributed-clause-written :
+    goal.write_nested-returns-in-Attributed-clause-written
+write_nested-returns-in-Attributed-clause-written g t c =
+    on_ok_weaker c.write_list-in-Attributed.result
+    (λ told.
+    put_as c.args.protocol c.args.level c.in-Attributed.is (told
+    (aggregate_within c.args.protocol Bar _ c.in-Attributed.is c.if-is_foreign.ensures)))
+    c.write_list-in-Attributed.ensures.written
+
+pub write_nested-returns-in-Attributed-clause-refused :
+    goal.write_nested-returns-in-Attributed-clause-refused
+write_nested-returns-in-Attributed-clause-refused g t c =
+    IfErr-weaker c.write_list-in-Attributed.result _ _
+    (refused_form c.args.protocol c.args.level c.in-Attributed.is)
+    c.write_list-in-Attributed.ensures.refused
+
+pub write_nested-returns-in_ok-write_integer-in-Integer-clause-written :
+    goal.write_nested-returns-in_ok-write_integer-in-Integer-clause-written
+write_nested-returns-in_ok-write_integer-in-Integer-clause-written g t c =
+    integer_put c.args.protocol c.args.level c.if-is_foreign.ensures
+    c.in_ok-write_integer-in-Integer.ensures.written
+    (search (rules, c.in-Integer.is)) (search rules)
+
+pub write_nested-returns-in_ok-write_line-in-Null-clause-written :
+    goal.write_nested-returns-in_ok-write_line-in-Null-clause-written
+write_nested-returns-in_ok-write_line-in-Null-clause-written g t c =
+    null_put c.args.protocol c.args.level c.if-is_foreign.ensures c.in-Null.is
+    c.in_ok-write_line-in-Null.ensures.written
+
+pub write_nested-returns-in_ok-write_line-in-Boolean-clause-written :
+    goal.write_nested-returns-in_ok-write_line-in-Boolean-clause-written
+write_nested-returns-in_ok-write_line-in-Boolean-clause-written g t c =
+    boolean_put c.args.protocol c.args.level c.if-is_foreign.ensures _ _ c.in-Boolean.is
+    c.boolean_text.ensures
+    c.in_ok-write_line-in-Boolean.ensures.written
+
+pub write_nested-returns-in_ok-write_data-in-BulkError-clause-written :
+    goal.write_nested-returns-in_ok-write_data-in-BulkError-clause-written
+write_nested-returns-in_ok-write_data-in-BulkError-clause-written g t c =
+    bulk_error_put c.args.protocol c.args.level c.if-is_foreign.ensures _ c.in-BulkError.is
+    (search rules)
+    c.in_ok-write_data-in-BulkError.ensures.written
+
+pub write_nested-returns-in_ok-write_data-in-Bulk-clause-written :
+    goal.write_nested-returns-in_ok-write_data-in-Bulk-clause-written
+write_nested-returns-in_ok-write_data-in-Bulk-clause-written g t c =
+    bulk_put c.args.protocol c.args.level c.if-is_foreign.ensures _ c.in-Bulk.is (search rules)
+    c.in_ok-write_data-in-Bulk.ensures.written
+
+pub write_nested-returns-in_ok-write_line-in-NullBulk-clause-written :
+    goal.write_nested-returns-in_ok-write_line-in-NullBulk-clause-written
+write_nested-returns-in_ok-write_line-in-NullBulk-clause-written g t c =
+    null_bulk_put c.args.protocol c.args.level c.if-is_foreign.ensures c.in-NullBulk.is
+    c.in_ok-write_line-in-NullBulk.ensures.written
+
+pub write_nested-returns-in_ok-write_line-in-NullArray-clause-written :
+    goal.write_nested-returns-in_ok-write_line-in-NullArray-clause-written
+write_nested-returns-in_ok-write_line-in-NullArray-clause-written g t c =
+    null_array_put c.args.protocol c.args.level c.if-is_foreign.ensures c.in-NullArray.is
+    c.in_ok-write_line-in-NullArray.ensures.written

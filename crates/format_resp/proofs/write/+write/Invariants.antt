@@ -1,23 +1,25 @@
 use Rattle.std.proofs.Common.{◌+◌, ◌*◌, ℕ, List, drop}
 use Rattle.winnow.specs.Texts.{EachText}
-use Rattle.format_resp.specs.Written.{Adds, Keeps, WrittenText}
+use Rattle.format_resp.specs.Written.{Adds, Keeps}
+use Rattle.format_resp.specs.Written.{WrittenText}
 use Rattle.format_resp.proofs.write.+write.Given as goal
 
--- an array calls for elements of one level less, and these for replies of theirs
+-- an aggregate calls for elements of one level less, and these for replies of theirs
 abbrev pub decreases-write_elements : goal.decreases-write_elements
 decreases-write_elements g l = 3 * l.level + 3
 
 abbrev pub decreases-write_nested : goal.decreases-write_nested
 decreases-write_nested g l = 3 * l.level + 2
 
-abbrev pub decreases-write_array : goal.decreases-write_array
-decreases-write_array g l = 3 * l.level + 1
+abbrev pub decreases-write_list : goal.decreases-write_list
+decreases-write_list g l = 3 * l.level + 1
 
 -- what ends the replies from here ends them from the first on
 abbrev pub invariant-write_elements-loop-reply : goal.invariant-write_elements-loop-reply
 invariant-write_elements-loop-reply g l = record {
-  ends : (after : List ℕ) → Adds (EachText (WrittenText l.level)) (drop l.reply-index l.replies)
+  ends : (after : List ℕ)
+      → Adds (EachText (WrittenText l.protocol l.level)) (drop l.reply-index l.replies)
       l.into.items after
-      → Adds (EachText (WrittenText l.level)) l.replies l.initial.into.items after;
+      → Adds (EachText (WrittenText l.protocol l.level)) l.replies l.initial.into.items after;
   kept : Keeps l.initial.into.items l.into.items;
 }

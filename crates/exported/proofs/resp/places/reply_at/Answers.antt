@@ -1,8 +1,9 @@
 use Rattle.std.proofs.Common.{arith, refl, rules}
 use Rattle.exported.proofs.Replies.{array_shown, array_stands, bulk_shown, bulk_stands}
 use Rattle.exported.proofs.Replies.{elements_count, elements_long, error_shown, error_stands}
-use Rattle.exported.proofs.Replies.{feed_ends, integer_shown, line_shown, null_array_shown}
-use Rattle.exported.proofs.Replies.{null_bulk_shown, reply_long, simple_shown, simple_stands}
+use Rattle.exported.proofs.Replies.{feed_ends, integer_shown, line_shown, none_else}
+use Rattle.exported.proofs.Replies.{null_array_shown, null_bulk_shown, reply_long, simple_shown}
+use Rattle.exported.proofs.Replies.{simple_stands}
 use Rattle.exported.proofs.resp.places.reply_at.Goals as goal
 
 pub overflow_sub-length : goal.overflow_sub-length
@@ -104,3 +105,9 @@ returns-in-Array-clause-ends c = omega (arith, reply_long _ _ _ _ c.requires.1, 
 
 pub returns-in-NullArray-clause-ends : goal.returns-in-NullArray-clause-ends
 returns-in-NullArray-clause-ends c = omega (arith, reply_long _ _ _ _ c.requires.1, c.requires.2)
+
+pub unreachable-requires : goal.unreachable-requires
+unreachable-requires c =
+    none_else _ _ _ _ c.requires.1 c.in_default.not-Simple c.in_default.not-Error
+    c.in_default.not-Integer c.in_default.not-Bulk c.in_default.not-NullBulk
+    c.in_default.not-Array c.in_default.not-NullArray

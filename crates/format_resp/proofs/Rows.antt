@@ -1,0 +1,60 @@
+-- What stands first in the same tokens, part by part.
+use Rattle.std.specs.Prelude.{◌≡◌, ℕ, List, [], ◌∷◌, ◌++◌, length}
+use Rattle.std.specs.Borrow.{Bor}
+use Rattle.std.proofs.Common.{refl, sym, ap, ◌∙◌, arith, append_assoc}
+use Rattle.winnow.specs.Grammar.{IsUnique}
+use Rattle.winnow.specs.Grammar.Lengths.{same_beginnings}
+use Rattle.winnow.specs.InTurn.{First, Led}
+use Rattle.winnow.specs.Texts.{CountedText, EachText, Text}
+use Rattle.format_resp.specs.Alike.{ArePairwise}
+use Rattle.format_resp.specs.Resp.{DataText, Ended, line_end}
+
+-- a text that leads, and what is after it
+pub led_parts : {X O : Type 0} (first : Text ℕ X) (behind : X → Text ℕ O) (tokens : List ℕ) (o : O)
+    (rest : List ℕ) → First (Led first behind) tokens o rest
+    → (x : X) × (mid : List ℕ) × First first tokens x mid × First (behind x) mid o rest
+unfolding First Led
+led_parts first behind tokens o rest (front, (x, xs, ys, a, b, d), e) = (
+  x,
+  ys ++ rest,
+  (xs, a, e ∙ ap (λ l. l ++ rest) d ∙ append_assoc xs ys rest),
+  (ys, b, refl),
+)
+
+pub same_bytes : (n : ℕ) (x y : Bor (List ℕ)) (tokens rest other : List ℕ)
+    → First (DataText n) tokens x rest → First (DataText n) tokens y other → x.now ≡ y.now
+unfolding First DataText Ended CountedText
+same_bytes n x y tokens rest other (front, (xs, (many, shown), e), d)
+    (back, (ys, (also, see), f), h) =
+    let split = sym (append_assoc xs line_end rest) ∙ ap (λ l. l ++ rest) (sym e) ∙ sym d ∙ h
+    ∙ ap (λ l. l ++ other) f ∙ append_assoc ys line_end other in
+    shown ∙ (same_beginnings xs ys (line_end ++ rest) (line_end ++ other) (many ∙ sym also)
+    split).0 ∙ sym see
+
+-- Lists of which texts stand first in the same tokens are pairwise alike, if they are as long.
+abbrev pub Pairs : {O : Type 0} → (O → O → Type 0) → Text ℕ (List O) → Type 0
+Pairs {O} alike elements =
+    (os ps : List O) (xs ys rest other : List ℕ) → elements os xs → elements ps ys
+    → xs ++ rest ≡ ys ++ other → length os ≡ length ps → ArePairwise alike os ps
+
+pub rows_alike : {O : Type 0} (text : Text ℕ O) (alike : O → O → Type 0)
+    → IsUnique (First text) → ((v w : O) (tokens rest other : List ℕ)
+    → First text tokens v rest → First text tokens w other
+    → alike v w) → Pairs alike (EachText text)
+unfolding First EachText
+rows_alike text alike unique each [] [] xs ys rest other a b e n = tt
+rows_alike text alike unique each [] (p ∷ ps) xs ys rest other a b e n =
+    absurd (omega (arith, n))
+rows_alike text alike unique each (o ∷ os) [] xs ys rest other a b e n =
+    absurd (omega (arith, n))
+rows_alike text alike unique each (o ∷ os) (p ∷ ps) xs ys rest other (us, vs, a, more, d)
+    (ws, zs, b, also, f) e n =
+    let all = us ++ (vs ++ rest) in
+    let one : all ≡ ws ++ (zs ++ other) =
+    sym (append_assoc us vs rest) ∙ ap (λ l. l ++ rest) (sym d) ∙ e
+    ∙ ap (λ l. l ++ other) f ∙ append_assoc ws zs other in (
+      each o p all (vs ++ rest) (zs ++ other) (us, a, refl) (ws, b, one),
+      rows_alike text alike unique each os ps vs zs rest other more also
+          (unique.one all o p (vs ++ rest) (zs ++ other) (us, a, refl) (ws, b, one))
+          (omega (arith, n)),
+    )

@@ -1,0 +1,13 @@
+use Rattle.format_resp.proofs.NumberTexts.{decimal_back, decimal_is, decimal_none}
+use Rattle.format_resp.proofs.Told.{bool_as}
+use Rattle.format_resp.proofs.numbers.is_decimal.Goals as goal
+
+pub returns-in-Some : goal.returns-in-Some
+returns-in-Some c =
+    bool_as _ _ _ _ c.is_tail.result
+    (λ x. decimal_is c.args.bytes.now c.in-Some.rest.now c.in-Some.ensures x)
+    (λ none x. none (decimal_back c.args.bytes.now c.in-Some.rest.now c.in-Some.ensures x))
+    c.is_tail.ensures
+
+pub returns-in-None : goal.returns-in-None
+returns-in-None c = decimal_none c.args.bytes.now c.in-None.ensures

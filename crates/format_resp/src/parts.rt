@@ -1,0 +1,154 @@
+//! The parts of replies as bytes.
+ghost use Rattle.format_resp.specs.Resp.{InLine};
+ghost use Rattle.format_resp.specs.Written.{Keeps, data_of, marked};
+ghost use Rattle.std.specs.Fmt.{decimal, signed_decimal};
+ghost use Rattle.std.specs.List.{AllByRecursion};
+ghost use Rattle.std.specs.Prelude.{◌≡◌, ◌++◌, ◌∷◌, [], MatchBool, OnErr, OnOk};
+
+use memchr::memchr2;
+use std::alloc::{AllocError, Allocator};
+
+/// Puts a byte after what is there.
+fn put<B: Allocator>(byte: u8, into: &mut Vec<u8, B>) -> Result<(), AllocError>
+    ensures written { OnOk result (into.new.items ≡ into.old.items ++ byte ∷ []) }
+    ensures kept { OnErr result (into.new.items ≡ into.old.items) }
+{
+    match into.push(byte) {
+        Ok(()) => Ok(()),
+        Err(_) => Err(AllocError),
+    }
+}
+
+/// Puts the first byte of a reply, what stands after it on its line, and the line end after what is
+/// there. That it is a line is not looked at: [`is_line`] says so.
+///
+/// With an error, which says that a request for memory was refused, some of it may stand there. So
+/// it is of each function here that is not [`write_reply`] or [`write_command`].
+///
+/// ```
+/// use format_resp::parts::write_line;
+///
+/// let mut bytes = Vec::new(alloc);
+/// assert!(rt; write_line(b'+', b"OK", &mut bytes).is_ok());
+/// assert_eq!(rt; bytes.as_slice(), b"+OK\r\n".as_slice());
+/// ```
+pub fn write_line<B: Allocator>(
+    mark: u8,
+    line: &[u8],
+    into: &mut Vec<u8, B>,
+) -> Result<(), AllocError>
+    ensures written { OnOk result (into.new.items ≡ into.old.items ++ marked mark line.now) }
+    ensures kept { Keeps into.old.items into.new.items }
+{
+    put(mark, into)?;
+    into.extend_from_slice(line)?;
+    into.extend_from_slice(b"\r\n")?;
+    Ok(())
+}
+
+/// Puts the digits of a number after what is there: it calls itself once for each but the last.
+fn write_digits<B: Allocator>(number: u64, into: &mut Vec<u8, B>) -> Result<(), AllocError>
+    ensures written { OnOk result (into.new.items ≡ into.old.items ++ decimal number) }
+    ensures kept { Keeps into.old.items into.new.items }
+{
+    if number < 10 {
+        put(b'0' + number as u8, into)?;
+        return Ok(());
+    }
+    write_digits(number / 10, into)?;
+    put(b'0' + (number % 10) as u8, into)?;
+    Ok(())
+}
+
+/// Puts a number after what is there, with a minus sign where it is negative.
+fn write_signed<B: Allocator>(number: i64, into: &mut Vec<u8, B>) -> Result<(), AllocError>
+    ensures written { OnOk result (into.new.items ≡ into.old.items ++ signed_decimal number) }
+    ensures kept { Keeps into.old.items into.new.items }
+{
+    if number >= 0 {
+        return write_digits(number.unsigned_abs(), into);
+    }
+    put(b'-', into)?;
+    write_digits(number.unsigned_abs(), into)
+}
+
+/// Puts the first byte of a reply and a size, on a line of their own, after what is there.
+///
+/// ```
+/// use format_resp::parts::write_size;
+///
+/// let mut bytes = Vec::new(alloc);
+/// assert!(rt; write_size(b'*', 12, &mut bytes).is_ok());
+/// assert_eq!(rt; bytes.as_slice(), b"*12\r\n".as_slice());
+/// ```
+pub fn write_size<B: Allocator>(
+    mark: u8,
+    size: usize,
+    into: &mut Vec<u8, B>,
+) -> Result<(), AllocError>
+    ensures written { OnOk result (into.new.items ≡ into.old.items ++ marked mark (decimal size)) }
+    ensures kept { Keeps into.old.items into.new.items }
+{
+    put(mark, into)?;
+    write_digits(size as u64, into)?;
+    into.extend_from_slice(b"\r\n")?;
+    Ok(())
+}
+
+/// Puts an integer after what is there.
+///
+/// ```
+/// use format_resp::parts::write_integer;
+///
+/// let mut bytes = Vec::new(alloc);
+/// assert!(rt; write_integer(-7, &mut bytes).is_ok());
+/// assert_eq!(rt; bytes.as_slice(), b":-7\r\n".as_slice());
+/// ```
+pub fn write_integer<B: Allocator>(number: i64, into: &mut Vec<u8, B>) -> Result<(), AllocError>
+    ensures written { OnOk result
+        (into.new.items ≡ into.old.items ++ marked 58 (signed_decimal number)) }
+    ensures kept { Keeps into.old.items into.new.items }
+{
+    put(b':', into)?;
+    write_signed(number, into)?;
+    into.extend_from_slice(b"\r\n")?;
+    Ok(())
+}
+
+/// Puts the first byte of a reply, how many bytes there are, and the bytes, each on a line of their
+/// own, after what is there.
+///
+/// ```
+/// use format_resp::parts::write_data;
+///
+/// let mut bytes = Vec::new(alloc);
+/// assert!(rt; write_data(b'$', b"a\r\nb", &mut bytes).is_ok());
+/// assert_eq!(rt; bytes.as_slice(), b"$4\r\na\r\nb\r\n".as_slice());
+/// ```
+pub fn write_data<B: Allocator>(
+    mark: u8,
+    bytes: &[u8],
+    into: &mut Vec<u8, B>,
+) -> Result<(), AllocError>
+    ensures written { OnOk result (into.new.items ≡ into.old.items ++ data_of mark bytes.now) }
+    ensures kept { Keeps into.old.items into.new.items }
+{
+    write_size(mark, bytes.len(), into)?;
+    into.extend_from_slice(bytes)?;
+    into.extend_from_slice(b"\r\n")?;
+    Ok(())
+}
+
+/// Whether no byte is of a line end: a carriage return or a line feed.
+///
+/// ```
+/// use format_resp::parts::is_line;
+///
+/// assert!(rt; is_line(b"ERR unknown command") && !is_line(b"ERR\nno"));
+/// ```
+pub fn is_line(bytes: &[u8]) -> bool
+    ensures { MatchBool result (AllByRecursion InLine bytes.now)
+        (AllByRecursion InLine bytes.now → ⊥) }
+{
+    memchr2(b'\r', b'\n', bytes).is_none()
+}
