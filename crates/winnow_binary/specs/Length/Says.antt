@@ -29,9 +29,8 @@ length_says number following premise stable also p = record {
   alike = also;
 }
 
-module _ {S V T N O : Type 0} (number : N → ℕ) {p : Says T N} {s : S × V}
-    {count : Meaning S T N} {run : ℕ → Meaning V T O} (following : ℕ → Does T O)
-    {premise stable : Type 0} {also : O → O → Type 0} where
+module _ {S V T N O : Type 0} (number : N → ℕ) {s : S × V} {count : Meaning S T N}
+    {run : ℕ → Meaning V T O} (following : ℕ → Does T O) where
   did : {does : Does T N} → EachDoes does s.0 count
       → ((n : ℕ) → EachDoes (following n) s.1 (run n)) → (at : Setting) (i : Input T)
       (answer : Answer O) (t : S × V) (j : Input T) → IsAt at i
@@ -50,13 +49,16 @@ module _ {S V T N O : Type 0} (number : N → ℕ) {p : Says T N} {s : S × V}
       did_in s t (pair_is first.kept same) first
       (fails_on (by_length number following) at i.left.tokens j.left.tokens k e)
 
+module _ {S V T N O : Type 0} (number : N → ℕ) {p : Says T N} {s : S × V}
+    {count : Meaning S T N} {run : ℕ → Meaning V T O} (following : ℕ → Does T O)
+    {premise stable : Type 0} {also : O → O → Type 0} where
   pub length_said : (premise → p.premise) → (premise → OneLength number p.alike)
       → Said p s.0 count → (premise → (n : ℕ) → EachDoes (following n) s.1 (run n))
       → (premise → (n : ℕ) → Lawful stable also (following n))
       → Said (length_says number following premise stable also p) s
       (λ form. LengthRuns number (count form) (λ n. run n form))
   length_said asked one part each law = record {
-    runs = λ is. record { did = did (part.runs (asked is)) (each is) };
+    runs = λ is. record { did = did number following (part.runs (asked is)) (each is) };
     law = λ is. then_law (part.law (asked is))
         (meets_where (λ m n like. record {
           one = λ at tokens mid y z d e.

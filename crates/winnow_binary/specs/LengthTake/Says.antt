@@ -25,7 +25,7 @@ pub length_take_said : {S T N L : Type 0} (number : N → ℕ) (reading : Readin
     (λ form. LengthTakeRuns number reading form counts (count form))
 length_take_said number reading counts {s = s} part =
     said_along (λ t. (t, tt)) (λ t e. ap (λ x. x.0) e) (λ form i answer t j r. r)
-    (length_said {s = (s, tt)} number (λ n. (take_says reading counts n).does) (λ is. is.0)
+    (length_said number {s = (s, tt)} (λ n. (take_says reading counts n).does) (λ is. is.0)
     (λ is. is.1) part
     (λ is n. taken n) (λ is n. (take_said reading counts n).law tt))
   where
