@@ -125,8 +125,8 @@ def example(line):
 
 def is_fixed(line):
     """Whether a line has no place to be broken: it names a module of the checker's, whose name is as
-    long as it is, or begins an import from one, or is a link of a comment."""
-    return bool(re.fullmatch(r"(pub |ghost )*use [^{}]*\{?| *//[/!] \S+", line))
+    long as it is, or begins an import from one, or is a link of a comment, or a parser as a type."""
+    return bool(re.fullmatch(r"(pub |ghost )*use [^{}]*\{?| *//[/!] \S+| *⟦<[^⟧]* as [^⟧]*(⟧\.meaning \})?", line))
 
 
 def wrapped_line(line, is_antt, is_fenced, is_inside):
