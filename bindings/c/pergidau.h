@@ -1132,8 +1132,8 @@ enum pergidau_code pergidau_json_string(
  * in which no more than levels arrays stand in one another. The elements of an array are read
  * by further calls, of the bytes at its place and of those after each element.
  *
- * An integer may have a sign before it and zeros first, a size zeros first; -1 is the size of a
- * null.
+ * An integer may have a sign before it and zeros first, a size zeros first; -1 is the size of
+ * a null.
  *
  * PERGIDAU_DONE: the reply is written. PERGIDAU_REFUSED: the bytes begin with none.
  * PERGIDAU_TOO_DEEP: more than 512 levels are asked for. PERGIDAU_NO_MEMORY. With these three
