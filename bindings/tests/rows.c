@@ -613,6 +613,9 @@ static const struct {
     {"-ERR unknown\r\n+", 0, PERGIDAU_RESP_ERROR, 0, 0, "ERR unknown", 1},
     {":1000\r\n", 0, PERGIDAU_RESP_INTEGER, 1000, 0, "", 0},
     {":-1\r\n", 0, PERGIDAU_RESP_INTEGER, -1, 0, "", 0},
+    {":01\r\n", 0, PERGIDAU_RESP_INTEGER, 1, 0, "", 0},
+    {":+5\r\n", 0, PERGIDAU_RESP_INTEGER, 5, 0, "", 0},
+    {"$01\r\na\r\n", 0, PERGIDAU_RESP_BULK, 0, 0, "a", 0},
     {"$6\r\nfoobar\r\n$", 0, PERGIDAU_RESP_BULK, 0, 0, "foobar", 1},
     {"$2\r\n\r\n\r\n", 0, PERGIDAU_RESP_BULK, 0, 0, "\r\n", 0},
     {"$0\r\n\r\n", 0, PERGIDAU_RESP_BULK, 0, 0, "", 0},
@@ -624,7 +627,7 @@ static const struct {
 };
 
 /* With more behind them these are no replies of no level either. */
-static const char *no_replies[] = {"x",       ":1a\r\n", ":01\r\n",        "$-2\r\n",
+static const char *no_replies[] = {"x",       ":1a\r\n", "$+1\r\na\r\n",   "$-2\r\n",
                                    "+a\rb", "+a\n",    "$1\r\nab\r\n", "*1\r\n:1\r\n"};
 
 static void test_replies(void)
@@ -710,7 +713,7 @@ static const struct {
     const char *bytes;
     size_t begins;
 } no_extents[] = {
-    {"x", 0},        {":1a\r\n", 4}, {":01\r\n", 4},        {"$-2\r\n", 4},
+    {"x", 0},        {":1a\r\n", 4}, {"$+1\r\na\r\n", 4},   {"$-2\r\n", 4},
     {"+a\rb", 3},    {"+a\n", 2},    {"$1\r\nab\r\n", 5}, {"*1\r\nx", 4},
     {"*2\r\n+\r\n,", 7},
 };

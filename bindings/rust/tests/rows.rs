@@ -408,7 +408,7 @@ fn resp_reply_of_bytes() {
         }
         assert_eq!(resp::reply_in_pieces(bytes, 0), Ok((want, rest)), "{bytes:?}");
     }
-    for bytes in [&b"x"[..], b":1a\r\n", b":01\r\n", b"$-2\r\n", b"+a\rb", b"$1\r\nab\r\n", b"*0\r\n"] {
+    for bytes in [&b"x"[..], b":1a\r\n", b"$+1\r\na\r\n", b"$-2\r\n", b"+a\rb", b"$1\r\nab\r\n", b"*0\r\n"] {
         assert_eq!(resp::reply(bytes, 0), Err(Error::Refused(None)), "{bytes:?}");
         assert_eq!(resp::reply_in_pieces(bytes, 0), Err(Error::Refused(None)), "{bytes:?}");
     }
