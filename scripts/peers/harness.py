@@ -123,7 +123,7 @@ class Room:
         lay(self.folder, self.crates, list(dict.fromkeys(above)))
         for it in comparisons:
             main = self.folder / "crates" / crate_of(it) / "src/main.rt"
-            files = [PROGRAMS / f"{name}.rt" for name in [*it.program.split(), "rows"]]
+            files = [PROGRAMS / f"{name}.rt.txt" for name in [*it.program.split(), "rows"]]
             main.parent.mkdir(parents=True, exist_ok=True)
             main.write_text("\n".join(map(read, files)), encoding="utf-8")
         shutil.copyfile(TOP / "scripts/run", self.folder / "run")
