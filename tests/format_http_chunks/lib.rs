@@ -4,8 +4,6 @@
 #[cfg(test)]
 mod memory;
 #[cfg(test)]
-mod pieces;
-#[cfg(test)]
 mod refusals;
 #[cfg(test)]
 mod size_lines;

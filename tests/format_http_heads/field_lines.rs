@@ -2,9 +2,7 @@
 use std::fmt::Debug;
 use std::process::Abort;
 use format_http::heads::field_line::{Field, read_field_line, trimmed};
-use format_http::pieces::field_line::read_field_line_in_pieces;
 use winnow::error::ErrMode;
-use winnow::stream::{Partial, StreamIsPartial};
 
 /// A text, the name and the value of the field line that it begins with, and what is left. The
 /// fields are those of the examples of RFC 9110 and RFC 9112, and some at the edges of the grammar.
@@ -60,9 +58,6 @@ fn read_field_line_of_lines(rt: HostRuntime) {
         let mut input = *text;
         same(&rt, text, read_field_line(&mut input).ok(), want);
         same(&rt, text, input, *rest);
-        let mut pieces = Partial::new(*text);
-        same(&rt, text, read_field_line_in_pieces(&mut pieces).ok(), want);
-        same(&rt, text, pieces.into_inner(), *rest);
     }
 }
 
@@ -71,9 +66,6 @@ fn read_field_line_of_none(rt: HostRuntime) {
     for text in NO_LINES {
         let mut input = *text;
         same(&rt, text, matches!(read_field_line(&mut input), Err(ErrMode::Backtrack(_))), true);
-        let mut pieces = Partial::new(*text);
-        let answer = read_field_line_in_pieces(&mut pieces);
-        same(&rt, text, matches!(answer, Err(ErrMode::Backtrack(_))), true);
     }
 }
 
@@ -84,13 +76,6 @@ fn read_field_line_of_each_beginning(rt: HostRuntime) {
         let begun = &text[..count];
         let mut input = begun;
         same(&rt, begun, matches!(read_field_line(&mut input), Err(ErrMode::Backtrack(_))), true);
-        let mut pieces = Partial::new(begun);
-        let answer = read_field_line_in_pieces(&mut pieces);
-        same(&rt, begun, matches!(answer, Err(ErrMode::Incomplete(_))), true);
-        let mut all = Partial::new(begun);
-        let _state = all.complete();
-        let ended = read_field_line_in_pieces(&mut all);
-        same(&rt, begun, matches!(ended, Err(ErrMode::Backtrack(_))), true);
     }
 }
 

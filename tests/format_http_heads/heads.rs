@@ -5,9 +5,7 @@ use std::process::Abort;
 use test_support::refusing::Refusing;
 use format_http::heads::field_line::Field;
 use format_http::heads::head::{Head, read_head};
-use format_http::pieces::head::read_head_in_pieces;
 use winnow::error::{EmptyError, ErrMode, ParserError};
-use winnow::stream::{Partial, StreamIsPartial};
 
 /// A text, the method and the target of the head that it begins with, its fields, and what is left.
 type Row = (
@@ -95,9 +93,6 @@ fn read_head_of_heads(rt: HostRuntime) {
         let mut input = *text;
         is_head(&rt, row, read_head(rt.alloc(), &mut input));
         same(&rt, text, input, *rest);
-        let mut pieces = Partial::new(*text);
-        is_head(&rt, row, read_head_in_pieces(rt.alloc(), &mut pieces));
-        same(&rt, text, pieces.into_inner(), *rest);
     }
 }
 
@@ -108,10 +103,6 @@ fn read_head_of_none(rt: HostRuntime) {
         let answer = read_head(rt.alloc(), &mut input);
         same(&rt, text, matches!(answer, Err(ErrMode::Backtrack(_))), true);
         same(&rt, text, input, *text);
-        let mut pieces = Partial::new(*text);
-        let cut = read_head_in_pieces(rt.alloc(), &mut pieces);
-        same(&rt, text, matches!(cut, Err(ErrMode::Backtrack(_))), true);
-        same(&rt, text, pieces.into_inner(), *text);
     }
 }
 
@@ -120,14 +111,6 @@ fn read_head_of_each_beginning(rt: HostRuntime) {
     for text in [HELLO, WHERE] {
         for count in 0..text.len() {
             let begun = &text[..count];
-            let mut pieces = Partial::new(begun);
-            let answer = read_head_in_pieces(rt.alloc(), &mut pieces);
-            same(&rt, begun, matches!(answer, Err(ErrMode::Incomplete(_))), true);
-            same(&rt, begun, pieces.into_inner(), begun);
-            let mut all = Partial::new(begun);
-            let _state = all.complete();
-            let ended = read_head_in_pieces(rt.alloc(), &mut all);
-            same(&rt, begun, matches!(ended, Err(ErrMode::Backtrack(_))), true);
             let mut input = begun;
             let whole = read_head(rt.alloc(), &mut input);
             same(&rt, begun, matches!(whole, Err(ErrMode::Backtrack(_))), true);
@@ -152,11 +135,6 @@ fn read_head_refused_memory(rt: HostRuntime) {
         met = heap.met();
         same(&rt, HELLO, was_refused(&answer), met);
         same(&rt, HELLO, answer.is_ok(), !met);
-        let other: Refusing<Global> = Refusing::once(rt.alloc(), n);
-        let mut pieces = Partial::new(HELLO);
-        let cut = read_head_in_pieces(&other, &mut pieces);
-        same(&rt, HELLO, was_refused(&cut), other.met());
-        same(&rt, HELLO, cut.is_ok(), !other.met());
         n += 1;
     }
     assert!(rt; n > 1);

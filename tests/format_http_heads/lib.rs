@@ -1,5 +1,4 @@
-//! The tests of heads of requests of HTTP/1.1, and of their lines, whole (`format_http::heads`) and in pieces
-//! (`format_http::pieces`).
+//! The tests of heads of requests of HTTP/1.1 and their lines (`format_http::heads`).
 #![tactic(auto)]
 
 #[cfg(test)]

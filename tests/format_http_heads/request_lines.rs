@@ -2,9 +2,7 @@
 use std::fmt::Debug;
 use std::process::Abort;
 use format_http::heads::request_line::{RequestLine, read_request_line};
-use format_http::pieces::request_line::read_request_line_in_pieces;
 use winnow::error::ErrMode;
-use winnow::stream::{Partial, StreamIsPartial};
 
 /// A text, the method, the target and the two numbers of the version of the request line that it
 /// begins with, and what is left.
@@ -73,9 +71,6 @@ fn read_request_line_of_lines(rt: HostRuntime) {
         let mut input = *text;
         same(&rt, text, read_request_line(&mut input).ok(), want);
         same(&rt, text, input, *rest);
-        let mut pieces = Partial::new(*text);
-        same(&rt, text, read_request_line_in_pieces(&mut pieces).ok(), want);
-        same(&rt, text, pieces.into_inner(), *rest);
     }
 }
 
@@ -84,9 +79,6 @@ fn read_request_line_of_none(rt: HostRuntime) {
     for text in NO_LINES {
         let mut input = *text;
         same(&rt, text, matches!(read_request_line(&mut input), Err(ErrMode::Backtrack(_))), true);
-        let mut pieces = Partial::new(*text);
-        let answer = read_request_line_in_pieces(&mut pieces);
-        same(&rt, text, matches!(answer, Err(ErrMode::Backtrack(_))), true);
     }
 }
 
@@ -97,12 +89,5 @@ fn read_request_line_of_each_beginning(rt: HostRuntime) {
         let begun = &text[..count];
         let mut input = begun;
         same(&rt, begun, matches!(read_request_line(&mut input), Err(ErrMode::Backtrack(_))), true);
-        let mut pieces = Partial::new(begun);
-        let answer = read_request_line_in_pieces(&mut pieces);
-        same(&rt, begun, matches!(answer, Err(ErrMode::Incomplete(_))), true);
-        let mut all = Partial::new(begun);
-        let _state = all.complete();
-        let ended = read_request_line_in_pieces(&mut all);
-        same(&rt, begun, matches!(ended, Err(ErrMode::Backtrack(_))), true);
     }
 }

@@ -2,11 +2,8 @@
 use std::fmt::Debug;
 use std::process::Abort;
 use format_http::heads::head::read_head;
-use format_http::pieces::head::read_head_in_pieces;
 use format_http_places::places::{Field, Head, Span};
 use format_http_places::read::{HeadError, read_head_into};
-use winnow::error::ErrMode;
-use winnow::stream::Partial;
 
 /// A text, the method and the target of the head that it begins with, its fields, and what is left.
 pub type Row = (
@@ -196,8 +193,6 @@ fn agree(rt: &impl Abort, alloc: std::alloc::Global, text: &[u8]) {
     let answer = read_head_into(text, &mut entries);
     let mut left = text;
     let whole = read_head(alloc, &mut left);
-    let mut pieces = Partial::new(text);
-    let cut = read_head_in_pieces(alloc, &mut pieces);
     match (answer, whole) {
         (Ok(head), Ok(other)) => {
             same(rt, text, head.length, text.len() - left.len());
@@ -209,17 +204,12 @@ fn agree(rt: &impl Abort, alloc: std::alloc::Global, text: &[u8]) {
                 same(rt, text, text.get(value.offset..value.offset + value.length), Some(field.value));
             }
         }
-        (Err(HeadError::Incomplete), Err(_)) => {
-            same(rt, text, matches!(cut, Err(ErrMode::Incomplete(_))), true);
-        }
+        (Err(HeadError::Incomplete), Err(_)) => (),
         (Err(HeadError::Refused(place)), Err(_)) => {
-            same(rt, text, matches!(cut, Err(ErrMode::Backtrack(_))), true);
-            let mut begun = Partial::new(&text[..place]);
-            let more = read_head_in_pieces(alloc, &mut begun);
-            same(rt, text, matches!(more, Err(ErrMode::Incomplete(_))), true);
-            let mut wrong = Partial::new(&text[..place + 1]);
-            let never = read_head_in_pieces(alloc, &mut wrong);
-            same(rt, text, matches!(never, Err(ErrMode::Backtrack(_))), true);
+            let more = read_head_into(&text[..place], &mut entries);
+            same(rt, text, matches!(more, Err(HeadError::Incomplete)), true);
+            let never = read_head_into(&text[..place + 1], &mut entries);
+            same(rt, text, matches!(never, Err(HeadError::Refused(it)) if it == place), true);
         }
         (answer, _) => same(rt, text, answer.is_ok(), false),
     }

@@ -1,10 +1,6 @@
 //! Heads of responses, and how long the bodies behind them are.
 use format_http::bodies::framing::{BodyLength, FramingFault};
-use format_http::pieces::response_head::read_response_head_in_pieces;
-use format_http::pieces::status_line::read_status_line_in_pieces;
 use format_http::responses::head::{read_response_head, response_body_length};
-use winnow::error::ErrMode;
-use winnow::stream::{Partial, StreamIsPartial};
 
 /// The response of RFC 9110, section 3.9, whose body has 51 bytes.
 const HELLO: &[u8] = b"HTTP/1.1 200 OK\r\nDate: Mon, 27 Jul 2009 12:28:53 GMT\r\n\
@@ -72,74 +68,4 @@ fn response_body_length_of_heads(rt: HostRuntime) {
         let head = read_response_head(rt.alloc(), &mut input);
         assert!(rt; head.is_ok_and(|it| response_body_length(b"GET", &it) == *want), "{text:?}");
     }
-}
-
-/// Heads of which each cut asks for more, and how many bytes are behind them.
-const IN_PIECES: &[(&[u8], usize)] = &[
-    (HELLO, 51),
-    (b"HTTP/1.1 200 OK\r\n\r\n", 0),
-    (b"HTTP/1.1 200\r\nA: b\r\nC:\r\n\r\n\r\n", 2),
-    (b"HTTP/1.0 404 \xe9 x \r\n\r\nbody", 4),
-];
-
-#[test]
-fn read_response_head_in_pieces_of_heads(rt: HostRuntime) {
-    for (text, behind) in IN_PIECES {
-        let whole = text.len() - behind;
-        for cut in 0..whole {
-            let mut input = Partial::new(&text[..cut]);
-            let asks = read_response_head_in_pieces(rt.alloc(), &mut input);
-            assert!(rt; matches!(asks, Err(ErrMode::Incomplete(_))), "{text:?} {cut}");
-            assert!(rt; input.into_inner().len() == cut, "{text:?} {cut}");
-            let mut all = Partial::new(&text[..cut]);
-            all.complete();
-            let none = read_response_head_in_pieces(rt.alloc(), &mut all);
-            assert!(rt; matches!(none, Err(ErrMode::Backtrack(_))), "{text:?} {cut}");
-        }
-        for have in whole..text.len() + 1 {
-            let mut input = Partial::new(&text[..have]);
-            let mut bytes = *text;
-            let head = read_response_head_in_pieces(rt.alloc(), &mut input);
-            assert!(rt; input.into_inner().len() == have - whole, "{text:?} {have}");
-            let same = match (head, read_response_head(rt.alloc(), &mut bytes)) {
-                (Ok(head), Ok(it)) => head.line == it.line && head.fields == it.fields,
-                (_, _) => false,
-            };
-            assert!(rt; same, "{text:?} {have}");
-        }
-    }
-}
-
-/// Texts of which more asks for nothing, and how many of their bytes can begin a head.
-const NEVER: &[(&[u8], usize)] = &[
-    (b"GET / HTTP/1.1\r\n\r\n", 0),
-    (b"HTTP/1.1 20 OK\r\n\r\n", 11),
-    (b"HTTP/1.1 2000 OK\r\n\r\n", 12),
-    (b"HTTP/1.1 200\rOK\r\n\r\n", 13),
-    (b"HTTP/1.1 200 O\0K\r\n\r\n", 14),
-    (b"HTTP/1.1 200 OK\r\nA : b\r\n\r\n", 18),
-    (b"HTTP/1.1 200 OK\r\n\n", 17),
-    (b"HTTP/11 200 OK\r\n\r\n", 6),
-];
-
-#[test]
-fn read_response_head_in_pieces_of_none(rt: HostRuntime) {
-    for (text, begins) in NEVER {
-        for have in 0..text.len() + 1 {
-            let mut input = Partial::new(&text[..have]);
-            let error = read_response_head_in_pieces(rt.alloc(), &mut input);
-            let asks = matches!(error, Err(ErrMode::Incomplete(_)));
-            assert!(rt; asks == (have <= *begins), "{text:?} {have}");
-            assert!(rt; asks || matches!(error, Err(ErrMode::Backtrack(_))), "{text:?} {have}");
-            assert!(rt; input.into_inner().len() == have, "{text:?} {have}");
-        }
-    }
-}
-
-#[test]
-fn read_status_line_in_pieces_of_a_line(rt: HostRuntime) {
-    let mut input = Partial::new(b"HTTP/1.1 204 No Content\r\nA".as_slice());
-    let line = read_status_line_in_pieces(&mut input);
-    assert!(rt; line.is_ok_and(|it| it.status == 204 && it.reason == b"No Content".as_slice()));
-    assert!(rt; input.into_inner() == b"A".as_slice());
 }

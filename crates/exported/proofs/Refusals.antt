@@ -2,8 +2,8 @@
 use Rattle.std.proofs.Common.{◌≡◌, ◌∙◌, ◌++◌, ◌∷◌, [], ℕ, List, ap, append_assoc, subst, sym}
 use Rattle.std.proofs.lemmas.List.{append-nil}
 use Rattle.format_http.specs.Heads.Head.{IsHead}
-use Rattle.format_http.specs.Pieces.Head.{NoHead}
-use Rattle.format_http.specs.Pieces.ResponseHead.{NoResponseHead}
+use Rattle.format_http.specs.Heads.Head.{NoHead}
+use Rattle.format_http.specs.Responses.Head.{NoResponseHead}
 use Rattle.format_http.specs.Responses.Head.{IsResponseHead}
 use Rattle.format_http_places.specs.Refusals.{IsRefused, NoneRead}
 use Rattle.format_http_places.specs.Responses.{IsResponseRefused, NoResponseRead}

@@ -1,5 +1,5 @@
 -- Records of comma separated values, and where their fields are written.
-use Rattle.std.specs.Prelude.{◌≡◌, ◌⊎◌, ◌+◌, ℕ, List, [], ◌++◌, length, zero, suc}
+use Rattle.std.specs.Prelude.{◌≡◌, ◌⊎◌, ◌+◌, ℕ, List, [], length, zero, suc}
 use Rattle.format_csv_records.specs.Buffers.{places_of, text_of}
 use Rattle.format_csv_records.specs.Commas.{commas_by}
 use Rattle.format_csv_records.specs.Dialects.{IsRecord}

@@ -1,7 +1,7 @@
 -- Heads of requests and of responses as callers see them.
 use Rattle.std.specs.Prelude.{◌≡◌, ◌⊎◌, ℕ, List, length}
-use Rattle.format_http.specs.Pieces.Head.{BeginsHead}
-use Rattle.format_http.specs.Pieces.ResponseHead.{BeginsResponseHead}
+use Rattle.format_http.specs.Heads.Head.{BeginsHead}
+use Rattle.format_http.specs.Responses.Head.{BeginsResponseHead}
 use Rattle.format_http_places.specs.Refusals.{IsRefused, NoneRead}
 use Rattle.format_http_places.specs.Responses.{IsResponseRefused, NoResponseRead}
 use Rattle.format_http_places.specs.declared.places.Head.{Head as Places}

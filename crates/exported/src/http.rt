@@ -3,7 +3,7 @@
 
 ghost use Rattle.std.specs.Prelude.{◌≡◌, ◌⊎◌, ◌<◌, List, length, take, ℕ};
 ghost use Rattle.format_http.specs.Heads.Head.{IsHead, Pair, Request};
-ghost use Rattle.format_http.specs.Pieces.Head.{BeginsHead, NoHead};
+ghost use Rattle.format_http.specs.Heads.Head.{BeginsHead, NoHead};
 ghost use Rattle.format_http_places.specs.Places.{IsWanted, ShowsHead};
 ghost use Rattle.format_http_places.specs.Refusals.{IsRefused};
 ghost use Rattle.exported.specs.Code.{done, incomplete, refused, too_small};

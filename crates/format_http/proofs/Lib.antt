@@ -1,4 +1,4 @@
 pub mod BodiesLemmas
 pub mod ChunksLemmas
 pub mod HeadsLemmas
-pub mod PiecesLemmas
+pub mod OneLemmas

@@ -2,5 +2,4 @@
 pub mod Bodies
 pub mod Chunks
 pub mod Heads
-pub mod Pieces
 pub mod Responses

@@ -1,5 +1,5 @@
 //! The size line of a chunk of HTTP/1.1 (RFC 9112, sections 7.1 and 7.1.1) by the rules of the
-//! standard, on a whole input and in pieces; and why a server must refuse a request, by the head
+//! standard; and why a server must refuse a request, by the head
 //! that `format_http::heads` reads.
 //!
 //! Where this differs from the standard: the value of an extension is given as it stands, with the

@@ -7,7 +7,7 @@ use Rattle.std.proofs.lemmas.List.Elements.{All-cons}
 use Rattle.format_http.specs.Heads.Bytes.{IsTokenByte, line_end}
 use Rattle.format_http.specs.Heads.FieldLine.{IsFieldLine}
 use Rattle.format_http.specs.Heads.Head.{AreFieldLines, AreFields, Pair}
-use Rattle.format_http.proofs.PiecesLemmas.Values.{field_line_some}
+use Rattle.format_http.proofs.OneLemmas.Values.{field_line_some}
 use Rattle.format_http_places.specs.Grammar.{Byte, FieldsText, Language, LinesText, LineText, OneOf}
 use Rattle.format_http_places.specs.Grammar.{Run, Stops}
 use Rattle.format_http_places.specs.Places.{AreShown, ShowsField, ShowsFieldLine, ShowsFields}

@@ -7,7 +7,7 @@ use Rattle.std.specs.Prelude.{Err}
 use Rattle.format_http.specs.Heads.Bytes.{IsTokenByte, IsVisible, line_end}
 use Rattle.format_http.specs.Heads.Head.{IsHead, Pair, Request}
 use Rattle.format_http.specs.Heads.RequestLine.{digits}
-use Rattle.format_http.specs.Pieces.Head.{BeginsHead, NoHead}
+use Rattle.format_http.specs.Heads.Head.{BeginsHead, NoHead}
 use Rattle.format_http_places.specs.Grammar.{Byte, FieldsText, HeadText, Language}
 use Rattle.format_http_places.specs.Grammar.{OneOf, Run, Stops, Text}
 use Rattle.format_http_places.specs.Grammar.{SomeOf, VersionText, protocol}

@@ -6,8 +6,8 @@ use Rattle.std.proofs.lemmas.List.Elements.{All-nil}
 use Rattle.format_http.specs.Heads.Bytes.{IsValueByte}
 use Rattle.format_http.specs.Heads.Head.{Pair}
 use Rattle.format_http.specs.Heads.RequestLine.{digits}
-use Rattle.format_http.specs.Pieces.ResponseHead.{BeginsResponseHead, NoResponseHead}
-use Rattle.format_http.specs.Pieces.StatusLine.{IsEnding}
+use Rattle.format_http.specs.Responses.Head.{BeginsResponseHead, NoResponseHead}
+use Rattle.format_http.specs.Responses.StatusLine.{IsEnding}
 use Rattle.format_http.specs.Responses.Head.{IsResponseHead, Status}
 use Rattle.format_http.specs.Responses.StatusLine.{three}
 use Rattle.format_http_places.specs.Grammar.{Byte, CodeText, FieldsText, OneOf, ReasonText}

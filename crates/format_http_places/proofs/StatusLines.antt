@@ -7,7 +7,7 @@ use Rattle.std.proofs.lemmas.List.Elements.{All-nil}
 use Rattle.std.specs.List.{All}
 use Rattle.format_http.specs.Heads.Bytes.{IsDigit, IsValueByte, line_end}
 use Rattle.format_http.specs.Heads.RequestLine.{digits}
-use Rattle.format_http.specs.Pieces.StatusLine.{IsEnding}
+use Rattle.format_http.specs.Responses.StatusLine.{IsEnding}
 use Rattle.format_http.specs.Responses.StatusLine.{IsBehind, IsStatusLine, three}
 use Rattle.format_http_places.specs.Grammar.{Byte, CodeText, Differs, FieldsText, Language}
 use Rattle.format_http_places.specs.Grammar.{Nothing, OneOf, ProtocolText, ReasonText}

@@ -4,7 +4,7 @@ use Rattle.std.specs.Prelude.{false}
 use Rattle.std.specs.Prelude.{Option, Some, None, Result, Ok, Err}
 use Rattle.format_http.specs.Heads.Bytes.{IsDigit, IsTokenByte, IsValueByte, IsVisible, line_end}
 use Rattle.format_http.specs.Heads.Head.{IsHead, Pair, Request}
-use Rattle.format_http.specs.Pieces.Head.{BeginsHead}
+use Rattle.format_http.specs.Heads.Head.{BeginsHead}
 use Rattle.format_http_places.specs.Grammar.{Byte, FieldsText, HeadText, Language, Nothing, OneOf}
 use Rattle.format_http_places.specs.Grammar.{Run, SomeOf, Text, VersionText}
 use Rattle.format_http_places.specs.Refusals.{IsRefused, NoneRead}

@@ -2,7 +2,7 @@
 use Rattle.std.specs.Prelude.{◌≡◌, ◌<◌, ◌≤◌, ◌-◌, ℕ, List, [], ◌∷◌, ◌++◌, length, take}
 use Rattle.std.specs.Prelude.{Result, Ok, Err}
 use Rattle.format_http.specs.Heads.Head.{IsHead, Pair, Request}
-use Rattle.format_http.specs.Pieces.Head.{BeginsHead, NoHead}
+use Rattle.format_http.specs.Heads.Head.{BeginsHead, NoHead}
 use Rattle.format_http_places.specs.Places.{IsWanted, ShowsHead}
 use Rattle.format_http_places.specs.declared.places.Field.{Field}
 use Rattle.format_http_places.specs.declared.places.Head.{Head}

@@ -3,8 +3,8 @@ use Rattle.std.specs.Prelude.{◌≡◌, ◌+◌, ◌<◌, ◌≤◌, ℕ, List,
 use Rattle.std.specs.Prelude.{Result, Ok, Err}
 use Rattle.format_http.specs.Heads.Bytes.{line_end}
 use Rattle.format_http.specs.Heads.Head.{Pair}
-use Rattle.format_http.specs.Pieces.ResponseHead.{BeginsResponseHead, NoResponseHead}
-use Rattle.format_http.specs.Pieces.StatusLine.{IsEnding}
+use Rattle.format_http.specs.Responses.Head.{BeginsResponseHead, NoResponseHead}
+use Rattle.format_http.specs.Responses.StatusLine.{IsEnding}
 use Rattle.format_http.specs.Responses.Head.{IsResponseHead, Status}
 use Rattle.format_http.specs.Responses.StatusLine.{IsCode, IsStatusLine, three}
 use Rattle.format_http_places.specs.Places.{AreShown, StandsAt}

@@ -13,6 +13,7 @@ pub mod Decided
 pub mod Lacks
 pub mod Leaf
 pub mod Longer
+pub mod Whole
 
 -- What is said of runs from a state.
 pub record Says (T O : Type 0) : Type 1 where

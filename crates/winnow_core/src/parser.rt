@@ -26,6 +26,7 @@ ghost use Rattle.winnow_core.specs.ParsePeek.{PeekAnswers};
 ghost use Rattle.winnow_core.specs.ParseTo.{parse_to_parser};
 ghost use Rattle.winnow_core.specs.Runs.{LeaveEnds, Meaning};
 ghost use Rattle.winnow_core.specs.Says.{Said, Says, Tells};
+ghost use Rattle.winnow_core.specs.Says.Whole.{TellsAll};
 ghost use Rattle.winnow_core.specs.Span.{span_parser};
 ghost use Rattle.winnow_core.specs.Take.{take_parser};
 ghost use Rattle.winnow_core.specs.TryMap.{try_map_closure, try_map_parser};
@@ -152,6 +153,28 @@ pub trait Parser<I: Stream, O, E: ParserError<I>>: Sized {
             (outcome_of (answer_by E.kind result) (I.view input.new).left.tokens) }
     {
         Self::parse_next(self, input)
+    }
+
+    /// Calls [`parse`](Parser::parse), and specifies the parser's outcome as
+    /// [`read_outcome`](Parser::read_outcome) does: an output that leaves nothing; or a fault, which
+    /// is at the offset where the parser failed, or where its output left something. The caller
+    /// must ensure what the parser requires (`premise`), and a stream type that is not partial.
+    #[inline(always)]
+    final fn parse_outcome(&mut self, input: I) -> Result<O, ParseFault<I, E::Inner>>
+    where
+        I: StreamIsPartial,
+        O: Drop,
+        requires callable { can_parse self.old }
+        requires premise { (says (state self.old)).premise }
+        requires whole { I.supports_partial ≡ false }
+        ensures again { can_parse self.new }
+        ensures ran { ParsesWhole I.view I.reading.units E.inner_kind (I.view input).left
+            (λ answer j. meaning E.form (state self.old) (I.view input) answer
+            (state self.new) j) result }
+        ensures tells { TellsAll I.reading.units E.inner_kind (says (state self.old)) E.form
+            (I.view input) result }
+    {
+        self.parse(input)
     }
 
     /// As [`parse_next`](Parser::parse_next), and the parser's grammar says what it answers: on a

@@ -1,6 +1,8 @@
 //! The trait of parsers that read an input in pieces by a grammar.
 ghost use Rattle.std.specs.Prelude.{◌≡◌};
 ghost use Rattle.stream_errors.specs.Form.{answer_by, modal};
+ghost use Rattle.winnow_core.specs.Outcome.{outcome_of};
+ghost use Rattle.winnow_core.specs.Says.{Tells};
 ghost use Rattle.winnow_exact.specs.Cut.{ReadsOrAsks};
 
 use stream_errors::parser_error::ParserError;
@@ -43,6 +45,9 @@ pub trait ReadsPieces<I: Stream, O, E: ParserError<I>>: Stable<I, O, E> {
         ensures reads { ReadsOrAsks I.reading I.following E.kind
             (Self.claim (Self.state self.old)).grammar (I.view input.old) result
             (I.view input.new) }
+        ensures tells { (Self.says (Self.state self.old)).premise
+            → Tells (Self.says (Self.state self.old)) E.form (I.view input.old)
+            (outcome_of (answer_by E.kind result) (I.view input.new).left.tokens) }
     {
         self.parse_next(input)
     }

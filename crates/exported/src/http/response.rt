@@ -1,7 +1,7 @@
 //! The heads of responses.
 
 ghost use Rattle.std.specs.Prelude.{◌≡◌, ◌⊎◌, ◌<◌, length, take};
-ghost use Rattle.format_http.specs.Pieces.ResponseHead.{BeginsResponseHead, NoResponseHead};
+ghost use Rattle.format_http.specs.Responses.Head.{BeginsResponseHead, NoResponseHead};
 ghost use Rattle.format_http_places.specs.Responses.{IsResponseRefused, IsResponseWanted};
 ghost use Rattle.format_http_places.specs.Responses.{NoResponseRead, ShowsResponse};
 ghost use Rattle.exported.specs.Code.{done, incomplete, refused, too_small};

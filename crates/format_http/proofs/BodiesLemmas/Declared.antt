@@ -1,15 +1,14 @@
 -- The length that Content-Length fields say, by the texts that they have.
-use Rattle.std.specs.Prelude.{◌≡◌, ◌↔◌, ◌⊎◌, ℕ, List, Option, Some, None, Ok, Err}
+use Rattle.std.specs.Prelude.{◌↔◌, ℕ, List, Option, Some, None, Err}
 use Rattle.std.specs.Borrow.{Bor}
-use Rattle.std.proofs.Common.{refl, sym, ap, subst, ◌∙◌, inl, inr}
+use Rattle.std.proofs.Common.{refl, sym, subst, ◌∙◌, inl, inr}
 use Rattle.format_http.specs.Bodies.Framing.{Answer, IsDeclaredLength, IsSameLength}
 use Rattle.format_http.specs.Bodies.Framing.{IsTextLength}
-use Rattle.format_http.specs.Bodies.Lengths.{HasLength, IsLength}
+use Rattle.format_http.specs.Bodies.Lengths.{HasLength}
 use Rattle.format_http.specs.Bodies.Lists.{IsThe}
 use Rattle.format_http.specs.Chunks.Framing.{IsNumber}
 use Rattle.format_http.specs.Heads.Head.{Pair}
 use Rattle.format_http.specs.declared.bodies.framing.FramingFault.TheVariants.{LengthIsNoNumber}
-use Rattle.format_http.specs.declared.bodies.framing.FramingFault.TheVariants.{LengthsDiffer}
 use Rattle.winnow.specs.Digits.{value_in}
 
 -- The fields have these texts.

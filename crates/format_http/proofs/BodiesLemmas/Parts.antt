@@ -1,14 +1,13 @@
 -- What stands before the first comma of a list.
-use Rattle.std.specs.Prelude.{◌≡◌, ◌==◌, ◌<◌, ◌≤◌, ◌+◌, ◌-◌, ℕ, List, ◌∷◌, [], Bool, true, false}
+use Rattle.std.specs.Prelude.{◌≡◌, ◌==◌, ◌<◌, ◌≤◌, ◌+◌, ◌-◌, ℕ, List, ◌∷◌, [], Bool}
 use Rattle.std.specs.Prelude.{length, Some, None, position}
-use Rattle.std.specs.List.{All, position_or_len}
-use Rattle.std.proofs.Common.{refl, sym, ap, ◌∙◌, arith, drop, get_or, take, length-drop}
+use Rattle.std.specs.List.{position_or_len}
+use Rattle.std.proofs.Common.{sym, ap, ◌∙◌, arith, drop, take, length-drop}
 use Rattle.std.proofs.lemmas.Bool.Decides.{nat_tests}
 use Rattle.std.proofs.lemmas.Grind.{common_steps}
 use Rattle.std.proofs.lemmas.List.{take_all}
 use Rattle.std.proofs.lemmas.List.Splits.{slice_split_first, slice_split_none}
 use Rattle.std.proofs.lemmas.List.Sums.{fails_before_first}
-use Rattle.winnow.specs.Equal.{none_is_some, same_some}
 use Rattle.format_http.specs.Bodies.Lists.{parts_of}
 
 -- a comma

@@ -1,9 +1,9 @@
 -- A message has one body length.
-use Rattle.std.specs.Prelude.{◌≡◌, ◌^◌, ◌<◌, ◌⊎◌, ℕ, List, Err, Ok}
-use Rattle.std.proofs.Common.{refl, sym, ap, subst, ◌∙◌, inl, inr}
+use Rattle.std.specs.Prelude.{◌≡◌, ℕ, List}
+use Rattle.std.proofs.Common.{sym, ap, subst, ◌∙◌, inl, inr}
 use Rattle.format_http.specs.Bodies.Framing.{Answer, IsBodyLength, IsDeclaredLength}
 use Rattle.format_http.specs.Bodies.Framing.{IsNumbered, IsSameLength, Rule}
-use Rattle.format_http.specs.Bodies.Lengths.{AreOne, IsLength}
+use Rattle.format_http.specs.Bodies.Lengths.{AreOne}
 use Rattle.format_http.specs.Heads.Head.{Pair}
 use Rattle.format_http.specs.declared.bodies.framing.Message.{Message}
 use Rattle.winnow.specs.Digits.{value_in}

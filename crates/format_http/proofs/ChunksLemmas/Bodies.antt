@@ -1,13 +1,12 @@
 -- Size lines and field lines of chunked bodies are those of this crate.
-use Rattle.std.specs.Prelude.{◌≡◌, ◌<◌, ◌≤◌, ◌↔◌, ℕ, zero, suc, List, [], ◌∷◌, ◌++◌, length}
-use Rattle.std.specs.List.{All}
+use Rattle.std.specs.Prelude.{◌≡◌, ◌↔◌, ℕ, zero, suc, List, [], ◌∷◌, ◌++◌, length}
 use Rattle.std.specs.Str.Parse.{digits_value}
-use Rattle.std.proofs.Common.{ap, append_assoc, arith, inl, inr, refl, subst, sym, ◌∙◌}
+use Rattle.std.proofs.Common.{ap, append_assoc, arith, refl, subst, sym, ◌∙◌}
 use Rattle.std.proofs.lemmas.List.Elements.{All-cons, All-from_recursion, All-head, All-tail}
 use Rattle.std.proofs.lemmas.List.Elements.{recursion_from_All}
 use Rattle.format_http.specs.Chunks.Bodies.{BodyHasSize, DigitsText, Extensions, HasNumber}
 use Rattle.format_http.specs.Chunks.Lines.{IsQuotedByte}
-use Rattle.format_http.specs.Chunks.SizeLine.{ExtensionText, IsSize, LineText, QuotedByteText}
+use Rattle.format_http.specs.Chunks.SizeLine.{ExtensionText, IsSize, QuotedByteText}
 use Rattle.format_http.specs.Chunks.SizeLine.{Named, RunText, SizeLineText, Slice}
 use Rattle.format_http.specs.Chunks.SizeLine.{SpacedText, ValueText}
 use Rattle.format_http.specs.Heads.Bytes.{IsTokenByte, IsValueByte, line_end}
@@ -21,10 +20,10 @@ use Rattle.format_http.proofs.ChunksLemmas.Alike.{many_alike, many_all, many_the
 use Rattle.format_http.proofs.ChunksLemmas.Alike.{optional_alike}
 use Rattle.format_http.proofs.ChunksLemmas.Alike.{slice_of, some_alike, star_alike, taken_alike}
 use Rattle.format_http.proofs.ChunksLemmas.Alike.{then_alike}
-use Rattle.format_http.proofs.PiecesLemmas.Heads.{field_line_longer}
-use Rattle.format_http.proofs.PiecesLemmas.Values.{all_value, field_line_some, regroup}
+use Rattle.format_http.proofs.OneLemmas.Heads.{field_line_longer}
+use Rattle.format_http.proofs.OneLemmas.Values.{all_value, field_line_some, regroup}
 use Rattle.format_http_chunked.specs.Bodies as body
-use Rattle.format_http_chunked.specs.Words.{Byte, Many, Star, Times}
+use Rattle.format_http_chunked.specs.Words.{Byte, Many, Times}
 use Rattle.format_http_chunked.specs.Words as words
 use Rattle.winnow.specs.AsChar.{IsHexDigit, IsSpace}
 use Rattle.winnow.specs.Digits.{value_in}

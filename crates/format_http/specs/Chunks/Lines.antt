@@ -1,20 +1,15 @@
 -- The size line of a chunk of HTTP/1.1 by the rules of the standard (RFC 9112, section 7.1, and RFC
 -- 9110, section 5.6), over any stream of bytes. As in each grammar of this library, the second of a
 -- choice stands where the first does not, and a repetition goes on as far as it can.
-use Rattle.std.specs.Prelude.{◌≡◌, ◌≤◌, ◌⊎◌, ℕ, List, [], ◌∷◌, Option, None, ⊤}
+use Rattle.std.specs.Prelude.{◌≡◌, ◌≤◌, ◌⊎◌, ℕ, List, Option, None, ⊤}
 use Rattle.std.specs.declared.vec.Vec.{Vec}
 use Rattle.format_http.specs.Heads.Bytes.{IsBetween, IsTokenByte, IsValueByte}
 use Rattle.winnow.specs.AsChar.{IsHexDigit, IsSpace}
-use Rattle.winnow.specs.Begun.Leaves.{AllOfClass}
-use Rattle.winnow.specs.Begun.Words.{Begun, Behind, EitherBegun, NoneLeft}
 use Rattle.winnow.specs.Begun.Words as Words
-use Rattle.winnow.specs.Compare.{IsShort}
-use Rattle.winnow.specs.Counted.{counted_reading}
 use Rattle.winnow.specs.Range.{from_to}
 use Rattle.winnow.specs.Reading.{Reading}
 use Rattle.winnow.specs.Grammar.{Both, Class, Either, Gathered, Grammar, InClass, Many, Optional}
 use Rattle.winnow.specs.Grammar.{Taken, Three, TokenOf}
-use Rattle.winnow.specs.Grammar.Known.{Byte}
 
 -- qdtext = HTAB / SP / %x21 / %x23-5B / %x5D-7E / obs-text
 abbrev pub IsQuotedByte : ℕ → Type 0
@@ -68,60 +63,3 @@ module _ {T L : Type 0} (reading : Reading T L) (seen : ℕ → T) (literal : �
   -- chunk-size chunk-ext CRLF, where chunk-ext-val = token / quoted-string
   abbrev pub Line : {A : Type 0} → Grammar T (L × Vec (L × Option L) A)
   Line = Ended (Extensions (TextOrToken QuotedText))
-
--- ---- where more is asked for
-
--- there is nothing but these bytes
-abbrev pub RunBegun : {T : Type 0} → (ℕ → T) → (ℕ → Type 0) → Begun T
-RunBegun seen these = AllOfClass these (λ b. b) seen
-
--- `begins` says of each byte where it is begun, which is where no byte is
-module _ {T L : Type 0} (reading : Reading T L) (seen : ℕ → T) (literal : ℕ → Grammar T ℕ)
-    (begins : ℕ → Begun T) where
-  -- nothing but white space is there; or after it nothing; or after the byte only white space
-  abbrev pub SpacedBegun : ℕ → Begun T
-  SpacedBegun byte = Behind (RunOf reading seen IsSpace 0) (RunBegun seen IsSpace)
-      (Behind (literal byte) (begins byte) (RunBegun seen IsSpace))
-
-  -- nothing is there, or a backslash alone
-  abbrev pub QuotedByteBegun : Begun T
-  QuotedByteBegun = EitherBegun (OneOf seen IsQuotedByte) NoneLeft
-      (Behind (literal 92) (begins 92) NoneLeft)
-
-  -- nothing but bytes of a quoted string is there, and perhaps a backslash
-  abbrev pub QuotedTextBegun : Begun T
-  QuotedTextBegun = Words.Among (QuotedByte reading seen literal) QuotedByteBegun None
-
-  -- nothing but bytes of a token is there; or no token, and a quoted string that is not ended
-  abbrev pub TextOrTokenBegun : Grammar T (Unit {0}) → Begun T → Begun T
-  TextOrTokenBegun text begun = EitherBegun (RunOf reading seen IsTokenByte 1)
-      (RunBegun seen IsTokenByte)
-      (Behind (literal 34) (begins 34) (Behind text begun (begins 34)))
-
-  -- the semicolon or the name is not ended; or after them the equals sign or the value is not
-  abbrev pub ExtensionBegun : Begun T → Begun T
-  ExtensionBegun begun =
-      Behind (Both (λ _ name. name) (Spaced reading seen literal 59)
-      (RunOf reading seen IsTokenByte 1))
-      (Behind (Spaced reading seen literal 59) (SpacedBegun 59) (RunBegun seen IsTokenByte))
-      (Behind (Spaced reading seen literal 61) (SpacedBegun 61) begun)
-
-  -- the digits are not ended; or after them what is there is not; or after that the line end
-  abbrev pub EndedBegun : {O : Type 0} → Grammar T O → Begun T → Begun T
-  EndedBegun behind begun = Behind (RunOf reading seen IsHexDigit 1) (RunBegun seen IsHexDigit)
-      (Behind behind begun (Behind (literal 13) (begins 13) (begins 10)))
-
-  -- the same, of extensions: after some that stand one is begun
-  abbrev pub ExtensionsBegun : Type 0 → Grammar T L → Begun T → Begun T
-  ExtensionsBegun A value begun = EndedBegun (Extensions reading seen literal {A = A} value)
-      (Words.Among (Extension reading seen literal value) (ExtensionBegun begun) None)
-
-  -- a size line is begun
-  abbrev pub LineBegun : Type 0 → Begun T
-  LineBegun A = ExtensionsBegun A
-      (TextOrToken reading seen literal (QuotedText reading seen literal))
-      (TextOrTokenBegun (QuotedText reading seen literal) QuotedTextBegun)
-
--- The same of bytes: where a size line is begun, and more is asked for.
-abbrev pub SizeLineBegun : Type 0 → Begun ℕ
-SizeLineBegun = LineBegun counted_reading (λ b. b) Byte (λ b. IsShort (λ xs. xs ≡ b ∷ []))

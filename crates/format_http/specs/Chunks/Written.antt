@@ -1,5 +1,5 @@
 -- That what the parsers read is what is written.
-use Rattle.std.specs.Prelude.{◌≡◌, ◌<◌, ◌≤◌, ◌⊎◌, ℕ, List, [], ◌∷◌, ◌++◌, Option, Some, None, ⊤}
+use Rattle.std.specs.Prelude.{◌≡◌, ◌≤◌, ◌⊎◌, ℕ, List, [], ◌∷◌, ◌++◌, Option, Some, None, ⊤}
 use Rattle.std.specs.List.{AllByRecursion}
 use Rattle.std.proofs.Common.{refl, sym, ap, subst, inl, inr, ◌∙◌, arith, append_assoc}
 use Rattle.std.proofs.lemmas.List.Elements.{recursion_from_All}
@@ -11,15 +11,20 @@ use Rattle.format_http.specs.Chunks.SizeLine.{StringText}
 use Rattle.format_http.specs.Chunks.SizeLine.{TokenText, ValueText}
 use Rattle.format_http.specs.declared.chunks.size_line.SizeLine.{SizeLine}
 use Rattle.format_http.specs.Heads.Bytes.{IsTokenByte, IsValueByte}
-use Rattle.format_http.specs.Heads.Tokens.{space_most, token_least, token_no_mark, token_no_space}
+use Rattle.format_http.specs.Heads.Tokens.{space_most, token_no_mark, token_no_space}
 use Rattle.format_http.specs.Heads.Tokens.{token_plain}
 use Rattle.winnow.specs.AsChar.{IsHexDigit, IsSpace}
 use Rattle.winnow.specs.Range.{from_to}
 use Rattle.winnow.specs.Counted.{counted_reading}
 use Rattle.winnow.specs.Equal.{same_first, same_others}
+use Rattle.winnow.specs.Exact.{Reads}
 use Rattle.winnow.specs.Grammar.{Both, Grammar, InClass, NoneStands}
 use Rattle.winnow.specs.Grammar.Known.{Byte}
+use Rattle.winnow.specs.Input.{Input}
 use Rattle.winnow.specs.InTurn.{First}
+use Rattle.winnow.specs.Kind.{Kind}
+use Rattle.winnow.specs.Read.{err_as}
+use Rattle.winnow.specs.Reading.{Reading}
 use Rattle.winnow.specs.Texts.{Anything, AtLeast, Begins, BeginsIn, BothText, EachText}
 use Rattle.winnow.specs.Texts.{GatheredText, InFront, IsGrammarOf, Itself, MadeText, MayBegin}
 use Rattle.winnow.specs.Texts.{Members, NotFirst, OptionalText, Spelled, Text}
@@ -277,10 +282,15 @@ module _ {A : Type 0} where
   line_stands parts line is tokens rest x =
       let (front, e, a) = line_of.there tokens parts rest x in (front, (parts, a, is), e)
 
-  -- and where nothing is read nothing is
-  pub no_line : (tokens : List ℕ) → NoneStands (Line counted_reading (λ b. b) Byte {A = A}) tokens
-      → NoneStands (First (SizeLineText {A = A})) tokens
+  -- an error of its line is handed on
+  pub line_failed : {E : Type 0} {reading : Reading ℕ (Bor (List ℕ))} {kind : E → Kind}
+      {i j : Input ℕ} {e : E} (r : Result (SizeLine A) E) → IsErrAnd r (λ y. y ≡ e)
+      → Reads reading kind (Line counted_reading (λ b. b) Byte {A = A}) i (Err e) j
+      → Reads reading kind (First SizeLineText) i r j
   unfolding First MadeText
-  no_line tokens none line rest (front, (parts, a, is), e) =
-      let P : List ℕ → Type 0 = λ l. Line counted_reading (λ b. b) Byte l parts rest in
-      none parts rest (subst P (sym e) (line_of.back parts front rest a tt))
+  line_failed (Ok line) is f = absurd is
+  line_failed {reading = reading} {kind} {i} {j} (Err y) is f =
+      let P : _ → Type 0 = λ x. Reads reading kind (First SizeLineText) i (Err x) j in
+      subst P (sym is) (err_as f (λ tokens line rest (front, (parts, a, means), e).
+          let Q : List ℕ → Type 0 = λ l. Line counted_reading (λ b. b) Byte l parts rest in
+          (parts, subst Q (sym e) (line_of.back parts front rest a tt))))

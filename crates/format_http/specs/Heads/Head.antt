@@ -60,3 +60,15 @@ FieldsStand bytes fields rest = AreFields (map pair fields.items) bytes rest
 -- This head stands first.
 abbrev pub HeadStands : {A : Type 0} → Grammar ℕ (Head A)
 HeadStands bytes head rest = IsHead (request head.line) (map pair head.fields.items) bytes rest
+
+-- Whatever comes after the bytes, they begin with no head.
+abbrev pub NoHead : List ℕ → Type 0
+NoHead bytes =
+    (line : Request) (fields : List Pair) (more rest : List ℕ)
+    → IsHead line fields (bytes ++ more) rest → ⊥
+
+-- With more after them the bytes are a head.
+abbrev pub BeginsHead : List ℕ → Type 0
+BeginsHead bytes =
+    (line : Request) × (fields : List Pair) × (more : List ℕ)
+    × IsHead line fields (bytes ++ more) []

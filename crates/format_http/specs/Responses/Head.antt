@@ -1,6 +1,6 @@
 -- The head of a response of HTTP/1.1 (RFC 9112, section 2.1): a status line, field lines, and an
 -- empty line.
-use Rattle.std.specs.Prelude.{ℕ, List, map}
+use Rattle.std.specs.Prelude.{◌++◌, ℕ, List, [], map}
 use Rattle.format_http.specs.Heads.Head.{AreFields, Pair, pair}
 use Rattle.format_http.specs.Responses.StatusLine.{IsStatusLine}
 use Rattle.format_http.specs.declared.bodies.framing.Message.{Message}
@@ -40,3 +40,15 @@ ResponseStands bytes head rest =
 -- a response of this status code to a request of this method
 abbrev pub response_to : List ℕ → ℕ → Message
 response_to method status = Response (record { ref_ptr = (0, 0); now = method }) status
+
+-- Whatever comes after the bytes, they begin with no head.
+abbrev pub NoResponseHead : List ℕ → Type 0
+NoResponseHead bytes =
+    (line : Status) (fields : List Pair) (more rest : List ℕ)
+    → IsResponseHead line fields (bytes ++ more) rest → ⊥
+
+-- With more after them the bytes are a head.
+abbrev pub BeginsResponseHead : List ℕ → Type 0
+BeginsResponseHead bytes =
+    (line : Status) × (fields : List Pair) × (more : List ℕ)
+    × IsResponseHead line fields (bytes ++ more) []

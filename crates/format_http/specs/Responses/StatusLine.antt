@@ -45,3 +45,22 @@ pub record IsStatusLine (major minor status : ℕ) (reason bytes rest : List ℕ
 abbrev pub StatusLineStands : Grammar ℕ StatusLine
 StatusLineStands bytes line rest =
     IsStatusLine line.major line.minor line.status line.reason.now bytes rest
+
+-- The bytes are a version, a space and a status code of these numbers, and then the rest.
+pub record IsFront (major minor status : ℕ) (bytes rest : List ℕ) : Type 0 where
+  pub hundreds : ℕ
+  pub tens : ℕ
+  pub ones : ℕ
+  pub splits : bytes
+      ≡ http ++ (digits major minor ++ (32 ∷ (three hundreds tens ones ++ rest)))
+  pub is_major : major < 10
+  pub is_minor : minor < 10
+  pub is_code : IsCode status hundreds tens ones
+
+-- The bytes are a space and this reason, or nothing where there is none, and a line end, and then
+-- the rest.
+pub record IsEnding (reason bytes rest : List ℕ) : Type 0 where
+  pub behind : List ℕ
+  pub splits : bytes ≡ behind ++ (line_end ++ rest)
+  pub is_behind : IsBehind behind reason
+  pub is_reason : All IsValueByte reason

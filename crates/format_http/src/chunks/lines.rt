@@ -1,14 +1,9 @@
-//! Size lines over any stream of bytes: each function puts a few parsers round one that its caller
-//! makes, and the last runs them all.
+//! Size lines over any stream of bytes: each function wraps a parser of its caller in a few more,
+//! and the innermost runs them all.
 #![tactic(auto)]
 
-ghost use Rattle.format_http.specs.Chunks.Lines.{Ended, EndedBegun, Extensions, ExtensionsBegun};
-ghost use Rattle.format_http.specs.Chunks.Lines.{Line, LineBegun, TextOrToken, TextOrTokenBegun};
-ghost use Rattle.std.specs.Prelude.{◌≡◌, true};
-ghost use Rattle.winnow.specs.Begun.{AsksExactly};
-ghost use Rattle.winnow.specs.Compare.{IsShort};
-ghost use Rattle.winnow.specs.Form.{answer_by, modal};
-ghost use Rattle.winnow.specs.Cut.{ReadsOrAsks};
+ghost use Rattle.format_http.specs.Chunks.Lines.{Ended, Extensions, Line, TextOrToken};
+ghost use Rattle.winnow.specs.Exact.{Reads};
 ghost use Rattle.winnow.specs.Once.{SeesApart};
 ghost use Rattle.winnow.specs.Grammar.{Literally};
 
@@ -20,7 +15,6 @@ use winnow::ascii::impls::{HexDigit1, Space0};
 use winnow::combinator::impls::Repeat;
 use winnow::combinator::{alt, delimited, opt, preceded, repeat, terminated};
 use winnow::error::ParserError;
-use winnow::exact::Begun;
 use winnow::stream::{Compare, Range, StreamIsPartial};
 use winnow::token::{one_of, take_while};
 
@@ -30,20 +24,15 @@ where
     I: StreamIsPartial<Token = u8> + Compare<u8>,
     E: ParserError<I>,
     O: Drop,
-    P: Begun<I, O, E> + Drop,
-    requires modal { E.form ≡ modal }
+    P: Parser<I, O, E> + Drop,
     requires seen { SeesApart I.seen_as }
     requires behind { P.can_parse behind × (P.claim (P.state behind)).premise
         × (P.claim (P.state behind)).backtracks }
-    ensures reads { ReadsOrAsks I.reading I.following E.kind
+    ensures reads { Reads I.reading E.kind
         (Ended I.reading I.seen_as (Literally I.reading I.spells (λ s _. s))
         (P.claim (P.state behind)).grammar) (I.view input.old) result (I.view input.new) }
-    ensures asks { (I.view input.old).status.cut ≡ true → (I.view input.old).left.possible ≡ true
-        → AsksExactly (EndedBegun I.reading I.seen_as (Literally I.reading I.spells (λ s _. s))
-        (λ b. IsShort (I.spells b)) (P.claim (P.state behind)).grammar (P.begun behind))
-        (I.view input.old) (answer_by E.kind result) }
 {
-    (HexDigit1, terminated(behind, (b'\r', b'\n'))).read_asking(input)
+    (HexDigit1, terminated(behind, (b'\r', b'\n'))).read(input)
 }
 
 /// A size line. What `value` reads is the value of an extension.
@@ -56,20 +45,14 @@ where
     I: StreamIsPartial<Token = u8> + Compare<u8>,
     E: ParserError<I>,
     A: Allocator + Copy,
-    P: Begun<I, I::Slice, E> + Drop,
-    requires modal { E.form ≡ modal }
+    P: Parser<I, I::Slice, E> + Drop,
     requires seen { SeesApart I.seen_as }
     requires value { P.can_parse value × (P.claim (P.state value)).premise
         × (P.claim (P.state value)).backtracks }
-    ensures reads { ReadsOrAsks I.reading I.following E.kind
+    ensures reads { Reads I.reading E.kind
         (Ended I.reading I.seen_as (Literally I.reading I.spells (λ s _. s))
         (Extensions I.reading I.seen_as (Literally I.reading I.spells (λ s _. s))
         (P.claim (P.state value)).grammar)) (I.view input.old) result (I.view input.new) }
-    ensures asks { (I.view input.old).status.cut ≡ true → (I.view input.old).left.possible ≡ true
-        → AsksExactly (ExtensionsBegun I.reading I.seen_as
-        (Literally I.reading I.spells (λ s _. s)) (λ b. IsShort (I.spells b)) A
-        (P.claim (P.state value)).grammar (P.begun value)) (I.view input.old)
-        (answer_by E.kind result) }
 {
     let token = take_while(Range::from(1..), TokenBytes);
     let name = preceded((Space0, b';', Space0), token);
@@ -87,25 +70,16 @@ where
     I: StreamIsPartial<Token = u8> + Compare<u8>,
     E: ParserError<I>,
     A: Allocator + Copy,
-    P: Begun<I, (), E> + Drop,
-    requires modal { E.form ≡ modal }
+    P: Parser<I, (), E> + Drop,
     requires seen { SeesApart I.seen_as }
     requires text { P.can_parse text × (P.claim (P.state text)).premise
         × (P.claim (P.state text)).backtracks }
-    ensures reads { ReadsOrAsks I.reading I.following E.kind
+    ensures reads { Reads I.reading E.kind
         (Ended I.reading I.seen_as (Literally I.reading I.spells (λ s _. s))
         (Extensions I.reading I.seen_as (Literally I.reading I.spells (λ s _. s))
         (TextOrToken I.reading I.seen_as (Literally I.reading I.spells (λ s _. s))
         (P.claim (P.state text)).grammar))) (I.view input.old) result
         (I.view input.new) }
-    ensures asks { (I.view input.old).status.cut ≡ true → (I.view input.old).left.possible ≡ true
-        → AsksExactly (ExtensionsBegun I.reading I.seen_as
-        (Literally I.reading I.spells (λ s _. s)) (λ b. IsShort (I.spells b)) A
-        (TextOrToken I.reading I.seen_as (Literally I.reading I.spells (λ s _. s))
-        (P.claim (P.state text)).grammar) (TextOrTokenBegun I.reading I.seen_as
-        (Literally I.reading I.spells (λ s _. s)) (λ b. IsShort (I.spells b))
-        (P.claim (P.state text)).grammar (P.begun text))) (I.view input.old)
-        (answer_by E.kind result) }
 {
     let token = take_while(Range::from(1..), TokenBytes);
     extended(
@@ -124,13 +98,9 @@ where
     I: StreamIsPartial<Token = u8> + Compare<u8>,
     E: ParserError<I>,
     A: Allocator + Copy,
-    requires modal { E.form ≡ modal }
     requires seen { SeesApart I.seen_as }
-    ensures reads { ReadsOrAsks I.reading I.following E.kind (Line I.reading I.seen_as
+    ensures reads { Reads I.reading E.kind (Line I.reading I.seen_as
         (Literally I.reading I.spells (λ s _. s))) (I.view input.old) result (I.view input.new) }
-    ensures asks { (I.view input.old).status.cut ≡ true → (I.view input.old).left.possible ≡ true
-        → AsksExactly (LineBegun I.reading I.seen_as (Literally I.reading I.spells (λ s _. s))
-        (λ b. IsShort (I.spells b)) A) (I.view input.old) (answer_by E.kind result) }
 {
     let byte = alt((one_of(QuotedBytes), preceded(b'\\', one_of(ValueBytes))));
     let text: Repeat<_, I, u8, (), E, A> = repeat(alloc, Range::from(0..), byte);

@@ -2,14 +2,10 @@
 #![tactic(auto)]
 
 ghost use Rattle.format_http.specs.Chunks.Bodies.{BodyHasSize, HasNumber};
-ghost use Rattle.format_http.specs.Chunks.Lines.{SizeLineBegun};
 ghost use Rattle.format_http.specs.Chunks.SizeLine.{SizeLineText};
-ghost use Rattle.std.specs.Prelude.{◌≡◌, IfOk, true, ℕ};
-ghost use Rattle.winnow.specs.Begun.{AsksExactly};
-ghost use Rattle.winnow.specs.Bytes.{bytes_follow, bytes_input, bytes_reading};
+ghost use Rattle.std.specs.Prelude.{IfOk, ℕ};
+ghost use Rattle.winnow.specs.Bytes.{bytes_input, bytes_reading};
 ghost use Rattle.winnow.specs.Exact.{Reads};
-ghost use Rattle.winnow.specs.Cut.{ReadsOrAsks};
-ghost use Rattle.winnow.specs.Form.{answer_by};
 ghost use Rattle.winnow.specs.InTurn.{First};
 
 use crate::chunks::laws::size_lines_are_those_of_bodies;
@@ -17,7 +13,6 @@ use crate::chunks::lines::line;
 use crate::chunks::numbers::size_of;
 use std::alloc::Allocator;
 use winnow::error::{EmptyError, ErrMode, HasKind};
-use winnow::stream::{Partial, Stream};
 
 /// The size of a chunk: how many bytes its data has. That of the last chunk is 0.
 ///
@@ -94,43 +89,4 @@ pub fn read_size_line<'i, A: Allocator + Copy>(
 {
     size_lines_are_those_of_bodies::<A>();
     read_sized(alloc, input)
-}
-
-/// As [`read_size_line`], from an input to which more may come. What it answers there, it answers
-/// whatever follows, and where it backtracks no size line stands whatever follows. It asks for
-/// more, by `Incomplete`, exactly where a size line is begun (`asks`), want of memory aside; a
-/// caller bounds how many bytes it holds then. After an error some bytes may have been passed:
-/// read again from the start, with more of them there.
-///
-/// ```
-/// use format_http::chunks::size_line::{Size, read_size_line_in_pieces};
-/// use winnow::error::ErrMode;
-/// use winnow::stream::Partial;
-///
-/// let asks = read_size_line_in_pieces(alloc, &mut Partial::new(b"1f;na".as_slice()));
-/// assert!(rt; matches!(asks, Err(ErrMode::Incomplete(_))));
-/// let mut more = Partial::new(b"1f;name\r\nrest".as_slice());
-/// let line = read_size_line_in_pieces(alloc, &mut more);
-/// assert!(rt; matches!(line, Ok(line) if line.size == Size::Bytes(31)));
-/// assert_eq!(rt; *more.as_inner(), b"rest".as_slice());
-/// let fails = read_size_line_in_pieces(alloc, &mut Partial::new(b"-1".as_slice()));
-/// assert!(rt; matches!(fails, Err(ErrMode::Backtrack(_))));
-/// ```
-pub fn read_size_line_in_pieces<'i, A: Allocator + Copy>(
-    alloc: A,
-    input: &mut Partial<&'i [u8]>,
-) -> Result<SizeLine<'i, A>, ErrMode<EmptyError>>
-    ensures reads { ReadsOrAsks bytes_reading bytes_follow
-        ⟦<ErrMode<EmptyError> as HasKind>⟧.kind (First SizeLineText)
-        (⟦<Partial<&'static [u8]> as Stream>⟧.view input.old) result
-        (⟦<Partial<&'static [u8]> as Stream>⟧.view input.new) }
-    ensures asks { (⟦<Partial<&'static [u8]> as Stream>⟧.view input.old).status.cut ≡ true
-        → AsksExactly (SizeLineBegun A) (⟦<Partial<&'static [u8]> as Stream>⟧.view input.old)
-        (answer_by ⟦<ErrMode<EmptyError> as HasKind>⟧.kind result) }
-{
-    let (digits, extensions) = line(alloc, input)?;
-    Ok(SizeLine {
-        size: size_of(digits),
-        extensions,
-    })
 }

@@ -1,8 +1,10 @@
-//! Laws of the field lines that are read.
+//! Laws of heads and of their field lines.
 #![tactic(auto)]
 
 ghost use Rattle.format_http.specs.Heads.Bytes.{IsWhite};
 ghost use Rattle.format_http.specs.Heads.FieldLine.{IsFieldLine};
+ghost use Rattle.format_http.specs.Heads.Head.{IsHead, Pair, Request};
+ghost use Rattle.format_http.specs.Responses.Head.{IsResponseHead, Status};
 ghost use Rattle.std.specs.List.{All};
 ghost use Rattle.std.specs.Prelude.{◌≡◌, ◌++◌, ◌∷◌, List, ℕ};
 
@@ -19,4 +21,20 @@ pub fn no_white_space_stands_before_a_colon()
 pub fn no_return_stands_in_a_field()
     ensures { (name value bytes rest : List ℕ) → IsFieldLine name value bytes rest
         → All (λ b. b ≡ 13 → ⊥) name × All (λ b. b ≡ 13 → ⊥) value }
+{}
+
+/// Bytes begin with at most one head of a request: one request line, one list of fields, and one
+/// rest.
+pub fn bytes_begin_with_one_head_at_most()
+    ensures { (line other : Request) (fields others : List Pair) (bytes one two : List ℕ)
+        → IsHead line fields bytes one → IsHead other others bytes two
+        → (line ≡ other) × (fields ≡ others) × (one ≡ two) }
+{}
+
+/// Bytes begin with at most one head of a response: one status line, one list of fields, and one
+/// rest.
+pub fn bytes_begin_with_one_response_head_at_most()
+    ensures { (line other : Status) (fields others : List Pair) (bytes one two : List ℕ)
+        → IsResponseHead line fields bytes one → IsResponseHead other others bytes two
+        → (line ≡ other) × (fields ≡ others) × (one ≡ two) }
 {}

@@ -1,5 +1,4 @@
 use Rattle.std.proofs.Common.{arith, inl, inr, subst}
-use Rattle.std.specs.Prelude.{List, ℕ}
 use Rattle.format_http.proofs.BodiesLemmas.Elements.{all_dropped, found_element, more_dropped}
 use Rattle.format_http.proofs.BodiesLemmas.Elements.{no_element, none_dropped, one_element}
 use Rattle.format_http.specs.Bodies.Lists.{IsElement}

@@ -1,4 +1,5 @@
 use Rattle.winnow_core.specs.Exact.Allowed.{softly}
+use Rattle.winnow_core.specs.Says.{told}
 use Rattle.winnow_exact.specs.Cut.{told_or_asked}
 use Rattle.winnow_exact.proofs.pieces.ReadsPieces.read_cut.Goals as goal
 
@@ -10,4 +11,9 @@ returns-clause-reads g c =
     c.requires.modal (claimed.exact form c.requires.premise)
     (softly c.requires.backtracks (claimed.fails form c.requires.premise))
     g.met.Self.Stable.stable _ c.parse_next.result _ _ c.parse_next.ensures.ends
+    c.parse_next.ensures.ran
+
+pub returns-clause-tells : goal.returns-clause-tells
+returns-clause-tells g c is =
+    told (g.met.Self.Parser.said (g.Self.Parser.state c.args.self.now)) is g.E.HasKind.form _ _ _ _
     c.parse_next.ensures.ran

@@ -12,7 +12,7 @@ use Rattle.format_http.specs.Heads.FieldLine.{BeginsBare, EndsBare, IsFieldLine,
 use Rattle.format_http.specs.Heads.FieldRead.{all_front, none_returns, white_is_value}
 use Rattle.format_http.specs.declared.heads.field_line.Field.{Field}
 use Rattle.winnow.specs.Equal.{same_first, same_others}
-use Rattle.format_http.proofs.PiecesLemmas.Texts.{in_middle, one_stranger, one_text}
+use Rattle.format_http.proofs.OneLemmas.Texts.{in_middle, one_stranger, one_text}
 
 -- ---- the end of a text
 
@@ -144,40 +144,6 @@ read_trimmed name text value bytes rest line it =
           (it.splits ∙ ap (λ l. l ++ it.behind) e) white;
       ends_bare = it.ends_bare;
     }
-
--- each field line is read with some text
-pub read_some : (name value bytes rest : List ℕ) → IsFieldLine name value bytes rest
-    → (text : List ℕ) × IsRead name text bytes rest
-read_some name [] bytes rest line = (
-  [],
-  record {
-    white = line.before ++ line.behind;
-    splits = line.splits
-        ∙ ap (λ l. name ++ 58 ∷ l) (sym (append_assoc line.before line.behind (line_end ++ rest)));
-    some_name = line.some_name;
-    is_name = line.is_name;
-    is_white =
-        All-append IsWhite line.before line.behind line.white_before line.white_behind;
-    is_value = All-nil IsValueByte;
-    bare = line.begins_bare;
-  },
-)
-read_some name (v ∷ value) bytes rest line = (
-  (v ∷ value) ++ line.behind,
-  record {
-    white = line.before;
-    splits = line.splits
-        ∙ ap (λ l. name ++ 58 ∷ (line.before ++ l))
-        (sym (append_assoc (v ∷ value) line.behind (line_end ++ rest)));
-    some_name = line.some_name;
-    is_name = line.is_name;
-    is_white = line.white_before;
-    is_value = All-append IsValueByte (v ∷ value) line.behind line.is_value
-        (All-weaker IsWhite IsValueByte white_is_value line.behind line.white_behind);
-    bare = λ b more e white. line.begins_bare v value refl
-        (subst IsWhite (sym (same_first e)) white);
-  },
-)
 
 -- ---- each text has a value
 

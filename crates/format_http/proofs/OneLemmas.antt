@@ -1,0 +1,4 @@
+pub mod Heads
+pub mod StatusLines
+pub mod Texts
+pub mod Values

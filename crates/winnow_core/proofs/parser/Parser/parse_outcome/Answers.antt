@@ -1,0 +1,8 @@
+use Rattle.winnow_core.specs.Says.Whole.{all_outcome}
+use Rattle.winnow_core.proofs.parser.Parser.parse_outcome.Goals as goal
+
+pub returns-clause-tells : goal.returns-clause-tells
+returns-clause-tells g c =
+    all_outcome (g.met.Self.Parser.said (g.Self.Parser.state c.args.self.now)) c.requires.premise
+    g.I.Stream.view g.I.Stream.reading.units g.E.ParserError.inner_kind g.E.HasKind.form _ _
+    c.parse.result (g.met.I.StreamIsPartial.whole c.requires.whole c.args.input) c.parse.ensures.ran
