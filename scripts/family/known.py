@@ -128,7 +128,7 @@ def known_err(n):
 
 
 # Lemmas stand for the lengths that something cites.
-CITED = (3, 4, 5)
+CITED = (3, 4)
 
 SEQUENCE_CASES = """-- The runs of sequences by what they relate: an output or a kind, and the inputs between the children. A caller's run is found by these, whatever its children are. That the children which did not run keep their states is Kept.
 -- {head}

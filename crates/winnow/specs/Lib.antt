@@ -284,7 +284,3 @@ pub use Rattle.winnow_exact.specs.RunByRun
 pub use Rattle.winnow_exact.specs.Spans
 pub use Rattle.winnow_exact.specs.Steps
 pub use Rattle.winnow_exact.specs.Told
--- Where stable parsers ask for more of a cut input.
-pub use Rattle.winnow_begun.specs.Begun
--- With which kind of error parsers fail on a whole input, and what they leave.
-pub use Rattle.winnow_failures.specs.Fails

@@ -6,7 +6,6 @@ use Rattle.streams.specs.Reading.{Reading}
 use Rattle.stream_errors.specs.Form.{ErrorForm, Answer}
 use Rattle.winnow_token.specs.Any.{NoTokenRuns}
 use Rattle.winnow_token.specs.declared.token.impls.one_of.OneOf.{OneOf}
-pub mod Known
 pub mod Laws
 pub mod Says
 

@@ -25,6 +25,12 @@ pub fn no_return_stands_in_a_field()
 
 /// Bytes begin with at most one head of a request: one request line, one list of fields, and one
 /// rest.
+///
+/// ```
+/// use format_http::heads::laws;
+///
+/// laws::bytes_begin_with_one_head_at_most();
+/// ```
 pub fn bytes_begin_with_one_head_at_most()
     ensures { (line other : Request) (fields others : List Pair) (bytes one two : List ℕ)
         → IsHead line fields bytes one → IsHead other others bytes two
@@ -33,6 +39,12 @@ pub fn bytes_begin_with_one_head_at_most()
 
 /// Bytes begin with at most one head of a response: one status line, one list of fields, and one
 /// rest.
+///
+/// ```
+/// use format_http::heads::laws;
+///
+/// laws::bytes_begin_with_one_response_head_at_most();
+/// ```
 pub fn bytes_begin_with_one_response_head_at_most()
     ensures { (line other : Status) (fields others : List Pair) (bytes one two : List ℕ)
         → IsResponseHead line fields bytes one → IsResponseHead other others bytes two

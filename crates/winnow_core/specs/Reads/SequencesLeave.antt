@@ -19,8 +19,8 @@ sequence4_leaves must1 must2 must3 must4 = record {
   leaves = λ i o t j begins ran.
       let (a, b, c, r1, r2, r3, r4) = sequence4_ok o ran in
       must4.leaves _ _ _ _
-      (must3.leaves _ _ _ _ (must2.leaves _ _ _ _ (must1.leaves _ _ _ _ begins r1) r2) r3)
-      r4;
+            (must3.leaves _ _ _ _ (must2.leaves _ _ _ _ (must1.leaves _ _ _ _ begins r1) r2) r3)
+            r4;
   answers = λ i k t j begins ran. elim (sequence4_err k ran) [
     | inl (f, same2, same3, same4) ↦ must1.answers _ _ _ _ begins f
     | inr (inl (o1, a, r1, f, same3, same4))
@@ -29,7 +29,7 @@ sequence4_leaves must1 must2 must3 must4 = record {
         ↦ must3.answers _ _ _ _ (must2.leaves _ _ _ _ (must1.leaves _ _ _ _ begins r1) r2) f
     | inr (inr (inr (o1, o2, o3, a, b, c, r1, r2, r3, f)))
         ↦ must4.answers _ _ _ _
-        (must3.leaves _ _ _ _ (must2.leaves _ _ _ _ (must1.leaves _ _ _ _ begins r1) r2) r3) f
+          (must3.leaves _ _ _ _ (must2.leaves _ _ _ _ (must1.leaves _ _ _ _ begins r1) r2) r3) f
   ];
 }
 
@@ -44,9 +44,9 @@ sequence5_leaves must1 must2 must3 must4 must5 = record {
   leaves = λ i o t j begins ran.
       let (a, b, c, d, r1, r2, r3, r4, r5) = sequence5_ok o ran in
       must5.leaves _ _ _ _
-      (must4.leaves _ _ _ _
-      (must3.leaves _ _ _ _ (must2.leaves _ _ _ _ (must1.leaves _ _ _ _ begins r1) r2)
-      r3) r4) r5;
+            (must4.leaves _ _ _ _
+              (must3.leaves _ _ _ _ (must2.leaves _ _ _ _ (must1.leaves _ _ _ _ begins r1) r2)
+                r3) r4) r5;
   answers = λ i k t j begins ran. elim (sequence5_err k ran) [
     | inl (f, same2, same3, same4, same5) ↦ must1.answers _ _ _ _ begins f
     | inr (inl (o1, a, r1, f, same3, same4, same5))
@@ -55,11 +55,11 @@ sequence5_leaves must1 must2 must3 must4 must5 = record {
         ↦ must3.answers _ _ _ _ (must2.leaves _ _ _ _ (must1.leaves _ _ _ _ begins r1) r2) f
     | inr (inr (inr (inl (o1, o2, o3, a, b, c, r1, r2, r3, f, same5))))
         ↦ must4.answers _ _ _ _
-        (must3.leaves _ _ _ _ (must2.leaves _ _ _ _ (must1.leaves _ _ _ _ begins r1) r2) r3) f
+          (must3.leaves _ _ _ _ (must2.leaves _ _ _ _ (must1.leaves _ _ _ _ begins r1) r2) r3) f
     | inr (inr (inr (inr (o1, o2, o3, o4, a, b, c, d, r1, r2, r3, r4, f))))
         ↦ must5.answers _ _ _ _
-        (must4.leaves _ _ _ _
-        (must3.leaves _ _ _ _ (must2.leaves _ _ _ _ (must1.leaves _ _ _ _ begins r1) r2) r3)
-        r4) f
+          (must4.leaves _ _ _ _
+            (must3.leaves _ _ _ _ (must2.leaves _ _ _ _ (must1.leaves _ _ _ _ begins r1) r2) r3)
+            r4) f
   ];
 }

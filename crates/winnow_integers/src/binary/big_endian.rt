@@ -2,7 +2,6 @@
 //!
 //! Written by scripts/families.py: do not edit.
 #![tactic(auto, using(crate::specs::Integer::Std::integers))]
-
 ghost use Rattle.stream_errors.specs.Form.{answer_by};
 ghost use Rattle.streams.specs.Input.{IsEndOf};
 ghost use Rattle.winnow_integers.specs.Integer.{IntegerRuns, signed_value, unsigned_value};
@@ -28,7 +27,7 @@ where
     Input: StreamIsPartial + ByteStream,
     Error: ParserError<Input>,
     ensures ran { IntegerRuns 1 (unsigned_value Big) Input.reading Error.form
-        (Input.view input.old) (answer_by Error.kind result) (Input.view input.new) }
+          (Input.view input.old) (answer_by Error.kind result) (Input.view input.new) }
     ensures ends { IsEndOf Input.reading (Input.view input.new) (Input.view input.old) }
 {
     let bytes = take_bytes::<1, Input, Error>(input)?;
@@ -51,7 +50,7 @@ where
     Input: StreamIsPartial + ByteStream,
     Error: ParserError<Input>,
     ensures ran { IntegerRuns 2 (unsigned_value Big) Input.reading Error.form
-        (Input.view input.old) (answer_by Error.kind result) (Input.view input.new) }
+          (Input.view input.old) (answer_by Error.kind result) (Input.view input.new) }
     ensures ends { IsEndOf Input.reading (Input.view input.new) (Input.view input.old) }
 {
     let bytes = take_bytes::<2, Input, Error>(input)?;
@@ -74,7 +73,7 @@ where
     Input: StreamIsPartial + ByteStream,
     Error: ParserError<Input>,
     ensures ran { IntegerRuns 3 (unsigned_value Big) Input.reading Error.form
-        (Input.view input.old) (answer_by Error.kind result) (Input.view input.new) }
+          (Input.view input.old) (answer_by Error.kind result) (Input.view input.new) }
     ensures ends { IsEndOf Input.reading (Input.view input.new) (Input.view input.old) }
 {
     let bytes = take_bytes::<3, Input, Error>(input)?;
@@ -97,7 +96,7 @@ where
     Input: StreamIsPartial + ByteStream,
     Error: ParserError<Input>,
     ensures ran { IntegerRuns 4 (unsigned_value Big) Input.reading Error.form
-        (Input.view input.old) (answer_by Error.kind result) (Input.view input.new) }
+          (Input.view input.old) (answer_by Error.kind result) (Input.view input.new) }
     ensures ends { IsEndOf Input.reading (Input.view input.new) (Input.view input.old) }
 {
     let bytes = take_bytes::<4, Input, Error>(input)?;
@@ -120,7 +119,7 @@ where
     Input: StreamIsPartial + ByteStream,
     Error: ParserError<Input>,
     ensures ran { IntegerRuns 8 (unsigned_value Big) Input.reading Error.form
-        (Input.view input.old) (answer_by Error.kind result) (Input.view input.new) }
+          (Input.view input.old) (answer_by Error.kind result) (Input.view input.new) }
     ensures ends { IsEndOf Input.reading (Input.view input.new) (Input.view input.old) }
 {
     let bytes = take_bytes::<8, Input, Error>(input)?;
@@ -143,7 +142,7 @@ where
     Input: StreamIsPartial + ByteStream,
     Error: ParserError<Input>,
     ensures ran { IntegerRuns 16 (unsigned_value Big) Input.reading Error.form
-        (Input.view input.old) (answer_by Error.kind result) (Input.view input.new) }
+          (Input.view input.old) (answer_by Error.kind result) (Input.view input.new) }
     ensures ends { IsEndOf Input.reading (Input.view input.new) (Input.view input.old) }
 {
     let bytes = take_bytes::<16, Input, Error>(input)?;
@@ -165,7 +164,7 @@ where
     Input: StreamIsPartial + ByteStream,
     Error: ParserError<Input>,
     ensures ran { IntegerRuns 1 (signed_value Big) Input.reading Error.form
-        (Input.view input.old) (answer_by Error.kind result) (Input.view input.new) }
+          (Input.view input.old) (answer_by Error.kind result) (Input.view input.new) }
     ensures ends { IsEndOf Input.reading (Input.view input.new) (Input.view input.old) }
 {
     let bytes = take_bytes::<1, Input, Error>(input)?;
@@ -188,7 +187,7 @@ where
     Input: StreamIsPartial + ByteStream,
     Error: ParserError<Input>,
     ensures ran { IntegerRuns 2 (signed_value Big) Input.reading Error.form
-        (Input.view input.old) (answer_by Error.kind result) (Input.view input.new) }
+          (Input.view input.old) (answer_by Error.kind result) (Input.view input.new) }
     ensures ends { IsEndOf Input.reading (Input.view input.new) (Input.view input.old) }
 {
     let bytes = take_bytes::<2, Input, Error>(input)?;
@@ -211,7 +210,7 @@ where
     Input: StreamIsPartial + ByteStream,
     Error: ParserError<Input>,
     ensures ran { IntegerRuns 3 (signed_value Big) Input.reading Error.form
-        (Input.view input.old) (answer_by Error.kind result) (Input.view input.new) }
+          (Input.view input.old) (answer_by Error.kind result) (Input.view input.new) }
     ensures ends { IsEndOf Input.reading (Input.view input.new) (Input.view input.old) }
 {
     let bytes = take_bytes::<3, Input, Error>(input)?;
@@ -234,7 +233,7 @@ where
     Input: StreamIsPartial + ByteStream,
     Error: ParserError<Input>,
     ensures ran { IntegerRuns 4 (signed_value Big) Input.reading Error.form
-        (Input.view input.old) (answer_by Error.kind result) (Input.view input.new) }
+          (Input.view input.old) (answer_by Error.kind result) (Input.view input.new) }
     ensures ends { IsEndOf Input.reading (Input.view input.new) (Input.view input.old) }
 {
     let bytes = take_bytes::<4, Input, Error>(input)?;
@@ -257,7 +256,7 @@ where
     Input: StreamIsPartial + ByteStream,
     Error: ParserError<Input>,
     ensures ran { IntegerRuns 8 (signed_value Big) Input.reading Error.form
-        (Input.view input.old) (answer_by Error.kind result) (Input.view input.new) }
+          (Input.view input.old) (answer_by Error.kind result) (Input.view input.new) }
     ensures ends { IsEndOf Input.reading (Input.view input.new) (Input.view input.old) }
 {
     let bytes = take_bytes::<8, Input, Error>(input)?;
@@ -280,7 +279,7 @@ where
     Input: StreamIsPartial + ByteStream,
     Error: ParserError<Input>,
     ensures ran { IntegerRuns 16 (signed_value Big) Input.reading Error.form
-        (Input.view input.old) (answer_by Error.kind result) (Input.view input.new) }
+          (Input.view input.old) (answer_by Error.kind result) (Input.view input.new) }
     ensures ends { IsEndOf Input.reading (Input.view input.new) (Input.view input.old) }
 {
     let bytes = take_bytes::<16, Input, Error>(input)?;
@@ -302,7 +301,7 @@ where
     Input: StreamIsPartial + ByteStream,
     Error: ParserError<Input>,
     ensures ran { IntegerRuns 1 (unsigned_value Big) Input.reading Error.form
-        (Input.view input.old) (answer_by Error.kind result) (Input.view input.new) }
+          (Input.view input.old) (answer_by Error.kind result) (Input.view input.new) }
     ensures ends { IsEndOf Input.reading (Input.view input.new) (Input.view input.old) }
 {
     let bytes = take_bytes::<1, Input, Error>(input)?;
@@ -324,7 +323,7 @@ where
     Input: StreamIsPartial + ByteStream,
     Error: ParserError<Input>,
     ensures ran { IntegerRuns 1 (signed_value Big) Input.reading Error.form
-        (Input.view input.old) (answer_by Error.kind result) (Input.view input.new) }
+          (Input.view input.old) (answer_by Error.kind result) (Input.view input.new) }
     ensures ends { IsEndOf Input.reading (Input.view input.new) (Input.view input.old) }
 {
     let bytes = take_bytes::<1, Input, Error>(input)?;
