@@ -20,7 +20,6 @@ from family.complete import CRATES_OF_PARSERS, write_complete
 from family.exact import write_exact
 from family.integers import write_integers
 from family.known import write_known
-from family.reads import write_reads
 from family.says import write_says
 from family.sequences import write_sequences
 from family.sets import write_sets
@@ -30,7 +29,6 @@ if __name__ == "__main__":
     write_sets()
     write_sequences()
     write_known()
-    write_reads()
     write_choices()
     write_classes()
     write_stable()

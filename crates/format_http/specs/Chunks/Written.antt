@@ -292,5 +292,5 @@ module _ {A : Type 0} where
   line_failed {reading = reading} {kind} {i} {j} (Err y) is f =
       let P : _ → Type 0 = λ x. Reads reading kind (First SizeLineText) i (Err x) j in
       subst P (sym is) (err_as f (λ tokens line rest (front, (parts, a, means), e).
-          let Q : List ℕ → Type 0 = λ l. Line counted_reading (λ b. b) Byte l parts rest in
-          (parts, subst Q (sym e) (line_of.back parts front rest a tt))))
+      let Q : List ℕ → Type 0 = λ l. Line counted_reading (λ b. b) Byte l parts rest in
+      (parts, subst Q (sym e) (line_of.back parts front rest a tt))))

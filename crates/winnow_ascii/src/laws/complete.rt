@@ -3,9 +3,11 @@
 //! Written by scripts/families.py: do not edit.
 ghost use Rattle.winnow_core.specs.SameMeaning.{SameMeaning};
 
-use crate::ascii::impls::{Alpha0, Alpha1, Alphanumeric0, Alphanumeric1, Crlf, Digit0, Digit1};
-use crate::ascii::impls::{HexDigit0, HexDigit1, LineEnding, Multispace0, Multispace1, Newline};
-use crate::ascii::impls::{OctDigit0, OctDigit1, Space0, Space1, Tab, TillLineEnding};
+use crate::ascii::impls::{
+    Alpha0, Alpha1, Alphanumeric0, Alphanumeric1, Crlf, Digit0, Digit1, HexDigit0, HexDigit1,
+    LineEnding, Multispace0, Multispace1, Newline, OctDigit0, OctDigit1, Space0, Space1, Tab,
+    TillLineEnding,
+};
 use stream_errors::parser_error::ParserError;
 use stream_searches::compare::Compare;
 use stream_searches::find::FindSlice;
@@ -17,7 +19,11 @@ use winnow_core::parser::Parser;
 /// Over a partial stream each of these means what it means over the plain one: `alpha0`, `alpha1`,
 /// `alphanumeric0`, `alphanumeric1`, `digit0`, `digit1`, `hex_digit0`, `hex_digit1`, `multispace0`,
 /// `multispace1`, `oct_digit0`, `oct_digit1`, `space0`, `space1`.
-pub fn alpha0_and_its_like_over_a_complete_stream<I: StreamIsPartial, E: ParserError<I>, Q: ParserError<Partial<I>>>()
+pub fn alpha0_and_its_like_over_a_complete_stream<
+    I: StreamIsPartial,
+    E: ParserError<I>,
+    Q: ParserError<Partial<I>>,
+>()
 where
     I::Token: AsChar,
     ensures alpha0 { SameMeaning (λ s. s)
@@ -66,7 +72,11 @@ where
 
 /// Over a partial stream each of these means what it means over the plain one: `crlf`,
 /// `line_ending`.
-pub fn crlf_and_line_ending_over_a_complete_stream<I: StreamIsPartial + Compare<&'static str>, E: ParserError<I>, Q: ParserError<Partial<I>>>()
+pub fn crlf_and_line_ending_over_a_complete_stream<
+    I: StreamIsPartial + Compare<&'static str>,
+    E: ParserError<I>,
+    Q: ParserError<Partial<I>>,
+>()
     ensures crlf { SameMeaning (λ s. s)
         ⟦<Crlf as Parser<I, I::Slice, E>>⟧.meaning
         ⟦<Crlf as Parser<Partial<I>, I::Slice, Q>>⟧.meaning }
@@ -76,7 +86,11 @@ pub fn crlf_and_line_ending_over_a_complete_stream<I: StreamIsPartial + Compare<
 {}
 
 /// Over a partial stream each of these means what it means over the plain one: `newline`, `tab`.
-pub fn newline_and_tab_over_a_complete_stream<I: StreamIsPartial + Compare<char>, E: ParserError<I>, Q: ParserError<Partial<I>>>()
+pub fn newline_and_tab_over_a_complete_stream<
+    I: StreamIsPartial + Compare<char>,
+    E: ParserError<I>,
+    Q: ParserError<Partial<I>>,
+>()
     ensures newline { SameMeaning (λ s. s)
         ⟦<Newline as Parser<I, char, E>>⟧.meaning
         ⟦<Newline as Parser<Partial<I>, char, Q>>⟧.meaning }
@@ -86,7 +100,11 @@ pub fn newline_and_tab_over_a_complete_stream<I: StreamIsPartial + Compare<char>
 {}
 
 /// Over a partial stream `till_line_ending` means what it means over the plain one.
-pub fn till_line_ending_over_a_complete_stream<I: StreamIsPartial + Compare<&'static str> + FindSlice<(char, char)>, E: ParserError<I>, Q: ParserError<Partial<I>>>()
+pub fn till_line_ending_over_a_complete_stream<
+    I: StreamIsPartial + Compare<&'static str> + FindSlice<(char, char)>,
+    E: ParserError<I>,
+    Q: ParserError<Partial<I>>,
+>()
     ensures till_line_ending { SameMeaning (λ s. s)
         ⟦<TillLineEnding as Parser<I, I::Slice, E>>⟧.meaning
         ⟦<TillLineEnding as Parser<Partial<I>, I::Slice, Q>>⟧.meaning }

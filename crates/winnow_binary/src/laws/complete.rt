@@ -3,8 +3,9 @@
 //! Written by scripts/families.py: do not edit.
 ghost use Rattle.winnow_core.specs.SameMeaning.{SameMeaning};
 
-use crate::binary::impls::{I128, I16, I24, I32, I64, LengthAndThen, LengthRepeat, LengthTake, U128};
-use crate::binary::impls::{U16, U24, U32, U64};
+use crate::binary::impls::{
+    I16, I24, I32, I64, I128, LengthAndThen, LengthRepeat, LengthTake, U16, U24, U32, U64, U128,
+};
 use std::alloc::Allocator;
 use stream_errors::parser_error::ParserError;
 use stream_sets::accumulate::Accumulate;
@@ -16,7 +17,11 @@ use winnow_core::parser::Parser;
 
 /// Over a partial stream each of these means what it means over the plain one: `i128`, `i16`,
 /// `i24`, `i32`, `i64`, `u128`, `u16`, `u24`, `u32`, `u64`.
-pub fn i128_and_its_like_over_a_complete_stream<I: StreamIsPartial + ByteStream, E: ParserError<I>, Q: ParserError<Partial<I>>>()
+pub fn i128_and_its_like_over_a_complete_stream<
+    I: StreamIsPartial + ByteStream,
+    E: ParserError<I>,
+    Q: ParserError<Partial<I>>,
+>()
     ensures i128 { SameMeaning (λ s. s)
         ⟦<I128<I, E> as Parser<I, i128, E>>⟧.meaning
         ⟦<I128<Partial<I>, Q> as Parser<Partial<I>, i128, Q>>⟧.meaning }
@@ -51,7 +56,17 @@ pub fn i128_and_its_like_over_a_complete_stream<I: StreamIsPartial + ByteStream,
 
 /// Over a partial stream `length_and_then` means what it means over the plain one, where its parts
 /// do.
-pub fn length_and_then_over_a_complete_stream<P: Parser<I, N, E>, Q: Parser<Partial<I>, N, S>, G: Parser<I, O, E>, R: Parser<Partial<I>, O, S>, I: StreamIsPartial + UpdateSlice + Copy, N: ToUsize + Drop, O, E: ParserError<I>, S: ParserError<Partial<I>>>()
+pub fn length_and_then_over_a_complete_stream<
+    P: Parser<I, N, E>,
+    Q: Parser<Partial<I>, N, S>,
+    G: Parser<I, O, E>,
+    R: Parser<Partial<I>, O, S>,
+    I: StreamIsPartial + UpdateSlice + Copy,
+    N: ToUsize + Drop,
+    O,
+    E: ParserError<I>,
+    S: ParserError<Partial<I>>,
+>()
     ensures length_and_then { (to_p : P.State → Q.State) → SameMeaning to_p P.meaning Q.meaning →
         (to_g : G.State → R.State) → SameMeaning to_g G.meaning R.meaning →
         SameMeaning (λ z. (to_p z.0, to_g z.1))
@@ -61,7 +76,19 @@ pub fn length_and_then_over_a_complete_stream<P: Parser<I, N, E>, Q: Parser<Part
 
 /// Over a partial stream `length_repeat` means what it means over the plain one, where its parts
 /// do.
-pub fn length_repeat_over_a_complete_stream<P: Parser<I, N, E>, Q: Parser<Partial<I>, N, S>, G: Parser<I, O, E>, R: Parser<Partial<I>, O, S>, I: Stream, N: ToUsize + Drop, O: Drop, C: Accumulate<O, A>, E: ParserError<I>, S: ParserError<Partial<I>>, A: Allocator + Copy>()
+pub fn length_repeat_over_a_complete_stream<
+    P: Parser<I, N, E>,
+    Q: Parser<Partial<I>, N, S>,
+    G: Parser<I, O, E>,
+    R: Parser<Partial<I>, O, S>,
+    I: Stream,
+    N: ToUsize + Drop,
+    O: Drop,
+    C: Accumulate<O, A>,
+    E: ParserError<I>,
+    S: ParserError<Partial<I>>,
+    A: Allocator + Copy,
+>()
     ensures length_repeat { (to_p : P.State → Q.State) → SameMeaning to_p P.meaning Q.meaning →
         (to_g : G.State → R.State) → SameMeaning to_g G.meaning R.meaning →
         SameMeaning (λ z. (to_p z.0, to_g z.1))
@@ -70,7 +97,14 @@ pub fn length_repeat_over_a_complete_stream<P: Parser<I, N, E>, Q: Parser<Partia
 {}
 
 /// Over a partial stream `length_take` means what it means over the plain one, where its parts do.
-pub fn length_take_over_a_complete_stream<P: Parser<I, N, E>, Q: Parser<Partial<I>, N, R>, I: StreamIsPartial, N: ToUsize + Drop, E: ParserError<I>, R: ParserError<Partial<I>>>()
+pub fn length_take_over_a_complete_stream<
+    P: Parser<I, N, E>,
+    Q: Parser<Partial<I>, N, R>,
+    I: StreamIsPartial,
+    N: ToUsize + Drop,
+    E: ParserError<I>,
+    R: ParserError<Partial<I>>,
+>()
     ensures length_take { (to_p : P.State → Q.State) → SameMeaning to_p P.meaning Q.meaning →
         SameMeaning to_p
         ⟦<LengthTake<P, I, N, E> as Parser<I, I::Slice, E>>⟧.meaning

@@ -2,6 +2,7 @@
 //!
 //! Written by scripts/families.py: do not edit.
 #![tactic(auto, using(crate::specs::Integer::Std::integers))]
+
 ghost use Rattle.stream_errors.specs.Form.{answer_by};
 ghost use Rattle.streams.specs.Input.{IsEndOf};
 ghost use Rattle.winnow_integers.specs.Integer.{IntegerRuns, signed_value, unsigned_value};
@@ -27,7 +28,7 @@ where
     Input: StreamIsPartial + ByteStream,
     Error: ParserError<Input>,
     ensures ran { IntegerRuns 1 (unsigned_value Big) Input.reading Error.form
-          (Input.view input.old) (answer_by Error.kind result) (Input.view input.new) }
+        (Input.view input.old) (answer_by Error.kind result) (Input.view input.new) }
     ensures ends { IsEndOf Input.reading (Input.view input.new) (Input.view input.old) }
 {
     let bytes = take_bytes::<1, Input, Error>(input)?;
@@ -50,7 +51,7 @@ where
     Input: StreamIsPartial + ByteStream,
     Error: ParserError<Input>,
     ensures ran { IntegerRuns 2 (unsigned_value Big) Input.reading Error.form
-          (Input.view input.old) (answer_by Error.kind result) (Input.view input.new) }
+        (Input.view input.old) (answer_by Error.kind result) (Input.view input.new) }
     ensures ends { IsEndOf Input.reading (Input.view input.new) (Input.view input.old) }
 {
     let bytes = take_bytes::<2, Input, Error>(input)?;
@@ -73,7 +74,7 @@ where
     Input: StreamIsPartial + ByteStream,
     Error: ParserError<Input>,
     ensures ran { IntegerRuns 3 (unsigned_value Big) Input.reading Error.form
-          (Input.view input.old) (answer_by Error.kind result) (Input.view input.new) }
+        (Input.view input.old) (answer_by Error.kind result) (Input.view input.new) }
     ensures ends { IsEndOf Input.reading (Input.view input.new) (Input.view input.old) }
 {
     let bytes = take_bytes::<3, Input, Error>(input)?;
@@ -96,7 +97,7 @@ where
     Input: StreamIsPartial + ByteStream,
     Error: ParserError<Input>,
     ensures ran { IntegerRuns 4 (unsigned_value Big) Input.reading Error.form
-          (Input.view input.old) (answer_by Error.kind result) (Input.view input.new) }
+        (Input.view input.old) (answer_by Error.kind result) (Input.view input.new) }
     ensures ends { IsEndOf Input.reading (Input.view input.new) (Input.view input.old) }
 {
     let bytes = take_bytes::<4, Input, Error>(input)?;
@@ -119,7 +120,7 @@ where
     Input: StreamIsPartial + ByteStream,
     Error: ParserError<Input>,
     ensures ran { IntegerRuns 8 (unsigned_value Big) Input.reading Error.form
-          (Input.view input.old) (answer_by Error.kind result) (Input.view input.new) }
+        (Input.view input.old) (answer_by Error.kind result) (Input.view input.new) }
     ensures ends { IsEndOf Input.reading (Input.view input.new) (Input.view input.old) }
 {
     let bytes = take_bytes::<8, Input, Error>(input)?;
@@ -142,7 +143,7 @@ where
     Input: StreamIsPartial + ByteStream,
     Error: ParserError<Input>,
     ensures ran { IntegerRuns 16 (unsigned_value Big) Input.reading Error.form
-          (Input.view input.old) (answer_by Error.kind result) (Input.view input.new) }
+        (Input.view input.old) (answer_by Error.kind result) (Input.view input.new) }
     ensures ends { IsEndOf Input.reading (Input.view input.new) (Input.view input.old) }
 {
     let bytes = take_bytes::<16, Input, Error>(input)?;
@@ -164,7 +165,7 @@ where
     Input: StreamIsPartial + ByteStream,
     Error: ParserError<Input>,
     ensures ran { IntegerRuns 1 (signed_value Big) Input.reading Error.form
-          (Input.view input.old) (answer_by Error.kind result) (Input.view input.new) }
+        (Input.view input.old) (answer_by Error.kind result) (Input.view input.new) }
     ensures ends { IsEndOf Input.reading (Input.view input.new) (Input.view input.old) }
 {
     let bytes = take_bytes::<1, Input, Error>(input)?;
@@ -187,7 +188,7 @@ where
     Input: StreamIsPartial + ByteStream,
     Error: ParserError<Input>,
     ensures ran { IntegerRuns 2 (signed_value Big) Input.reading Error.form
-          (Input.view input.old) (answer_by Error.kind result) (Input.view input.new) }
+        (Input.view input.old) (answer_by Error.kind result) (Input.view input.new) }
     ensures ends { IsEndOf Input.reading (Input.view input.new) (Input.view input.old) }
 {
     let bytes = take_bytes::<2, Input, Error>(input)?;
@@ -210,7 +211,7 @@ where
     Input: StreamIsPartial + ByteStream,
     Error: ParserError<Input>,
     ensures ran { IntegerRuns 3 (signed_value Big) Input.reading Error.form
-          (Input.view input.old) (answer_by Error.kind result) (Input.view input.new) }
+        (Input.view input.old) (answer_by Error.kind result) (Input.view input.new) }
     ensures ends { IsEndOf Input.reading (Input.view input.new) (Input.view input.old) }
 {
     let bytes = take_bytes::<3, Input, Error>(input)?;
@@ -233,7 +234,7 @@ where
     Input: StreamIsPartial + ByteStream,
     Error: ParserError<Input>,
     ensures ran { IntegerRuns 4 (signed_value Big) Input.reading Error.form
-          (Input.view input.old) (answer_by Error.kind result) (Input.view input.new) }
+        (Input.view input.old) (answer_by Error.kind result) (Input.view input.new) }
     ensures ends { IsEndOf Input.reading (Input.view input.new) (Input.view input.old) }
 {
     let bytes = take_bytes::<4, Input, Error>(input)?;
@@ -256,7 +257,7 @@ where
     Input: StreamIsPartial + ByteStream,
     Error: ParserError<Input>,
     ensures ran { IntegerRuns 8 (signed_value Big) Input.reading Error.form
-          (Input.view input.old) (answer_by Error.kind result) (Input.view input.new) }
+        (Input.view input.old) (answer_by Error.kind result) (Input.view input.new) }
     ensures ends { IsEndOf Input.reading (Input.view input.new) (Input.view input.old) }
 {
     let bytes = take_bytes::<8, Input, Error>(input)?;
@@ -279,7 +280,7 @@ where
     Input: StreamIsPartial + ByteStream,
     Error: ParserError<Input>,
     ensures ran { IntegerRuns 16 (signed_value Big) Input.reading Error.form
-          (Input.view input.old) (answer_by Error.kind result) (Input.view input.new) }
+        (Input.view input.old) (answer_by Error.kind result) (Input.view input.new) }
     ensures ends { IsEndOf Input.reading (Input.view input.new) (Input.view input.old) }
 {
     let bytes = take_bytes::<16, Input, Error>(input)?;
@@ -301,7 +302,7 @@ where
     Input: StreamIsPartial + ByteStream,
     Error: ParserError<Input>,
     ensures ran { IntegerRuns 1 (unsigned_value Big) Input.reading Error.form
-          (Input.view input.old) (answer_by Error.kind result) (Input.view input.new) }
+        (Input.view input.old) (answer_by Error.kind result) (Input.view input.new) }
     ensures ends { IsEndOf Input.reading (Input.view input.new) (Input.view input.old) }
 {
     let bytes = take_bytes::<1, Input, Error>(input)?;
@@ -323,7 +324,7 @@ where
     Input: StreamIsPartial + ByteStream,
     Error: ParserError<Input>,
     ensures ran { IntegerRuns 1 (signed_value Big) Input.reading Error.form
-          (Input.view input.old) (answer_by Error.kind result) (Input.view input.new) }
+        (Input.view input.old) (answer_by Error.kind result) (Input.view input.new) }
     ensures ends { IsEndOf Input.reading (Input.view input.new) (Input.view input.old) }
 {
     let bytes = take_bytes::<1, Input, Error>(input)?;

@@ -3,9 +3,10 @@
 //! Written by scripts/families.py: do not edit.
 ghost use Rattle.winnow_core.specs.SameMeaning.{SameMeaning};
 
-use crate::binary::impls::{BeI128, BeI16, BeI24, BeI32, BeI64, BeI8, BeU128, BeU16, BeU24, BeU32};
-use crate::binary::impls::{BeU64, BeU8, I8, LeI128, LeI16, LeI24, LeI32, LeI64, LeI8, LeU128};
-use crate::binary::impls::{LeU16, LeU24, LeU32, LeU64, LeU8, U8};
+use crate::binary::impls::{
+    BeI8, BeI16, BeI24, BeI32, BeI64, BeI128, BeU8, BeU16, BeU24, BeU32, BeU64, BeU128, I8, LeI8,
+    LeI16, LeI24, LeI32, LeI64, LeI128, LeU8, LeU16, LeU24, LeU32, LeU64, LeU128, U8,
+};
 use stream_errors::parser_error::ParserError;
 use streams::byte_stream::ByteStream;
 use streams::partial::Partial;
@@ -16,7 +17,11 @@ use winnow_core::parser::Parser;
 /// `be_i24`, `be_i32`, `be_i64`, `be_i8`, `be_u128`, `be_u16`, `be_u24`, `be_u32`, `be_u64`,
 /// `be_u8`, `i8`, `le_i128`, `le_i16`, `le_i24`, `le_i32`, `le_i64`, `le_i8`, `le_u128`, `le_u16`,
 /// `le_u24`, `le_u32`, `le_u64`, `le_u8`, `u8`.
-pub fn be_i128_and_its_like_over_a_complete_stream<I: StreamIsPartial + ByteStream, E: ParserError<I>, Q: ParserError<Partial<I>>>()
+pub fn be_i128_and_its_like_over_a_complete_stream<
+    I: StreamIsPartial + ByteStream,
+    E: ParserError<I>,
+    Q: ParserError<Partial<I>>,
+>()
     ensures be_i128 { SameMeaning (λ s. s)
         ⟦<BeI128 as Parser<I, i128, E>>⟧.meaning
         ⟦<BeI128 as Parser<Partial<I>, i128, Q>>⟧.meaning }
