@@ -2,8 +2,7 @@
 
 The model is `examples::settings_file`, the reader of docs/FIRST_PROOF.md, with its specs, answers,
 tests and edits under other names. So what is laid out is proved as it stands. Beside the crate it
-writes its lines in `crates.txt`, ARCHITECTURE, CONTRIBUTING, GUARANTEES and the lists of
-`scripts/`, and a note.
+writes its lines in `crates.txt`, ARCHITECTURE, CONTRIBUTING and the lists of `scripts/`, and a note.
 """
 import re
 import subprocess
@@ -44,18 +43,18 @@ pub mod reader;
 """
 PAGE = """# {crate}
 
-A reader of {what}.
+A parser of {what}.
 
-**Theorem.** `parse_file` returns `Ok` exactly if the bytes are settings in the words of `specs/Settings.antt`, with their keys and values, out of memory aside.
+Depends on `winnow`.
 
 Begin with:
 
 - [specs/Settings.antt](specs/Settings.antt): what the format is
 - [src/reader.rt](src/reader.rt): `parse_file`
 
-Stands on `winnow`.
+## Theorems
 
-What is proved: [GUARANTEES](../../docs/GUARANTEES.md#grammars-winnow_core-winnow_exact).
+- **`reader::parse_file`** returns `Ok` if and only if all bytes are settings, with their keys and values, unless an allocation fails. Clause: its `ensures` (`IsTextOf` of [`Settings`](specs/Settings.antt)).
 """
 # Processor seconds of its proof.
 SECONDS = 30
@@ -71,7 +70,7 @@ LINES = [
         TOP / "scripts/registry/readers.py",
         '    ("INI", "readers", ',
         '    ("{name}: settings, a line each", "{crate}", "yes",\n'
-        '        "`Ok` exactly where the bytes are these settings"),\n',
+        '        "exactly"),\n',
     ),
     (TOP / "scripts/formats.py", "}}\n\n\ndef lines_of", '    "{name}": ["{crate}"],\n'),
 ]
@@ -79,9 +78,6 @@ LINES = [
 COSTS = TOP / "CONTRIBUTING.md"
 HALF = re.compile(r"^(\| `\w+` \| \d+ \| (?:\d+|new) \|) \| \| \|\n", re.MULTILINE)
 FULL = re.compile(r"(?:^\| `\w+` \| \d+ \| (?:\d+|new) \| `\w+` \| \d+ \| (?:\d+|new) \|\n)+", re.MULTILINE)
-GUARANTEES = TOP / "docs/GUARANTEES.md"
-ROW = re.compile(r"^\| `parse_settings` of `examples::settings_file`.*\n", re.MULTILINE)
-PROMISE = "| `{crate}::reader::parse_file` returns `Ok` exactly if all of the bytes are of the format, with its parts | `IsTextOf` |\n"
 NEXT = """{crate} is laid out. Now change, in this order (docs/FIRST_PROOF.md is the lesson):
   {at}/specs/Settings.antt: what the format is
   {at}/src/reader.rt: the sets and the parser, with its documentation
@@ -89,7 +85,7 @@ NEXT = """{crate} is laid out. Now change, in this order (docs/FIRST_PROOF.md is
   tests/{crate}/lib.rs: what it returns, by values from outside
   {at}/proofs: the two answers
   {at}/edits.txt: a wrong line for each meaning
-  {at}/README.md, and in docs/GUARANTEES.md the row of {crate}
+  {at}/README.md: what it is, and its theorem
   scripts/registry/readers.py, docs/ARCHITECTURE.md, crates.txt, changes/{crate}.md: what it reads
   CONTRIBUTING.md: what its proof costs
 `./x quick` says what is missing; `rt check` in {at} proves it."""
@@ -150,13 +146,6 @@ def put_cost(crate):
     COSTS.write_text(text, encoding="utf-8")
 
 
-def put_promise(crate):
-    """Writes the row of the reader's clause behind that of the model."""
-    text = read(GUARANTEES)
-    end = ROW.search(text).end()
-    GUARANTEES.write_text(text[:end] + PROMISE.format(crate=crate) + text[end:], encoding="utf-8")
-
-
 def lay_reader(name):
     """Lays the reader out: what is to be changed then."""
     if wrong := fault_of_name(name):
@@ -169,7 +158,6 @@ def lay_reader(name):
     for path, mark, lines in LINES:
         put(path, mark.format(), lines.format(**words))
     put_cost(crate)
-    put_promise(crate)
     for script in ("registries.py", "crates_picture.py"):
         subprocess.run([sys.executable, TOP / "scripts" / script], check=True, capture_output=True)
     subprocess.run(["rt", "fmt"], cwd=CRATES / crate, check=False, stdout=subprocess.DEVNULL)
