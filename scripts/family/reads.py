@@ -1,4 +1,4 @@
-"""That a sequence of parsers that read does so, and which inputs it must answer, in `winnow_core`."""
+"""Lemmas about what sequences of parsers read and leave, in `winnow_core`."""
 from family.common import BETWEEN, NUMBER, conjunction, tuple_type, upto, write
 from family.known import injected
 
@@ -8,7 +8,7 @@ def implicit(names, kind):
 
 
 def runs_of(n):
-    """The children's runs, as implicit parameters, and the runs of the sequence."""
+    """Returns the children's runs, as implicit parameters, and the runs of the sequence."""
     parameters = " ".join(implicit("run%d" % k, "Runs S%d T O%d" % (k, k)) for k in upto(n))
     return parameters, "SequenceRuns%d %s" % (n, " ".join("run%d" % k for k in upto(n)))
 
@@ -18,14 +18,14 @@ def types_of(n):
 
 
 def joined(parts):
-    """Lists in order, nested to the right."""
+    """Returns the concatenation of lists, nested to the right."""
     if len(parts) == 2:
         return "%s ++ %s" % tuple(parts)
     return "%s ++ (%s)" % (parts[0], joined(parts[1:]))
 
 
 def split(n, k=1):
-    """The equation of the input before the sequence, made of those of the children."""
+    """Returns the equation of the input before the sequence, from those of the children."""
     if k == n:
         return "h%d.0" % k
     rest = split(n, k + 1)
@@ -67,7 +67,7 @@ def reads(n):
 
 
 def again(n, failing):
-    """A case of a run, and that each child is in a state that is known again."""
+    """Returns the pattern of a case, and the proofs that each child's new state is known again."""
     last = failing or n
     parts = ["o%d" % k for k in upto(last - 1 if failing else n)] + (["k"] if failing else [])
     parts += list(BETWEEN[: last - 1]) + ["r%d" % k for k in upto(last)]
@@ -78,7 +78,7 @@ def again(n, failing):
 
 
 def left(k):
-    """What is left behind the child k, from what was left before the first."""
+    """Returns the proof of the rest after the child k."""
     return "must%d.leaves _ _ _ _ %s r%d" % (k, left_behind(k - 1), k)
 
 
@@ -109,10 +109,10 @@ def leaves(n):
     return "\n".join(lines)
 
 
-# Lemmas stand for the lengths that something cites.
+# The lengths whose lemmas are cited.
 CITED = (4, 5)
 
-SEQUENCES = """-- A sequence of parsers that read does so: its output shows what theirs show, in order.
+SEQUENCES = """-- Sequences of parsers that satisfy `ReadsShown` satisfy it too: the tokens of a sequence's output are those of its members' outputs, concatenated.
 -- {head}
 use Rattle.std.specs.Prelude.{{List, ◌++◌}}
 use Rattle.std.proofs.Common.{{ap, append_assoc, inl, inr, subst, sym, ◌∙◌}}
@@ -124,7 +124,7 @@ use Rattle.winnow_core.specs.Sequence.Known.{{{known}}}
 {family}
 """
 
-SEQUENCES_LEAVE = """-- A sequence of parsers, each of which must leave what the next one begins with, must leave what the last one does.
+SEQUENCES_LEAVE = """-- Sequences of parsers that satisfy `MustLeave`, each on the rest of the one before, satisfy it too.
 -- {head}
 use Rattle.std.specs.Prelude.{{List}}
 use Rattle.std.proofs.Common.{{inl, inr}}
@@ -146,12 +146,12 @@ def write_reads():
         SEQUENCES,
         runs=runs,
         known=", ".join("sequence%d_ok" % n for n in some),
-        family="\n\n".join("-- %s children\n%s" % (NUMBER[n], reads(n)) for n in some),
+        family="\n\n".join("-- Sequences of %s.\n%s" % (NUMBER[n], reads(n)) for n in some),
     )
     write(
         core + "SequencesLeave.antt",
         SEQUENCES_LEAVE,
         runs=runs,
         known="\n".join("use Rattle.winnow_core.specs.Sequence.Known.{sequence%d_ok, sequence%d_err}" % (n, n) for n in some),
-        family="\n\n".join("-- %s children\n%s" % (NUMBER[n], leaves(n)) for n in some),
+        family="\n\n".join("-- Sequences of %s.\n%s" % (NUMBER[n], leaves(n)) for n in some),
     )
