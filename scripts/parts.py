@@ -1,11 +1,11 @@
-"""The parts that a program may do without, and the crate `winnow` without some of them."""
+"""The optional parts of the library, and the crate `winnow` without some of them."""
 import re
 
 from laid import library
 from registry.common import imports, read
 
-# The crates of each part. Of `laws` those are taken that stand on nothing but what is taken. What
-# no part names is always taken: streams, errors, tokens, choice, sequence and repetition.
+# The crates of each part. A crate of `laws` is included only if its dependencies are. Crates in no
+# part are always included: streams, errors, tokens, choice, sequence and repetition.
 PARTS = {
     "text": ["winnow_ascii", "winnow_numbers"],
     "escapes": ["winnow_escapes"],
@@ -19,11 +19,11 @@ USE = re.compile(r"^pub use ([\w:]+)::(\w+|\{[^}]*\});\n", re.MULTILINE)
 
 
 def taken(parts):
-    """The lines of `crates.txt` that name the library's crates, where these parts are wanted."""
+    """Returns the lines of `crates.txt` for the library's crates with these parts."""
     lines = library()
     gone = {crate for part, names in PARTS.items() if part not in parts for crate in names}
     on = {crate: [it for it in line.partition(":")[2].split() if it in lines] for crate, line in lines.items()}
-    # What stands on a crate that is gone goes too, but the crate that names all.
+    # Crates that depend on a removed crate are removed too, except `winnow`.
     while lacking := {it for it in on if it not in gone | {"winnow"} and gone.intersection(on[it])}:
         gone |= lacking
     found = {crate: line for crate, line in lines.items() if crate not in gone}
@@ -32,8 +32,8 @@ def taken(parts):
 
 
 def cut_module(path, gone, lost=()):
-    """Leaves out of a module what it has of the crates that are gone, and of the names that the
-    root lost. It gives the names that went. A module of which nothing is left goes too."""
+    """Removes from a module the re-exports from the crates `gone`, and the names `lost` from the
+    root. Returns the removed names. A module that is then empty is deleted."""
     went = []
 
     def kept(found):
@@ -57,10 +57,10 @@ def cut_module(path, gone, lost=()):
 
 
 def cut_specs(path, gone):
-    """Leaves out of a list of modules of specs those of the crates that are gone, and comments
-    that have nothing below them then."""
+    """Removes from a list of specs the modules of the crates `gone`, and comments of empty
+    groups."""
     kept, about = [], []
-    # A comment, or what is named: one line, and more where they are indented.
+    # A comment, or an item: one line, and the indented lines after it.
     for item in re.findall(r"(?:^--.*\n)+|^[^\s-].*\n(?:^ .*\n)*", read(path), re.MULTILINE):
         found = re.match(r"pub use Rattle\.(\w+)\.", item)
         if item.startswith("--"):
@@ -72,9 +72,9 @@ def cut_specs(path, gone):
 
 
 def cut(folder, gone):
-    """Leaves out of the crate `winnow`, in a folder, what it has of the crates that are gone."""
+    """Removes from the crate `winnow`, in a folder, everything from the crates `gone`."""
     root, prelude = folder / "src/lib.rt", folder / "src/prelude.rt"
-    # What lies in a module goes before the module, which names it.
+    # Submodules first: their parents declare them.
     for path in sorted((folder / "src").rglob("*.rt"), key=lambda it: -len(it.parts)):
         if path not in (root, prelude):
             cut_module(path, gone)
