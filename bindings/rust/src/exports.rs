@@ -605,14 +605,14 @@ pub struct TomlDocument {
 }
 
 extern "C" {
-    /// Stands in a library of this version and with these declarations alone.
+    /// A symbol that only a library of this version and with these declarations has.
     #[link_name = "pergidau_0_0_0_declared_a22c8061"]
     static VERSION_LINKED: c_char;
 
-    /// The version of the library that is linked.
+    /// Returns the version of the linked library.
     pub fn pergidau_version() -> *const c_char;
 
-    /// 1 where the library that is linked was proved, else 0.
+    /// Returns 1 if the linked library was proved, or 0.
     pub fn pergidau_is_proved() -> c_int;
 
     /// The value of a formula of whole numbers, as `-2 * 3! ^ 2`.
@@ -1199,15 +1199,15 @@ extern "C" {
     ) -> u32;
 }
 
-/// A place in the library that can be shared between threads: nothing is read there.
+/// A pointer into the library that threads can share, since it is never dereferenced.
 #[repr(transparent)]
 pub struct Linked(*const c_char);
 
-// SAFETY: the pointer is never read through.
+// SAFETY: the pointer is never dereferenced.
 unsafe impl Sync for Linked {}
 
-/// Has each program with this crate link with a library of this version alone.
+/// Makes programs with this crate link only with a library of this version.
 #[used]
-// SAFETY: nothing is read there. Compilers before 1.82 ask for the block.
+// SAFETY: it is not dereferenced. Compilers before 1.82 require the block.
 #[allow(unused_unsafe)]
 pub static LINKED: Linked = Linked(unsafe { core::ptr::addr_of!(VERSION_LINKED) });
