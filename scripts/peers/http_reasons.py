@@ -1,4 +1,4 @@
-"""The table of differences of heads in `docs/READERS.md`, and how each row is seen in a text."""
+"""The table of differences of heads in `docs/READERS.md`, and a test for each row."""
 import functools
 import json
 import re
@@ -6,7 +6,7 @@ import subprocess
 
 REQUEST, RESPONSE = 1, 2
 
-# The rows of the table: which kind, the text, and who takes it of here, httparse and llhttp.
+# The rows of the table: the kind, the text, and which of this library, httparse and llhttp accept it.
 ROWS = {
     "a line feed alone as a line end": (REQUEST, "GET / HTTP/1.1\nA: b\n\n", "nyn"),
     "empty lines before the first line": (REQUEST, "\r\n\r\nGET / HTTP/1.1\r\n\r\n", "nyy"),
@@ -47,52 +47,52 @@ ROWS = {
 
 
 def fields_of(text):
-    """The names, in small letters, and values of field lines."""
+    """Returns the lower-case names and the values of field lines."""
     lines = text.split(b"\n")[1:]
     pairs = (line.partition(b":") for line in lines if b":" in line)
     return [(name.lower(), value.strip(b" \t\r")) for name, _, value in pairs]
 
 
 def lengths_of(text):
-    """The values of the Content-Length fields."""
+    """Returns the values of the Content-Length fields."""
     return [value for name, value in fields_of(text) if name == b"content-length"]
 
 
 def codings_of(text):
-    """The values of the Transfer-Encoding fields."""
+    """Returns the values of the Transfer-Encoding fields."""
     return [value for name, value in fields_of(text) if name == b"transfer-encoding"]
 
 
 def words(text):
-    """The words of the first line."""
+    """Returns the words of the first line."""
     return text.lstrip(b"\r\n").split(b"\n")[0].strip(b"\r").split(b" ")
 
 
 def version_of(text):
-    """The version in the first line."""
+    """Returns the version in the first line."""
     found = re.search(rb"HTTP/(\d\.\d)", text)
     return found.group(1) if found else b""
 
 
 def has_no_body(text):
-    """Whether a response has a status that has no body."""
+    """Returns whether a response has a status without a body."""
     return bool(re.match(rb"HTTP/\d\.\d (1\d\d|204|304)", text))
 
 
 @functools.cache
 def methods():
-    """The methods that llhttp knows."""
+    """Returns the methods that llhttp knows."""
     said = subprocess.run(["node", "--no-deprecation", "-p",
                            "JSON.stringify(process.binding('http_parser').allMethods)"],
                           stdout=subprocess.PIPE, check=True)
     return json.loads(said.stdout)
 
 
-# What llhttp takes for no length, though white space may stand behind a value.
+# A length that llhttp rejects, though whitespace may follow a value.
 TAB_BEHIND = re.compile(rb"(?im)^content-length:[ \t]*\d+ *\t")
 
-# Why one takes a head that the other refuses: a row of the table of differences, and what is so of
-# the text then. First those for which this library takes it.
+# The reasons why one accepts a head that the other rejects: a row of the table of differences, and a
+# test of the text. First the reasons why only this library accepts it.
 COUNTED = {
     "two Content-Length fields": lambda text: len(lengths_of(text)) > 1,
     "Content-Length as a list": lambda text: any(b"," in it for it in lengths_of(text)),
