@@ -10,10 +10,10 @@ A public parser is a struct in a file of its own under `src/*/impls/` of a libra
 
 - a row in `docs/PARSERS.md` with a link to its definition, a file of `specs/`;
 - a test: a function of `tests/` whose name starts with the parser's, or a row labelled with it;
-- an edit that the prover must reject, in `edits.txt` or `must-fail/` of its crate or of a dependency.
-  The edit's name starts with the parser's, and not with a longer parser's;
-- a call in a test, so that it is type-checked at a concrete type. Adapters of `Parser` and methods of
-  streams need a call too.
+- an edit that the prover must reject, in `edits.txt` or `must-fail/` of its crate or of a
+  dependency. The edit's name starts with the parser's, and not with a longer parser's;
+- a call in a test, so that it is type-checked at a concrete type. Adapters of `Parser` and methods
+  of streams need a call too.
 
 It fails if one of these is missing.
 """
@@ -89,7 +89,7 @@ def uncalled():
 
 
 def lacks(crate, name, table, names, edited, on):
-    """Returns descriptions of what is missing for a parser."""
+    """Returns descriptions of a parser's missing items."""
     if name not in table:
         yield "a row in docs/PARSERS.md"
     elif not table[name] or not all((TOP / link).is_file() for link in table[name]):

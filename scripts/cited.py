@@ -3,13 +3,13 @@
 
     python3 scripts/cited.py
 
-It follows citations from the roots, and prints FILE:LINE and the name of each declaration of `specs/`
-and `proofs/` that it does not reach, and of each such law. The roots are the sources, with their
-clauses and the names in `using(..)`; the answers and invariants of their functions; and the names in
-`scripts/cited.allow`, each with a reason. A law, a function of a file of laws, is a root if code
-calls it. Imports and the re-exports of the crate `winnow` are not citations. A lemma of a ruleset is
-cited if the ruleset is. It fails if a declaration is not cited, or if `cited.allow` has a name that
-is cited or does not exist.
+It follows citations from the roots, and prints FILE:LINE and the name of each declaration of
+`specs/` and `proofs/` that it does not reach, and of each such law. The roots are the sources, with
+their clauses and the names in `using(..)`; the answers and invariants of their functions; and the
+names in `scripts/cited.allow`, each with a reason. A law, a function of a file of laws, is a root
+if code calls it. Imports and the re-exports of the crate `winnow` are not citations. A lemma of a
+ruleset is cited if the ruleset is. It fails if a declaration is not cited, or if `cited.allow` has
+a name that is cited or does not exist.
 """
 import collections
 import sys

@@ -193,7 +193,7 @@ def place(rows):
 
 
 def end(box, others, other):
-    """Returns the x coordinate where a line ends on a box: lines are spread over its width."""
+    """Returns the x coordinate of a line's end on a box: lines are spread over its width."""
     if not box.names:
         return box.x
     some = sorted(others, key=lambda it: it.x)

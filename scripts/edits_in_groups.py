@@ -4,8 +4,8 @@
 Then it checks groups of edits of different functions, each over a copy of the first check. An edit
 is rejected if the prover does not prove a goal of a function that it changes (`edits_refusals.py`
 parses the messages). An edit without a result in its group is tried separately. So is an edit
-outside the bodies of functions, for instance of the head of an impl: first with the functions of its
-module, then, if none of these is rejected, with the whole crate.
+outside the bodies of functions, for instance of the head of an impl: first with the functions of
+its module, then, if none of these is rejected, with the whole crate.
 """
 import os
 import re
@@ -296,8 +296,8 @@ class Trial:
         return bool(refusal)
 
     def alone(self, edit):
-        """Tries one edit with its functions; if it changes none, with those of its module; without a
-        result, with the whole crate."""
+        """Tries one edit with its functions; if it changes none, with those of its module; without
+        a result, with the whole crate."""
         texts = edit.applied({}, self.folder)
         if not edit.names and "" not in edit.modules and self.by_modules(edit, texts):
             return
@@ -326,7 +326,8 @@ class Trial:
 
 
 def link_all(of, to):
-    """Copies an incremental folder by hard links: a check replaces files, and never changes them."""
+    """Copies an incremental folder by hard links: a check replaces files, and never changes
+    them."""
 
     def copy(one, other):
         try:

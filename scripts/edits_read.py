@@ -7,9 +7,9 @@ A crate's edits are in its file `edits.txt`, separated by empty lines:
     old:     !word
     new:     word
 
-After its name, an edit has a file of the crate, a text that occurs once in it, within a line, and the
-replacement. More such pairs may follow, also for other files. In `must-fail/`, which the kit reads,
-each edit is a file, without the line of its name.
+After its name, an edit has a file of the crate, a text that occurs once in it, within a line, and
+the replacement. More such pairs may follow, also for other files. In `must-fail/`, which the kit
+reads, each edit is a file, without the line of its name.
 """
 import pathlib
 import re

@@ -1,7 +1,8 @@
 """Parses the prover's messages about an edit.
 
-An edit is rejected if the prover does not prove a goal of a function that the edit changes. It is no
-rejection if a function waits for another one, or if its proof uses a name that the edit removed.
+An edit is rejected if the prover does not prove a goal of a function that the edit changes. An edit
+is not rejected if a function waits for another one, or if its proof uses a name that the edit
+removed.
 
 A stored answer proves its goal for one body, so it may reject a correct edit too: such a rejection
 only means that the answer is stale. A rejection means more if the prover leaves open a goal that it
@@ -11,8 +12,8 @@ two.
 import re
 from collections import namedtuple
 
-# An error in a proof because a name is missing, or in a proof that cites such a proof. For a missing
-# goal, the words after its module differ between kits.
+# An error in a proof because a name is missing, or in a proof that cites such a proof. For a
+# missing goal, the words after its module differ between kits.
 NAMES = re.compile(
     r"has no field|is not in scope|has no `|was not admitted|`goal\.[^`]*`: module `"
     r"|, which was rejected, was not checked"
@@ -47,8 +48,8 @@ def words_of(note):
 
 
 def proofs_of(name):
-    """Returns a pattern of the path of a function's proofs: its folder, or the folder of its cycle of
-    calls, whose name has all functions of the cycle, each after a plus."""
+    """Returns a pattern of the path of a function's proofs: its folder, or the folder of its cycle
+    of calls, whose name has all functions of the cycle, each after a plus."""
     *above, last = (re.escape(it) for it in name.split("::")[1:])
     folders = "".join(it + "/" for it in above)
     return rf"\./proofs/{folders}(\+([^/\s]*\+)?{last}(\+[^/\s]*)?|{last})/"
@@ -62,7 +63,7 @@ def errors_at(said, at):
 
 
 def by_search(told, stale):
-    """Returns the rejection by open goals; `stale` are answers that use missing names."""
+    """Returns the rejection by open goals; `stale` are errors of missing names in stored answers."""
     false = [it for it in told if FALSE in it]
     return Refusal((false or told)[0], bool(stale) and not false)
 

@@ -14,9 +14,9 @@ generates
 
 The documentation has the requirements for callers, and so has each of these files.
 
-The version is that of `VERSION`. It is in the name of a symbol, with a checksum of the declarations.
-The header and the Rust crate refer to this symbol, so they link only with a library of this version
-and with these declarations.
+The version is that of `VERSION`. It is in the name of a symbol, with a checksum of the
+declarations. The header and the Rust crate refer to this symbol, so they link only with a library
+of this version and with these declarations.
 """
 import dataclasses
 import hashlib

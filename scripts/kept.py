@@ -1,10 +1,11 @@
 #!/usr/bin/env python3
-"""Copies proofs that `rt ci` kept on this machine to the crates of a folder: `scripts/kept.py FOLDER`.
+"""Copies proofs that `rt ci` kept on this machine to the crates of a folder:
+`scripts/kept.py FOLDER`.
 
-The folder is one that another script created. Then `rt` proves only the other crates there. Kits from
-13f on keep what passed `rt ci`; with an older kit nothing is copied. A crate's proof is copied if all
-its dependencies have theirs, or are built in the folder already. The kit checks that the crate is the
-same: code, specs, proofs, handles, and the libraries below.
+The folder is one that another script created. Then `rt` proves only the other crates there. Kits
+from 13f on keep what passed `rt ci`; with an older kit nothing is copied. A crate's proof is copied
+if all its dependencies have theirs, or are built in the folder already. The kit checks that the
+crate is the same: code, specs, proofs, handles, and the libraries below.
 """
 import functools
 import pathlib

@@ -3,10 +3,11 @@
 
     python3 scripts/lint.py
 
-The comment of each public item, `///` in a crate's `src/`, must begin with a capital letter or a code
-span, end its first paragraph as a sentence, and mention each other name of the item once ("Known as
-`tag` in nom"). Every public item of the library must have one. README.md may have at most 700 words
-outside of its code blocks, and at most 25 nonempty lines of code. It fails if there is an error.
+The comment of each public item, `///` in a crate's `src/`, must begin with a capital letter or a
+code span, end its first paragraph as a sentence, and mention each other name of the item once
+("Known as `tag` in nom"). Every public item of the library must have one. README.md may have at
+most 700 words outside of its code blocks, and at most 25 nonempty lines of code. It fails if there
+is an error.
 """
 import pathlib
 import re
@@ -21,8 +22,8 @@ MOST_WORDS, MOST_CODE = 700, 25
 
 
 def comments(path):
-    """Returns the documentation of a file's public items: the number of the first line, the item and
-    the comment's lines."""
+    """Returns the documentation of a file's public items: the number of the first line, the item
+    and the comment's lines."""
     comment, start = [], 0
     for number, line in enumerate(read(path).splitlines(), 1):
         text = line.strip()

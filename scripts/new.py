@@ -7,9 +7,9 @@
 
 FILE gets the function NAME. The templates are two parsers of the library under the new name, `any`
 for a leaf and `opt` for a combinator, with their proofs. So the new files are proved unchanged, and
-can then be changed step by step. A test, an edit and a note are created too, the lists and tables of
-parsers are updated, and each file is formatted, so that the checks of names pass. It prints what to
-change.
+can then be changed step by step. A test, an edit and a note are created too, the lists and tables
+of parsers are updated, and each file is formatted, so that the checks of names pass. It prints what
+to change.
 """
 import pathlib
 import re
@@ -55,8 +55,8 @@ class Place:
 
 
 def renamed(text, of, to):
-    """Returns a text of the model with the new names, in code and in code spans of comments.
-    Placeholders stand for the new names until the end, since these may begin with the model's."""
+    """Returns the model's text with the new names, in code and in code spans of comments. First it
+    writes placeholders, since the new names may begin with the model's."""
     kind, new, name = camel(of.name), "\0", "\1"
     text = text.replace(f"Rattle.{of.crate.name}.specs.{kind}", f"Rattle.{to.crate.name}.specs.{new}")
     text = text.replace(f"specs.declared.{of.module}.impls.{of.name}.", f"specs.declared.{to.module}.impls.{name}.")

@@ -114,7 +114,8 @@ def with_module(text, name):
 
 
 def beside(kind, place):
-    """Returns the other files of a parser with their texts; first the test, the edit and the note."""
+    """Returns the other files of a parser with their texts; first the test, the edit and the
+    note."""
     test, text, root, named = test_of(kind, place)
     what, old, new = EDIT[kind]
     file = place.impls.relative_to(place.crate)

@@ -2,8 +2,8 @@
 
 The model is `examples::settings_file`, the parser of docs/FIRST_PROOF.md, with its specs, answers,
 tests and edits under other names. So the new crate is proved unchanged. The script also adds its
-lines to `crates.txt`, ARCHITECTURE, CONTRIBUTING, GUARANTEES and the lists of `scripts/`, and writes
-a note.
+lines to `crates.txt`, ARCHITECTURE, CONTRIBUTING, GUARANTEES and the lists of `scripts/`, and
+writes a note.
 """
 import re
 import subprocess
@@ -109,7 +109,7 @@ def fault_of_name(name):
 
 
 def renamed(text, crate):
-    """Returns a text of the model with the new names."""
+    """Returns the model's text with the new names."""
     for old, new in RENAMED.items():
         text = text.replace(old, new.replace("FORMAT", crate))
     return text

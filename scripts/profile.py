@@ -5,8 +5,8 @@
 
 CRATE is a crate's name, or the folder of a crate of another repository. Times are computed from the
 modification times of the files that `rt check` wrote to `out/incremental`: a module took the time
-since the one before. So they are wall times, and correct for a clean check with one job on a machine
-with little other load:
+since the one before. So they are wall times, and correct for a clean check with one job on a
+machine with little other load:
 
     cd crates/CRATE && rm -rf out/incremental && rt check --jobs 1
 
@@ -15,8 +15,8 @@ the others slower. A check after an edit keeps the times of unchanged modules, s
 two checks is counted for the first module of the second.
 
 A function's row includes all modules that the kit generates for it, its answers and its contract,
-and shows which of these took most. Other rows are files of `specs/` and `proofs/`, by module. At most
-thirty rows are printed; with `--all`, all.
+and shows which of these took most. Other rows are files of `specs/` and `proofs/`, by module. At
+most thirty rows are printed; with `--all`, all.
 """
 import argparse
 import collections

@@ -1,6 +1,6 @@
 """The kit's module `rt`, for scripts that use the functions of its commands. As a program, in the
-folder of a crate, it is `rt try` without the check that `rt` runs in parallel: that check gives hints
-about reserved names, and takes as long again."""
+folder of a crate, it is `rt try` without the check that `rt` runs in parallel: that check gives
+hints about reserved names, and takes as long again."""
 import importlib.machinery
 import importlib.util
 import os

@@ -1,5 +1,5 @@
-"""The files that `scripts/vendor` writes in addition to the crates: their origin, their licence, the
-commands `prove` and `run`, and `.gitignore`; and its last message."""
+"""The files that `scripts/vendor` writes in addition to the crates: their origin, their licence,
+the commands `prove` and `run`, and `.gitignore`; and its last message."""
 import hashlib
 import os
 import shutil
@@ -26,7 +26,8 @@ Next steps, and their costs:
   rt check     in your crate's folder, last: proves the crate. The first time it proves the library,
                which takes {minutes} CPU minutes; `rt ci` proves everything each time
 """
-MORE = """               (the parser of a format is proved if your crate depends on it: all that were
+MORE = """               (the parser of a format is proved if your crate depends on it: all that
+were
                copied here take about {minutes} more CPU minutes)
 """
 LESSON = "\ndocs/FIRST_PROOF.md of the library explains a parser and its proof, file by file.\n"

@@ -124,8 +124,8 @@ def example(line):
 
 
 def is_fixed(line):
-    """Returns whether a line cannot be broken: it names or imports from a module of the checker, is a
-    link in a comment, or is a parser as a type."""
+    """Returns whether a line cannot be broken: it names or imports from a module of the checker, is
+    a link in a comment, or is a parser as a type."""
     return bool(re.fullmatch(r"(pub |ghost )*use [^{}]*\{?| *//[/!] \S+| *⟦<[^⟧]* as [^⟧]*(⟧\.meaning \})?", line))
 
 

@@ -30,8 +30,8 @@ def without_comments(text):
 
 
 def statements(text):
-    """Returns the statements at the margin of a file or of a block: the line, the text, and the heads
-    of the enclosing blocks."""
+    """Returns the statements at the margin of a file or of a block: the line, the text, and the
+    heads of the enclosing blocks."""
     parts, begun, lines, around = [(0, "")], 0, [], ""
     head, is_head, is_new = "", False, False
     for number, line in enumerate(without_comments(text).splitlines(), 1):
@@ -134,7 +134,7 @@ class Module:
         item.around = around
 
     def is_answer(self, name, text):
-        """Returns whether this answers a goal: it names the goal, or is an invariant."""
+        """Returns whether this proves a goal: it names the goal, or is an invariant."""
         return self.file.stem != "Answers" or " goal" in text or name.startswith("invariant")
 
     def clause_of(self, text):

@@ -126,7 +126,7 @@ ONE_CLAIMS = {
 
 
 def member_claims(n):
-    """Returns the ghost members for what a tuple of n parsers says and claims."""
+    """Returns the ghost members `says`, `said`, `claim` and `claimed` of a tuple of n parsers."""
     word = "one" if n == 1 else "sequence%d" % n
     says, said = ("%s_%s %s" % (word, it, spaced("(P#.%s s.@)" % it, n)) for it in ("says", "said"))
     member = "    ghost %s = { λ s. %s };"

@@ -1,4 +1,5 @@
-"""CSV compared with Python's `csv`, in dialects of four delimiters, two quotes and three line endings.
+"""CSV compared with Python's `csv`, in dialects of four delimiters, two quotes and three line
+endings.
 
 Python's strict reader treats both carriage returns and line feeds as line endings, and accepts a
 quote in the middle of a field. So texts are split into lines here, and texts with such a quote, or

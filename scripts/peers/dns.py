@@ -82,7 +82,8 @@ def address(data, place, size):
 
 
 def decoded_data(data, place, kind, kind_class):
-    """Returns the data from an offset on, by their type. The message is truncated after the data."""
+    """Returns the data from an offset on, by their type. The message is truncated after the
+    data."""
     if place == len(data) and kind_class in (254, 255):
         return summed(b"")
     if kind in (2, 5, 12):

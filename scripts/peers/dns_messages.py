@@ -1,5 +1,5 @@
-"""DNS messages: a header, questions, and records of each type, with compressed and other names. Many
-are then changed in a few bytes, or truncated."""
+"""DNS messages: a header, questions, and records of each type, with compressed and other names.
+Many are then changed in a few bytes, or truncated."""
 import struct
 
 SIGNS = b"abcXYZ-09.\\\" \0\xff"

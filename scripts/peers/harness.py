@@ -48,8 +48,8 @@ class Comparison:
     """A comparison. `rows` generates inputs from a random number generator and a count. `given`
     encodes an input for the program, which prints a line for each one. `peer` takes all inputs and
     returns the peer's results. `judge` takes an input and both results. It returns True if they
-    agree, False if they differ, a text with the reason if they differ as intended, and None if there
-    is nothing to compare. `kind` returns the kind that an input is counted as."""
+    agree, False if they differ, a text with the reason if they differ as intended, and None if
+    there is nothing to compare. `kind` returns the kind that an input is counted as."""
 
     name: str
     beside: str
@@ -68,7 +68,7 @@ class Comparison:
 # ---- texts
 
 def some(rng, options, sizes):
-    """Returns a random text of these options, of one of these sizes."""
+    """Returns a random concatenation of these options, of one of these sizes."""
     return "".join(rng.choices(options, k=rng.choice(sizes)))
 
 

@@ -3,8 +3,8 @@
 Python accepts more than the standard: several spaces, single line feeds, names that are not tokens,
 folded lines. So the results are compared only if a head is accepted here: Python must then return
 the same words and fields, and the same length of a response's body. Python does not parse lists of
-lengths and codings, which are left out if they are rejected here, and skips responses of status 100.
-Whitespace around reasons is ignored.
+lengths and codings, which are left out if they are rejected here, and skips responses of status
+100. Whitespace around reasons is ignored.
 
 Responses are also parsed incrementally, byte by byte: when a response is complete, Python must have
 consumed the same number of bytes; if none is found, the parser of complete input must not find one

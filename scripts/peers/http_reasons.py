@@ -6,7 +6,8 @@ import subprocess
 
 REQUEST, RESPONSE = 1, 2
 
-# The rows of the table: the kind, the text, and which of this library, httparse and llhttp accept it.
+# The rows of the table: the kind, the text, and which of this library, httparse and llhttp accept
+# it.
 ROWS = {
     "a line feed alone as a line end": (REQUEST, "GET / HTTP/1.1\nA: b\n\n", "nyn"),
     "empty lines before the first line": (REQUEST, "\r\n\r\nGET / HTTP/1.1\r\n\r\n", "nyy"),
@@ -91,8 +92,8 @@ def methods():
 # A length that llhttp rejects, though whitespace may follow a value.
 TAB_BEHIND = re.compile(rb"(?im)^content-length:[ \t]*\d+ *\t")
 
-# The reasons why one accepts a head that the other rejects: a row of the table of differences, and a
-# test of the text. First the reasons why only this library accepts it.
+# The reasons why one accepts a head that the other rejects: a row of the table of differences, and
+# a test of the text. First the reasons why only this library accepts it.
 COUNTED = {
     "two Content-Length fields": lambda text: len(lengths_of(text)) > 1,
     "Content-Length as a list": lambda text: any(b"," in it for it in lengths_of(text)),

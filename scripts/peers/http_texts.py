@@ -60,7 +60,7 @@ def body(rng):
 
 
 def texts(made):
-    """Returns a generator of texts of one of these kinds, as bytes."""
+    """Returns a generator of random inputs of one of these kinds, as bytes."""
 
     def rows(rng, count):
         for _ in range(count):

@@ -1,8 +1,8 @@
-"""INI compared with Python's `configparser`: small documents in many dialects, and the files of this
-machine with names of INI files, each in Python's dialect and in one with keys without values.
+"""INI compared with Python's `configparser`: small documents in many dialects, and the files of
+this machine with names of INI files, each in Python's dialect and in one with keys without values.
 
-The values are those of a `RawConfigParser` with the same marks, which accepts duplicate sections and
-keys. Differences for a reason in the table of `format_ini` are counted.
+The values are those of a `RawConfigParser` with the same marks, which accepts duplicate sections
+and keys. Differences for a reason in the table of `format_ini` are counted.
 """
 import configparser
 import os

@@ -1,5 +1,5 @@
-"""JSON compared with Python's `json`, which is set to reject `NaN` and `Infinity`, which are not JSON,
-and strings with an unpaired surrogate, which is not a character.
+"""JSON compared with Python's `json`, which is set to reject `NaN` and `Infinity`, which are not
+JSON, and strings with an unpaired surrogate, which is not a character.
 
 Both print values in the same way: numbers unchanged, strings as the numbers of their characters,
 members in order.

@@ -8,8 +8,8 @@ pair, which is not a character.
 HEX = "0123456789abcdefABCDEF"
 DIGITS = "0123456789"
 WORDS = {"n": "null", "t": "true", "f": "false"}
-# Python reports the start of a token or an escape, and the error is a later character in it: the text
-# up to that character can be continued to JSON.
+# Python reports the start of a token or an escape, and the error is a later character in it: the
+# text up to that character can be continued to JSON.
 KINDS = [
     ("a word that breaks off", "Expecting value"),
     ("a number that breaks off", "Expecting value"),

@@ -1,10 +1,10 @@
-"""Heads of HTTP/1.1 compared with llhttp, from `node` without lenient flags, and with httparse, from
-Debian's package in its default configuration.
+"""Heads of HTTP/1.1 compared with llhttp, from `node` without lenient flags, and with httparse,
+from Debian's package in its default configuration.
 
 If only one accepts a text, there must be a reason: a row of the table of differences in
-`docs/READERS.md` that applies to the text. If both accept it, the method, the target, the status, the
-fields and the length of the body must be the same; httparse does not report the length. The texts of
-the table's rows come first.
+`docs/READERS.md` that applies to the text. If both accept it, the method, the target, the status,
+the fields and the length of the body must be the same; httparse does not report the length. The
+texts of the table's rows come first.
 """
 import atexit
 import functools
@@ -40,7 +40,7 @@ MADE = {REQUEST: known_request, RESPONSE: response}
 
 
 def rows_of(kind):
-    """Returns a generator of texts of a kind, first those of the table, each with the table's cells
+    """Returns a generator of inputs of a kind, first those of the table, each with the table's cells
     for this library, httparse and llhttp, or without cells."""
 
     def rows(rng, count):

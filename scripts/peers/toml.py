@@ -1,10 +1,10 @@
-"""TOML compared with Python's `tomllib`: generated texts, and the Cargo and Python manifests of this
-machine.
+"""TOML compared with Python's `tomllib`: generated texts, and the Cargo and Python manifests of
+this machine.
 
 If `format_toml` accepts the lines, `tomllib` returns the same tables and values, or reports a
 duplicate. If it rejects them, so does `tomllib`, or the text has something that `format_toml` does
-not support, found by patterns: integers of more than 64 bits, or too deeply nested arrays and tables.
-Seconds of 60 and a year of 0 are accepted here, by RFC 3339, and not by `tomllib`.
+not support, found by patterns: integers of more than 64 bits, or too deeply nested arrays and
+tables. Seconds of 60 and a year of 0 are accepted here, by RFC 3339, and not by `tomllib`.
 """
 import datetime
 import pathlib
@@ -68,8 +68,8 @@ def read_key(text, at):
 
 
 def put(table, names, value):
-    """Puts a value into a table at the path of its names, which may lead through the last elements of
-    arrays of tables."""
+    """Puts a value into a table at the path of its names, which may lead through the last elements
+    of arrays of tables."""
     for one in names[:-1]:
         table = table.setdefault(one, {})
         table = table[-1] if isinstance(table, list) else table
