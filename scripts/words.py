@@ -157,7 +157,7 @@ def paragraphs(kind, text):
 
 
 def plain(text):
-    """Returns a text of the same length with code spans and link targets blanked out."""
+    """Returns the text with code spans and link targets blanked out; the length stays."""
     text = SPAN.sub(lambda it: "X".ljust(len(it[0]), "\0"), text)
     return LINK.sub(lambda it: "]".ljust(len(it[0]), "\0"), text)
 
