@@ -140,7 +140,8 @@ class Trial:
 
     def __init__(self, lib, laid, folder, edits, say):
         self.lib, self.laid, self.folder, self.edits, self.say = lib, laid, folder, edits, say
-        # The names of the edits that are not rejected, and of those that only an answer rejects.
+        # The names of the edits that are not rejected, and of those that only a stored answer
+        # rejects.
         self.missed, self.by_answer = [], []
         # Files of proofs that are left out of a check.
         self.without = ()
@@ -283,7 +284,7 @@ class Trial:
         places = open_goals(said)
         left = [it for it in places if it.path in texts and edit.has(it.path, texts, it.line)]
         told = [it for it in (own_refusal(said, name, left) for name in edit.names) if it]
-        # (A rejection by the prover is stronger than one by an answer.)
+        # (A rejection by the prover is stronger than one by a stored answer.)
         return self.note(edit, min(told, key=lambda it: it.by_answer, default=None))
 
     def note(self, edit, refusal):
@@ -291,7 +292,7 @@ class Trial:
         if refusal:
             if refusal.by_answer:
                 self.by_answer.append(edit.name)
-            by = " by an answer" if refusal.by_answer else ""
+            by = " by a stored answer" if refusal.by_answer else ""
             self.say(edit, f"rejected{by}: {refusal.told[:100]}")
         return bool(refusal)
 

@@ -150,7 +150,7 @@ def judge(row, answer, theirs):
     is_read = answer != "row none"
     if isinstance(theirs, Exception):
         if is_read and re.match("Cannot|Duplicate", str(theirs)):
-            return "something is said again"
+            return "a duplicate key or table"
         if is_read and MORE.search(text):
             return "a second of 60, or a year of 0"
         return not is_read
@@ -158,7 +158,7 @@ def judge(row, answer, theirs):
         if LEFT_OUT.search(text):
             return "an integer of more than 64 bits"
         deep = max(map(depth, theirs.values()), default=0) > level
-        return "deeper than the level" if deep else False
+        return "nested deeper than the limit" if deep else False
     # tomllib replaces CRLF by a line feed.
     return written(theirs) == tables(answer)
 
