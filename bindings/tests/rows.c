@@ -1025,7 +1025,7 @@ static void test_library(void)
         "a length is more than PTRDIFF_MAX bytes",
         "nothing more is told: what stands there is said at the function",
         "the number is no integer, or does not fit as many bits as are asked for",
-        "this is no code of Pergidau",
+        "unknown result code",
     };
     for (int code = 0; code <= PERGIDAU_NO_INTEGER + 1; code++) {
         const char *message = pergidau_message((enum pergidau_code)code);
