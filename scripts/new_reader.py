@@ -1,15 +1,8 @@
 """Creates the crate `format_NAME` for `./x new reader NAME`: the parser of a format.
 
-<<<<<<< HEAD
-The model is `examples::settings_file`, the reader of docs/FIRST_PROOF.md, with its specs, answers,
-tests and edits under other names. So what is laid out is proved as it stands. Beside the crate it
-writes its lines in `crates.txt`, ARCHITECTURE, CONTRIBUTING and the lists of `scripts/`, and a note.
-=======
 The model is `examples::settings_file`, the parser of docs/FIRST_PROOF.md, with its specs, answers,
 tests and edits under other names. So the new crate is proved unchanged. The script also adds its
-lines to `crates.txt`, ARCHITECTURE, CONTRIBUTING, GUARANTEES and the lists of `scripts/`, and
-writes a note.
->>>>>>> e2e7c985666d1fa0320eca10624115f1597377e5
+lines to `crates.txt`, ARCHITECTURE, CONTRIBUTING and the lists of `scripts/`, and writes a note.
 """
 import re
 import subprocess
@@ -52,11 +45,7 @@ PAGE = """# {crate}
 
 A parser of {what}.
 
-<<<<<<< HEAD
 Depends on `winnow`.
-=======
-**Theorem.** Unless an allocation fails, `parse_file` returns `Ok` if and only if the bytes are settings as defined in `specs/Settings.antt`, with their keys and values.
->>>>>>> e2e7c985666d1fa0320eca10624115f1597377e5
 
 Begin with:
 
@@ -80,13 +69,8 @@ LINES = [
     (
         TOP / "scripts/registry/readers.py",
         '    ("INI", "readers", ',
-<<<<<<< HEAD
         '    ("{name}: settings, a line each", "{crate}", "yes",\n'
         '        "exactly"),\n',
-=======
-        '    ("{name}: lines of settings", "{crate}", "yes",\n'
-        '        "`Ok` if and only if the bytes are these settings"),\n',
->>>>>>> e2e7c985666d1fa0320eca10624115f1597377e5
     ),
     (TOP / "scripts/formats.py", "}}\n\n\ndef lines_of", '    "{name}": ["{crate}"],\n'),
 ]
@@ -94,33 +78,17 @@ LINES = [
 COSTS = TOP / "CONTRIBUTING.md"
 HALF = re.compile(r"^(\| `\w+` \| \d+ \| (?:\d+|new) \|) \| \| \|\n", re.MULTILINE)
 FULL = re.compile(r"(?:^\| `\w+` \| \d+ \| (?:\d+|new) \| `\w+` \| \d+ \| (?:\d+|new) \|\n)+", re.MULTILINE)
-<<<<<<< HEAD
-NEXT = """{crate} is laid out. Now change, in this order (docs/FIRST_PROOF.md is the lesson):
-  {at}/specs/Settings.antt: what the format is
-=======
-GUARANTEES = TOP / "docs/GUARANTEES.md"
-ROW = re.compile(r"^\| `parse_settings` of `examples::settings_file`.*\n", re.MULTILINE)
-PROMISE = "| `{crate}::reader::parse_file` returns `Ok` if and only if all of the bytes are of the format, with its parts | `IsTextOf` |\n"
 NEXT = """{crate} is created. Now change, in this order (docs/FIRST_PROOF.md explains the steps):
   {at}/specs/Settings.antt: the definition of the format
->>>>>>> e2e7c985666d1fa0320eca10624115f1597377e5
   {at}/src/reader.rt: the sets and the parser, with its documentation
   {at}/specs/SettingsRead.antt: the grammar of each part, with a lemma
   tests/{crate}/lib.rs: its results, with expected values from another source
   {at}/proofs: the two answers
-<<<<<<< HEAD
-  {at}/edits.txt: a wrong line for each meaning
-  {at}/README.md: what it is, and its theorem
-  scripts/registry/readers.py, docs/ARCHITECTURE.md, crates.txt, changes/{crate}.md: what it reads
-  CONTRIBUTING.md: what its proof costs
-`./x quick` says what is missing; `rt check` in {at} proves it."""
-=======
   {at}/edits.txt: a wrong line for each definition
-  {at}/README.md, and in docs/GUARANTEES.md the row of {crate}
+  {at}/README.md: the page of the crate, with its theorem
   scripts/registry/readers.py, docs/ARCHITECTURE.md, crates.txt, changes/{crate}.md: the format
   CONTRIBUTING.md: the cost of its proof
 `./x quick` reports what is missing; `rt check` in {at} proves it."""
->>>>>>> e2e7c985666d1fa0320eca10624115f1597377e5
 
 
 def fault_of_name(name):
@@ -178,16 +146,6 @@ def put_cost(crate):
     COSTS.write_text(text, encoding="utf-8")
 
 
-<<<<<<< HEAD
-=======
-def put_promise(crate):
-    """Adds the row of the parser's clause after that of the model."""
-    text = read(GUARANTEES)
-    end = ROW.search(text).end()
-    GUARANTEES.write_text(text[:end] + PROMISE.format(crate=crate) + text[end:], encoding="utf-8")
-
-
->>>>>>> e2e7c985666d1fa0320eca10624115f1597377e5
 def lay_reader(name):
     """Creates the crate, and returns the list of what to change."""
     if wrong := fault_of_name(name):

@@ -10,9 +10,8 @@ ghost use Rattle.winnow_ascii.specs.Class.{ClassRuns};
 use crate::ascii::members::{any_of, some_of};
 use stream_errors::parser_error::ParserError;
 use stream_sets::as_char::AsChar;
-use stream_sets::classes::{
-    Alphanumerics, DecimalDigits, HexadecimalDigits, Letters, Multispaces, OctalDigits, Spaces,
-};
+use stream_sets::classes::{Letters, DecimalDigits, HexadecimalDigits, OctalDigits, Alphanumerics};
+use stream_sets::classes::{Spaces, Multispaces};
 use streams::stream::StreamIsPartial;
 
 /// Parses zero or more ASCII letters and returns their slice.
@@ -33,7 +32,7 @@ where
     Input::Token: AsChar,
     Error: ParserError<Input>,
     ensures ran { ClassRuns IsAlpha 0 Input.Token.code Input.seen_as Input.reading Error.form
-        (Input.view input.old) (answer_by Error.kind result) (Input.view input.new) }
+          (Input.view input.old) (answer_by Error.kind result) (Input.view input.new) }
     ensures ends { IsEndOf Input.reading (Input.view input.new) (Input.view input.old) }
 {
     any_of(input, Letters)
@@ -59,7 +58,7 @@ where
     Input::Token: AsChar,
     Error: ParserError<Input>,
     ensures ran { ClassRuns IsAlpha 1 Input.Token.code Input.seen_as Input.reading Error.form
-        (Input.view input.old) (answer_by Error.kind result) (Input.view input.new) }
+          (Input.view input.old) (answer_by Error.kind result) (Input.view input.new) }
     ensures ends { IsEndOf Input.reading (Input.view input.new) (Input.view input.old) }
 {
     some_of(input, Letters)
@@ -83,7 +82,7 @@ where
     Input::Token: AsChar,
     Error: ParserError<Input>,
     ensures ran { ClassRuns IsDecDigit 0 Input.Token.code Input.seen_as Input.reading Error.form
-        (Input.view input.old) (answer_by Error.kind result) (Input.view input.new) }
+          (Input.view input.old) (answer_by Error.kind result) (Input.view input.new) }
     ensures ends { IsEndOf Input.reading (Input.view input.new) (Input.view input.old) }
 {
     any_of(input, DecimalDigits)
@@ -109,7 +108,7 @@ where
     Input::Token: AsChar,
     Error: ParserError<Input>,
     ensures ran { ClassRuns IsDecDigit 1 Input.Token.code Input.seen_as Input.reading Error.form
-        (Input.view input.old) (answer_by Error.kind result) (Input.view input.new) }
+          (Input.view input.old) (answer_by Error.kind result) (Input.view input.new) }
     ensures ends { IsEndOf Input.reading (Input.view input.new) (Input.view input.old) }
 {
     some_of(input, DecimalDigits)
@@ -133,7 +132,7 @@ where
     Input::Token: AsChar,
     Error: ParserError<Input>,
     ensures ran { ClassRuns IsHexDigit 0 Input.Token.code Input.seen_as Input.reading Error.form
-        (Input.view input.old) (answer_by Error.kind result) (Input.view input.new) }
+          (Input.view input.old) (answer_by Error.kind result) (Input.view input.new) }
     ensures ends { IsEndOf Input.reading (Input.view input.new) (Input.view input.old) }
 {
     any_of(input, HexadecimalDigits)
@@ -159,7 +158,7 @@ where
     Input::Token: AsChar,
     Error: ParserError<Input>,
     ensures ran { ClassRuns IsHexDigit 1 Input.Token.code Input.seen_as Input.reading Error.form
-        (Input.view input.old) (answer_by Error.kind result) (Input.view input.new) }
+          (Input.view input.old) (answer_by Error.kind result) (Input.view input.new) }
     ensures ends { IsEndOf Input.reading (Input.view input.new) (Input.view input.old) }
 {
     some_of(input, HexadecimalDigits)
@@ -183,7 +182,7 @@ where
     Input::Token: AsChar,
     Error: ParserError<Input>,
     ensures ran { ClassRuns IsOctDigit 0 Input.Token.code Input.seen_as Input.reading Error.form
-        (Input.view input.old) (answer_by Error.kind result) (Input.view input.new) }
+          (Input.view input.old) (answer_by Error.kind result) (Input.view input.new) }
     ensures ends { IsEndOf Input.reading (Input.view input.new) (Input.view input.old) }
 {
     any_of(input, OctalDigits)
@@ -209,7 +208,7 @@ where
     Input::Token: AsChar,
     Error: ParserError<Input>,
     ensures ran { ClassRuns IsOctDigit 1 Input.Token.code Input.seen_as Input.reading Error.form
-        (Input.view input.old) (answer_by Error.kind result) (Input.view input.new) }
+          (Input.view input.old) (answer_by Error.kind result) (Input.view input.new) }
     ensures ends { IsEndOf Input.reading (Input.view input.new) (Input.view input.old) }
 {
     some_of(input, OctalDigits)
@@ -233,7 +232,7 @@ where
     Input::Token: AsChar,
     Error: ParserError<Input>,
     ensures ran { ClassRuns IsAlphanum 0 Input.Token.code Input.seen_as Input.reading Error.form
-        (Input.view input.old) (answer_by Error.kind result) (Input.view input.new) }
+          (Input.view input.old) (answer_by Error.kind result) (Input.view input.new) }
     ensures ends { IsEndOf Input.reading (Input.view input.new) (Input.view input.old) }
 {
     any_of(input, Alphanumerics)
@@ -259,7 +258,7 @@ where
     Input::Token: AsChar,
     Error: ParserError<Input>,
     ensures ran { ClassRuns IsAlphanum 1 Input.Token.code Input.seen_as Input.reading Error.form
-        (Input.view input.old) (answer_by Error.kind result) (Input.view input.new) }
+          (Input.view input.old) (answer_by Error.kind result) (Input.view input.new) }
     ensures ends { IsEndOf Input.reading (Input.view input.new) (Input.view input.old) }
 {
     some_of(input, Alphanumerics)
@@ -283,7 +282,7 @@ where
     Input::Token: AsChar,
     Error: ParserError<Input>,
     ensures ran { ClassRuns IsSpace 0 Input.Token.code Input.seen_as Input.reading Error.form
-        (Input.view input.old) (answer_by Error.kind result) (Input.view input.new) }
+          (Input.view input.old) (answer_by Error.kind result) (Input.view input.new) }
     ensures ends { IsEndOf Input.reading (Input.view input.new) (Input.view input.old) }
 {
     any_of(input, Spaces)
@@ -309,7 +308,7 @@ where
     Input::Token: AsChar,
     Error: ParserError<Input>,
     ensures ran { ClassRuns IsSpace 1 Input.Token.code Input.seen_as Input.reading Error.form
-        (Input.view input.old) (answer_by Error.kind result) (Input.view input.new) }
+          (Input.view input.old) (answer_by Error.kind result) (Input.view input.new) }
     ensures ends { IsEndOf Input.reading (Input.view input.new) (Input.view input.old) }
 {
     some_of(input, Spaces)
@@ -333,8 +332,8 @@ where
     Input::Token: AsChar,
     Error: ParserError<Input>,
     ensures ran { ClassRuns IsMultispace 0 Input.Token.code Input.seen_as Input.reading
-        Error.form (Input.view input.old) (answer_by Error.kind result)
-        (Input.view input.new) }
+          Error.form (Input.view input.old) (answer_by Error.kind result)
+          (Input.view input.new) }
     ensures ends { IsEndOf Input.reading (Input.view input.new) (Input.view input.old) }
 {
     any_of(input, Multispaces)
@@ -360,8 +359,8 @@ where
     Input::Token: AsChar,
     Error: ParserError<Input>,
     ensures ran { ClassRuns IsMultispace 1 Input.Token.code Input.seen_as Input.reading
-        Error.form (Input.view input.old) (answer_by Error.kind result)
-        (Input.view input.new) }
+          Error.form (Input.view input.old) (answer_by Error.kind result)
+          (Input.view input.new) }
     ensures ends { IsEndOf Input.reading (Input.view input.new) (Input.view input.old) }
 {
     some_of(input, Multispaces)
