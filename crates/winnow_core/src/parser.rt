@@ -49,7 +49,7 @@ use crate::combinator::impls::{
     WithTaken,
 };
 use crate::parser::fault::fault_at;
-pub use crate::parser::func::Func;
+pub use crate::parser::func::{Func, FuncWith};
 pub use crate::parser::modal::ModalParser;
 use std::alloc::Allocator;
 use std::marker::PhantomData;

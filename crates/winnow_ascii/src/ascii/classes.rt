@@ -10,8 +10,9 @@ ghost use Rattle.winnow_ascii.specs.Class.{ClassRuns};
 use crate::ascii::members::{any_of, some_of};
 use stream_errors::parser_error::ParserError;
 use stream_sets::as_char::AsChar;
-use stream_sets::classes::{Letters, DecimalDigits, HexadecimalDigits, OctalDigits, Alphanumerics};
-use stream_sets::classes::{Spaces, Multispaces};
+use stream_sets::classes::{
+    Alphanumerics, DecimalDigits, HexadecimalDigits, Letters, Multispaces, OctalDigits, Spaces,
+};
 use streams::stream::StreamIsPartial;
 
 /// Parses zero or more ASCII letters and returns their slice.
@@ -32,7 +33,7 @@ where
     Input::Token: AsChar,
     Error: ParserError<Input>,
     ensures ran { ClassRuns IsAlpha 0 Input.Token.code Input.seen_as Input.reading Error.form
-          (Input.view input.old) (answer_by Error.kind result) (Input.view input.new) }
+        (Input.view input.old) (answer_by Error.kind result) (Input.view input.new) }
     ensures ends { IsEndOf Input.reading (Input.view input.new) (Input.view input.old) }
 {
     any_of(input, Letters)
@@ -58,7 +59,7 @@ where
     Input::Token: AsChar,
     Error: ParserError<Input>,
     ensures ran { ClassRuns IsAlpha 1 Input.Token.code Input.seen_as Input.reading Error.form
-          (Input.view input.old) (answer_by Error.kind result) (Input.view input.new) }
+        (Input.view input.old) (answer_by Error.kind result) (Input.view input.new) }
     ensures ends { IsEndOf Input.reading (Input.view input.new) (Input.view input.old) }
 {
     some_of(input, Letters)
@@ -82,7 +83,7 @@ where
     Input::Token: AsChar,
     Error: ParserError<Input>,
     ensures ran { ClassRuns IsDecDigit 0 Input.Token.code Input.seen_as Input.reading Error.form
-          (Input.view input.old) (answer_by Error.kind result) (Input.view input.new) }
+        (Input.view input.old) (answer_by Error.kind result) (Input.view input.new) }
     ensures ends { IsEndOf Input.reading (Input.view input.new) (Input.view input.old) }
 {
     any_of(input, DecimalDigits)
@@ -108,7 +109,7 @@ where
     Input::Token: AsChar,
     Error: ParserError<Input>,
     ensures ran { ClassRuns IsDecDigit 1 Input.Token.code Input.seen_as Input.reading Error.form
-          (Input.view input.old) (answer_by Error.kind result) (Input.view input.new) }
+        (Input.view input.old) (answer_by Error.kind result) (Input.view input.new) }
     ensures ends { IsEndOf Input.reading (Input.view input.new) (Input.view input.old) }
 {
     some_of(input, DecimalDigits)
@@ -132,7 +133,7 @@ where
     Input::Token: AsChar,
     Error: ParserError<Input>,
     ensures ran { ClassRuns IsHexDigit 0 Input.Token.code Input.seen_as Input.reading Error.form
-          (Input.view input.old) (answer_by Error.kind result) (Input.view input.new) }
+        (Input.view input.old) (answer_by Error.kind result) (Input.view input.new) }
     ensures ends { IsEndOf Input.reading (Input.view input.new) (Input.view input.old) }
 {
     any_of(input, HexadecimalDigits)
@@ -158,7 +159,7 @@ where
     Input::Token: AsChar,
     Error: ParserError<Input>,
     ensures ran { ClassRuns IsHexDigit 1 Input.Token.code Input.seen_as Input.reading Error.form
-          (Input.view input.old) (answer_by Error.kind result) (Input.view input.new) }
+        (Input.view input.old) (answer_by Error.kind result) (Input.view input.new) }
     ensures ends { IsEndOf Input.reading (Input.view input.new) (Input.view input.old) }
 {
     some_of(input, HexadecimalDigits)
@@ -182,7 +183,7 @@ where
     Input::Token: AsChar,
     Error: ParserError<Input>,
     ensures ran { ClassRuns IsOctDigit 0 Input.Token.code Input.seen_as Input.reading Error.form
-          (Input.view input.old) (answer_by Error.kind result) (Input.view input.new) }
+        (Input.view input.old) (answer_by Error.kind result) (Input.view input.new) }
     ensures ends { IsEndOf Input.reading (Input.view input.new) (Input.view input.old) }
 {
     any_of(input, OctalDigits)
@@ -208,7 +209,7 @@ where
     Input::Token: AsChar,
     Error: ParserError<Input>,
     ensures ran { ClassRuns IsOctDigit 1 Input.Token.code Input.seen_as Input.reading Error.form
-          (Input.view input.old) (answer_by Error.kind result) (Input.view input.new) }
+        (Input.view input.old) (answer_by Error.kind result) (Input.view input.new) }
     ensures ends { IsEndOf Input.reading (Input.view input.new) (Input.view input.old) }
 {
     some_of(input, OctalDigits)
@@ -232,7 +233,7 @@ where
     Input::Token: AsChar,
     Error: ParserError<Input>,
     ensures ran { ClassRuns IsAlphanum 0 Input.Token.code Input.seen_as Input.reading Error.form
-          (Input.view input.old) (answer_by Error.kind result) (Input.view input.new) }
+        (Input.view input.old) (answer_by Error.kind result) (Input.view input.new) }
     ensures ends { IsEndOf Input.reading (Input.view input.new) (Input.view input.old) }
 {
     any_of(input, Alphanumerics)
@@ -258,7 +259,7 @@ where
     Input::Token: AsChar,
     Error: ParserError<Input>,
     ensures ran { ClassRuns IsAlphanum 1 Input.Token.code Input.seen_as Input.reading Error.form
-          (Input.view input.old) (answer_by Error.kind result) (Input.view input.new) }
+        (Input.view input.old) (answer_by Error.kind result) (Input.view input.new) }
     ensures ends { IsEndOf Input.reading (Input.view input.new) (Input.view input.old) }
 {
     some_of(input, Alphanumerics)
@@ -282,7 +283,7 @@ where
     Input::Token: AsChar,
     Error: ParserError<Input>,
     ensures ran { ClassRuns IsSpace 0 Input.Token.code Input.seen_as Input.reading Error.form
-          (Input.view input.old) (answer_by Error.kind result) (Input.view input.new) }
+        (Input.view input.old) (answer_by Error.kind result) (Input.view input.new) }
     ensures ends { IsEndOf Input.reading (Input.view input.new) (Input.view input.old) }
 {
     any_of(input, Spaces)
@@ -308,7 +309,7 @@ where
     Input::Token: AsChar,
     Error: ParserError<Input>,
     ensures ran { ClassRuns IsSpace 1 Input.Token.code Input.seen_as Input.reading Error.form
-          (Input.view input.old) (answer_by Error.kind result) (Input.view input.new) }
+        (Input.view input.old) (answer_by Error.kind result) (Input.view input.new) }
     ensures ends { IsEndOf Input.reading (Input.view input.new) (Input.view input.old) }
 {
     some_of(input, Spaces)
@@ -332,8 +333,8 @@ where
     Input::Token: AsChar,
     Error: ParserError<Input>,
     ensures ran { ClassRuns IsMultispace 0 Input.Token.code Input.seen_as Input.reading
-          Error.form (Input.view input.old) (answer_by Error.kind result)
-          (Input.view input.new) }
+        Error.form (Input.view input.old) (answer_by Error.kind result)
+        (Input.view input.new) }
     ensures ends { IsEndOf Input.reading (Input.view input.new) (Input.view input.old) }
 {
     any_of(input, Multispaces)
@@ -359,8 +360,8 @@ where
     Input::Token: AsChar,
     Error: ParserError<Input>,
     ensures ran { ClassRuns IsMultispace 1 Input.Token.code Input.seen_as Input.reading
-          Error.form (Input.view input.old) (answer_by Error.kind result)
-          (Input.view input.new) }
+        Error.form (Input.view input.old) (answer_by Error.kind result)
+        (Input.view input.new) }
     ensures ends { IsEndOf Input.reading (Input.view input.new) (Input.view input.old) }
 {
     some_of(input, Multispaces)

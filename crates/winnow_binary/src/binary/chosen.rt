@@ -6,7 +6,7 @@ ghost use Rattle.winnow_binary.specs.Chosen.{u16_endian, u24_endian, u32_endian,
 ghost use Rattle.winnow_binary.specs.Chosen.{u128_endian, i16_endian, i24_endian, i32_endian};
 ghost use Rattle.winnow_binary.specs.Chosen.{i64_endian, i128_endian};
 
-use crate::binary::impls::{U16, U24, U32, U64, U128, I16, I24, I32, I64, I128};
+use crate::binary::impls::{I16, I24, I32, I64, I128, U16, U24, U32, U64, U128};
 use std::marker::PhantomData;
 use stream_errors::parser_error::ParserError;
 use streams::byte_stream::ByteStream;

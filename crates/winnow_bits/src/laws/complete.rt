@@ -12,7 +12,16 @@ use streams::partial::Partial;
 use winnow_core::parser::Parser;
 
 /// `bits_parser` has the same meaning over a partial stream as over the plain one, if its parts do.
-pub fn bits_parser_over_a_complete_stream<'i, P: Parser<Bits<&'i [u8]>, O, E>, Q: Parser<Bits<Partial<&'i [u8]>>, O, R>, O: Drop, E: ParserError<Bits<&'i [u8]>> + ErrorConvert<F>, R: ParserError<Bits<Partial<&'i [u8]>>> + ErrorConvert<S>, F: ParserError<&'i [u8]>, S: ParserError<Partial<&'i [u8]>>>()
+pub fn bits_parser_over_a_complete_stream<
+    'i,
+    P: Parser<Bits<&'i [u8]>, O, E>,
+    Q: Parser<Bits<Partial<&'i [u8]>>, O, R>,
+    O: Drop,
+    E: ParserError<Bits<&'i [u8]>> + ErrorConvert<F>,
+    R: ParserError<Bits<Partial<&'i [u8]>>> + ErrorConvert<S>,
+    F: ParserError<&'i [u8]>,
+    S: ParserError<Partial<&'i [u8]>>,
+>()
     ensures bits_parser { (to_p : P.State → Q.State) → SameMeaning to_p P.meaning Q.meaning →
         SameMeaning to_p
         ⟦<BitsParser<P, &'i [u8], O, E, F> as Parser<&'i [u8], O, F>>⟧.meaning
@@ -20,14 +29,27 @@ pub fn bits_parser_over_a_complete_stream<'i, P: Parser<Bits<&'i [u8]>, O, E>, Q
 {}
 
 /// `bool` has the same meaning over a partial stream as over the plain one.
-pub fn bool_over_a_complete_stream<'i, E: ParserError<Bits<&'i [u8]>>, Q: ParserError<Bits<Partial<&'i [u8]>>>>()
+pub fn bool_over_a_complete_stream<
+    'i,
+    E: ParserError<Bits<&'i [u8]>>,
+    Q: ParserError<Bits<Partial<&'i [u8]>>>,
+>()
     ensures bool { SameMeaning (λ s. s)
         ⟦<Bool as Parser<Bits<&'i [u8]>, bool, E>>⟧.meaning
         ⟦<Bool as Parser<Bits<Partial<&'i [u8]>>, bool, Q>>⟧.meaning }
 {}
 
 /// `bytes` has the same meaning over a partial stream as over the plain one, if its parts do.
-pub fn bytes_over_a_complete_stream<'i, P: Parser<&'i [u8], O, E>, Q: Parser<Partial<&'i [u8]>, O, R>, O, E: ParserError<&'i [u8]> + ErrorConvert<F>, R: ParserError<Partial<&'i [u8]>> + ErrorConvert<S>, F: ParserError<Bits<&'i [u8]>>, S: ParserError<Bits<Partial<&'i [u8]>>>>()
+pub fn bytes_over_a_complete_stream<
+    'i,
+    P: Parser<&'i [u8], O, E>,
+    Q: Parser<Partial<&'i [u8]>, O, R>,
+    O,
+    E: ParserError<&'i [u8]> + ErrorConvert<F>,
+    R: ParserError<Partial<&'i [u8]>> + ErrorConvert<S>,
+    F: ParserError<Bits<&'i [u8]>>,
+    S: ParserError<Bits<Partial<&'i [u8]>>>,
+>()
     ensures bytes { (to_p : P.State → Q.State) → SameMeaning to_p P.meaning Q.meaning →
         SameMeaning to_p
         ⟦<Bytes<P, &'i [u8], O, E, F> as Parser<Bits<&'i [u8]>, O, F>>⟧.meaning
@@ -36,7 +58,12 @@ pub fn bytes_over_a_complete_stream<'i, P: Parser<&'i [u8], O, E>, Q: Parser<Par
 
 /// Each of these has the same meaning over a partial stream as over the plain one: `pattern`,
 /// `take`.
-pub fn pattern_and_take_over_a_complete_stream<'i, O: BitOutput, E: ParserError<Bits<&'i [u8]>>, Q: ParserError<Bits<Partial<&'i [u8]>>>>()
+pub fn pattern_and_take_over_a_complete_stream<
+    'i,
+    O: BitOutput,
+    E: ParserError<Bits<&'i [u8]>>,
+    Q: ParserError<Bits<Partial<&'i [u8]>>>,
+>()
     ensures pattern { SameMeaning (λ s. s)
         ⟦<Pattern<&'i [u8], O, E> as Parser<Bits<&'i [u8]>, O, E>>⟧.meaning
         ⟦<Pattern<Partial<&'i [u8]>, O, Q> as Parser<Bits<Partial<&'i [u8]>>, O, Q>>⟧.meaning }

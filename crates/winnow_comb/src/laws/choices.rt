@@ -11,42 +11,77 @@ use winnow_core::parser::Parser;
 
 /// `alt` of two parsers returns the result of the first branch that does not backtrack, or of the
 /// last branch. Every branch runs at the same offset.
-pub fn alt_of_two_answers_as_the_first<P1: Parser<I, O, E>, P2: Parser<I, O, E>, I: Stream, O, E: ParserError<I>>()
+pub fn alt_of_two_answers_as_the_first<
+    P1: Parser<I, O, E>,
+    P2: Parser<I, O, E>,
+    I: Stream,
+    O,
+    E: ParserError<I>,
+>()
     ensures { ChoosesFirst2 (P1.meaning E.form) (P2.meaning E.form)
-          (⟦<(P1, P2) as Alt<I, O, E>>⟧.meaning E.form) }
-{
-}
+        (⟦<(P1, P2) as Alt<I, O, E>>⟧.meaning E.form) }
+{}
 
 /// `alt` of three parsers returns the result of the first branch that does not backtrack, or of the
 /// last branch. Every branch runs at the same offset.
-pub fn alt_of_three_answers_as_the_first<P1: Parser<I, O, E>, P2: Parser<I, O, E>, P3: Parser<I, O, E>, I: Stream, O, E: ParserError<I>>()
+pub fn alt_of_three_answers_as_the_first<
+    P1: Parser<I, O, E>,
+    P2: Parser<I, O, E>,
+    P3: Parser<I, O, E>,
+    I: Stream,
+    O,
+    E: ParserError<I>,
+>()
     ensures { ChoosesFirst3 (P1.meaning E.form) (P2.meaning E.form) (P3.meaning E.form)
-          (⟦<(P1, P2, P3) as Alt<I, O, E>>⟧.meaning E.form) }
-{
-}
+        (⟦<(P1, P2, P3) as Alt<I, O, E>>⟧.meaning E.form) }
+{}
 
 /// `alt` of four parsers returns the result of the first branch that does not backtrack, or of the
 /// last branch. Every branch runs at the same offset.
-pub fn alt_of_four_answers_as_the_first<P1: Parser<I, O, E>, P2: Parser<I, O, E>, P3: Parser<I, O, E>, P4: Parser<I, O, E>, I: Stream, O, E: ParserError<I>>()
+pub fn alt_of_four_answers_as_the_first<
+    P1: Parser<I, O, E>,
+    P2: Parser<I, O, E>,
+    P3: Parser<I, O, E>,
+    P4: Parser<I, O, E>,
+    I: Stream,
+    O,
+    E: ParserError<I>,
+>()
     ensures { ChoosesFirst4 (P1.meaning E.form) (P2.meaning E.form) (P3.meaning E.form)
-          (P4.meaning E.form) (⟦<(P1, P2, P3, P4) as Alt<I, O, E>>⟧.meaning E.form) }
-{
-}
+        (P4.meaning E.form) (⟦<(P1, P2, P3, P4) as Alt<I, O, E>>⟧.meaning E.form) }
+{}
 
 /// `alt` of five parsers returns the result of the first branch that does not backtrack, or of the
 /// last branch. Every branch runs at the same offset.
-pub fn alt_of_five_answers_as_the_first<P1: Parser<I, O, E>, P2: Parser<I, O, E>, P3: Parser<I, O, E>, P4: Parser<I, O, E>, P5: Parser<I, O, E>, I: Stream, O, E: ParserError<I>>()
+pub fn alt_of_five_answers_as_the_first<
+    P1: Parser<I, O, E>,
+    P2: Parser<I, O, E>,
+    P3: Parser<I, O, E>,
+    P4: Parser<I, O, E>,
+    P5: Parser<I, O, E>,
+    I: Stream,
+    O,
+    E: ParserError<I>,
+>()
     ensures { ChoosesFirst5 (P1.meaning E.form) (P2.meaning E.form) (P3.meaning E.form)
-          (P4.meaning E.form) (P5.meaning E.form)
-          (⟦<(P1, P2, P3, P4, P5) as Alt<I, O, E>>⟧.meaning E.form) }
-{
-}
+        (P4.meaning E.form) (P5.meaning E.form)
+        (⟦<(P1, P2, P3, P4, P5) as Alt<I, O, E>>⟧.meaning E.form) }
+{}
 
 /// `alt` of six parsers returns the result of the first branch that does not backtrack, or of the
 /// last branch. Every branch runs at the same offset.
-pub fn alt_of_six_answers_as_the_first<P1: Parser<I, O, E>, P2: Parser<I, O, E>, P3: Parser<I, O, E>, P4: Parser<I, O, E>, P5: Parser<I, O, E>, P6: Parser<I, O, E>, I: Stream, O, E: ParserError<I>>()
+pub fn alt_of_six_answers_as_the_first<
+    P1: Parser<I, O, E>,
+    P2: Parser<I, O, E>,
+    P3: Parser<I, O, E>,
+    P4: Parser<I, O, E>,
+    P5: Parser<I, O, E>,
+    P6: Parser<I, O, E>,
+    I: Stream,
+    O,
+    E: ParserError<I>,
+>()
     ensures { ChoosesFirst6 (P1.meaning E.form) (P2.meaning E.form) (P3.meaning E.form)
-          (P4.meaning E.form) (P5.meaning E.form) (P6.meaning E.form)
-          (⟦<(P1, P2, P3, P4, P5, P6) as Alt<I, O, E>>⟧.meaning E.form) }
-{
-}
+        (P4.meaning E.form) (P5.meaning E.form) (P6.meaning E.form)
+        (⟦<(P1, P2, P3, P4, P5, P6) as Alt<I, O, E>>⟧.meaning E.form) }
+{}

@@ -4,8 +4,10 @@
 ghost use Rattle.std.specs.Prelude.{map};
 ghost use Rattle.winnow_core.specs.SameMeaning.{SameMeaning};
 
-use crate::combinator::impls::{AltParser, BacktrackErr, Cond, CutErr, Delimited, Empty, Fail, Not};
-use crate::combinator::impls::{Opt, Peek, Preceded, SeparatedPair, Terminated};
+use crate::combinator::impls::{
+    AltParser, BacktrackErr, Cond, CutErr, Delimited, Empty, Fail, Not, Opt, Peek, Preceded,
+    SeparatedPair, Terminated,
+};
 use stream_errors::modal::ModalError;
 use stream_errors::parser_error::ParserError;
 use streams::partial::Partial;
@@ -14,7 +16,15 @@ use winnow_core::parser::Parser;
 
 /// `alt_of_an_array` has the same meaning over a partial stream as over the plain one, if its parts
 /// do.
-pub fn alt_of_an_array_over_a_complete_stream<const N: usize, I: Stream, O, E: ParserError<I>, Q: ParserError<Partial<I>>, P: Parser<I, O, E>, R: Parser<Partial<I>, O, Q>>()
+pub fn alt_of_an_array_over_a_complete_stream<
+    const N: usize,
+    I: Stream,
+    O,
+    E: ParserError<I>,
+    Q: ParserError<Partial<I>>,
+    P: Parser<I, O, E>,
+    R: Parser<Partial<I>, O, Q>,
+>()
     ensures alt_of_an_array { (to_p : P.State → R.State) → SameMeaning to_p P.meaning R.meaning →
         SameMeaning (map to_p)
         ⟦<AltParser<[P; N], I, O, E> as Parser<I, O, E>>⟧.meaning
@@ -23,7 +33,15 @@ pub fn alt_of_an_array_over_a_complete_stream<const N: usize, I: Stream, O, E: P
 
 /// `alt_of_a_slice` has the same meaning over a partial stream as over the plain one, if its parts
 /// do.
-pub fn alt_of_a_slice_over_a_complete_stream<'a, I: Stream, O, E: ParserError<I>, Q: ParserError<Partial<I>>, P: Parser<I, O, E> + 'a, R: Parser<Partial<I>, O, Q> + 'a>()
+pub fn alt_of_a_slice_over_a_complete_stream<
+    'a,
+    I: Stream,
+    O,
+    E: ParserError<I>,
+    Q: ParserError<Partial<I>>,
+    P: Parser<I, O, E> + 'a,
+    R: Parser<Partial<I>, O, Q> + 'a,
+>()
     ensures alt_of_a_slice { (to_p : P.State → R.State) → SameMeaning to_p P.meaning R.meaning →
         SameMeaning (λ z. (map to_p z.0, z.1))
         ⟦<AltParser<&'a mut [P], I, O, E> as Parser<I, O, E>>⟧.meaning
@@ -31,7 +49,14 @@ pub fn alt_of_a_slice_over_a_complete_stream<'a, I: Stream, O, E: ParserError<I>
 {}
 
 /// `alt1` has the same meaning over a partial stream as over the plain one, if its parts do.
-pub fn alt1_over_a_complete_stream<I: Stream, O, E: ParserError<I>, Q: ParserError<Partial<I>>, R: Parser<I, O, E>, S: Parser<Partial<I>, O, Q>>()
+pub fn alt1_over_a_complete_stream<
+    I: Stream,
+    O,
+    E: ParserError<I>,
+    Q: ParserError<Partial<I>>,
+    R: Parser<I, O, E>,
+    S: Parser<Partial<I>, O, Q>,
+>()
     ensures alt1 { (to_p1 : R.State → S.State) → SameMeaning to_p1 R.meaning S.meaning →
         SameMeaning to_p1
         ⟦<AltParser<(R,), I, O, E> as Parser<I, O, E>>⟧.meaning
@@ -39,7 +64,16 @@ pub fn alt1_over_a_complete_stream<I: Stream, O, E: ParserError<I>, Q: ParserErr
 {}
 
 /// `alt2` has the same meaning over a partial stream as over the plain one, if its parts do.
-pub fn alt2_over_a_complete_stream<I: Stream, O, E: ParserError<I>, Q: ParserError<Partial<I>>, R: Parser<I, O, E>, S: Parser<Partial<I>, O, Q>, T: Parser<I, O, E>, U: Parser<Partial<I>, O, Q>>()
+pub fn alt2_over_a_complete_stream<
+    I: Stream,
+    O,
+    E: ParserError<I>,
+    Q: ParserError<Partial<I>>,
+    R: Parser<I, O, E>,
+    S: Parser<Partial<I>, O, Q>,
+    T: Parser<I, O, E>,
+    U: Parser<Partial<I>, O, Q>,
+>()
     ensures alt2 { (to_p1 : R.State → S.State) → SameMeaning to_p1 R.meaning S.meaning →
         (to_p2 : T.State → U.State) → SameMeaning to_p2 T.meaning U.meaning →
         SameMeaning (λ z. (to_p1 z.0, to_p2 z.1))
@@ -48,7 +82,18 @@ pub fn alt2_over_a_complete_stream<I: Stream, O, E: ParserError<I>, Q: ParserErr
 {}
 
 /// `alt3` has the same meaning over a partial stream as over the plain one, if its parts do.
-pub fn alt3_over_a_complete_stream<I: Stream, O, E: ParserError<I>, Q: ParserError<Partial<I>>, R: Parser<I, O, E>, S: Parser<Partial<I>, O, Q>, T: Parser<I, O, E>, U: Parser<Partial<I>, O, Q>, W: Parser<I, O, E>, X: Parser<Partial<I>, O, Q>>()
+pub fn alt3_over_a_complete_stream<
+    I: Stream,
+    O,
+    E: ParserError<I>,
+    Q: ParserError<Partial<I>>,
+    R: Parser<I, O, E>,
+    S: Parser<Partial<I>, O, Q>,
+    T: Parser<I, O, E>,
+    U: Parser<Partial<I>, O, Q>,
+    W: Parser<I, O, E>,
+    X: Parser<Partial<I>, O, Q>,
+>()
     ensures alt3 { (to_p1 : R.State → S.State) → SameMeaning to_p1 R.meaning S.meaning →
         (to_p2 : T.State → U.State) → SameMeaning to_p2 T.meaning U.meaning →
         (to_p3 : W.State → X.State) → SameMeaning to_p3 W.meaning X.meaning →
@@ -58,7 +103,20 @@ pub fn alt3_over_a_complete_stream<I: Stream, O, E: ParserError<I>, Q: ParserErr
 {}
 
 /// `alt4` has the same meaning over a partial stream as over the plain one, if its parts do.
-pub fn alt4_over_a_complete_stream<I: Stream, O, E: ParserError<I>, Q: ParserError<Partial<I>>, R: Parser<I, O, E>, S: Parser<Partial<I>, O, Q>, T: Parser<I, O, E>, U: Parser<Partial<I>, O, Q>, W: Parser<I, O, E>, X: Parser<Partial<I>, O, Q>, Y: Parser<I, O, E>, Z: Parser<Partial<I>, O, Q>>()
+pub fn alt4_over_a_complete_stream<
+    I: Stream,
+    O,
+    E: ParserError<I>,
+    Q: ParserError<Partial<I>>,
+    R: Parser<I, O, E>,
+    S: Parser<Partial<I>, O, Q>,
+    T: Parser<I, O, E>,
+    U: Parser<Partial<I>, O, Q>,
+    W: Parser<I, O, E>,
+    X: Parser<Partial<I>, O, Q>,
+    Y: Parser<I, O, E>,
+    Z: Parser<Partial<I>, O, Q>,
+>()
     ensures alt4 { (to_p1 : R.State → S.State) → SameMeaning to_p1 R.meaning S.meaning →
         (to_p2 : T.State → U.State) → SameMeaning to_p2 T.meaning U.meaning →
         (to_p3 : W.State → X.State) → SameMeaning to_p3 W.meaning X.meaning →
@@ -69,21 +127,58 @@ pub fn alt4_over_a_complete_stream<I: Stream, O, E: ParserError<I>, Q: ParserErr
 {}
 
 /// `alt5` has the same meaning over a partial stream as over the plain one, if its parts do.
-pub fn alt5_over_a_complete_stream<I: Stream, O, E: ParserError<I>, Q: ParserError<Partial<I>>, R: Parser<I, O, E>, S: Parser<Partial<I>, O, Q>, T: Parser<I, O, E>, U: Parser<Partial<I>, O, Q>, W: Parser<I, O, E>, X: Parser<Partial<I>, O, Q>, Y: Parser<I, O, E>, Z: Parser<Partial<I>, O, Q>, J: Parser<I, O, E>, K: Parser<Partial<I>, O, Q>>()
+pub fn alt5_over_a_complete_stream<
+    I: Stream,
+    O,
+    E: ParserError<I>,
+    Q: ParserError<Partial<I>>,
+    R: Parser<I, O, E>,
+    S: Parser<Partial<I>, O, Q>,
+    T: Parser<I, O, E>,
+    U: Parser<Partial<I>, O, Q>,
+    W: Parser<I, O, E>,
+    X: Parser<Partial<I>, O, Q>,
+    Y: Parser<I, O, E>,
+    Z: Parser<Partial<I>, O, Q>,
+    J: Parser<I, O, E>,
+    K: Parser<Partial<I>, O, Q>,
+>()
     ensures alt5 { (to_p1 : R.State → S.State) → SameMeaning to_p1 R.meaning S.meaning →
         (to_p2 : T.State → U.State) → SameMeaning to_p2 T.meaning U.meaning →
         (to_p3 : W.State → X.State) → SameMeaning to_p3 W.meaning X.meaning →
         (to_p4 : Y.State → Z.State) → SameMeaning to_p4 Y.meaning Z.meaning →
         (to_p5 : J.State → K.State) → SameMeaning to_p5 J.meaning K.meaning →
         SameMeaning (λ
-                z. (to_p1 z.0, (to_p2 z.1.0,
-                  (to_p3 z.1.1.0, (to_p4 z.1.1.1.0, to_p5 z.1.1.1.1)))))
+        z. (
+          to_p1 z.0,
+          (
+            to_p2 z.1.0,
+            (to_p3 z.1.1.0, (to_p4 z.1.1.1.0, to_p5 z.1.1.1.1)),
+          ),
+        ))
         ⟦<AltParser<(R, T, W, Y, J), I, O, E> as Parser<I, O, E>>⟧.meaning
         ⟦<AltParser<(S, U, X, Z, K), Partial<I>, O, Q> as Parser<Partial<I>, O, Q>>⟧.meaning }
 {}
 
 /// `alt6` has the same meaning over a partial stream as over the plain one, if its parts do.
-pub fn alt6_over_a_complete_stream<I: Stream, O, E: ParserError<I>, Q: ParserError<Partial<I>>, R: Parser<I, O, E>, S: Parser<Partial<I>, O, Q>, T: Parser<I, O, E>, U: Parser<Partial<I>, O, Q>, W: Parser<I, O, E>, X: Parser<Partial<I>, O, Q>, Y: Parser<I, O, E>, Z: Parser<Partial<I>, O, Q>, J: Parser<I, O, E>, K: Parser<Partial<I>, O, Q>, L: Parser<I, O, E>, M: Parser<Partial<I>, O, Q>>()
+pub fn alt6_over_a_complete_stream<
+    I: Stream,
+    O,
+    E: ParserError<I>,
+    Q: ParserError<Partial<I>>,
+    R: Parser<I, O, E>,
+    S: Parser<Partial<I>, O, Q>,
+    T: Parser<I, O, E>,
+    U: Parser<Partial<I>, O, Q>,
+    W: Parser<I, O, E>,
+    X: Parser<Partial<I>, O, Q>,
+    Y: Parser<I, O, E>,
+    Z: Parser<Partial<I>, O, Q>,
+    J: Parser<I, O, E>,
+    K: Parser<Partial<I>, O, Q>,
+    L: Parser<I, O, E>,
+    M: Parser<Partial<I>, O, Q>,
+>()
     ensures alt6 { (to_p1 : R.State → S.State) → SameMeaning to_p1 R.meaning S.meaning →
         (to_p2 : T.State → U.State) → SameMeaning to_p2 T.meaning U.meaning →
         (to_p3 : W.State → X.State) → SameMeaning to_p3 W.meaning X.meaning →
@@ -91,15 +186,27 @@ pub fn alt6_over_a_complete_stream<I: Stream, O, E: ParserError<I>, Q: ParserErr
         (to_p5 : J.State → K.State) → SameMeaning to_p5 J.meaning K.meaning →
         (to_p6 : L.State → M.State) → SameMeaning to_p6 L.meaning M.meaning →
         SameMeaning (λ
-                z. (to_p1 z.0, (to_p2 z.1.0,
-                  (to_p3 z.1.1.0, (to_p4 z.1.1.1.0, (to_p5 z.1.1.1.1.0, to_p6 z.1.1.1.1.1))))))
+        z. (
+          to_p1 z.0,
+          (
+            to_p2 z.1.0,
+            (to_p3 z.1.1.0, (to_p4 z.1.1.1.0, (to_p5 z.1.1.1.1.0, to_p6 z.1.1.1.1.1))),
+          ),
+        ))
         ⟦<AltParser<(R, T, W, Y, J, L), I, O, E> as Parser<I, O, E>>⟧.meaning
         ⟦<AltParser<(S, U, X, Z, K, M), Partial<I>, O, Q> as Parser<Partial<I>, O, Q>>⟧.meaning }
 {}
 
 /// Each of these has the same meaning over a partial stream as over the plain one, if its parts do:
 /// `backtrack_err`, `cut_err`.
-pub fn backtrack_err_and_cut_err_over_a_complete_stream<P: Parser<I, O, E>, Q: Parser<Partial<I>, O, R>, I: Stream, O, E: ParserError<I> + ModalError, R: ParserError<Partial<I>> + ModalError>()
+pub fn backtrack_err_and_cut_err_over_a_complete_stream<
+    P: Parser<I, O, E>,
+    Q: Parser<Partial<I>, O, R>,
+    I: Stream,
+    O,
+    E: ParserError<I> + ModalError,
+    R: ParserError<Partial<I>> + ModalError,
+>()
     ensures backtrack_err { (to_p : P.State → Q.State) → SameMeaning to_p P.meaning Q.meaning →
         SameMeaning to_p
         ⟦<BacktrackErr<P, I, O, E> as Parser<I, O, E>>⟧.meaning
@@ -112,7 +219,14 @@ pub fn backtrack_err_and_cut_err_over_a_complete_stream<P: Parser<I, O, E>, Q: P
 
 /// Each of these has the same meaning over a partial stream as over the plain one, if its parts do:
 /// `cond`, `opt`, `peek`.
-pub fn cond_and_opt_and_peek_over_a_complete_stream<P: Parser<I, O, E>, Q: Parser<Partial<I>, O, R>, I: Stream, O, E: ParserError<I>, R: ParserError<Partial<I>>>()
+pub fn cond_and_opt_and_peek_over_a_complete_stream<
+    P: Parser<I, O, E>,
+    Q: Parser<Partial<I>, O, R>,
+    I: Stream,
+    O,
+    E: ParserError<I>,
+    R: ParserError<Partial<I>>,
+>()
     ensures cond { (to_p : P.State → Q.State) → SameMeaning to_p P.meaning Q.meaning →
         SameMeaning (λ z. (to_p z.0, z.1))
         ⟦<Cond<P, I, O, E> as Parser<I, Option<O>, E>>⟧.meaning
@@ -128,7 +242,20 @@ pub fn cond_and_opt_and_peek_over_a_complete_stream<P: Parser<I, O, E>, Q: Parse
 {}
 
 /// `delimited` has the same meaning over a partial stream as over the plain one, if its parts do.
-pub fn delimited_over_a_complete_stream<Q: Parser<I, X, E>, R: Parser<Partial<I>, X, J>, S: Parser<I, Y, E>, T: Parser<Partial<I>, Y, J>, U: Parser<I, Z, E>, W: Parser<Partial<I>, Z, J>, I: Stream, X: Drop, Y: Drop, Z: Drop, E: ParserError<I>, J: ParserError<Partial<I>>>()
+pub fn delimited_over_a_complete_stream<
+    Q: Parser<I, X, E>,
+    R: Parser<Partial<I>, X, J>,
+    S: Parser<I, Y, E>,
+    T: Parser<Partial<I>, Y, J>,
+    U: Parser<I, Z, E>,
+    W: Parser<Partial<I>, Z, J>,
+    I: Stream,
+    X: Drop,
+    Y: Drop,
+    Z: Drop,
+    E: ParserError<I>,
+    J: ParserError<Partial<I>>,
+>()
     ensures delimited { (to_p1 : Q.State → R.State) → SameMeaning to_p1 Q.meaning R.meaning →
         (to_p2 : S.State → T.State) → SameMeaning to_p2 S.meaning T.meaning →
         (to_p3 : U.State → W.State) → SameMeaning to_p3 U.meaning W.meaning →
@@ -152,7 +279,14 @@ pub fn fail_over_a_complete_stream<I: Stream, O, E: ParserError<I>, Q: ParserErr
 {}
 
 /// `not` has the same meaning over a partial stream as over the plain one, if its parts do.
-pub fn not_over_a_complete_stream<P: Parser<I, O, E>, Q: Parser<Partial<I>, O, R>, I: Stream, O: Drop, E: ParserError<I>, R: ParserError<Partial<I>>>()
+pub fn not_over_a_complete_stream<
+    P: Parser<I, O, E>,
+    Q: Parser<Partial<I>, O, R>,
+    I: Stream,
+    O: Drop,
+    E: ParserError<I>,
+    R: ParserError<Partial<I>>,
+>()
     ensures not { (to_p : P.State → Q.State) → SameMeaning to_p P.meaning Q.meaning →
         SameMeaning to_p
         ⟦<Not<P, I, O, E> as Parser<I, (), E>>⟧.meaning
@@ -160,7 +294,17 @@ pub fn not_over_a_complete_stream<P: Parser<I, O, E>, Q: Parser<Partial<I>, O, R
 {}
 
 /// `preceded` has the same meaning over a partial stream as over the plain one, if its parts do.
-pub fn preceded_over_a_complete_stream<Q: Parser<I, U, E>, R: Parser<Partial<I>, U, X>, S: Parser<I, W, E>, T: Parser<Partial<I>, W, X>, I: Stream, U: Drop, W, E: ParserError<I>, X: ParserError<Partial<I>>>()
+pub fn preceded_over_a_complete_stream<
+    Q: Parser<I, U, E>,
+    R: Parser<Partial<I>, U, X>,
+    S: Parser<I, W, E>,
+    T: Parser<Partial<I>, W, X>,
+    I: Stream,
+    U: Drop,
+    W,
+    E: ParserError<I>,
+    X: ParserError<Partial<I>>,
+>()
     ensures preceded { (to_p1 : Q.State → R.State) → SameMeaning to_p1 Q.meaning R.meaning →
         (to_p2 : S.State → T.State) → SameMeaning to_p2 S.meaning T.meaning →
         SameMeaning (λ z. (to_p1 z.0, to_p2 z.1))
@@ -170,18 +314,40 @@ pub fn preceded_over_a_complete_stream<Q: Parser<I, U, E>, R: Parser<Partial<I>,
 
 /// `separated_pair` has the same meaning over a partial stream as over the plain one, if its parts
 /// do.
-pub fn separated_pair_over_a_complete_stream<Q: Parser<I, X, E>, R: Parser<Partial<I>, X, J>, S: Parser<I, Y, E>, T: Parser<Partial<I>, Y, J>, U: Parser<I, Z, E>, W: Parser<Partial<I>, Z, J>, I: Stream, X: Drop, Y: Drop, Z, E: ParserError<I>, J: ParserError<Partial<I>>>()
+pub fn separated_pair_over_a_complete_stream<
+    Q: Parser<I, X, E>,
+    R: Parser<Partial<I>, X, J>,
+    S: Parser<I, Y, E>,
+    T: Parser<Partial<I>, Y, J>,
+    U: Parser<I, Z, E>,
+    W: Parser<Partial<I>, Z, J>,
+    I: Stream,
+    X: Drop,
+    Y: Drop,
+    Z,
+    E: ParserError<I>,
+    J: ParserError<Partial<I>>,
+>()
     ensures separated_pair { (to_p1 : Q.State → R.State) → SameMeaning to_p1 Q.meaning R.meaning →
         (to_p2 : S.State → T.State) → SameMeaning to_p2 S.meaning T.meaning →
         (to_p3 : U.State → W.State) → SameMeaning to_p3 U.meaning W.meaning →
         SameMeaning (λ z. (to_p1 z.0, to_p2 z.1, to_p3 z.2))
         ⟦<SeparatedPair<Q, S, U, I, X, Y, Z, E> as Parser<I, (X, Z), E>>⟧.meaning
-        ⟦<SeparatedPair<R, T, W, Partial<I>, X, Y, Z, J> as Parser<Partial<I>, (X, Z),
-            J>>⟧.meaning }
+        ⟦<SeparatedPair<R, T, W, Partial<I>, X, Y, Z, J> as Parser<Partial<I>, (X, Z), J>>⟧.meaning }
 {}
 
 /// `terminated` has the same meaning over a partial stream as over the plain one, if its parts do.
-pub fn terminated_over_a_complete_stream<Q: Parser<I, U, E>, R: Parser<Partial<I>, U, X>, S: Parser<I, W, E>, T: Parser<Partial<I>, W, X>, I: Stream, U: Drop, W: Drop, E: ParserError<I>, X: ParserError<Partial<I>>>()
+pub fn terminated_over_a_complete_stream<
+    Q: Parser<I, U, E>,
+    R: Parser<Partial<I>, U, X>,
+    S: Parser<I, W, E>,
+    T: Parser<Partial<I>, W, X>,
+    I: Stream,
+    U: Drop,
+    W: Drop,
+    E: ParserError<I>,
+    X: ParserError<Partial<I>>,
+>()
     ensures terminated { (to_p1 : Q.State → R.State) → SameMeaning to_p1 Q.meaning R.meaning →
         (to_p2 : S.State → T.State) → SameMeaning to_p2 S.meaning T.meaning →
         SameMeaning (λ z. (to_p1 z.0, to_p2 z.1))

@@ -42,10 +42,10 @@ pub sequence2_claimed : {S1 S2 T L O1 O2 : Type 0} {c1 : Claim T O1} {c2 : Claim
 sequence2_claimed reading ends h1 h2 said = record {
   exact = λ form is. both_exact (h1.exact form is.0) (h2.exact form is.1);
   fails = λ form is. both_fails (h1.exact form is.0)
-        (fails_as (λ b. b.0) (λ m. m.0) (h1.fails form is.0))
-        (fails_as (λ b. b.1) (λ m. m.1) (h2.fails form is.1));
+      (fails_as (λ b. b.0) (λ m. m.0) (h1.fails form is.0))
+      (fails_as (λ b. b.1) (λ m. m.1) (h2.fails form is.1));
   takes = λ is some. both_takes (λ o1 o2. (o1, o2)) (h1.exact modal is.0) (h2.exact modal is.1)
-        (either_way (h1.takes is.0) (h2.takes is.1) some);
+      (either_way (h1.takes is.0) (h2.takes is.1) some);
   decided = decided_of reading ends said;
 }
 
@@ -69,16 +69,16 @@ pub sequence3_claimed : {S1 S2 S3 T L O1 O2 O3 : Type 0} {c1 : Claim T O1} {c2 :
     → Claimed c1 s.0 m1 → Claimed c2 s.1 m2 → Claimed c3 s.2 m3
     → Said says s (λ form. SequenceRuns3 (m1 form) (m2 form) (m3 form))
     → Claimed (sequence3_claim c1 c2 c3 says) s
-      (λ form. SequenceRuns3 (m1 form) (m2 form) (m3 form))
+    (λ form. SequenceRuns3 (m1 form) (m2 form) (m3 form))
 sequence3_claimed reading ends h1 h2 h3 said = record {
   exact = λ form is. three_exact (h1.exact form is.0) (h2.exact form is.1) (h3.exact form is.2);
   fails = λ form is. three_fails (h1.exact form is.0) (h2.exact form is.1)
-        (fails_as (λ b. b.0) (λ m. m.0) (h1.fails form is.0))
-        (fails_as (λ b. b.1) (λ m. m.1) (h2.fails form is.1))
-        (fails_as (λ b. b.2) (λ m. m.2) (h3.fails form is.2));
+      (fails_as (λ b. b.0) (λ m. m.0) (h1.fails form is.0))
+      (fails_as (λ b. b.1) (λ m. m.1) (h2.fails form is.1))
+      (fails_as (λ b. b.2) (λ m. m.2) (h3.fails form is.2));
   takes = λ is some. three_takes (λ o1 o2 o3. (o1, o2, o3)) (h1.exact modal is.0)
-        (h2.exact modal is.1) (h3.exact modal is.2)
-        (either_way (either_way (h1.takes is.0) (h2.takes is.1)) (h3.takes is.2) some);
+      (h2.exact modal is.1) (h3.exact modal is.2)
+      (either_way (either_way (h1.takes is.0) (h2.takes is.1)) (h3.takes is.2) some);
   decided = decided_of reading ends said;
 }
 
@@ -100,23 +100,23 @@ pub sequence4_claimed : {S1 S2 S3 S4 T L O1 O2 O3 O4 : Type 0} {c1 : Claim T O1}
     {m2 : Meaning S2 T O2} {m3 : Meaning S3 T O3} {m4 : Meaning S4 T O4} {s : S1 × S2 × S3 × S4}
     {says : Says T (O1 × O2 × O3 × O4)} (reading : Reading T L)
     → ((form : ErrorForm)
-      → LeaveEnds reading (SequenceRuns4 (m1 form) (m2 form) (m3 form) (m4 form)))
+    → LeaveEnds reading (SequenceRuns4 (m1 form) (m2 form) (m3 form) (m4 form)))
     → Claimed c1 s.0 m1 → Claimed c2 s.1 m2 → Claimed c3 s.2 m3 → Claimed c4 s.3 m4
     → Said says s (λ form. SequenceRuns4 (m1 form) (m2 form) (m3 form) (m4 form))
     → Claimed (sequence4_claim c1 c2 c3 c4 says) s
-      (λ form. SequenceRuns4 (m1 form) (m2 form) (m3 form) (m4 form))
+    (λ form. SequenceRuns4 (m1 form) (m2 form) (m3 form) (m4 form))
 sequence4_claimed reading ends h1 h2 h3 h4 said = record {
   exact = λ form is. tuple4_exact (h1.exact form is.0) (h2.exact form is.1) (h3.exact form is.2)
-        (h4.exact form is.3);
+      (h4.exact form is.3);
   fails = λ form is. tuple4_fails (h1.exact form is.0) (h2.exact form is.1) (h3.exact form is.2)
-        (fails_as (λ b. b.0) (λ m. m.0) (h1.fails form is.0))
-        (fails_as (λ b. b.1) (λ m. m.1) (h2.fails form is.1))
-        (fails_as (λ b. b.2) (λ m. m.2) (h3.fails form is.2))
-        (fails_as (λ b. b.3) (λ m. m.3) (h4.fails form is.3));
+      (fails_as (λ b. b.0) (λ m. m.0) (h1.fails form is.0))
+      (fails_as (λ b. b.1) (λ m. m.1) (h2.fails form is.1))
+      (fails_as (λ b. b.2) (λ m. m.2) (h3.fails form is.2))
+      (fails_as (λ b. b.3) (λ m. m.3) (h4.fails form is.3));
   takes = λ is some. tuple4_takes (h1.exact modal is.0) (h2.exact modal is.1)
-        (h3.exact modal is.2) (h4.exact modal is.3)
-        (either_way (either_way (either_way (h1.takes is.0) (h2.takes is.1)) (h3.takes is.2))
-          (h4.takes is.3) some);
+      (h3.exact modal is.2) (h4.exact modal is.3)
+      (either_way (either_way (either_way (h1.takes is.0) (h2.takes is.1)) (h3.takes is.2))
+      (h4.takes is.3) some);
   decided = decided_of reading ends said;
 }
 
@@ -141,26 +141,26 @@ pub sequence5_claimed : {S1 S2 S3 S4 S5 T L O1 O2 O3 O4 O5 : Type 0} {c1 : Claim
     {m5 : Meaning S5 T O5} {s : S1 × S2 × S3 × S4 × S5} {says : Says T (O1 × O2 × O3 × O4 × O5)}
     (reading : Reading T L)
     → ((form : ErrorForm)
-      → LeaveEnds reading (SequenceRuns5 (m1 form) (m2 form) (m3 form) (m4 form) (m5 form)))
+    → LeaveEnds reading (SequenceRuns5 (m1 form) (m2 form) (m3 form) (m4 form) (m5 form)))
     → Claimed c1 s.0 m1 → Claimed c2 s.1 m2 → Claimed c3 s.2 m3 → Claimed c4 s.3 m4
     → Claimed c5 s.4 m5
     → Said says s (λ form. SequenceRuns5 (m1 form) (m2 form) (m3 form) (m4 form) (m5 form))
     → Claimed (sequence5_claim c1 c2 c3 c4 c5 says) s
-      (λ form. SequenceRuns5 (m1 form) (m2 form) (m3 form) (m4 form) (m5 form))
+    (λ form. SequenceRuns5 (m1 form) (m2 form) (m3 form) (m4 form) (m5 form))
 sequence5_claimed reading ends h1 h2 h3 h4 h5 said = record {
   exact = λ form is. tuple5_exact (h1.exact form is.0) (h2.exact form is.1) (h3.exact form is.2)
-        (h4.exact form is.3) (h5.exact form is.4);
+      (h4.exact form is.3) (h5.exact form is.4);
   fails = λ form is. tuple5_fails (h1.exact form is.0) (h2.exact form is.1) (h3.exact form is.2)
-        (h4.exact form is.3) (fails_as (λ b. b.0) (λ m. m.0) (h1.fails form is.0))
-        (fails_as (λ b. b.1) (λ m. m.1) (h2.fails form is.1))
-        (fails_as (λ b. b.2) (λ m. m.2) (h3.fails form is.2))
-        (fails_as (λ b. b.3) (λ m. m.3) (h4.fails form is.3))
-        (fails_as (λ b. b.4) (λ m. m.4) (h5.fails form is.4));
+      (h4.exact form is.3) (fails_as (λ b. b.0) (λ m. m.0) (h1.fails form is.0))
+      (fails_as (λ b. b.1) (λ m. m.1) (h2.fails form is.1))
+      (fails_as (λ b. b.2) (λ m. m.2) (h3.fails form is.2))
+      (fails_as (λ b. b.3) (λ m. m.3) (h4.fails form is.3))
+      (fails_as (λ b. b.4) (λ m. m.4) (h5.fails form is.4));
   takes = λ is some. tuple5_takes (h1.exact modal is.0) (h2.exact modal is.1)
-        (h3.exact modal is.2) (h4.exact modal is.3) (h5.exact modal is.4)
-        (either_way (either_way
-            (either_way (either_way (h1.takes is.0) (h2.takes is.1)) (h3.takes is.2))
-            (h4.takes is.3)) (h5.takes is.4) some);
+      (h3.exact modal is.2) (h4.exact modal is.3) (h5.exact modal is.4)
+      (either_way (either_way
+      (either_way (either_way (h1.takes is.0) (h2.takes is.1)) (h3.takes is.2))
+      (h4.takes is.3)) (h5.takes is.4) some);
   decided = decided_of reading ends said;
 }
 
@@ -187,28 +187,28 @@ pub sequence6_claimed : {S1 S2 S3 S4 S5 S6 T L O1 O2 O3 O4 O5 O6 : Type 0} {c1 :
     {m5 : Meaning S5 T O5} {m6 : Meaning S6 T O6} {s : S1 × S2 × S3 × S4 × S5 × S6}
     {says : Says T (O1 × O2 × O3 × O4 × O5 × O6)} (reading : Reading T L)
     → ((form : ErrorForm)
-      → LeaveEnds reading
-        (SequenceRuns6 (m1 form) (m2 form) (m3 form) (m4 form) (m5 form) (m6 form)))
+    → LeaveEnds reading
+    (SequenceRuns6 (m1 form) (m2 form) (m3 form) (m4 form) (m5 form) (m6 form)))
     → Claimed c1 s.0 m1 → Claimed c2 s.1 m2 → Claimed c3 s.2 m3 → Claimed c4 s.3 m4
     → Claimed c5 s.4 m5 → Claimed c6 s.5 m6
     → Said says s (λ form. SequenceRuns6 (m1 form) (m2 form) (m3 form) (m4 form) (m5 form)
-        (m6 form)) → Claimed (sequence6_claim c1 c2 c3 c4 c5 c6 says) s
-      (λ form. SequenceRuns6 (m1 form) (m2 form) (m3 form) (m4 form) (m5 form) (m6 form))
+    (m6 form)) → Claimed (sequence6_claim c1 c2 c3 c4 c5 c6 says) s
+    (λ form. SequenceRuns6 (m1 form) (m2 form) (m3 form) (m4 form) (m5 form) (m6 form))
 sequence6_claimed reading ends h1 h2 h3 h4 h5 h6 said = record {
   exact = λ form is. tuple6_exact (h1.exact form is.0) (h2.exact form is.1) (h3.exact form is.2)
-        (h4.exact form is.3) (h5.exact form is.4) (h6.exact form is.5);
+      (h4.exact form is.3) (h5.exact form is.4) (h6.exact form is.5);
   fails = λ form is. tuple6_fails (h1.exact form is.0) (h2.exact form is.1) (h3.exact form is.2)
-        (h4.exact form is.3) (h5.exact form is.4)
-        (fails_as (λ b. b.0) (λ m. m.0) (h1.fails form is.0))
-        (fails_as (λ b. b.1) (λ m. m.1) (h2.fails form is.1))
-        (fails_as (λ b. b.2) (λ m. m.2) (h3.fails form is.2))
-        (fails_as (λ b. b.3) (λ m. m.3) (h4.fails form is.3))
-        (fails_as (λ b. b.4) (λ m. m.4) (h5.fails form is.4))
-        (fails_as (λ b. b.5) (λ m. m.5) (h6.fails form is.5));
+      (h4.exact form is.3) (h5.exact form is.4)
+      (fails_as (λ b. b.0) (λ m. m.0) (h1.fails form is.0))
+      (fails_as (λ b. b.1) (λ m. m.1) (h2.fails form is.1))
+      (fails_as (λ b. b.2) (λ m. m.2) (h3.fails form is.2))
+      (fails_as (λ b. b.3) (λ m. m.3) (h4.fails form is.3))
+      (fails_as (λ b. b.4) (λ m. m.4) (h5.fails form is.4))
+      (fails_as (λ b. b.5) (λ m. m.5) (h6.fails form is.5));
   takes = λ is some. tuple6_takes (h1.exact modal is.0) (h2.exact modal is.1)
-        (h3.exact modal is.2) (h4.exact modal is.3) (h5.exact modal is.4) (h6.exact modal is.5)
-        (either_way (either_way
-            (either_way (either_way (either_way (h1.takes is.0) (h2.takes is.1))
-              (h3.takes is.2)) (h4.takes is.3)) (h5.takes is.4)) (h6.takes is.5) some);
+      (h3.exact modal is.2) (h4.exact modal is.3) (h5.exact modal is.4) (h6.exact modal is.5)
+      (either_way (either_way
+      (either_way (either_way (either_way (h1.takes is.0) (h2.takes is.1))
+      (h3.takes is.2)) (h4.takes is.3)) (h5.takes is.4)) (h6.takes is.5) some);
   decided = decided_of reading ends said;
 }

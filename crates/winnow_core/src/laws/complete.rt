@@ -5,10 +5,11 @@ ghost use Rattle.std.specs.Prelude.{◌≡◌};
 ghost use Rattle.winnow_core.specs.SameMeaning.{SameMeaning};
 
 use crate::Parser;
-use crate::combinator::impls::{AndThen, ByRef, CompleteErr, Context, ContextWith, DefaultValue};
-use crate::combinator::impls::{Eof, ErrInto, FlatMap, Map, MapErr, MapErrKept, OutputInto, ParseTo};
-use crate::combinator::impls::{Span, Take, TryMap, Value, Verify, VerifyMap, Void, WithSpan};
-use crate::combinator::impls::{WithTaken};
+use crate::combinator::impls::{
+    AndThen, ByRef, CompleteErr, Context, ContextWith, DefaultValue, Eof, ErrInto, FlatMap, Map,
+    MapErr, MapErrKept, OutputInto, ParseTo, Span, Take, TryMap, Value, Verify, VerifyMap, Void,
+    WithSpan, WithTaken,
+};
 use std::alloc::Allocator;
 use std::ops::Range;
 use stream_errors::context::AddContext;
@@ -19,7 +20,15 @@ use streams::partial::Partial;
 use streams::stream::{Location, Stream, StreamIsPartial};
 
 /// `and_then` has the same meaning over a partial stream as over the plain one, if its parts do.
-pub fn and_then_over_a_complete_stream<F: Parser<I, O, E>, Q: Parser<Partial<I>, O, E>, G: Parser<O, R, E>, I: Stream, O: StreamIsPartial + Drop, R, E: ParserError<I> + ParserError<Partial<I>> + ParserError<O>>()
+pub fn and_then_over_a_complete_stream<
+    F: Parser<I, O, E>,
+    Q: Parser<Partial<I>, O, E>,
+    G: Parser<O, R, E>,
+    I: Stream,
+    O: StreamIsPartial + Drop,
+    R,
+    E: ParserError<I> + ParserError<Partial<I>> + ParserError<O>,
+>()
     ensures and_then { (to_f : F.State → Q.State) → SameMeaning to_f F.meaning Q.meaning →
         SameMeaning (λ z. (to_f z.0, z.1))
         ⟦<AndThen<F, G, I, O, R, E> as Parser<I, R, E>>⟧.meaning
@@ -27,7 +36,15 @@ pub fn and_then_over_a_complete_stream<F: Parser<I, O, E>, Q: Parser<Partial<I>,
 {}
 
 /// `by_ref` has the same meaning over a partial stream as over the plain one, if its parts do.
-pub fn by_ref_over_a_complete_stream<'p, P: Parser<I, O, E> + 'p, Q: Parser<Partial<I>, O, R> + 'p, I: Stream, O, E: ParserError<I>, R: ParserError<Partial<I>>>()
+pub fn by_ref_over_a_complete_stream<
+    'p,
+    P: Parser<I, O, E> + 'p,
+    Q: Parser<Partial<I>, O, R> + 'p,
+    I: Stream,
+    O,
+    E: ParserError<I>,
+    R: ParserError<Partial<I>>,
+>()
     ensures by_ref { (to_p : P.State → Q.State) → SameMeaning to_p P.meaning Q.meaning →
         SameMeaning (λ z. (to_p z.0, z.1))
         ⟦<ByRef<'p, P, I, O, E> as Parser<I, O, E>>⟧.meaning
@@ -36,7 +53,14 @@ pub fn by_ref_over_a_complete_stream<'p, P: Parser<I, O, E> + 'p, Q: Parser<Part
 
 /// Each of these has the same meaning over a partial stream as over the plain one, if its parts do:
 /// `complete_err`, `with_taken`.
-pub fn complete_err_and_with_taken_over_a_complete_stream<F: Parser<I, O, E>, Q: Parser<Partial<I>, O, R>, I: Stream, O, E: ParserError<I>, R: ParserError<Partial<I>>>()
+pub fn complete_err_and_with_taken_over_a_complete_stream<
+    F: Parser<I, O, E>,
+    Q: Parser<Partial<I>, O, R>,
+    I: Stream,
+    O,
+    E: ParserError<I>,
+    R: ParserError<Partial<I>>,
+>()
     ensures complete_err { (to_f : F.State → Q.State) → SameMeaning to_f F.meaning Q.meaning →
         SameMeaning to_f
         ⟦<CompleteErr<F, I, O, E> as Parser<I, O, E>>⟧.meaning
@@ -48,7 +72,16 @@ pub fn complete_err_and_with_taken_over_a_complete_stream<F: Parser<I, O, E>, Q:
 {}
 
 /// `context` has the same meaning over a partial stream as over the plain one, if its parts do.
-pub fn context_over_a_complete_stream<F: Parser<I, O, E>, Q: Parser<Partial<I>, O, R>, I: Stream, O, E: ParserError<I> + AddContext<I, C, A>, R: ParserError<Partial<I>> + AddContext<Partial<I>, C, A>, C: Clone, A: Allocator + Copy>()
+pub fn context_over_a_complete_stream<
+    F: Parser<I, O, E>,
+    Q: Parser<Partial<I>, O, R>,
+    I: Stream,
+    O,
+    E: ParserError<I> + AddContext<I, C, A>,
+    R: ParserError<Partial<I>> + AddContext<Partial<I>, C, A>,
+    C: Clone,
+    A: Allocator + Copy,
+>()
     ensures context { (to_f : F.State → Q.State) → SameMeaning to_f F.meaning Q.meaning →
         SameMeaning (λ z. (to_f z.0, z.1))
         ⟦<Context<F, I, O, E, C, A> as Parser<I, O, E>>⟧.meaning
@@ -57,7 +90,18 @@ pub fn context_over_a_complete_stream<F: Parser<I, O, E>, Q: Parser<Partial<I>, 
 
 /// `context_with` has the same meaning over a partial stream as over the plain one, if its parts
 /// do.
-pub fn context_with_over_a_complete_stream<P: Parser<I, O, E>, Q: Parser<Partial<I>, O, R>, I: Stream, O, E: ParserError<I> + AddContext<I, C, A>, R: ParserError<Partial<I>> + AddContext<Partial<I>, C, A>, F: Fn() -> S, C, S: Iterator<Item = C>, A: Allocator + Copy>()
+pub fn context_with_over_a_complete_stream<
+    P: Parser<I, O, E>,
+    Q: Parser<Partial<I>, O, R>,
+    I: Stream,
+    O,
+    E: ParserError<I> + AddContext<I, C, A>,
+    R: ParserError<Partial<I>> + AddContext<Partial<I>, C, A>,
+    F: Fn() -> S,
+    C,
+    S: Iterator<Item = C>,
+    A: Allocator + Copy,
+>()
     ensures context_with { (to_p : P.State → Q.State) → SameMeaning to_p P.meaning Q.meaning →
         SameMeaning (λ z. (to_p z.0, z.1))
         ⟦<ContextWith<P, I, O, E, F, C, S, A> as Parser<I, O, E>>⟧.meaning
@@ -66,7 +110,15 @@ pub fn context_with_over_a_complete_stream<P: Parser<I, O, E>, Q: Parser<Partial
 
 /// `default_value` has the same meaning over a partial stream as over the plain one, if its parts
 /// do.
-pub fn default_value_over_a_complete_stream<F: Parser<I, O, E>, Q: Parser<Partial<I>, O, S>, I: Stream, O: Drop, R: Default, E: ParserError<I>, S: ParserError<Partial<I>>>()
+pub fn default_value_over_a_complete_stream<
+    F: Parser<I, O, E>,
+    Q: Parser<Partial<I>, O, S>,
+    I: Stream,
+    O: Drop,
+    R: Default,
+    E: ParserError<I>,
+    S: ParserError<Partial<I>>,
+>()
     ensures default_value { (to_f : F.State → Q.State) → SameMeaning to_f F.meaning Q.meaning →
         SameMeaning to_f
         ⟦<DefaultValue<F, I, O, R, E> as Parser<I, R, E>>⟧.meaning
@@ -81,7 +133,14 @@ pub fn eof_over_a_complete_stream<I: Stream, E: ParserError<I>, Q: ParserError<P
 {}
 
 /// `err_into` has the same meaning over a partial stream as over the plain one, if its parts do.
-pub fn err_into_over_a_complete_stream<F: Parser<I, O, E>, Q: Parser<Partial<I>, O, E>, I: Stream, O, E: ParserError<I> + ParserError<Partial<I>>, R: ParserError<I> + ParserError<Partial<I>> + From<E>>()
+pub fn err_into_over_a_complete_stream<
+    F: Parser<I, O, E>,
+    Q: Parser<Partial<I>, O, E>,
+    I: Stream,
+    O,
+    E: ParserError<I> + ParserError<Partial<I>>,
+    R: ParserError<I> + ParserError<Partial<I>> + From<E>,
+>()
     ensures err_into { (to_f : F.State → Q.State) → SameMeaning to_f F.meaning Q.meaning →
         SameMeaning to_f
         ⟦<ErrInto<F, I, O, E, R> as Parser<I, O, R>>⟧.meaning
@@ -89,20 +148,38 @@ pub fn err_into_over_a_complete_stream<F: Parser<I, O, E>, Q: Parser<Partial<I>,
 {}
 
 /// `flat_map` has the same meaning over a partial stream as over the plain one, if its parts do.
-pub fn flat_map_over_a_complete_stream<F: Parser<I, O, E>, Q: Parser<Partial<I>, O, S>, G: FnMut(O) -> H, H: Parser<I, R, E> + Parser<Partial<I>, R, S> + Drop, I: Stream, O, R, E: ParserError<I>, S: ParserError<Partial<I>>>()
+pub fn flat_map_over_a_complete_stream<
+    F: Parser<I, O, E>,
+    Q: Parser<Partial<I>, O, S>,
+    G: FnMut(O) -> H,
+    H: Parser<I, R, E> + Parser<Partial<I>, R, S> + Drop,
+    I: Stream,
+    O,
+    R,
+    E: ParserError<I>,
+    S: ParserError<Partial<I>>,
+>()
     ensures flat_map { (f : F.State → Q.State) → SameMeaning f F.meaning Q.meaning
         → (h : ⟦<H as Parser<I, R, E>>⟧.State → ⟦<H as Parser<Partial<I>, R, S>>⟧.State)
         → SameMeaning h ⟦<H as Parser<I, R, E>>⟧.meaning ⟦<H as Parser<Partial<I>, R, S>>⟧.meaning
         → ((made : H)
-              → h (⟦<H as Parser<I, R, E>>⟧.state made) ≡ ⟦<H as Parser<Partial<I>, R,
-              S>>⟧.state made)
+        → h (⟦<H as Parser<I, R, E>>⟧.state made) ≡ ⟦<H as Parser<Partial<I>, R, S>>⟧.state made)
         → SameMeaning (λ z. (f z.0, z.1))
         ⟦<FlatMap<F, G, H, I, O, R, E> as Parser<I, R, E>>⟧.meaning
         ⟦<FlatMap<Q, G, H, Partial<I>, O, R, S> as Parser<Partial<I>, R, S>>⟧.meaning }
 {}
 
 /// `map` has the same meaning over a partial stream as over the plain one, if its parts do.
-pub fn map_over_a_complete_stream<F: Parser<I, O, E>, Q: Parser<Partial<I>, O, S>, G: FnMut(O) -> R, I: Stream, O, R, E: ParserError<I>, S: ParserError<Partial<I>>>()
+pub fn map_over_a_complete_stream<
+    F: Parser<I, O, E>,
+    Q: Parser<Partial<I>, O, S>,
+    G: FnMut(O) -> R,
+    I: Stream,
+    O,
+    R,
+    E: ParserError<I>,
+    S: ParserError<Partial<I>>,
+>()
     ensures map { (to_f : F.State → Q.State) → SameMeaning to_f F.meaning Q.meaning →
         SameMeaning (λ z. (to_f z.0, z.1))
         ⟦<Map<F, G, I, O, R, E> as Parser<I, R, E>>⟧.meaning
@@ -111,7 +188,15 @@ pub fn map_over_a_complete_stream<F: Parser<I, O, E>, Q: Parser<Partial<I>, O, S
 
 /// Each of these has the same meaning over a partial stream as over the plain one, if its parts do:
 /// `map_err`, `map_err_kept`.
-pub fn map_err_and_map_err_kept_over_a_complete_stream<F: Parser<I, O, E>, Q: Parser<Partial<I>, O, E>, G: FnMut(E) -> R, I: Stream, O, E: ParserError<I> + ParserError<Partial<I>>, R: ParserError<I> + ParserError<Partial<I>>>()
+pub fn map_err_and_map_err_kept_over_a_complete_stream<
+    F: Parser<I, O, E>,
+    Q: Parser<Partial<I>, O, E>,
+    G: FnMut(E) -> R,
+    I: Stream,
+    O,
+    E: ParserError<I> + ParserError<Partial<I>>,
+    R: ParserError<I> + ParserError<Partial<I>>,
+>()
     ensures map_err { (to_f : F.State → Q.State) → SameMeaning to_f F.meaning Q.meaning →
         SameMeaning (λ z. (to_f z.0, z.1))
         ⟦<MapErr<F, G, I, O, E, R> as Parser<I, O, R>>⟧.meaning
@@ -123,7 +208,15 @@ pub fn map_err_and_map_err_kept_over_a_complete_stream<F: Parser<I, O, E>, Q: Pa
 {}
 
 /// `output_into` has the same meaning over a partial stream as over the plain one, if its parts do.
-pub fn output_into_over_a_complete_stream<F: Parser<I, O, E>, Q: Parser<Partial<I>, O, S>, I: Stream, O, R: From<O>, E: ParserError<I>, S: ParserError<Partial<I>>>()
+pub fn output_into_over_a_complete_stream<
+    F: Parser<I, O, E>,
+    Q: Parser<Partial<I>, O, S>,
+    I: Stream,
+    O,
+    R: From<O>,
+    E: ParserError<I>,
+    S: ParserError<Partial<I>>,
+>()
     ensures output_into { (to_f : F.State → Q.State) → SameMeaning to_f F.meaning Q.meaning →
         SameMeaning to_f
         ⟦<OutputInto<F, I, O, R, E> as Parser<I, R, E>>⟧.meaning
@@ -131,7 +224,15 @@ pub fn output_into_over_a_complete_stream<F: Parser<I, O, E>, Q: Parser<Partial<
 {}
 
 /// `parse_to` has the same meaning over a partial stream as over the plain one, if its parts do.
-pub fn parse_to_over_a_complete_stream<F: Parser<I, O, E>, Q: Parser<Partial<I>, O, S>, I: Stream, O: ParseSlice<R> + Drop, R, E: ParserError<I>, S: ParserError<Partial<I>>>()
+pub fn parse_to_over_a_complete_stream<
+    F: Parser<I, O, E>,
+    Q: Parser<Partial<I>, O, S>,
+    I: Stream,
+    O: ParseSlice<R> + Drop,
+    R,
+    E: ParserError<I>,
+    S: ParserError<Partial<I>>,
+>()
     ensures parse_to { (to_f : F.State → Q.State) → SameMeaning to_f F.meaning Q.meaning →
         SameMeaning to_f
         ⟦<ParseTo<F, I, O, R, E> as Parser<I, R, E>>⟧.meaning
@@ -139,7 +240,14 @@ pub fn parse_to_over_a_complete_stream<F: Parser<I, O, E>, Q: Parser<Partial<I>,
 {}
 
 /// `span` has the same meaning over a partial stream as over the plain one, if its parts do.
-pub fn span_over_a_complete_stream<F: Parser<I, O, E>, Q: Parser<Partial<I>, O, R>, I: Location, O: Drop, E: ParserError<I>, R: ParserError<Partial<I>>>()
+pub fn span_over_a_complete_stream<
+    F: Parser<I, O, E>,
+    Q: Parser<Partial<I>, O, R>,
+    I: Location,
+    O: Drop,
+    E: ParserError<I>,
+    R: ParserError<Partial<I>>,
+>()
     ensures span { (to_f : F.State → Q.State) → SameMeaning to_f F.meaning Q.meaning →
         SameMeaning to_f
         ⟦<Span<F, I, O, E> as Parser<I, Range<usize>, E>>⟧.meaning
@@ -148,7 +256,14 @@ pub fn span_over_a_complete_stream<F: Parser<I, O, E>, Q: Parser<Partial<I>, O, 
 
 /// Each of these has the same meaning over a partial stream as over the plain one, if its parts do:
 /// `take`, `void`.
-pub fn take_and_void_over_a_complete_stream<F: Parser<I, O, E>, Q: Parser<Partial<I>, O, R>, I: Stream, O: Drop, E: ParserError<I>, R: ParserError<Partial<I>>>()
+pub fn take_and_void_over_a_complete_stream<
+    F: Parser<I, O, E>,
+    Q: Parser<Partial<I>, O, R>,
+    I: Stream,
+    O: Drop,
+    E: ParserError<I>,
+    R: ParserError<Partial<I>>,
+>()
     ensures take { (to_f : F.State → Q.State) → SameMeaning to_f F.meaning Q.meaning →
         SameMeaning to_f
         ⟦<Take<F, I, O, E> as Parser<I, I::Slice, E>>⟧.meaning
@@ -160,7 +275,17 @@ pub fn take_and_void_over_a_complete_stream<F: Parser<I, O, E>, Q: Parser<Partia
 {}
 
 /// `try_map` has the same meaning over a partial stream as over the plain one, if its parts do.
-pub fn try_map_over_a_complete_stream<F: Parser<I, O, E>, Q: Parser<Partial<I>, O, S>, G: FnMut(O) -> Result<R, T>, I: Stream, O, R, E: ParserError<I> + FromExternalError<I, T>, S: ParserError<Partial<I>> + FromExternalError<Partial<I>, T>, T>()
+pub fn try_map_over_a_complete_stream<
+    F: Parser<I, O, E>,
+    Q: Parser<Partial<I>, O, S>,
+    G: FnMut(O) -> Result<R, T>,
+    I: Stream,
+    O,
+    R,
+    E: ParserError<I> + FromExternalError<I, T>,
+    S: ParserError<Partial<I>> + FromExternalError<Partial<I>, T>,
+    T,
+>()
     ensures try_map { (to_f : F.State → Q.State) → SameMeaning to_f F.meaning Q.meaning →
         SameMeaning (λ z. (to_f z.0, z.1))
         ⟦<TryMap<F, G, I, O, R, E, T> as Parser<I, R, E>>⟧.meaning
@@ -168,7 +293,15 @@ pub fn try_map_over_a_complete_stream<F: Parser<I, O, E>, Q: Parser<Partial<I>, 
 {}
 
 /// `value` has the same meaning over a partial stream as over the plain one, if its parts do.
-pub fn value_over_a_complete_stream<F: Parser<I, O, E>, Q: Parser<Partial<I>, O, S>, I: Stream, O: Drop, R: Clone, E: ParserError<I>, S: ParserError<Partial<I>>>()
+pub fn value_over_a_complete_stream<
+    F: Parser<I, O, E>,
+    Q: Parser<Partial<I>, O, S>,
+    I: Stream,
+    O: Drop,
+    R: Clone,
+    E: ParserError<I>,
+    S: ParserError<Partial<I>>,
+>()
     ensures value { (to_f : F.State → Q.State) → SameMeaning to_f F.meaning Q.meaning →
         SameMeaning (λ z. (to_f z.0, z.1))
         ⟦<Value<F, I, O, R, E> as Parser<I, R, E>>⟧.meaning
@@ -176,7 +309,15 @@ pub fn value_over_a_complete_stream<F: Parser<I, O, E>, Q: Parser<Partial<I>, O,
 {}
 
 /// `verify` has the same meaning over a partial stream as over the plain one, if its parts do.
-pub fn verify_over_a_complete_stream<F: Parser<I, O, E>, Q: Parser<Partial<I>, O, R>, G: FnMut(&O) -> bool, I: Stream, O: Drop, E: ParserError<I>, R: ParserError<Partial<I>>>()
+pub fn verify_over_a_complete_stream<
+    F: Parser<I, O, E>,
+    Q: Parser<Partial<I>, O, R>,
+    G: FnMut(&O) -> bool,
+    I: Stream,
+    O: Drop,
+    E: ParserError<I>,
+    R: ParserError<Partial<I>>,
+>()
     ensures verify { (to_f : F.State → Q.State) → SameMeaning to_f F.meaning Q.meaning →
         SameMeaning (λ z. (to_f z.0, z.1))
         ⟦<Verify<F, G, I, O, E> as Parser<I, O, E>>⟧.meaning
@@ -184,7 +325,16 @@ pub fn verify_over_a_complete_stream<F: Parser<I, O, E>, Q: Parser<Partial<I>, O
 {}
 
 /// `verify_map` has the same meaning over a partial stream as over the plain one, if its parts do.
-pub fn verify_map_over_a_complete_stream<F: Parser<I, O, E>, Q: Parser<Partial<I>, O, S>, G: FnMut(O) -> Option<R>, I: Stream, O, R, E: ParserError<I>, S: ParserError<Partial<I>>>()
+pub fn verify_map_over_a_complete_stream<
+    F: Parser<I, O, E>,
+    Q: Parser<Partial<I>, O, S>,
+    G: FnMut(O) -> Option<R>,
+    I: Stream,
+    O,
+    R,
+    E: ParserError<I>,
+    S: ParserError<Partial<I>>,
+>()
     ensures verify_map { (to_f : F.State → Q.State) → SameMeaning to_f F.meaning Q.meaning →
         SameMeaning (λ z. (to_f z.0, z.1))
         ⟦<VerifyMap<F, G, I, O, R, E> as Parser<I, R, E>>⟧.meaning
@@ -192,7 +342,14 @@ pub fn verify_map_over_a_complete_stream<F: Parser<I, O, E>, Q: Parser<Partial<I
 {}
 
 /// `with_span` has the same meaning over a partial stream as over the plain one, if its parts do.
-pub fn with_span_over_a_complete_stream<F: Parser<I, O, E>, Q: Parser<Partial<I>, O, R>, I: Location, O, E: ParserError<I>, R: ParserError<Partial<I>>>()
+pub fn with_span_over_a_complete_stream<
+    F: Parser<I, O, E>,
+    Q: Parser<Partial<I>, O, R>,
+    I: Location,
+    O,
+    E: ParserError<I>,
+    R: ParserError<Partial<I>>,
+>()
     ensures with_span { (to_f : F.State → Q.State) → SameMeaning to_f F.meaning Q.meaning →
         SameMeaning to_f
         ⟦<WithSpan<F, I, O, E> as Parser<I, (O, Range<usize>), E>>⟧.meaning

@@ -11,56 +11,96 @@ use streams::partial::Partial;
 use streams::stream::{Stream, StreamIsPartial};
 
 /// `u8` has the same meaning over a partial stream as over the plain one.
-pub fn u8_over_a_complete_stream<I: StreamIsPartial + Compare<u8>, E: ParserError<I>, Q: ParserError<Partial<I>>>()
+pub fn u8_over_a_complete_stream<
+    I: StreamIsPartial + Compare<u8>,
+    E: ParserError<I>,
+    Q: ParserError<Partial<I>>,
+>()
     ensures u8 { SameMeaning (λ s. s)
         ⟦<u8 as Parser<I, u8, E>>⟧.meaning
         ⟦<u8 as Parser<Partial<I>, u8, Q>>⟧.meaning }
 {}
 
 /// `bytes` has the same meaning over a partial stream as over the plain one.
-pub fn bytes_over_a_complete_stream<'t, I: StreamIsPartial + Compare<&'t [u8]>, E: ParserError<I>, Q: ParserError<Partial<I>>>()
+pub fn bytes_over_a_complete_stream<
+    't,
+    I: StreamIsPartial + Compare<&'t [u8]>,
+    E: ParserError<I>,
+    Q: ParserError<Partial<I>>,
+>()
     ensures bytes { SameMeaning (λ s. s)
         ⟦<&'t [u8] as Parser<I, I::Slice, E>>⟧.meaning
         ⟦<&'t [u8] as Parser<Partial<I>, I::Slice, Q>>⟧.meaning }
 {}
 
 /// `array` has the same meaning over a partial stream as over the plain one.
-pub fn array_over_a_complete_stream<'t, const N: usize, I: StreamIsPartial + Compare<&'t [u8; N]>, E: ParserError<I>, Q: ParserError<Partial<I>>>()
+pub fn array_over_a_complete_stream<
+    't,
+    const N: usize,
+    I: StreamIsPartial + Compare<&'t [u8; N]>,
+    E: ParserError<I>,
+    Q: ParserError<Partial<I>>,
+>()
     ensures array { SameMeaning (λ s. s)
         ⟦<&'t [u8; N] as Parser<I, I::Slice, E>>⟧.meaning
         ⟦<&'t [u8; N] as Parser<Partial<I>, I::Slice, Q>>⟧.meaning }
 {}
 
 /// `char` has the same meaning over a partial stream as over the plain one.
-pub fn char_over_a_complete_stream<I: StreamIsPartial + Compare<char>, E: ParserError<I>, Q: ParserError<Partial<I>>>()
+pub fn char_over_a_complete_stream<
+    I: StreamIsPartial + Compare<char>,
+    E: ParserError<I>,
+    Q: ParserError<Partial<I>>,
+>()
     ensures char { SameMeaning (λ s. s)
         ⟦<char as Parser<I, char, E>>⟧.meaning
         ⟦<char as Parser<Partial<I>, char, Q>>⟧.meaning }
 {}
 
 /// `text` has the same meaning over a partial stream as over the plain one.
-pub fn text_over_a_complete_stream<'t, I: StreamIsPartial + Compare<&'t str>, E: ParserError<I>, Q: ParserError<Partial<I>>>()
+pub fn text_over_a_complete_stream<
+    't,
+    I: StreamIsPartial + Compare<&'t str>,
+    E: ParserError<I>,
+    Q: ParserError<Partial<I>>,
+>()
     ensures text { SameMeaning (λ s. s)
         ⟦<&'t str as Parser<I, I::Slice, E>>⟧.meaning
         ⟦<&'t str as Parser<Partial<I>, I::Slice, Q>>⟧.meaning }
 {}
 
 /// `caseless_bytes` has the same meaning over a partial stream as over the plain one.
-pub fn caseless_bytes_over_a_complete_stream<'t, I: StreamIsPartial + Compare<Caseless<&'t [u8]>>, E: ParserError<I>, Q: ParserError<Partial<I>>>()
+pub fn caseless_bytes_over_a_complete_stream<
+    't,
+    I: StreamIsPartial + Compare<Caseless<&'t [u8]>>,
+    E: ParserError<I>,
+    Q: ParserError<Partial<I>>,
+>()
     ensures caseless_bytes { SameMeaning (λ s. s)
         ⟦<Caseless<&'t [u8]> as Parser<I, I::Slice, E>>⟧.meaning
         ⟦<Caseless<&'t [u8]> as Parser<Partial<I>, I::Slice, Q>>⟧.meaning }
 {}
 
 /// `caseless_array` has the same meaning over a partial stream as over the plain one.
-pub fn caseless_array_over_a_complete_stream<'t, const N: usize, I: StreamIsPartial + Compare<Caseless<&'t [u8; N]>>, E: ParserError<I>, Q: ParserError<Partial<I>>>()
+pub fn caseless_array_over_a_complete_stream<
+    't,
+    const N: usize,
+    I: StreamIsPartial + Compare<Caseless<&'t [u8; N]>>,
+    E: ParserError<I>,
+    Q: ParserError<Partial<I>>,
+>()
     ensures caseless_array { SameMeaning (λ s. s)
         ⟦<Caseless<&'t [u8; N]> as Parser<I, I::Slice, E>>⟧.meaning
         ⟦<Caseless<&'t [u8; N]> as Parser<Partial<I>, I::Slice, Q>>⟧.meaning }
 {}
 
 /// `caseless_text` has the same meaning over a partial stream as over the plain one.
-pub fn caseless_text_over_a_complete_stream<'t, I: StreamIsPartial + Compare<Caseless<&'t str>>, E: ParserError<I>, Q: ParserError<Partial<I>>>()
+pub fn caseless_text_over_a_complete_stream<
+    't,
+    I: StreamIsPartial + Compare<Caseless<&'t str>>,
+    E: ParserError<I>,
+    Q: ParserError<Partial<I>>,
+>()
     ensures caseless_text { SameMeaning (λ s. s)
         ⟦<Caseless<&'t str> as Parser<I, I::Slice, E>>⟧.meaning
         ⟦<Caseless<&'t str> as Parser<Partial<I>, I::Slice, Q>>⟧.meaning }
@@ -74,7 +114,14 @@ pub fn nothing_over_a_complete_stream<I: Stream, E: ParserError<I>, Q: ParserErr
 {}
 
 /// `tuple1` has the same meaning over a partial stream as over the plain one, if its parts do.
-pub fn tuple1_over_a_complete_stream<I: Stream, Q, E: ParserError<I>, R: ParserError<Partial<I>>, S: Parser<I, Q, E>, T: Parser<Partial<I>, Q, R>>()
+pub fn tuple1_over_a_complete_stream<
+    I: Stream,
+    Q,
+    E: ParserError<I>,
+    R: ParserError<Partial<I>>,
+    S: Parser<I, Q, E>,
+    T: Parser<Partial<I>, Q, R>,
+>()
     ensures tuple1 { (to_p1 : S.State → T.State) → SameMeaning to_p1 S.meaning T.meaning →
         SameMeaning (λ z. record { 0 = to_p1 z.0 })
         ⟦<(S,) as Parser<I, (Q,), E>>⟧.meaning
@@ -82,7 +129,17 @@ pub fn tuple1_over_a_complete_stream<I: Stream, Q, E: ParserError<I>, R: ParserE
 {}
 
 /// `tuple2` has the same meaning over a partial stream as over the plain one, if its parts do.
-pub fn tuple2_over_a_complete_stream<I: Stream, Q: Drop, R, E: ParserError<I>, S: ParserError<Partial<I>>, T: Parser<I, Q, E>, U: Parser<Partial<I>, Q, S>, W: Parser<I, R, E>, X: Parser<Partial<I>, R, S>>()
+pub fn tuple2_over_a_complete_stream<
+    I: Stream,
+    Q: Drop,
+    R,
+    E: ParserError<I>,
+    S: ParserError<Partial<I>>,
+    T: Parser<I, Q, E>,
+    U: Parser<Partial<I>, Q, S>,
+    W: Parser<I, R, E>,
+    X: Parser<Partial<I>, R, S>,
+>()
     ensures tuple2 { (to_p1 : T.State → U.State) → SameMeaning to_p1 T.meaning U.meaning →
         (to_p2 : W.State → X.State) → SameMeaning to_p2 W.meaning X.meaning →
         SameMeaning (λ z. (to_p1 z.0, to_p2 z.1))
@@ -91,7 +148,20 @@ pub fn tuple2_over_a_complete_stream<I: Stream, Q: Drop, R, E: ParserError<I>, S
 {}
 
 /// `tuple3` has the same meaning over a partial stream as over the plain one, if its parts do.
-pub fn tuple3_over_a_complete_stream<I: Stream, Q: Drop, R: Drop, S, E: ParserError<I>, T: ParserError<Partial<I>>, U: Parser<I, Q, E>, W: Parser<Partial<I>, Q, T>, X: Parser<I, R, E>, Y: Parser<Partial<I>, R, T>, Z: Parser<I, S, E>, J: Parser<Partial<I>, S, T>>()
+pub fn tuple3_over_a_complete_stream<
+    I: Stream,
+    Q: Drop,
+    R: Drop,
+    S,
+    E: ParserError<I>,
+    T: ParserError<Partial<I>>,
+    U: Parser<I, Q, E>,
+    W: Parser<Partial<I>, Q, T>,
+    X: Parser<I, R, E>,
+    Y: Parser<Partial<I>, R, T>,
+    Z: Parser<I, S, E>,
+    J: Parser<Partial<I>, S, T>,
+>()
     ensures tuple3 { (to_p1 : U.State → W.State) → SameMeaning to_p1 U.meaning W.meaning →
         (to_p2 : X.State → Y.State) → SameMeaning to_p2 X.meaning Y.meaning →
         (to_p3 : Z.State → J.State) → SameMeaning to_p3 Z.meaning J.meaning →
@@ -101,7 +171,23 @@ pub fn tuple3_over_a_complete_stream<I: Stream, Q: Drop, R: Drop, S, E: ParserEr
 {}
 
 /// `tuple4` has the same meaning over a partial stream as over the plain one, if its parts do.
-pub fn tuple4_over_a_complete_stream<I: Stream, Q: Drop, R: Drop, S: Drop, T, E: ParserError<I>, U: ParserError<Partial<I>>, W: Parser<I, Q, E>, X: Parser<Partial<I>, Q, U>, Y: Parser<I, R, E>, Z: Parser<Partial<I>, R, U>, J: Parser<I, S, E>, K: Parser<Partial<I>, S, U>, L: Parser<I, T, E>, M: Parser<Partial<I>, T, U>>()
+pub fn tuple4_over_a_complete_stream<
+    I: Stream,
+    Q: Drop,
+    R: Drop,
+    S: Drop,
+    T,
+    E: ParserError<I>,
+    U: ParserError<Partial<I>>,
+    W: Parser<I, Q, E>,
+    X: Parser<Partial<I>, Q, U>,
+    Y: Parser<I, R, E>,
+    Z: Parser<Partial<I>, R, U>,
+    J: Parser<I, S, E>,
+    K: Parser<Partial<I>, S, U>,
+    L: Parser<I, T, E>,
+    M: Parser<Partial<I>, T, U>,
+>()
     ensures tuple4 { (to_p1 : W.State → X.State) → SameMeaning to_p1 W.meaning X.meaning →
         (to_p2 : Y.State → Z.State) → SameMeaning to_p2 Y.meaning Z.meaning →
         (to_p3 : J.State → K.State) → SameMeaning to_p3 J.meaning K.meaning →
@@ -112,7 +198,26 @@ pub fn tuple4_over_a_complete_stream<I: Stream, Q: Drop, R: Drop, S: Drop, T, E:
 {}
 
 /// `tuple5` has the same meaning over a partial stream as over the plain one, if its parts do.
-pub fn tuple5_over_a_complete_stream<I: Stream, Q: Drop, R: Drop, S: Drop, T: Drop, U, E: ParserError<I>, W: ParserError<Partial<I>>, X: Parser<I, Q, E>, Y: Parser<Partial<I>, Q, W>, Z: Parser<I, R, E>, J: Parser<Partial<I>, R, W>, K: Parser<I, S, E>, L: Parser<Partial<I>, S, W>, M: Parser<I, T, E>, N: Parser<Partial<I>, T, W>, B: Parser<I, U, E>, C: Parser<Partial<I>, U, W>>()
+pub fn tuple5_over_a_complete_stream<
+    I: Stream,
+    Q: Drop,
+    R: Drop,
+    S: Drop,
+    T: Drop,
+    U,
+    E: ParserError<I>,
+    W: ParserError<Partial<I>>,
+    X: Parser<I, Q, E>,
+    Y: Parser<Partial<I>, Q, W>,
+    Z: Parser<I, R, E>,
+    J: Parser<Partial<I>, R, W>,
+    K: Parser<I, S, E>,
+    L: Parser<Partial<I>, S, W>,
+    M: Parser<I, T, E>,
+    N: Parser<Partial<I>, T, W>,
+    B: Parser<I, U, E>,
+    C: Parser<Partial<I>, U, W>,
+>()
     ensures tuple5 { (to_p1 : X.State → Y.State) → SameMeaning to_p1 X.meaning Y.meaning →
         (to_p2 : Z.State → J.State) → SameMeaning to_p2 Z.meaning J.meaning →
         (to_p3 : K.State → L.State) → SameMeaning to_p3 K.meaning L.meaning →
@@ -124,7 +229,29 @@ pub fn tuple5_over_a_complete_stream<I: Stream, Q: Drop, R: Drop, S: Drop, T: Dr
 {}
 
 /// `tuple6` has the same meaning over a partial stream as over the plain one, if its parts do.
-pub fn tuple6_over_a_complete_stream<I: Stream, Q: Drop, R: Drop, S: Drop, T: Drop, U: Drop, W, E: ParserError<I>, X: ParserError<Partial<I>>, Y: Parser<I, Q, E>, Z: Parser<Partial<I>, Q, X>, J: Parser<I, R, E>, K: Parser<Partial<I>, R, X>, L: Parser<I, S, E>, M: Parser<Partial<I>, S, X>, N: Parser<I, T, E>, B: Parser<Partial<I>, T, X>, C: Parser<I, U, E>, D: Parser<Partial<I>, U, X>, F: Parser<I, W, E>, G: Parser<Partial<I>, W, X>>()
+pub fn tuple6_over_a_complete_stream<
+    I: Stream,
+    Q: Drop,
+    R: Drop,
+    S: Drop,
+    T: Drop,
+    U: Drop,
+    W,
+    E: ParserError<I>,
+    X: ParserError<Partial<I>>,
+    Y: Parser<I, Q, E>,
+    Z: Parser<Partial<I>, Q, X>,
+    J: Parser<I, R, E>,
+    K: Parser<Partial<I>, R, X>,
+    L: Parser<I, S, E>,
+    M: Parser<Partial<I>, S, X>,
+    N: Parser<I, T, E>,
+    B: Parser<Partial<I>, T, X>,
+    C: Parser<I, U, E>,
+    D: Parser<Partial<I>, U, X>,
+    F: Parser<I, W, E>,
+    G: Parser<Partial<I>, W, X>,
+>()
     ensures tuple6 { (to_p1 : Y.State → Z.State) → SameMeaning to_p1 Y.meaning Z.meaning →
         (to_p2 : J.State → K.State) → SameMeaning to_p2 J.meaning K.meaning →
         (to_p3 : L.State → M.State) → SameMeaning to_p3 L.meaning M.meaning →

@@ -62,7 +62,7 @@ impl<I: Stream, E: ParserError<I>> Parser<I, (), E> for () {
       fails = λ form is. backs unit_fails;
       takes = λ is never. absurd never;
       decided = λ form is. decided_of I.reading
-            (λ form s i answer t j r. same_ends I.reading i j r.1) (unit_said) form is;
+          (λ form s i answer t j r. same_ends I.reading i j r.1) (unit_said) form is;
     } };
 
     #[inline(always)]
@@ -93,19 +93,19 @@ impl<I: Stream, O1, E: ParserError<I>, P1: Parser<I, O1, E>> Parser<I, (O1,), E>
     } };
 
     ghost leaves_ends = { λ form. sequence1_ends I.reading (P1.meaning form)
-          (P1.leaves_ends form) };
+        (P1.leaves_ends form) };
 
     ghost said = { λ s. one_said (P1.said s.0) };
 
     ghost claimed = { λ s. record {
       exact = λ form is. tuple1_exact (P1.meaning form) (record { 0 = s.0 })
-            ((P1.claimed s.0).exact form is);
+          ((P1.claimed s.0).exact form is);
       fails = λ form is. tuple1_fails (P1.meaning form) (record { 0 = s.0 })
-            ((P1.claimed s.0).fails form is);
+          ((P1.claimed s.0).fails form is);
       takes = λ is some. made_of_takes OneTuple tt ((P1.claimed s.0).takes is some);
       decided = λ form is. decided_of I.reading
-            (λ form. sequence1_ends I.reading (P1.meaning form) (P1.leaves_ends form))
-            (one_said (P1.said s.0)) form is;
+          (λ form. sequence1_ends I.reading (P1.meaning form) (P1.leaves_ends form))
+          (one_said (P1.said s.0)) form is;
     } };
 
     #[inline(always)]
@@ -115,7 +115,11 @@ impl<I: Stream, O1, E: ParserError<I>, P1: Parser<I, O1, E>> Parser<I, (O1,), E>
     }
 }
 
-impl<I: Stream, O1: Drop, O2, E: ParserError<I>, P1: Parser<I, O1, E>, P2: Parser<I, O2, E>> Parser<I, (O1, O2), E> for (P1, P2) {
+impl<I: Stream, O1: Drop, O2, E: ParserError<I>, P1: Parser<I, O1, E>, P2: Parser<I, O2, E>> Parser<
+    I,
+    (O1, O2),
+    E,
+> for (P1, P2) {
     ghost can_parse = { λ s. P1.can_parse s.0 × P2.can_parse s.1 };
 
     ghost State = { P1.State × P2.State };
@@ -127,17 +131,17 @@ impl<I: Stream, O1: Drop, O2, E: ParserError<I>, P1: Parser<I, O1, E>, P2: Parse
     ghost says = { λ s. sequence2_says (P1.says s.0) (P2.says s.1) };
 
     ghost claim = { λ s. sequence2_claim (P1.claim s.0) (P2.claim s.1)
-          (sequence2_says (P1.says s.0) (P2.says s.1)) };
+        (sequence2_says (P1.says s.0) (P2.says s.1)) };
 
     ghost leaves_ends = { λ form. sequence2_ends I.reading (P1.meaning form) (P2.meaning form)
-          (P1.leaves_ends form) (P2.leaves_ends form) };
+        (P1.leaves_ends form) (P2.leaves_ends form) };
 
     ghost said = { λ s. sequence2_said (P1.said s.0) (P2.said s.1) };
 
     ghost claimed = { λ s. sequence2_claimed I.reading
-          (λ form. sequence2_ends I.reading (P1.meaning form) (P2.meaning form)
-            (P1.leaves_ends form) (P2.leaves_ends form)) (P1.claimed s.0) (P2.claimed s.1)
-          (sequence2_said (P1.said s.0) (P2.said s.1)) };
+        (λ form. sequence2_ends I.reading (P1.meaning form) (P2.meaning form)
+        (P1.leaves_ends form) (P2.leaves_ends form)) (P1.claimed s.0) (P2.claimed s.1)
+        (sequence2_said (P1.said s.0) (P2.said s.1)) };
 
     #[inline(always)]
     fn parse_next(&mut self, input: &mut I) -> Result<(O1, O2), E> {
@@ -147,7 +151,16 @@ impl<I: Stream, O1: Drop, O2, E: ParserError<I>, P1: Parser<I, O1, E>, P2: Parse
     }
 }
 
-impl<I: Stream, O1: Drop, O2: Drop, O3, E: ParserError<I>, P1: Parser<I, O1, E>, P2: Parser<I, O2, E>, P3: Parser<I, O3, E>> Parser<I, (O1, O2, O3), E> for (P1, P2, P3) {
+impl<
+    I: Stream,
+    O1: Drop,
+    O2: Drop,
+    O3,
+    E: ParserError<I>,
+    P1: Parser<I, O1, E>,
+    P2: Parser<I, O2, E>,
+    P3: Parser<I, O3, E>,
+> Parser<I, (O1, O2, O3), E> for (P1, P2, P3) {
     ghost can_parse = { λ s. P1.can_parse s.0 × P2.can_parse s.1 × P3.can_parse s.2 };
 
     ghost State = { P1.State × P2.State × P3.State };
@@ -159,18 +172,18 @@ impl<I: Stream, O1: Drop, O2: Drop, O3, E: ParserError<I>, P1: Parser<I, O1, E>,
     ghost says = { λ s. sequence3_says (P1.says s.0) (P2.says s.1) (P3.says s.2) };
 
     ghost claim = { λ s. sequence3_claim (P1.claim s.0) (P2.claim s.1) (P3.claim s.2)
-          (sequence3_says (P1.says s.0) (P2.says s.1) (P3.says s.2)) };
+        (sequence3_says (P1.says s.0) (P2.says s.1) (P3.says s.2)) };
 
     ghost leaves_ends = { λ form. sequence3_ends I.reading (P1.meaning form) (P2.meaning form)
-          (P3.meaning form) (P1.leaves_ends form) (P2.leaves_ends form) (P3.leaves_ends form) };
+        (P3.meaning form) (P1.leaves_ends form) (P2.leaves_ends form) (P3.leaves_ends form) };
 
     ghost said = { λ s. sequence3_said (P1.said s.0) (P2.said s.1) (P3.said s.2) };
 
     ghost claimed = { λ s. sequence3_claimed I.reading
-          (λ form. sequence3_ends I.reading (P1.meaning form) (P2.meaning form)
-            (P3.meaning form) (P1.leaves_ends form) (P2.leaves_ends form) (P3.leaves_ends form))
-          (P1.claimed s.0) (P2.claimed s.1) (P3.claimed s.2)
-          (sequence3_said (P1.said s.0) (P2.said s.1) (P3.said s.2)) };
+        (λ form. sequence3_ends I.reading (P1.meaning form) (P2.meaning form)
+        (P3.meaning form) (P1.leaves_ends form) (P2.leaves_ends form) (P3.leaves_ends form))
+        (P1.claimed s.0) (P2.claimed s.1) (P3.claimed s.2)
+        (sequence3_said (P1.said s.0) (P2.said s.1) (P3.said s.2)) };
 
     #[inline(always)]
     fn parse_next(&mut self, input: &mut I) -> Result<(O1, O2, O3), E> {
@@ -181,7 +194,18 @@ impl<I: Stream, O1: Drop, O2: Drop, O3, E: ParserError<I>, P1: Parser<I, O1, E>,
     }
 }
 
-impl<I: Stream, O1: Drop, O2: Drop, O3: Drop, O4, E: ParserError<I>, P1: Parser<I, O1, E>, P2: Parser<I, O2, E>, P3: Parser<I, O3, E>, P4: Parser<I, O4, E>> Parser<I, (O1, O2, O3, O4), E> for (P1, P2, P3, P4) {
+impl<
+    I: Stream,
+    O1: Drop,
+    O2: Drop,
+    O3: Drop,
+    O4,
+    E: ParserError<I>,
+    P1: Parser<I, O1, E>,
+    P2: Parser<I, O2, E>,
+    P3: Parser<I, O3, E>,
+    P4: Parser<I, O4, E>,
+> Parser<I, (O1, O2, O3, O4), E> for (P1, P2, P3, P4) {
     ghost can_parse = { λ s. P1.can_parse s.0 × P2.can_parse s.1 × P3.can_parse s.2
         × P4.can_parse s.3 };
 
@@ -190,26 +214,26 @@ impl<I: Stream, O1: Drop, O2: Drop, O3: Drop, O4, E: ParserError<I>, P1: Parser<
     ghost state = { λ s. (P1.state s.0, P2.state s.1, P3.state s.2, P4.state s.3) };
 
     ghost meaning = { λ form. SequenceRuns4 (P1.meaning form) (P2.meaning form)
-          (P3.meaning form) (P4.meaning form) };
+        (P3.meaning form) (P4.meaning form) };
 
     ghost says = { λ s. sequence4_says (P1.says s.0) (P2.says s.1) (P3.says s.2) (P4.says s.3) };
 
     ghost claim = { λ s. sequence4_claim (P1.claim s.0) (P2.claim s.1) (P3.claim s.2)
-          (P4.claim s.3) (sequence4_says (P1.says s.0) (P2.says s.1) (P3.says s.2)
-            (P4.says s.3)) };
+        (P4.claim s.3) (sequence4_says (P1.says s.0) (P2.says s.1) (P3.says s.2)
+        (P4.says s.3)) };
 
     ghost leaves_ends = { λ form. sequence4_ends I.reading (P1.meaning form) (P2.meaning form)
-          (P3.meaning form) (P4.meaning form) (P1.leaves_ends form) (P2.leaves_ends form)
-          (P3.leaves_ends form) (P4.leaves_ends form) };
+        (P3.meaning form) (P4.meaning form) (P1.leaves_ends form) (P2.leaves_ends form)
+        (P3.leaves_ends form) (P4.leaves_ends form) };
 
     ghost said = { λ s. sequence4_said (P1.said s.0) (P2.said s.1) (P3.said s.2) (P4.said s.3) };
 
     ghost claimed = { λ s. sequence4_claimed I.reading
-          (λ form. sequence4_ends I.reading (P1.meaning form) (P2.meaning form)
-            (P3.meaning form) (P4.meaning form) (P1.leaves_ends form) (P2.leaves_ends form)
-            (P3.leaves_ends form) (P4.leaves_ends form)) (P1.claimed s.0) (P2.claimed s.1)
-          (P3.claimed s.2) (P4.claimed s.3)
-          (sequence4_said (P1.said s.0) (P2.said s.1) (P3.said s.2) (P4.said s.3)) };
+        (λ form. sequence4_ends I.reading (P1.meaning form) (P2.meaning form)
+        (P3.meaning form) (P4.meaning form) (P1.leaves_ends form) (P2.leaves_ends form)
+        (P3.leaves_ends form) (P4.leaves_ends form)) (P1.claimed s.0) (P2.claimed s.1)
+        (P3.claimed s.2) (P4.claimed s.3)
+        (sequence4_said (P1.said s.0) (P2.said s.1) (P3.said s.2) (P4.said s.3)) };
 
     #[inline(always)]
     fn parse_next(&mut self, input: &mut I) -> Result<(O1, O2, O3, O4), E> {
@@ -221,7 +245,20 @@ impl<I: Stream, O1: Drop, O2: Drop, O3: Drop, O4, E: ParserError<I>, P1: Parser<
     }
 }
 
-impl<I: Stream, O1: Drop, O2: Drop, O3: Drop, O4: Drop, O5, E: ParserError<I>, P1: Parser<I, O1, E>, P2: Parser<I, O2, E>, P3: Parser<I, O3, E>, P4: Parser<I, O4, E>, P5: Parser<I, O5, E>> Parser<I, (O1, O2, O3, O4, O5), E> for (P1, P2, P3, P4, P5) {
+impl<
+    I: Stream,
+    O1: Drop,
+    O2: Drop,
+    O3: Drop,
+    O4: Drop,
+    O5,
+    E: ParserError<I>,
+    P1: Parser<I, O1, E>,
+    P2: Parser<I, O2, E>,
+    P3: Parser<I, O3, E>,
+    P4: Parser<I, O4, E>,
+    P5: Parser<I, O5, E>,
+> Parser<I, (O1, O2, O3, O4, O5), E> for (P1, P2, P3, P4, P5) {
     ghost can_parse = { λ s. P1.can_parse s.0 × P2.can_parse s.1 × P3.can_parse s.2
         × P4.can_parse s.3 × P5.can_parse s.4 };
 
@@ -230,32 +267,32 @@ impl<I: Stream, O1: Drop, O2: Drop, O3: Drop, O4: Drop, O5, E: ParserError<I>, P
     ghost state = { λ s. (P1.state s.0, P2.state s.1, P3.state s.2, P4.state s.3, P5.state s.4) };
 
     ghost meaning = { λ form. SequenceRuns5 (P1.meaning form) (P2.meaning form)
-          (P3.meaning form) (P4.meaning form) (P5.meaning form) };
+        (P3.meaning form) (P4.meaning form) (P5.meaning form) };
 
     ghost says = { λ s. sequence5_says (P1.says s.0) (P2.says s.1) (P3.says s.2) (P4.says s.3)
-          (P5.says s.4) };
+        (P5.says s.4) };
 
     ghost claim = { λ s. sequence5_claim (P1.claim s.0) (P2.claim s.1) (P3.claim s.2)
-          (P4.claim s.3) (P5.claim s.4)
-          (sequence5_says (P1.says s.0) (P2.says s.1) (P3.says s.2) (P4.says s.3)
-            (P5.says s.4)) };
+        (P4.claim s.3) (P5.claim s.4)
+        (sequence5_says (P1.says s.0) (P2.says s.1) (P3.says s.2) (P4.says s.3)
+        (P5.says s.4)) };
 
     ghost leaves_ends = { λ form. sequence5_ends I.reading (P1.meaning form) (P2.meaning form)
-          (P3.meaning form) (P4.meaning form) (P5.meaning form) (P1.leaves_ends form)
-          (P2.leaves_ends form) (P3.leaves_ends form) (P4.leaves_ends form)
-          (P5.leaves_ends form) };
+        (P3.meaning form) (P4.meaning form) (P5.meaning form) (P1.leaves_ends form)
+        (P2.leaves_ends form) (P3.leaves_ends form) (P4.leaves_ends form)
+        (P5.leaves_ends form) };
 
     ghost said = { λ s. sequence5_said (P1.said s.0) (P2.said s.1) (P3.said s.2) (P4.said s.3)
-          (P5.said s.4) };
+        (P5.said s.4) };
 
     ghost claimed = { λ s. sequence5_claimed I.reading
-          (λ form. sequence5_ends I.reading (P1.meaning form) (P2.meaning form)
-            (P3.meaning form) (P4.meaning form) (P5.meaning form) (P1.leaves_ends form)
-            (P2.leaves_ends form) (P3.leaves_ends form) (P4.leaves_ends form)
-            (P5.leaves_ends form)) (P1.claimed s.0) (P2.claimed s.1) (P3.claimed s.2)
-          (P4.claimed s.3) (P5.claimed s.4)
-          (sequence5_said (P1.said s.0) (P2.said s.1) (P3.said s.2) (P4.said s.3)
-            (P5.said s.4)) };
+        (λ form. sequence5_ends I.reading (P1.meaning form) (P2.meaning form)
+        (P3.meaning form) (P4.meaning form) (P5.meaning form) (P1.leaves_ends form)
+        (P2.leaves_ends form) (P3.leaves_ends form) (P4.leaves_ends form)
+        (P5.leaves_ends form)) (P1.claimed s.0) (P2.claimed s.1) (P3.claimed s.2)
+        (P4.claimed s.3) (P5.claimed s.4)
+        (sequence5_said (P1.said s.0) (P2.said s.1) (P3.said s.2) (P4.said s.3)
+        (P5.said s.4)) };
 
     #[inline(always)]
     fn parse_next(&mut self, input: &mut I) -> Result<(O1, O2, O3, O4, O5), E> {
@@ -268,43 +305,63 @@ impl<I: Stream, O1: Drop, O2: Drop, O3: Drop, O4: Drop, O5, E: ParserError<I>, P
     }
 }
 
-impl<I: Stream, O1: Drop, O2: Drop, O3: Drop, O4: Drop, O5: Drop, O6, E: ParserError<I>, P1: Parser<I, O1, E>, P2: Parser<I, O2, E>, P3: Parser<I, O3, E>, P4: Parser<I, O4, E>, P5: Parser<I, O5, E>, P6: Parser<I, O6, E>> Parser<I, (O1, O2, O3, O4, O5, O6), E> for (P1, P2, P3, P4, P5, P6) {
+impl<
+    I: Stream,
+    O1: Drop,
+    O2: Drop,
+    O3: Drop,
+    O4: Drop,
+    O5: Drop,
+    O6,
+    E: ParserError<I>,
+    P1: Parser<I, O1, E>,
+    P2: Parser<I, O2, E>,
+    P3: Parser<I, O3, E>,
+    P4: Parser<I, O4, E>,
+    P5: Parser<I, O5, E>,
+    P6: Parser<I, O6, E>,
+> Parser<I, (O1, O2, O3, O4, O5, O6), E> for (P1, P2, P3, P4, P5, P6) {
     ghost can_parse = { λ s. P1.can_parse s.0 × P2.can_parse s.1 × P3.can_parse s.2
         × P4.can_parse s.3 × P5.can_parse s.4 × P6.can_parse s.5 };
 
     ghost State = { P1.State × P2.State × P3.State × P4.State × P5.State × P6.State };
 
-    ghost state = { λ s.
-          (P1.state s.0, P2.state s.1, P3.state s.2, P4.state s.3, P5.state s.4,
-          P6.state s.5) };
+    ghost state = { λ s. (
+      P1.state s.0,
+      P2.state s.1,
+      P3.state s.2,
+      P4.state s.3,
+      P5.state s.4,
+      P6.state s.5,
+    ) };
 
     ghost meaning = { λ form. SequenceRuns6 (P1.meaning form) (P2.meaning form)
-          (P3.meaning form) (P4.meaning form) (P5.meaning form) (P6.meaning form) };
+        (P3.meaning form) (P4.meaning form) (P5.meaning form) (P6.meaning form) };
 
     ghost says = { λ s. sequence6_says (P1.says s.0) (P2.says s.1) (P3.says s.2) (P4.says s.3)
-          (P5.says s.4) (P6.says s.5) };
+        (P5.says s.4) (P6.says s.5) };
 
     ghost claim = { λ s. sequence6_claim (P1.claim s.0) (P2.claim s.1) (P3.claim s.2)
-          (P4.claim s.3) (P5.claim s.4) (P6.claim s.5)
-          (sequence6_says (P1.says s.0) (P2.says s.1) (P3.says s.2) (P4.says s.3) (P5.says s.4)
-            (P6.says s.5)) };
+        (P4.claim s.3) (P5.claim s.4) (P6.claim s.5)
+        (sequence6_says (P1.says s.0) (P2.says s.1) (P3.says s.2) (P4.says s.3) (P5.says s.4)
+        (P6.says s.5)) };
 
     ghost leaves_ends = { λ form. sequence6_ends I.reading (P1.meaning form) (P2.meaning form)
-          (P3.meaning form) (P4.meaning form) (P5.meaning form) (P6.meaning form)
-          (P1.leaves_ends form) (P2.leaves_ends form) (P3.leaves_ends form)
-          (P4.leaves_ends form) (P5.leaves_ends form) (P6.leaves_ends form) };
+        (P3.meaning form) (P4.meaning form) (P5.meaning form) (P6.meaning form)
+        (P1.leaves_ends form) (P2.leaves_ends form) (P3.leaves_ends form)
+        (P4.leaves_ends form) (P5.leaves_ends form) (P6.leaves_ends form) };
 
     ghost said = { λ s. sequence6_said (P1.said s.0) (P2.said s.1) (P3.said s.2) (P4.said s.3)
-          (P5.said s.4) (P6.said s.5) };
+        (P5.said s.4) (P6.said s.5) };
 
     ghost claimed = { λ s. sequence6_claimed I.reading
-          (λ form. sequence6_ends I.reading (P1.meaning form) (P2.meaning form)
-            (P3.meaning form) (P4.meaning form) (P5.meaning form) (P6.meaning form)
-            (P1.leaves_ends form) (P2.leaves_ends form) (P3.leaves_ends form)
-            (P4.leaves_ends form) (P5.leaves_ends form) (P6.leaves_ends form)) (P1.claimed s.0)
-          (P2.claimed s.1) (P3.claimed s.2) (P4.claimed s.3) (P5.claimed s.4) (P6.claimed s.5)
-          (sequence6_said (P1.said s.0) (P2.said s.1) (P3.said s.2) (P4.said s.3) (P5.said s.4)
-            (P6.said s.5)) };
+        (λ form. sequence6_ends I.reading (P1.meaning form) (P2.meaning form)
+        (P3.meaning form) (P4.meaning form) (P5.meaning form) (P6.meaning form)
+        (P1.leaves_ends form) (P2.leaves_ends form) (P3.leaves_ends form)
+        (P4.leaves_ends form) (P5.leaves_ends form) (P6.leaves_ends form)) (P1.claimed s.0)
+        (P2.claimed s.1) (P3.claimed s.2) (P4.claimed s.3) (P5.claimed s.4) (P6.claimed s.5)
+        (sequence6_said (P1.said s.0) (P2.said s.1) (P3.said s.2) (P4.said s.3) (P5.said s.4)
+        (P6.said s.5)) };
 
     #[inline(always)]
     fn parse_next(&mut self, input: &mut I) -> Result<(O1, O2, O3, O4, O5, O6), E> {

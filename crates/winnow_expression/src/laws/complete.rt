@@ -11,7 +11,12 @@ use winnow_core::parser::Parser;
 
 /// Each of these has the same meaning over a partial stream as over the plain one:
 /// `prefix_operator`, `postfix_operator`, `infix_operator`.
-pub fn prefix_operator_and_its_like_over_a_complete_stream<I: Stream, F: Clone, E: ParserError<I>, Q: ParserError<Partial<I>>>()
+pub fn prefix_operator_and_its_like_over_a_complete_stream<
+    I: Stream,
+    F: Clone,
+    E: ParserError<I>,
+    Q: ParserError<Partial<I>>,
+>()
     ensures prefix_operator { SameMeaning (λ s. s)
         ⟦<Prefix<F> as Parser<I, Prefix<F>, E>>⟧.meaning
         ⟦<Prefix<F> as Parser<Partial<I>, Prefix<F>, Q>>⟧.meaning }

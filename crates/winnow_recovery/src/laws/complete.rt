@@ -12,7 +12,16 @@ use winnow_core::parser::Parser;
 
 /// Each of these has the same meaning over a partial stream as over the plain one, if its parts do:
 /// `resume_after`, `retry_after`.
-pub fn resume_after_and_retry_after_over_a_complete_stream<P: Parser<I, O, E>, Q: Parser<Partial<I>, O, T>, R: Parser<I, (), E>, S: Parser<Partial<I>, (), T>, I: Recover<E>, O, E: ParserError<I> + FromRecoverableError<I, E>, T: ParserError<Partial<I>> + FromRecoverableError<Partial<I>, T>>()
+pub fn resume_after_and_retry_after_over_a_complete_stream<
+    P: Parser<I, O, E>,
+    Q: Parser<Partial<I>, O, T>,
+    R: Parser<I, (), E>,
+    S: Parser<Partial<I>, (), T>,
+    I: Recover<E>,
+    O,
+    E: ParserError<I> + FromRecoverableError<I, E>,
+    T: ParserError<Partial<I>> + FromRecoverableError<Partial<I>, T>,
+>()
     ensures resume_after { (to_p : P.State → Q.State) → SameMeaning to_p P.meaning Q.meaning →
         (to_r : R.State → S.State) → SameMeaning to_r R.meaning S.meaning →
         SameMeaning (λ z. (to_p z.0, to_r z.1, z.2))

@@ -12,7 +12,19 @@ use streams::stream::Stream;
 use winnow_core::parser::Parser;
 
 /// `separated` has the same meaning over a partial stream as over the plain one, if its parts do.
-pub fn separated_over_a_complete_stream<P: Parser<I, O, E>, Q: Parser<Partial<I>, O, T>, S: Parser<I, D, E>, R: Parser<Partial<I>, D, T>, I: Stream, O: Drop, D: Drop, C: Accumulate<O, A>, E: ParserError<I>, T: ParserError<Partial<I>>, A: Allocator + Copy>()
+pub fn separated_over_a_complete_stream<
+    P: Parser<I, O, E>,
+    Q: Parser<Partial<I>, O, T>,
+    S: Parser<I, D, E>,
+    R: Parser<Partial<I>, D, T>,
+    I: Stream,
+    O: Drop,
+    D: Drop,
+    C: Accumulate<O, A>,
+    E: ParserError<I>,
+    T: ParserError<Partial<I>>,
+    A: Allocator + Copy,
+>()
     ensures separated { (to_p : P.State → Q.State) → SameMeaning to_p P.meaning Q.meaning →
         (to_s : S.State → R.State) → SameMeaning to_s S.meaning R.meaning →
         SameMeaning (λ z. (to_p z.0, to_s z.1, z.2))
@@ -22,7 +34,18 @@ pub fn separated_over_a_complete_stream<P: Parser<I, O, E>, Q: Parser<Partial<I>
 
 /// `separated_foldl1` has the same meaning over a partial stream as over the plain one, if its
 /// parts do.
-pub fn separated_foldl1_over_a_complete_stream<P: Parser<I, O, E>, Q: Parser<Partial<I>, O, T>, S: Parser<I, D, E>, R: Parser<Partial<I>, D, T>, H: FnMut(O, D, O) -> O, I: Stream, O: Drop, D: Drop, E: ParserError<I>, T: ParserError<Partial<I>>>()
+pub fn separated_foldl1_over_a_complete_stream<
+    P: Parser<I, O, E>,
+    Q: Parser<Partial<I>, O, T>,
+    S: Parser<I, D, E>,
+    R: Parser<Partial<I>, D, T>,
+    H: FnMut(O, D, O) -> O,
+    I: Stream,
+    O: Drop,
+    D: Drop,
+    E: ParserError<I>,
+    T: ParserError<Partial<I>>,
+>()
     ensures separated_foldl1 { (to_p : P.State → Q.State) → SameMeaning to_p P.meaning Q.meaning →
         (to_s : S.State → R.State) → SameMeaning to_s S.meaning R.meaning →
         SameMeaning (λ z. (to_p z.0, to_s z.1, z.2))
@@ -32,7 +55,19 @@ pub fn separated_foldl1_over_a_complete_stream<P: Parser<I, O, E>, Q: Parser<Par
 
 /// `separated_foldr1` has the same meaning over a partial stream as over the plain one, if its
 /// parts do.
-pub fn separated_foldr1_over_a_complete_stream<P: Parser<I, O, E>, Q: Parser<Partial<I>, O, T>, S: Parser<I, D, E>, R: Parser<Partial<I>, D, T>, H: FnMut(O, D, O) -> O, I: Stream, O: Drop, D: Drop, E: ParserError<I>, T: ParserError<Partial<I>>, A: Allocator + Copy>()
+pub fn separated_foldr1_over_a_complete_stream<
+    P: Parser<I, O, E>,
+    Q: Parser<Partial<I>, O, T>,
+    S: Parser<I, D, E>,
+    R: Parser<Partial<I>, D, T>,
+    H: FnMut(O, D, O) -> O,
+    I: Stream,
+    O: Drop,
+    D: Drop,
+    E: ParserError<I>,
+    T: ParserError<Partial<I>>,
+    A: Allocator + Copy,
+>()
     ensures separated_foldr1 { (to_p : P.State → Q.State) → SameMeaning to_p P.meaning Q.meaning →
         (to_s : S.State → R.State) → SameMeaning to_s S.meaning R.meaning →
         SameMeaning (λ z. (to_p z.0, to_s z.1, z.2))

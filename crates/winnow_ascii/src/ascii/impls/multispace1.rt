@@ -40,7 +40,7 @@ where
     ghost state = { λ _. tt };
 
     ghost meaning = { λ form. Keeps
-          (λ _. ClassRuns IsMultispace 1 I.Token.code I.seen_as I.reading form) };
+        (λ _. ClassRuns IsMultispace 1 I.Token.code I.seen_as I.reading form) };
 
     ghost says = { λ _. class_says IsMultispace 1 I.Token.code I.seen_as I.reading };
 
@@ -55,7 +55,7 @@ where
     } };
 
     ghost leaves_ends = { λ form x i answer y j r. class_ends IsMultispace 1 I.Token.code
-          I.seen_as I.reading form i answer j r.0 };
+        I.seen_as I.reading form i answer j r.0 };
 
     ghost said = { λ _. class_said IsMultispace 1 I.Token.code I.seen_as I.reading };
 
@@ -72,15 +72,12 @@ where
     }
 }
 
-impl<
-    I: StreamIsPartial,
-    E: ParserError<I>,
-> Stable<I, I::Slice, E> for Multispace1
+impl<I: StreamIsPartial, E: ParserError<I>> Stable<I, I::Slice, E> for Multispace1
 where
     I::Token: AsChar,
 {
     ghost stable = { leaf_stays I.following _
-          (λ _. take_while_stays I.reading _ (from_to 1 None)) };
+        (λ _. take_while_stays I.reading _ (from_to 1 None)) };
 
     fn stay() {}
 }

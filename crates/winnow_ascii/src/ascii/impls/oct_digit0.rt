@@ -39,7 +39,7 @@ where
     ghost state = { λ _. tt };
 
     ghost meaning = { λ form. Keeps
-          (λ _. ClassRuns IsOctDigit 0 I.Token.code I.seen_as I.reading form) };
+        (λ _. ClassRuns IsOctDigit 0 I.Token.code I.seen_as I.reading form) };
 
     ghost says = { λ _. class_says IsOctDigit 0 I.Token.code I.seen_as I.reading };
 
@@ -54,7 +54,7 @@ where
     } };
 
     ghost leaves_ends = { λ form x i answer y j r. class_ends IsOctDigit 0 I.Token.code
-          I.seen_as I.reading form i answer j r.0 };
+        I.seen_as I.reading form i answer j r.0 };
 
     ghost said = { λ _. class_said IsOctDigit 0 I.Token.code I.seen_as I.reading };
 
@@ -71,15 +71,12 @@ where
     }
 }
 
-impl<
-    I: StreamIsPartial,
-    E: ParserError<I>,
-> Stable<I, I::Slice, E> for OctDigit0
+impl<I: StreamIsPartial, E: ParserError<I>> Stable<I, I::Slice, E> for OctDigit0
 where
     I::Token: AsChar,
 {
     ghost stable = { leaf_stays I.following _
-          (λ _. take_while_stays I.reading _ (from_to 0 None)) };
+        (λ _. take_while_stays I.reading _ (from_to 0 None)) };
 
     fn stay() {}
 }

@@ -64,7 +64,7 @@ impl<I: StreamIsPartial + ByteStream, E: ParserError<I>> Parser<I, i32, E> for I
       fails = λ form is. backs (integer_fails 4 signed_value I.reading form s);
       takes = λ is some. integer_takes 4 (signed_value s) (some_bytes 3);
       decided = λ form is. decided_of I.reading (integer_leaves 4 signed_value I.reading)
-            (integer_said 4 signed_value I.reading s) form is;
+          (integer_said 4 signed_value I.reading s) form is;
     } };
 
     #[inline(always)]
@@ -76,10 +76,7 @@ impl<I: StreamIsPartial + ByteStream, E: ParserError<I>> Parser<I, i32, E> for I
     }
 }
 
-impl<
-    I: StreamIsPartial + ByteStream,
-    E: ParserError<I>,
-> Stable<I, i32, E> for I32<I, E> {
+impl<I: StreamIsPartial + ByteStream, E: ParserError<I>> Stable<I, i32, E> for I32<I, E> {
     ghost stable = { leaf_stays I.following _ (λ x. integer_stays 4 (signed_value x) I.reading) };
 
     fn stay() {}

@@ -64,7 +64,7 @@ impl<I: StreamIsPartial + ByteStream, E: ParserError<I>> Parser<I, u128, E> for 
       fails = λ form is. backs (integer_fails 16 unsigned_value I.reading form s);
       takes = λ is some. integer_takes 16 (unsigned_value s) (some_bytes 15);
       decided = λ form is. decided_of I.reading (integer_leaves 16 unsigned_value I.reading)
-            (integer_said 16 unsigned_value I.reading s) form is;
+          (integer_said 16 unsigned_value I.reading s) form is;
     } };
 
     #[inline(always)]
@@ -76,12 +76,9 @@ impl<I: StreamIsPartial + ByteStream, E: ParserError<I>> Parser<I, u128, E> for 
     }
 }
 
-impl<
-    I: StreamIsPartial + ByteStream,
-    E: ParserError<I>,
-> Stable<I, u128, E> for U128<I, E> {
+impl<I: StreamIsPartial + ByteStream, E: ParserError<I>> Stable<I, u128, E> for U128<I, E> {
     ghost stable = { leaf_stays I.following _
-          (λ x. integer_stays 16 (unsigned_value x) I.reading) };
+        (λ x. integer_stays 16 (unsigned_value x) I.reading) };
 
     fn stay() {}
 }

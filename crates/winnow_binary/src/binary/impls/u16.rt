@@ -64,7 +64,7 @@ impl<I: StreamIsPartial + ByteStream, E: ParserError<I>> Parser<I, u16, E> for U
       fails = λ form is. backs (integer_fails 2 unsigned_value I.reading form s);
       takes = λ is some. integer_takes 2 (unsigned_value s) (some_bytes 1);
       decided = λ form is. decided_of I.reading (integer_leaves 2 unsigned_value I.reading)
-            (integer_said 2 unsigned_value I.reading s) form is;
+          (integer_said 2 unsigned_value I.reading s) form is;
     } };
 
     #[inline(always)]
@@ -76,10 +76,7 @@ impl<I: StreamIsPartial + ByteStream, E: ParserError<I>> Parser<I, u16, E> for U
     }
 }
 
-impl<
-    I: StreamIsPartial + ByteStream,
-    E: ParserError<I>,
-> Stable<I, u16, E> for U16<I, E> {
+impl<I: StreamIsPartial + ByteStream, E: ParserError<I>> Stable<I, u16, E> for U16<I, E> {
     ghost stable = { leaf_stays I.following _ (λ x. integer_stays 2 (unsigned_value x) I.reading) };
 
     fn stay() {}

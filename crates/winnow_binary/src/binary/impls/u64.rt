@@ -64,7 +64,7 @@ impl<I: StreamIsPartial + ByteStream, E: ParserError<I>> Parser<I, u64, E> for U
       fails = λ form is. backs (integer_fails 8 unsigned_value I.reading form s);
       takes = λ is some. integer_takes 8 (unsigned_value s) (some_bytes 7);
       decided = λ form is. decided_of I.reading (integer_leaves 8 unsigned_value I.reading)
-            (integer_said 8 unsigned_value I.reading s) form is;
+          (integer_said 8 unsigned_value I.reading s) form is;
     } };
 
     #[inline(always)]
@@ -76,10 +76,7 @@ impl<I: StreamIsPartial + ByteStream, E: ParserError<I>> Parser<I, u64, E> for U
     }
 }
 
-impl<
-    I: StreamIsPartial + ByteStream,
-    E: ParserError<I>,
-> Stable<I, u64, E> for U64<I, E> {
+impl<I: StreamIsPartial + ByteStream, E: ParserError<I>> Stable<I, u64, E> for U64<I, E> {
     ghost stable = { leaf_stays I.following _ (λ x. integer_stays 8 (unsigned_value x) I.reading) };
 
     fn stay() {}

@@ -18,28 +18,20 @@ impl<I: Stream, E: ParserError<I>> Stable<I, (), E> for () {
     fn stay() {}
 }
 
-impl<
-    I: Stream,
-    O1,
-    E: ParserError<I>,
-    P1: Stable<I, O1, E>,
-> Stable<I, (O1,), E> for (P1,) {
+impl<I: Stream, O1, E: ParserError<I>, P1: Stable<I, O1, E>> Stable<I, (O1,), E> for (P1,) {
     ghost stable = { stays (sequence1_grows (grows (P1.leaves_ends modal) P1.stable)) };
 
     fn stay() {}
 }
 
-impl<
-    I: Stream,
-    O1: Drop,
-    O2,
-    E: ParserError<I>,
-    P1: Stable<I, O1, E>,
-    P2: Stable<I, O2, E>,
-> Stable<I, (O1, O2), E> for (P1, P2) {
+impl<I: Stream, O1: Drop, O2, E: ParserError<I>, P1: Stable<I, O1, E>, P2: Stable<I, O2, E>> Stable<
+    I,
+    (O1, O2),
+    E,
+> for (P1, P2) {
     ghost stable = { stays
-          (sequence2_grows (grows (P1.leaves_ends modal) P1.stable)
-            (grows (P2.leaves_ends modal) P2.stable)) };
+        (sequence2_grows (grows (P1.leaves_ends modal) P1.stable)
+        (grows (P2.leaves_ends modal) P2.stable)) };
 
     fn stay() {}
 }
@@ -55,9 +47,9 @@ impl<
     P3: Stable<I, O3, E>,
 > Stable<I, (O1, O2, O3), E> for (P1, P2, P3) {
     ghost stable = { stays
-          (sequence3_grows (grows (P1.leaves_ends modal) P1.stable)
-            (grows (P2.leaves_ends modal) P2.stable)
-            (grows (P3.leaves_ends modal) P3.stable)) };
+        (sequence3_grows (grows (P1.leaves_ends modal) P1.stable)
+        (grows (P2.leaves_ends modal) P2.stable)
+        (grows (P3.leaves_ends modal) P3.stable)) };
 
     fn stay() {}
 }
@@ -75,9 +67,9 @@ impl<
     P4: Stable<I, O4, E>,
 > Stable<I, (O1, O2, O3, O4), E> for (P1, P2, P3, P4) {
     ghost stable = { stays
-          (sequence4_grows (grows (P1.leaves_ends modal) P1.stable)
-            (grows (P2.leaves_ends modal) P2.stable) (grows (P3.leaves_ends modal) P3.stable)
-            (grows (P4.leaves_ends modal) P4.stable)) };
+        (sequence4_grows (grows (P1.leaves_ends modal) P1.stable)
+        (grows (P2.leaves_ends modal) P2.stable) (grows (P3.leaves_ends modal) P3.stable)
+        (grows (P4.leaves_ends modal) P4.stable)) };
 
     fn stay() {}
 }
@@ -97,10 +89,10 @@ impl<
     P5: Stable<I, O5, E>,
 > Stable<I, (O1, O2, O3, O4, O5), E> for (P1, P2, P3, P4, P5) {
     ghost stable = { stays
-          (sequence5_grows (grows (P1.leaves_ends modal) P1.stable)
-            (grows (P2.leaves_ends modal) P2.stable) (grows (P3.leaves_ends modal) P3.stable)
-            (grows (P4.leaves_ends modal) P4.stable)
-            (grows (P5.leaves_ends modal) P5.stable)) };
+        (sequence5_grows (grows (P1.leaves_ends modal) P1.stable)
+        (grows (P2.leaves_ends modal) P2.stable) (grows (P3.leaves_ends modal) P3.stable)
+        (grows (P4.leaves_ends modal) P4.stable)
+        (grows (P5.leaves_ends modal) P5.stable)) };
 
     fn stay() {}
 }
@@ -122,10 +114,10 @@ impl<
     P6: Stable<I, O6, E>,
 > Stable<I, (O1, O2, O3, O4, O5, O6), E> for (P1, P2, P3, P4, P5, P6) {
     ghost stable = { stays
-          (sequence6_grows (grows (P1.leaves_ends modal) P1.stable)
-            (grows (P2.leaves_ends modal) P2.stable) (grows (P3.leaves_ends modal) P3.stable)
-            (grows (P4.leaves_ends modal) P4.stable) (grows (P5.leaves_ends modal) P5.stable)
-            (grows (P6.leaves_ends modal) P6.stable)) };
+        (sequence6_grows (grows (P1.leaves_ends modal) P1.stable)
+        (grows (P2.leaves_ends modal) P2.stable) (grows (P3.leaves_ends modal) P3.stable)
+        (grows (P4.leaves_ends modal) P4.stable) (grows (P5.leaves_ends modal) P5.stable)
+        (grows (P6.leaves_ends modal) P6.stable)) };
 
     fn stay() {}
 }

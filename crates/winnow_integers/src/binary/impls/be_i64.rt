@@ -58,8 +58,8 @@ impl<I: StreamIsPartial + ByteStream, E: ParserError<I>> Parser<I, i64, E> for B
       fails = λ form is. backs (integer_fails 8 (λ (_ : ⊤). signed_value Big) I.reading form tt);
       takes = λ is some. integer_takes 8 (signed_value Big) (some_bytes 7);
       decided = λ form is. decided_of I.reading
-            (integer_leaves 8 (λ (_ : ⊤). signed_value Big) I.reading)
-            (integer_said 8 (λ (_ : ⊤). signed_value Big) I.reading s) form is;
+          (integer_leaves 8 (λ (_ : ⊤). signed_value Big) I.reading)
+          (integer_said 8 (λ (_ : ⊤). signed_value Big) I.reading s) form is;
     } };
 
     #[inline(always)]
@@ -68,10 +68,7 @@ impl<I: StreamIsPartial + ByteStream, E: ParserError<I>> Parser<I, i64, E> for B
     }
 }
 
-impl<
-    I: StreamIsPartial + ByteStream,
-    E: ParserError<I>,
-> Stable<I, i64, E> for BeI64 {
+impl<I: StreamIsPartial + ByteStream, E: ParserError<I>> Stable<I, i64, E> for BeI64 {
     ghost stable = { leaf_stays I.following _ (λ _. integer_stays 8 (signed_value Big) I.reading) };
 
     fn stay() {}

@@ -58,8 +58,8 @@ impl<I: StreamIsPartial + ByteStream, E: ParserError<I>> Parser<I, i8, E> for Be
       fails = λ form is. backs (integer_fails 1 (λ (_ : ⊤). signed_value Big) I.reading form tt);
       takes = λ is some. integer_takes 1 (signed_value Big) (some_bytes 0);
       decided = λ form is. decided_of I.reading
-            (integer_leaves 1 (λ (_ : ⊤). signed_value Big) I.reading)
-            (integer_said 1 (λ (_ : ⊤). signed_value Big) I.reading s) form is;
+          (integer_leaves 1 (λ (_ : ⊤). signed_value Big) I.reading)
+          (integer_said 1 (λ (_ : ⊤). signed_value Big) I.reading s) form is;
     } };
 
     #[inline(always)]
@@ -68,10 +68,7 @@ impl<I: StreamIsPartial + ByteStream, E: ParserError<I>> Parser<I, i8, E> for Be
     }
 }
 
-impl<
-    I: StreamIsPartial + ByteStream,
-    E: ParserError<I>,
-> Stable<I, i8, E> for BeI8 {
+impl<I: StreamIsPartial + ByteStream, E: ParserError<I>> Stable<I, i8, E> for BeI8 {
     ghost stable = { leaf_stays I.following _ (λ _. integer_stays 1 (signed_value Big) I.reading) };
 
     fn stay() {}

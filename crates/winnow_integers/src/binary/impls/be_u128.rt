@@ -58,8 +58,8 @@ impl<I: StreamIsPartial + ByteStream, E: ParserError<I>> Parser<I, u128, E> for 
       fails = λ form is. backs (integer_fails 16 (λ (_ : ⊤). unsigned_value Big) I.reading form tt);
       takes = λ is some. integer_takes 16 (unsigned_value Big) (some_bytes 15);
       decided = λ form is. decided_of I.reading
-            (integer_leaves 16 (λ (_ : ⊤). unsigned_value Big) I.reading)
-            (integer_said 16 (λ (_ : ⊤). unsigned_value Big) I.reading s) form is;
+          (integer_leaves 16 (λ (_ : ⊤). unsigned_value Big) I.reading)
+          (integer_said 16 (λ (_ : ⊤). unsigned_value Big) I.reading s) form is;
     } };
 
     #[inline(always)]
@@ -68,12 +68,9 @@ impl<I: StreamIsPartial + ByteStream, E: ParserError<I>> Parser<I, u128, E> for 
     }
 }
 
-impl<
-    I: StreamIsPartial + ByteStream,
-    E: ParserError<I>,
-> Stable<I, u128, E> for BeU128 {
+impl<I: StreamIsPartial + ByteStream, E: ParserError<I>> Stable<I, u128, E> for BeU128 {
     ghost stable = { leaf_stays I.following _
-          (λ _. integer_stays 16 (unsigned_value Big) I.reading) };
+        (λ _. integer_stays 16 (unsigned_value Big) I.reading) };
 
     fn stay() {}
 }

@@ -58,8 +58,8 @@ impl<I: StreamIsPartial + ByteStream, E: ParserError<I>> Parser<I, u32, E> for B
       fails = λ form is. backs (integer_fails 4 (λ (_ : ⊤). unsigned_value Big) I.reading form tt);
       takes = λ is some. integer_takes 4 (unsigned_value Big) (some_bytes 3);
       decided = λ form is. decided_of I.reading
-            (integer_leaves 4 (λ (_ : ⊤). unsigned_value Big) I.reading)
-            (integer_said 4 (λ (_ : ⊤). unsigned_value Big) I.reading s) form is;
+          (integer_leaves 4 (λ (_ : ⊤). unsigned_value Big) I.reading)
+          (integer_said 4 (λ (_ : ⊤). unsigned_value Big) I.reading s) form is;
     } };
 
     #[inline(always)]
@@ -68,12 +68,9 @@ impl<I: StreamIsPartial + ByteStream, E: ParserError<I>> Parser<I, u32, E> for B
     }
 }
 
-impl<
-    I: StreamIsPartial + ByteStream,
-    E: ParserError<I>,
-> Stable<I, u32, E> for BeU32 {
+impl<I: StreamIsPartial + ByteStream, E: ParserError<I>> Stable<I, u32, E> for BeU32 {
     ghost stable = { leaf_stays I.following _
-          (λ _. integer_stays 4 (unsigned_value Big) I.reading) };
+        (λ _. integer_stays 4 (unsigned_value Big) I.reading) };
 
     fn stay() {}
 }

@@ -58,8 +58,8 @@ impl<I: StreamIsPartial + ByteStream, E: ParserError<I>> Parser<I, u8, E> for Be
       fails = λ form is. backs (integer_fails 1 (λ (_ : ⊤). unsigned_value Big) I.reading form tt);
       takes = λ is some. integer_takes 1 (unsigned_value Big) (some_bytes 0);
       decided = λ form is. decided_of I.reading
-            (integer_leaves 1 (λ (_ : ⊤). unsigned_value Big) I.reading)
-            (integer_said 1 (λ (_ : ⊤). unsigned_value Big) I.reading s) form is;
+          (integer_leaves 1 (λ (_ : ⊤). unsigned_value Big) I.reading)
+          (integer_said 1 (λ (_ : ⊤). unsigned_value Big) I.reading s) form is;
     } };
 
     #[inline(always)]
@@ -68,12 +68,9 @@ impl<I: StreamIsPartial + ByteStream, E: ParserError<I>> Parser<I, u8, E> for Be
     }
 }
 
-impl<
-    I: StreamIsPartial + ByteStream,
-    E: ParserError<I>,
-> Stable<I, u8, E> for BeU8 {
+impl<I: StreamIsPartial + ByteStream, E: ParserError<I>> Stable<I, u8, E> for BeU8 {
     ghost stable = { leaf_stays I.following _
-          (λ _. integer_stays 1 (unsigned_value Big) I.reading) };
+        (λ _. integer_stays 1 (unsigned_value Big) I.reading) };
 
     fn stay() {}
 }

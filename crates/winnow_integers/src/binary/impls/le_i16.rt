@@ -58,8 +58,8 @@ impl<I: StreamIsPartial + ByteStream, E: ParserError<I>> Parser<I, i16, E> for L
       fails = λ form is. backs (integer_fails 2 (λ (_ : ⊤). signed_value Little) I.reading form tt);
       takes = λ is some. integer_takes 2 (signed_value Little) (some_bytes 1);
       decided = λ form is. decided_of I.reading
-            (integer_leaves 2 (λ (_ : ⊤). signed_value Little) I.reading)
-            (integer_said 2 (λ (_ : ⊤). signed_value Little) I.reading s) form is;
+          (integer_leaves 2 (λ (_ : ⊤). signed_value Little) I.reading)
+          (integer_said 2 (λ (_ : ⊤). signed_value Little) I.reading s) form is;
     } };
 
     #[inline(always)]
@@ -68,12 +68,9 @@ impl<I: StreamIsPartial + ByteStream, E: ParserError<I>> Parser<I, i16, E> for L
     }
 }
 
-impl<
-    I: StreamIsPartial + ByteStream,
-    E: ParserError<I>,
-> Stable<I, i16, E> for LeI16 {
+impl<I: StreamIsPartial + ByteStream, E: ParserError<I>> Stable<I, i16, E> for LeI16 {
     ghost stable = { leaf_stays I.following _
-          (λ _. integer_stays 2 (signed_value Little) I.reading) };
+        (λ _. integer_stays 2 (signed_value Little) I.reading) };
 
     fn stay() {}
 }

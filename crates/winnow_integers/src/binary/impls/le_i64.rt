@@ -58,8 +58,8 @@ impl<I: StreamIsPartial + ByteStream, E: ParserError<I>> Parser<I, i64, E> for L
       fails = λ form is. backs (integer_fails 8 (λ (_ : ⊤). signed_value Little) I.reading form tt);
       takes = λ is some. integer_takes 8 (signed_value Little) (some_bytes 7);
       decided = λ form is. decided_of I.reading
-            (integer_leaves 8 (λ (_ : ⊤). signed_value Little) I.reading)
-            (integer_said 8 (λ (_ : ⊤). signed_value Little) I.reading s) form is;
+          (integer_leaves 8 (λ (_ : ⊤). signed_value Little) I.reading)
+          (integer_said 8 (λ (_ : ⊤). signed_value Little) I.reading s) form is;
     } };
 
     #[inline(always)]
@@ -68,12 +68,9 @@ impl<I: StreamIsPartial + ByteStream, E: ParserError<I>> Parser<I, i64, E> for L
     }
 }
 
-impl<
-    I: StreamIsPartial + ByteStream,
-    E: ParserError<I>,
-> Stable<I, i64, E> for LeI64 {
+impl<I: StreamIsPartial + ByteStream, E: ParserError<I>> Stable<I, i64, E> for LeI64 {
     ghost stable = { leaf_stays I.following _
-          (λ _. integer_stays 8 (signed_value Little) I.reading) };
+        (λ _. integer_stays 8 (signed_value Little) I.reading) };
 
     fn stay() {}
 }

@@ -58,8 +58,8 @@ impl<I: StreamIsPartial + ByteStream, E: ParserError<I>> Parser<I, i8, E> for Le
       fails = λ form is. backs (integer_fails 1 (λ (_ : ⊤). signed_value Little) I.reading form tt);
       takes = λ is some. integer_takes 1 (signed_value Little) (some_bytes 0);
       decided = λ form is. decided_of I.reading
-            (integer_leaves 1 (λ (_ : ⊤). signed_value Little) I.reading)
-            (integer_said 1 (λ (_ : ⊤). signed_value Little) I.reading s) form is;
+          (integer_leaves 1 (λ (_ : ⊤). signed_value Little) I.reading)
+          (integer_said 1 (λ (_ : ⊤). signed_value Little) I.reading s) form is;
     } };
 
     #[inline(always)]
@@ -68,12 +68,9 @@ impl<I: StreamIsPartial + ByteStream, E: ParserError<I>> Parser<I, i8, E> for Le
     }
 }
 
-impl<
-    I: StreamIsPartial + ByteStream,
-    E: ParserError<I>,
-> Stable<I, i8, E> for LeI8 {
+impl<I: StreamIsPartial + ByteStream, E: ParserError<I>> Stable<I, i8, E> for LeI8 {
     ghost stable = { leaf_stays I.following _
-          (λ _. integer_stays 1 (signed_value Little) I.reading) };
+        (λ _. integer_stays 1 (signed_value Little) I.reading) };
 
     fn stay() {}
 }

@@ -56,11 +56,11 @@ impl<I: StreamIsPartial + ByteStream, E: ParserError<I>> Parser<I, u128, E> for 
     ghost claimed = { λ s. record {
       exact = λ form is. integer_exact 16 (λ (_ : ⊤). unsigned_value Little) I.reading form tt;
       fails = λ form is. backs
-            (integer_fails 16 (λ (_ : ⊤). unsigned_value Little) I.reading form tt);
+          (integer_fails 16 (λ (_ : ⊤). unsigned_value Little) I.reading form tt);
       takes = λ is some. integer_takes 16 (unsigned_value Little) (some_bytes 15);
       decided = λ form is. decided_of I.reading
-            (integer_leaves 16 (λ (_ : ⊤). unsigned_value Little) I.reading)
-            (integer_said 16 (λ (_ : ⊤). unsigned_value Little) I.reading s) form is;
+          (integer_leaves 16 (λ (_ : ⊤). unsigned_value Little) I.reading)
+          (integer_said 16 (λ (_ : ⊤). unsigned_value Little) I.reading s) form is;
     } };
 
     #[inline(always)]
@@ -69,12 +69,9 @@ impl<I: StreamIsPartial + ByteStream, E: ParserError<I>> Parser<I, u128, E> for 
     }
 }
 
-impl<
-    I: StreamIsPartial + ByteStream,
-    E: ParserError<I>,
-> Stable<I, u128, E> for LeU128 {
+impl<I: StreamIsPartial + ByteStream, E: ParserError<I>> Stable<I, u128, E> for LeU128 {
     ghost stable = { leaf_stays I.following _
-          (λ _. integer_stays 16 (unsigned_value Little) I.reading) };
+        (λ _. integer_stays 16 (unsigned_value Little) I.reading) };
 
     fn stay() {}
 }

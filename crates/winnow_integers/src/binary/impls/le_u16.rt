@@ -56,11 +56,11 @@ impl<I: StreamIsPartial + ByteStream, E: ParserError<I>> Parser<I, u16, E> for L
     ghost claimed = { λ s. record {
       exact = λ form is. integer_exact 2 (λ (_ : ⊤). unsigned_value Little) I.reading form tt;
       fails = λ form is. backs
-            (integer_fails 2 (λ (_ : ⊤). unsigned_value Little) I.reading form tt);
+          (integer_fails 2 (λ (_ : ⊤). unsigned_value Little) I.reading form tt);
       takes = λ is some. integer_takes 2 (unsigned_value Little) (some_bytes 1);
       decided = λ form is. decided_of I.reading
-            (integer_leaves 2 (λ (_ : ⊤). unsigned_value Little) I.reading)
-            (integer_said 2 (λ (_ : ⊤). unsigned_value Little) I.reading s) form is;
+          (integer_leaves 2 (λ (_ : ⊤). unsigned_value Little) I.reading)
+          (integer_said 2 (λ (_ : ⊤). unsigned_value Little) I.reading s) form is;
     } };
 
     #[inline(always)]
@@ -69,12 +69,9 @@ impl<I: StreamIsPartial + ByteStream, E: ParserError<I>> Parser<I, u16, E> for L
     }
 }
 
-impl<
-    I: StreamIsPartial + ByteStream,
-    E: ParserError<I>,
-> Stable<I, u16, E> for LeU16 {
+impl<I: StreamIsPartial + ByteStream, E: ParserError<I>> Stable<I, u16, E> for LeU16 {
     ghost stable = { leaf_stays I.following _
-          (λ _. integer_stays 2 (unsigned_value Little) I.reading) };
+        (λ _. integer_stays 2 (unsigned_value Little) I.reading) };
 
     fn stay() {}
 }

@@ -56,11 +56,11 @@ impl<I: StreamIsPartial + ByteStream, E: ParserError<I>> Parser<I, u8, E> for Le
     ghost claimed = { λ s. record {
       exact = λ form is. integer_exact 1 (λ (_ : ⊤). unsigned_value Little) I.reading form tt;
       fails = λ form is. backs
-            (integer_fails 1 (λ (_ : ⊤). unsigned_value Little) I.reading form tt);
+          (integer_fails 1 (λ (_ : ⊤). unsigned_value Little) I.reading form tt);
       takes = λ is some. integer_takes 1 (unsigned_value Little) (some_bytes 0);
       decided = λ form is. decided_of I.reading
-            (integer_leaves 1 (λ (_ : ⊤). unsigned_value Little) I.reading)
-            (integer_said 1 (λ (_ : ⊤). unsigned_value Little) I.reading s) form is;
+          (integer_leaves 1 (λ (_ : ⊤). unsigned_value Little) I.reading)
+          (integer_said 1 (λ (_ : ⊤). unsigned_value Little) I.reading s) form is;
     } };
 
     #[inline(always)]
@@ -69,12 +69,9 @@ impl<I: StreamIsPartial + ByteStream, E: ParserError<I>> Parser<I, u8, E> for Le
     }
 }
 
-impl<
-    I: StreamIsPartial + ByteStream,
-    E: ParserError<I>,
-> Stable<I, u8, E> for LeU8 {
+impl<I: StreamIsPartial + ByteStream, E: ParserError<I>> Stable<I, u8, E> for LeU8 {
     ghost stable = { leaf_stays I.following _
-          (λ _. integer_stays 1 (unsigned_value Little) I.reading) };
+        (λ _. integer_stays 1 (unsigned_value Little) I.reading) };
 
     fn stay() {}
 }

@@ -8,9 +8,9 @@ use Rattle.winnow_binary.proofs.laws.complete.length_repeat_over_a_complete_stre
 pub returns : goal.returns
 returns g c = record {
   length_repeat = along2
-        (λ Sp Up to_p mp np Sg Ug to_g mg ng. SameMeaning (λ z. (to_p z.0, to_g z.1))
-          (λ form. LengthRepeatRuns g.N.ToUsize.number g.C.Accumulate.accumulator
-            (assert_kind form) (mp form) (mg form))
-          (λ form. LengthRepeatRuns g.N.ToUsize.number g.C.Accumulate.accumulator
-            (assert_kind form) (np form) (ng form))) (λ Sp mp Sg mg. same_refl _);
+      (λ Sp Up to_p mp np Sg Ug to_g mg ng. SameMeaning (λ z. (to_p z.0, to_g z.1))
+      (λ form. LengthRepeatRuns g.N.ToUsize.number g.C.Accumulate.accumulator
+      (assert_kind form) (mp form) (mg form))
+      (λ form. LengthRepeatRuns g.N.ToUsize.number g.C.Accumulate.accumulator
+      (assert_kind form) (np form) (ng form))) (λ Sp mp Sg mg. same_refl _);
 }

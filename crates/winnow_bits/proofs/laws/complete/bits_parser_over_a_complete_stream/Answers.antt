@@ -7,7 +7,7 @@ use Rattle.winnow_bits.proofs.laws.complete.bits_parser_over_a_complete_stream.G
 pub returns : goal.returns
 returns g c = record {
   bits_parser = along1
-        (λ Sp Up to_p mp np. SameMeaning to_p
-          (λ form. BitsOfBytesRuns bytes_reading form (mp form))
-          (λ form. BitsOfBytesRuns bytes_reading form (np form))) (λ Sp mp. same_refl _);
+      (λ Sp Up to_p mp np. SameMeaning to_p
+      (λ form. BitsOfBytesRuns bytes_reading form (mp form))
+      (λ form. BitsOfBytesRuns bytes_reading form (np form))) (λ Sp mp. same_refl _);
 }

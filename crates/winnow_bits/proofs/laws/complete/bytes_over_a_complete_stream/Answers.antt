@@ -8,7 +8,7 @@ use Rattle.winnow_bits.proofs.laws.complete.bytes_over_a_complete_stream.Goals a
 pub returns : goal.returns
 returns g c = record {
   bytes = along1 (λ Sp Up to_p mp np. SameMeaning to_p
-          (λ form. BytesOfBitsRuns (bits_reading bytes_reading) form (mp form))
-          (λ form. BytesOfBitsRuns (bits_reading bytes_reading) form (np form)))
-        (λ Sp mp. same_refl _);
+      (λ form. BytesOfBitsRuns (bits_reading bytes_reading) form (mp form))
+      (λ form. BytesOfBitsRuns (bits_reading bytes_reading) form (np form)))
+      (λ Sp mp. same_refl _);
 }

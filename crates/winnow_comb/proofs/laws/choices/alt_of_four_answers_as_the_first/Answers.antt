@@ -4,5 +4,5 @@ use Rattle.winnow_comb.proofs.laws.choices.alt_of_four_answers_as_the_first.Goal
 
 pub returns : goal.returns
 returns g c = chooses_first4 (g.P1.Parser.meaning g.E.HasKind.form)
-      (g.P2.Parser.meaning g.E.HasKind.form) (g.P3.Parser.meaning g.E.HasKind.form)
-      (g.P4.Parser.meaning g.E.HasKind.form)
+    (g.P2.Parser.meaning g.E.HasKind.form) (g.P3.Parser.meaning g.E.HasKind.form)
+    (g.P4.Parser.meaning g.E.HasKind.form)

@@ -4,6 +4,6 @@ use Rattle.winnow_comb.proofs.laws.choices.alt_of_six_answers_as_the_first.Goals
 
 pub returns : goal.returns
 returns g c = chooses_first6 (g.P1.Parser.meaning g.E.HasKind.form)
-      (g.P2.Parser.meaning g.E.HasKind.form) (g.P3.Parser.meaning g.E.HasKind.form)
-      (g.P4.Parser.meaning g.E.HasKind.form) (g.P5.Parser.meaning g.E.HasKind.form)
-      (g.P6.Parser.meaning g.E.HasKind.form)
+    (g.P2.Parser.meaning g.E.HasKind.form) (g.P3.Parser.meaning g.E.HasKind.form)
+    (g.P4.Parser.meaning g.E.HasKind.form) (g.P5.Parser.meaning g.E.HasKind.form)
+    (g.P6.Parser.meaning g.E.HasKind.form)

@@ -10,8 +10,8 @@ use Rattle.winnow_comb.proofs.laws.complete.alt_of_a_slice_over_a_complete_strea
 pub returns : goal.returns
 returns g c = record {
   alt_of_a_slice = along1
-        (λ Sp Up to_p mp np. SameMeaning (λ z. (map to_p z.0, z.1))
-          (λ form. ByRefRuns (AltSliceRuns (mp form) (assert_kind form)))
-          (λ form. ByRefRuns (AltSliceRuns (np form) (assert_kind form))))
-        (λ Sp mp. same_map_beside _);
+      (λ Sp Up to_p mp np. SameMeaning (λ z. (map to_p z.0, z.1))
+      (λ form. ByRefRuns (AltSliceRuns (mp form) (assert_kind form)))
+      (λ form. ByRefRuns (AltSliceRuns (np form) (assert_kind form))))
+      (λ Sp mp. same_map_beside _);
 }

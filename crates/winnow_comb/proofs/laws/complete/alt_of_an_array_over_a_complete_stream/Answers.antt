@@ -9,7 +9,7 @@ use Rattle.winnow_comb.proofs.laws.complete.alt_of_an_array_over_a_complete_stre
 pub returns : goal.returns
 returns g c = record {
   alt_of_an_array = along1
-        (λ Sp Up to_p mp np. SameMeaning (map to_p)
-          (λ form. AltSliceRuns (mp form) (assert_kind form))
-          (λ form. AltSliceRuns (np form) (assert_kind form))) (λ Sp mp. same_map _);
+      (λ Sp Up to_p mp np. SameMeaning (map to_p)
+      (λ form. AltSliceRuns (mp form) (assert_kind form))
+      (λ form. AltSliceRuns (np form) (assert_kind form))) (λ Sp mp. same_map _);
 }

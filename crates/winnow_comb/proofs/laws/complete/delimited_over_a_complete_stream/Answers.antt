@@ -7,9 +7,9 @@ use Rattle.winnow_comb.proofs.laws.complete.delimited_over_a_complete_stream.Goa
 pub returns : goal.returns
 returns g c = record {
   delimited = along3
-        (λ Sp1 Up1 to_p1 mp1 np1 Sp2 Up2 to_p2 mp2 np2 Sp3 Up3 to_p3 mp3 np3. SameMeaning
-          (λ z. (to_p1 z.0, to_p2 z.1, to_p3 z.2))
-          (λ form. DelimitedRuns (mp1 form) (mp2 form) (mp3 form))
-          (λ form. DelimitedRuns (np1 form) (np2 form) (np3 form)))
-        (λ Sp1 mp1 Sp2 mp2 Sp3 mp3. same_refl _);
+      (λ Sp1 Up1 to_p1 mp1 np1 Sp2 Up2 to_p2 mp2 np2 Sp3 Up3 to_p3 mp3 np3. SameMeaning
+      (λ z. (to_p1 z.0, to_p2 z.1, to_p3 z.2))
+      (λ form. DelimitedRuns (mp1 form) (mp2 form) (mp3 form))
+      (λ form. DelimitedRuns (np1 form) (np2 form) (np3 form)))
+      (λ Sp1 mp1 Sp2 mp2 Sp3 mp3. same_refl _);
 }

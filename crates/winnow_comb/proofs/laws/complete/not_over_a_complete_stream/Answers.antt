@@ -6,5 +6,5 @@ use Rattle.winnow_comb.proofs.laws.complete.not_over_a_complete_stream.Goals as 
 pub returns : goal.returns
 returns g c = record {
   not = along1 (λ Sp Up to_p mp np. SameMeaning to_p (λ form. NotRuns (mp form))
-          (λ form. NotRuns (np form))) (λ Sp mp. same_refl _);
+      (λ form. NotRuns (np form))) (λ Sp mp. same_refl _);
 }

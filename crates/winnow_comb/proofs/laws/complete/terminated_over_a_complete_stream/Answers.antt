@@ -7,7 +7,7 @@ use Rattle.winnow_comb.proofs.laws.complete.terminated_over_a_complete_stream.Go
 pub returns : goal.returns
 returns g c = record {
   terminated = along2
-        (λ Sp1 Up1 to_p1 mp1 np1 Sp2 Up2 to_p2 mp2 np2. SameMeaning
-          (λ z. (to_p1 z.0, to_p2 z.1)) (λ form. TerminatedRuns (mp1 form) (mp2 form))
-          (λ form. TerminatedRuns (np1 form) (np2 form))) (λ Sp1 mp1 Sp2 mp2. same_refl _);
+      (λ Sp1 Up1 to_p1 mp1 np1 Sp2 Up2 to_p2 mp2 np2. SameMeaning
+      (λ z. (to_p1 z.0, to_p2 z.1)) (λ form. TerminatedRuns (mp1 form) (mp2 form))
+      (λ form. TerminatedRuns (np1 form) (np2 form))) (λ Sp1 mp1 Sp2 mp2. same_refl _);
 }

@@ -6,7 +6,7 @@ use Rattle.winnow_core.proofs.laws.complete.and_then_over_a_complete_stream.Goal
 pub returns : goal.returns
 returns g c = record {
   and_then = along1 (λ Sf Uf to_f mf nf. SameMeaning (λ z. (to_f z.0, z.1))
-          (λ form. AndThenRuns g.O.Stream.view (mf form) (g.G.Parser.meaning form))
-          (λ form. AndThenRuns g.O.Stream.view (nf form) (g.G.Parser.meaning form)))
-        (λ Sf mf. same_refl _);
+      (λ form. AndThenRuns g.O.Stream.view (mf form) (g.G.Parser.meaning form))
+      (λ form. AndThenRuns g.O.Stream.view (nf form) (g.G.Parser.meaning form)))
+      (λ Sf mf. same_refl _);
 }

@@ -6,5 +6,5 @@ use Rattle.winnow_core.proofs.laws.complete.by_ref_over_a_complete_stream.Goals 
 pub returns : goal.returns
 returns g c = record {
   by_ref = along1 (λ Sp Up to_p mp np. SameMeaning (λ z. (to_p z.0, z.1))
-          (λ form. ByRefRuns (mp form)) (λ form. ByRefRuns (np form))) (λ Sp mp. same_refl _);
+      (λ form. ByRefRuns (mp form)) (λ form. ByRefRuns (np form))) (λ Sp mp. same_refl _);
 }

@@ -7,10 +7,10 @@ use Rattle.winnow_core.proofs.laws.complete.complete_err_and_with_taken_over_a_c
 pub returns : goal.returns
 returns g c = record {
   complete_err = along1
-        (λ Sf Uf to_f mf nf. SameMeaning to_f (λ form. CompleteErrRuns (mf form))
-          (λ form. CompleteErrRuns (nf form))) (λ Sf mf. same_refl _);
+      (λ Sf Uf to_f mf nf. SameMeaning to_f (λ form. CompleteErrRuns (mf form))
+      (λ form. CompleteErrRuns (nf form))) (λ Sf mf. same_refl _);
   with_taken = along1
-        (λ Sf Uf to_f mf nf. SameMeaning to_f
-          (λ form. WithTakenRuns g.I.Stream.reading (mf form))
-          (λ form. WithTakenRuns g.I.Stream.reading (nf form))) (λ Sf mf. same_refl _);
+      (λ Sf Uf to_f mf nf. SameMeaning to_f
+      (λ form. WithTakenRuns g.I.Stream.reading (mf form))
+      (λ form. WithTakenRuns g.I.Stream.reading (nf form))) (λ Sf mf. same_refl _);
 }

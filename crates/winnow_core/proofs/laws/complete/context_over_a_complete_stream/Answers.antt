@@ -6,7 +6,7 @@ use Rattle.winnow_core.proofs.laws.complete.context_over_a_complete_stream.Goals
 pub returns : goal.returns
 returns g c = record {
   context = along1 (λ Sf Uf to_f mf nf. SameMeaning (λ z. (to_f z.0, z.1))
-          (λ form. ContextRuns g.C.Clone.is_clone g.C.Clone.is_infallible (mf form))
-          (λ form. ContextRuns g.C.Clone.is_clone g.C.Clone.is_infallible (nf form)))
-        (λ Sf mf. same_refl _);
+      (λ form. ContextRuns g.C.Clone.is_clone g.C.Clone.is_infallible (mf form))
+      (λ form. ContextRuns g.C.Clone.is_clone g.C.Clone.is_infallible (nf form)))
+      (λ Sf mf. same_refl _);
 }

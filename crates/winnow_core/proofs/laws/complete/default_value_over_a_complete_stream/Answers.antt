@@ -6,7 +6,7 @@ use Rattle.winnow_core.proofs.laws.complete.default_value_over_a_complete_stream
 pub returns : goal.returns
 returns g c = record {
   default_value = along1
-        (λ Sf Uf to_f mf nf. SameMeaning to_f
-          (λ form. DefaultValueRuns g.R.Default.is_default (mf form))
-          (λ form. DefaultValueRuns g.R.Default.is_default (nf form))) (λ Sf mf. same_refl _);
+      (λ Sf Uf to_f mf nf. SameMeaning to_f
+      (λ form. DefaultValueRuns g.R.Default.is_default (mf form))
+      (λ form. DefaultValueRuns g.R.Default.is_default (nf form))) (λ Sf mf. same_refl _);
 }

@@ -6,5 +6,5 @@ use Rattle.winnow_core.proofs.laws.complete.span_over_a_complete_stream.Goals as
 pub returns : goal.returns
 returns g c = record {
   span = along1 (λ Sf Uf to_f mf nf. SameMeaning to_f (λ form. SpanRuns (mf form))
-          (λ form. SpanRuns (nf form))) (λ Sf mf. same_refl _);
+      (λ form. SpanRuns (nf form))) (λ Sf mf. same_refl _);
 }

@@ -7,8 +7,8 @@ use Rattle.winnow_core.proofs.laws.complete.take_and_void_over_a_complete_stream
 pub returns : goal.returns
 returns g c = record {
   take = along1 (λ Sf Uf to_f mf nf. SameMeaning to_f
-          (λ form. TakeRuns g.I.Stream.reading (mf form))
-          (λ form. TakeRuns g.I.Stream.reading (nf form))) (λ Sf mf. same_refl _);
+      (λ form. TakeRuns g.I.Stream.reading (mf form))
+      (λ form. TakeRuns g.I.Stream.reading (nf form))) (λ Sf mf. same_refl _);
   void = along1 (λ Sf Uf to_f mf nf. SameMeaning to_f (λ form. VoidRuns (mf form))
-          (λ form. VoidRuns (nf form))) (λ Sf mf. same_refl _);
+      (λ form. VoidRuns (nf form))) (λ Sf mf. same_refl _);
 }

@@ -6,6 +6,6 @@ use Rattle.winnow_core.proofs.laws.complete.try_map_over_a_complete_stream.Goals
 pub returns : goal.returns
 returns g c = record {
   try_map = along1 (λ Sf Uf to_f mf nf. SameMeaning (λ z. (to_f z.0, z.1))
-          (λ form. TryMapRuns (goal.G-step g) (mf form))
-          (λ form. TryMapRuns (goal.G-step g) (nf form))) (λ Sf mf. same_refl _);
+      (λ form. TryMapRuns (goal.G-step g) (mf form))
+      (λ form. TryMapRuns (goal.G-step g) (nf form))) (λ Sf mf. same_refl _);
 }

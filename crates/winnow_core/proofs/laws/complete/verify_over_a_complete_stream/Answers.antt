@@ -7,6 +7,6 @@ use Rattle.winnow_core.proofs.laws.complete.verify_over_a_complete_stream.Goals 
 pub returns : goal.returns
 returns g c = record {
   verify = along1 (λ Sf Uf to_f mf nf. SameMeaning (λ z. (to_f z.0, z.1))
-          (λ form. VerifyRuns (CalledAt g.G.FnMut) (mf form))
-          (λ form. VerifyRuns (CalledAt g.G.FnMut) (nf form))) (λ Sf mf. same_refl _);
+      (λ form. VerifyRuns (CalledAt g.G.FnMut) (mf form))
+      (λ form. VerifyRuns (CalledAt g.G.FnMut) (nf form))) (λ Sf mf. same_refl _);
 }

@@ -6,6 +6,6 @@ use Rattle.winnow_core.proofs.laws.complete.with_span_over_a_complete_stream.Goa
 pub returns : goal.returns
 returns g c = record {
   with_span = along1
-        (λ Sf Uf to_f mf nf. SameMeaning to_f (λ form. WithSpanRuns (mf form))
-          (λ form. WithSpanRuns (nf form))) (λ Sf mf. same_refl _);
+      (λ Sf Uf to_f mf nf. SameMeaning to_f (λ form. WithSpanRuns (mf form))
+      (λ form. WithSpanRuns (nf form))) (λ Sf mf. same_refl _);
 }

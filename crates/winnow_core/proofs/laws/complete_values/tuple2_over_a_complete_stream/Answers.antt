@@ -7,6 +7,6 @@ use Rattle.winnow_core.proofs.laws.complete_values.tuple2_over_a_complete_stream
 pub returns : goal.returns
 returns g c = record {
   tuple2 = along2 (λ Sp1 Up1 to_p1 mp1 np1 Sp2 Up2 to_p2 mp2 np2. SameMeaning
-          (λ z. (to_p1 z.0, to_p2 z.1)) (λ form. SequenceRuns2 (mp1 form) (mp2 form))
-          (λ form. SequenceRuns2 (np1 form) (np2 form))) (λ Sp1 mp1 Sp2 mp2. same_refl _);
+      (λ z. (to_p1 z.0, to_p2 z.1)) (λ form. SequenceRuns2 (mp1 form) (mp2 form))
+      (λ form. SequenceRuns2 (np1 form) (np2 form))) (λ Sp1 mp1 Sp2 mp2. same_refl _);
 }

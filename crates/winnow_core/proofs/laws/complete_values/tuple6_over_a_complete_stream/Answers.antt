@@ -7,11 +7,11 @@ use Rattle.winnow_core.proofs.laws.complete_values.tuple6_over_a_complete_stream
 pub returns : goal.returns
 returns g c = record {
   tuple6 = along6 (λ
-          Sp1 Up1 to_p1 mp1 np1 Sp2 Up2 to_p2 mp2 np2 Sp3 Up3 to_p3 mp3 np3 Sp4 Up4 to_p4 mp4
-              np4 Sp5 Up5 to_p5 mp5 np5 Sp6 Up6 to_p6 mp6 np6. SameMeaning
-          (λ z. (to_p1 z.0, to_p2 z.1, to_p3 z.2, to_p4 z.3, to_p5 z.4, to_p6 z.5))
-          (λ form. SequenceRuns6 (mp1 form) (mp2 form) (mp3 form) (mp4 form) (mp5 form)
-            (mp6 form)) (λ form. SequenceRuns6 (np1 form) (np2 form) (np3 form) (np4 form)
-            (np5 form) (np6 form)))
-        (λ Sp1 mp1 Sp2 mp2 Sp3 mp3 Sp4 mp4 Sp5 mp5 Sp6 mp6. same_refl _);
+      Sp1 Up1 to_p1 mp1 np1 Sp2 Up2 to_p2 mp2 np2 Sp3 Up3 to_p3 mp3 np3 Sp4 Up4 to_p4 mp4
+      np4 Sp5 Up5 to_p5 mp5 np5 Sp6 Up6 to_p6 mp6 np6. SameMeaning
+      (λ z. (to_p1 z.0, to_p2 z.1, to_p3 z.2, to_p4 z.3, to_p5 z.4, to_p6 z.5))
+      (λ form. SequenceRuns6 (mp1 form) (mp2 form) (mp3 form) (mp4 form) (mp5 form)
+      (mp6 form)) (λ form. SequenceRuns6 (np1 form) (np2 form) (np3 form) (np4 form)
+      (np5 form) (np6 form)))
+      (λ Sp1 mp1 Sp2 mp2 Sp3 mp3 Sp4 mp4 Sp5 mp5 Sp6 mp6. same_refl _);
 }

@@ -9,11 +9,11 @@ use Rattle.winnow_escapes.proofs.laws.complete.escaped_over_a_complete_stream.Go
 pub returns : goal.returns
 returns g c = record {
   escaped = along3 (λ Sn Un to_n mn nn Sk Uk to_k mk nk Sx Ux to_x mx nx. SameMeaning
-          (λ z. (to_n z.0, to_k z.1, to_x z.2))
-          (λ form. EscapedRuns (mn form) (mk plain) (mx form)
-            (turns_kept g.C.Accumulate-1.accumulator g.C.Accumulate-2.accumulator)
-            (assert_kind form) (incomplete_kind form None))
-          (λ form. EscapedRuns (nn form) (nk plain) (nx form)
-            (turns_kept g.C.Accumulate-1.accumulator g.C.Accumulate-2.accumulator)
-            (assert_kind form) (incomplete_kind form None))) (λ Sn mn Sk mk Sx mx. same_refl _);
+      (λ z. (to_n z.0, to_k z.1, to_x z.2))
+      (λ form. EscapedRuns (mn form) (mk plain) (mx form)
+      (turns_kept g.C.Accumulate-1.accumulator g.C.Accumulate-2.accumulator)
+      (assert_kind form) (incomplete_kind form None))
+      (λ form. EscapedRuns (nn form) (nk plain) (nx form)
+      (turns_kept g.C.Accumulate-1.accumulator g.C.Accumulate-2.accumulator)
+      (assert_kind form) (incomplete_kind form None))) (λ Sn mn Sk mk Sx mx. same_refl _);
 }

@@ -8,11 +8,11 @@ use Rattle.winnow_recovery.proofs.laws.complete.resume_after_and_retry_after_ove
 pub returns : goal.returns
 returns g c = record {
   resume_after = along2
-        (λ Sp Up to_p mp np Sr Ur to_r mr nr. SameMeaning (λ z. (to_p z.0, to_r z.1, z.2))
-          (λ form. ResumeAfterRuns (mp form) (mr form))
-          (λ form. ResumeAfterRuns (np form) (nr form))) (λ Sp mp Sr mr. same_refl _);
+      (λ Sp Up to_p mp np Sr Ur to_r mr nr. SameMeaning (λ z. (to_p z.0, to_r z.1, z.2))
+      (λ form. ResumeAfterRuns (mp form) (mr form))
+      (λ form. ResumeAfterRuns (np form) (nr form))) (λ Sp mp Sr mr. same_refl _);
   retry_after = along2
-        (λ Sp Up to_p mp np Sr Ur to_r mr nr. SameMeaning (λ z. (to_p z.0, to_r z.1, z.2))
-          (λ form. RetryAfterRuns (mp form) (mr form))
-          (λ form. RetryAfterRuns (np form) (nr form))) (λ Sp mp Sr mr. same_refl _);
+      (λ Sp Up to_p mp np Sr Ur to_r mr nr. SameMeaning (λ z. (to_p z.0, to_r z.1, z.2))
+      (λ form. RetryAfterRuns (mp form) (mr form))
+      (λ form. RetryAfterRuns (np form) (nr form))) (λ Sp mp Sr mr. same_refl _);
 }

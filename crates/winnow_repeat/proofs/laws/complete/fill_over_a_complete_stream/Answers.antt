@@ -6,5 +6,5 @@ use Rattle.winnow_repeat.proofs.laws.complete.fill_over_a_complete_stream.Goals 
 pub returns : goal.returns
 returns g c = record {
   fill = along1 (λ Sp Up to_p mp np. SameMeaning (λ z. (to_p z.0, z.1))
-          (λ form. FillRuns (mp form)) (λ form. FillRuns (np form))) (λ Sp mp. same_refl _);
+      (λ form. FillRuns (mp form)) (λ form. FillRuns (np form))) (λ Sp mp. same_refl _);
 }

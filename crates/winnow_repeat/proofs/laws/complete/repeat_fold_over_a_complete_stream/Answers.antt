@@ -7,8 +7,8 @@ use Rattle.winnow_repeat.proofs.laws.complete.repeat_fold_over_a_complete_stream
 pub returns : goal.returns
 returns g c = record {
   repeat_fold = along1
-        (λ Sp Up to_p mp np. SameMeaning (λ z. (to_p z.0, z.1))
-          (λ form. RangedFolds (goal.G-step g) (goal.H-step g) (mp form) (assert_kind form))
-          (λ form. RangedFolds (goal.G-step g) (goal.H-step g) (np form) (assert_kind form)))
-        (λ Sp mp. same_refl _);
+      (λ Sp Up to_p mp np. SameMeaning (λ z. (to_p z.0, z.1))
+      (λ form. RangedFolds (goal.G-step g) (goal.H-step g) (mp form) (assert_kind form))
+      (λ form. RangedFolds (goal.G-step g) (goal.H-step g) (np form) (assert_kind form)))
+      (λ Sp mp. same_refl _);
 }

@@ -7,7 +7,7 @@ use Rattle.winnow_repeat.proofs.laws.complete.repeat_over_a_complete_stream.Goal
 pub returns : goal.returns
 returns g c = record {
   repeat = along1 (λ Sp Up to_p mp np. SameMeaning (λ z. (to_p z.0, z.1))
-          (λ form. RangedRuns (mp form) g.C.Accumulate.accumulator (assert_kind form))
-          (λ form. RangedRuns (np form) g.C.Accumulate.accumulator (assert_kind form)))
-        (λ Sp mp. same_refl _);
+      (λ form. RangedRuns (mp form) g.C.Accumulate.accumulator (assert_kind form))
+      (λ form. RangedRuns (np form) g.C.Accumulate.accumulator (assert_kind form)))
+      (λ Sp mp. same_refl _);
 }

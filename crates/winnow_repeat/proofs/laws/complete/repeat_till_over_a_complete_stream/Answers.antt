@@ -8,9 +8,9 @@ use Rattle.winnow_repeat.proofs.laws.complete.repeat_till_over_a_complete_stream
 pub returns : goal.returns
 returns g c = record {
   repeat_till = along2
-        (λ Sp Up to_p mp np Sg Ug to_g mg ng. SameMeaning (λ z. (to_p z.0, to_g z.1, z.2))
-          (λ form. RangedTillRuns (mp form) (mg form) g.C.Accumulate.accumulator
-            (assert_kind form))
-          (λ form. RangedTillRuns (np form) (ng form) g.C.Accumulate.accumulator
-            (assert_kind form))) (λ Sp mp Sg mg. same_refl _);
+      (λ Sp Up to_p mp np Sg Ug to_g mg ng. SameMeaning (λ z. (to_p z.0, to_g z.1, z.2))
+      (λ form. RangedTillRuns (mp form) (mg form) g.C.Accumulate.accumulator
+      (assert_kind form))
+      (λ form. RangedTillRuns (np form) (ng form) g.C.Accumulate.accumulator
+      (assert_kind form))) (λ Sp mp Sg mg. same_refl _);
 }

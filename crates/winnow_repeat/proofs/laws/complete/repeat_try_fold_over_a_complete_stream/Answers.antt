@@ -7,8 +7,8 @@ use Rattle.winnow_repeat.proofs.laws.complete.repeat_try_fold_over_a_complete_st
 pub returns : goal.returns
 returns g c = record {
   repeat_try_fold = along1
-        (λ Sp Up to_p mp np. SameMeaning (λ z. (to_p z.0, z.1))
-          (λ form. TryFoldRuns (goal.G-step g) (goal.H-step g) (mp form) (assert_kind form))
-          (λ form. TryFoldRuns (goal.G-step g) (goal.H-step g) (np form) (assert_kind form)))
-        (λ Sp mp. same_refl _);
+      (λ Sp Up to_p mp np. SameMeaning (λ z. (to_p z.0, z.1))
+      (λ form. TryFoldRuns (goal.G-step g) (goal.H-step g) (mp form) (assert_kind form))
+      (λ form. TryFoldRuns (goal.G-step g) (goal.H-step g) (np form) (assert_kind form)))
+      (λ Sp mp. same_refl _);
 }

@@ -8,7 +8,7 @@ pub returns : goal.returns
 returns g c = record {
   repeat_verify_fold =
       along1 (λ Sp Up to_p mp np. SameMeaning (λ z. (to_p z.0, z.1))
-          (λ form. VerifyFoldRuns (goal.G-step g) (goal.H-step g) (mp form) (assert_kind form))
-          (λ form. VerifyFoldRuns (goal.G-step g) (goal.H-step g) (np form) (assert_kind form)))
-        (λ Sp mp. same_refl _);
+      (λ form. VerifyFoldRuns (goal.G-step g) (goal.H-step g) (mp form) (assert_kind form))
+      (λ form. VerifyFoldRuns (goal.G-step g) (goal.H-step g) (np form) (assert_kind form)))
+      (λ Sp mp. same_refl _);
 }

@@ -9,8 +9,8 @@ pub returns : goal.returns
 returns g c = record {
   separated_foldr1 =
       along2 (λ Sp Up to_p mp np Ss Us to_s ms ns. SameMeaning (λ z. (to_p z.0, to_s z.1, z.2))
-          (λ form. SeparatedFoldr1Runs g.row.A.Denot (goal.H-step g) (mp form) (ms form)
-            (assert_kind form))
-          (λ form. SeparatedFoldr1Runs g.row.A.Denot (goal.H-step g) (np form) (ns form)
-            (assert_kind form))) (λ Sp mp Ss ms. same_refl _);
+      (λ form. SeparatedFoldr1Runs g.row.A.Denot (goal.H-step g) (mp form) (ms form)
+      (assert_kind form))
+      (λ form. SeparatedFoldr1Runs g.row.A.Denot (goal.H-step g) (np form) (ns form)
+      (assert_kind form))) (λ Sp mp Ss ms. same_refl _);
 }

@@ -8,9 +8,9 @@ use Rattle.winnow_separated.proofs.laws.complete.separated_over_a_complete_strea
 pub returns : goal.returns
 returns g c = record {
   separated = along2
-        (λ Sp Up to_p mp np Ss Us to_s ms ns. SameMeaning (λ z. (to_p z.0, to_s z.1, z.2))
-          (λ form. RangedElements (mp form) (ms form) g.C.Accumulate.accumulator
-            (assert_kind form))
-          (λ form. RangedElements (np form) (ns form) g.C.Accumulate.accumulator
-            (assert_kind form))) (λ Sp mp Ss ms. same_refl _);
+      (λ Sp Up to_p mp np Ss Us to_s ms ns. SameMeaning (λ z. (to_p z.0, to_s z.1, z.2))
+      (λ form. RangedElements (mp form) (ms form) g.C.Accumulate.accumulator
+      (assert_kind form))
+      (λ form. RangedElements (np form) (ns form) g.C.Accumulate.accumulator
+      (assert_kind form))) (λ Sp mp Ss ms. same_refl _);
 }

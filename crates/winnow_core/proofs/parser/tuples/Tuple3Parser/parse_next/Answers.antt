@@ -5,24 +5,53 @@ use Rattle.winnow_core.proofs.parser.tuples.Tuple3Parser.parse_next.Goals as goa
 
 pub returns-in_err-first-clause-ran : goal.returns-in_err-first-clause-ran
 returns-in_err-first-clause-ran g c =
-    inr (inl (g.E.HasKind.kind c.in_err-first.field-0.0, c.in_err-first.ensures.ran, refl, refl,
-        search rules depth 1))
+    inr (inl (
+      g.E.HasKind.kind c.in_err-first.field-0.0,
+      c.in_err-first.ensures.ran,
+      refl,
+      refl,
+      search rules depth 1,
+    ))
 
 pub returns-in_err-second-clause-ran : goal.returns-in_err-second-clause-ran
 returns-in_err-second-clause-ran g c =
-    inr (inr (inl (_, g.E.HasKind.kind c.in_err-second.field-0.0, _, c.in_ok-first.ensures.ran,
-          c.in_err-second.ensures.ran, refl, search rules depth 1)))
+    inr (inr (inl (
+      _,
+      g.E.HasKind.kind c.in_err-second.field-0.0,
+      _,
+      c.in_ok-first.ensures.ran,
+      c.in_err-second.ensures.ran,
+      refl,
+      search rules depth 1,
+    )))
 
 pub returns-in_err-third-clause-ran : goal.returns-in_err-third-clause-ran
 returns-in_err-third-clause-ran g c =
-    inr (inr (inr (_, _, g.E.HasKind.kind c.in_err-third.field-0.0, _, _,
-          c.in_ok-first.ensures.ran, c.in_ok-second.ensures.ran, c.in_err-third.ensures.ran,
-          search rules depth 1)))
+    inr (inr (inr (
+      _,
+      _,
+      g.E.HasKind.kind c.in_err-third.field-0.0,
+      _,
+      _,
+      c.in_ok-first.ensures.ran,
+      c.in_ok-second.ensures.ran,
+      c.in_err-third.ensures.ran,
+      search rules depth 1,
+    )))
 
 pub returns-clause-ran : goal.returns-clause-ran
 returns-clause-ran g c =
-    inl (_, _, _, _, _, c.in_ok-first.ensures.ran, c.in_ok-second.ensures.ran,
-      c.in_ok-third.ensures.ran, refl)
+    inl (
+      _,
+      _,
+      _,
+      _,
+      _,
+      c.in_ok-first.ensures.ran,
+      c.in_ok-second.ensures.ran,
+      c.in_ok-third.ensures.ran,
+      refl,
+    )
 
 pub returns-in_err-first-clause-ends : goal.returns-in_err-first-clause-ends
 returns-in_err-first-clause-ends g c = c.in_err-first.ensures.ends
@@ -34,9 +63,9 @@ returns-in_err-second-clause-ends g c =
 pub returns-in_err-third-clause-ends : goal.returns-in_err-third-clause-ends
 returns-in_err-third-clause-ends g c =
     is_end_of_trans3 c.in_err-third.ensures.ends c.in_ok-second.ensures.ends
-      c.in_ok-first.ensures.ends
+    c.in_ok-first.ensures.ends
 
 pub returns-clause-ends : goal.returns-clause-ends
 returns-clause-ends g c =
     is_end_of_trans3 c.in_ok-third.ensures.ends c.in_ok-second.ensures.ends
-      c.in_ok-first.ensures.ends
+    c.in_ok-first.ensures.ends

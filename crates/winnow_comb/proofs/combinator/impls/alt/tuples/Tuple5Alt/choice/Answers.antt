@@ -7,40 +7,40 @@ use Rattle.winnow_comb.proofs.combinator.impls.alt.tuples.Tuple5Alt.choice.Goals
 pub returns-in-Some-attempt-3-clause-ran : goal.returns-in-Some-attempt-3-clause-ran
 returns-in-Some-attempt-3-clause-ran g c =
     or_else_next (g.P1.Parser.meaning g.E.HasKind.form)
-      (OrElse (g.P2.Parser.meaning g.E.HasKind.form)
-        (OrElse (g.P3.Parser.meaning g.E.HasKind.form)
-          (OrElse (g.P4.Parser.meaning g.E.HasKind.form)
-            (g.P5.Parser.meaning g.E.HasKind.form)))) _ _ _ _ _ _ _ c.checkpoint-start.ensures
-      c.in_default.ensures.ran
-      (or_else_next (g.P2.Parser.meaning g.E.HasKind.form)
-        (OrElse (g.P3.Parser.meaning g.E.HasKind.form)
-          (OrElse (g.P4.Parser.meaning g.E.HasKind.form)
-            (g.P5.Parser.meaning g.E.HasKind.form))) _ _ _ _ _ _ _
-        (sym (ap (λ x. x.left) c.in_default.ensures.ran.2)) c.in_default-attempt.ensures.ran
-        (or_else_next (g.P3.Parser.meaning g.E.HasKind.form)
-          (OrElse (g.P4.Parser.meaning g.E.HasKind.form) (g.P5.Parser.meaning g.E.HasKind.form))
-          _ _ _ _ _ _ _ (sym (ap (λ x. x.left) c.in_default-attempt.ensures.ran.2))
-          c.in_default-attempt-2.ensures.ran
-          (inl (c.in-Some-attempt-3.ensures.ran.0, c.in-Some-attempt-3.ensures.ran.1, refl))))
+    (OrElse (g.P2.Parser.meaning g.E.HasKind.form)
+    (OrElse (g.P3.Parser.meaning g.E.HasKind.form)
+    (OrElse (g.P4.Parser.meaning g.E.HasKind.form)
+    (g.P5.Parser.meaning g.E.HasKind.form)))) _ _ _ _ _ _ _ c.checkpoint-start.ensures
+    c.in_default.ensures.ran
+    (or_else_next (g.P2.Parser.meaning g.E.HasKind.form)
+    (OrElse (g.P3.Parser.meaning g.E.HasKind.form)
+    (OrElse (g.P4.Parser.meaning g.E.HasKind.form)
+    (g.P5.Parser.meaning g.E.HasKind.form))) _ _ _ _ _ _ _
+    (sym (ap (λ x. x.left) c.in_default.ensures.ran.2)) c.in_default-attempt.ensures.ran
+    (or_else_next (g.P3.Parser.meaning g.E.HasKind.form)
+    (OrElse (g.P4.Parser.meaning g.E.HasKind.form) (g.P5.Parser.meaning g.E.HasKind.form))
+    _ _ _ _ _ _ _ (sym (ap (λ x. x.left) c.in_default-attempt.ensures.ran.2))
+    c.in_default-attempt-2.ensures.ran
+    (inl (c.in-Some-attempt-3.ensures.ran.0, c.in-Some-attempt-3.ensures.ran.1, refl))))
 
 pub returns-clause-ran : goal.returns-clause-ran
 returns-clause-ran g c =
     or_else_next (g.P1.Parser.meaning g.E.HasKind.form)
-      (OrElse (g.P2.Parser.meaning g.E.HasKind.form)
-        (OrElse (g.P3.Parser.meaning g.E.HasKind.form)
-          (OrElse (g.P4.Parser.meaning g.E.HasKind.form)
-            (g.P5.Parser.meaning g.E.HasKind.form)))) _ _ _ _ _ _ _ c.checkpoint-start.ensures
-      c.in_default.ensures.ran
-      (or_else_next (g.P2.Parser.meaning g.E.HasKind.form)
-        (OrElse (g.P3.Parser.meaning g.E.HasKind.form)
-          (OrElse (g.P4.Parser.meaning g.E.HasKind.form)
-            (g.P5.Parser.meaning g.E.HasKind.form))) _ _ _ _ _ _ _
-        (sym (ap (λ x. x.left) c.in_default.ensures.ran.2)) c.in_default-attempt.ensures.ran
-        (or_else_next (g.P3.Parser.meaning g.E.HasKind.form)
-          (OrElse (g.P4.Parser.meaning g.E.HasKind.form) (g.P5.Parser.meaning g.E.HasKind.form))
-          _ _ _ _ _ _ _ (sym (ap (λ x. x.left) c.in_default-attempt.ensures.ran.2))
-          c.in_default-attempt-2.ensures.ran
-          (or_else_next (g.P4.Parser.meaning g.E.HasKind.form)
-            (g.P5.Parser.meaning g.E.HasKind.form) _ _ _ _ _ _ _
-            (sym (ap (λ x. x.left) c.in_default-attempt-2.ensures.ran.2))
-            c.in_default-attempt-3.ensures.ran c.parse_next.ensures.ran)))
+    (OrElse (g.P2.Parser.meaning g.E.HasKind.form)
+    (OrElse (g.P3.Parser.meaning g.E.HasKind.form)
+    (OrElse (g.P4.Parser.meaning g.E.HasKind.form)
+    (g.P5.Parser.meaning g.E.HasKind.form)))) _ _ _ _ _ _ _ c.checkpoint-start.ensures
+    c.in_default.ensures.ran
+    (or_else_next (g.P2.Parser.meaning g.E.HasKind.form)
+    (OrElse (g.P3.Parser.meaning g.E.HasKind.form)
+    (OrElse (g.P4.Parser.meaning g.E.HasKind.form)
+    (g.P5.Parser.meaning g.E.HasKind.form))) _ _ _ _ _ _ _
+    (sym (ap (λ x. x.left) c.in_default.ensures.ran.2)) c.in_default-attempt.ensures.ran
+    (or_else_next (g.P3.Parser.meaning g.E.HasKind.form)
+    (OrElse (g.P4.Parser.meaning g.E.HasKind.form) (g.P5.Parser.meaning g.E.HasKind.form))
+    _ _ _ _ _ _ _ (sym (ap (λ x. x.left) c.in_default-attempt.ensures.ran.2))
+    c.in_default-attempt-2.ensures.ran
+    (or_else_next (g.P4.Parser.meaning g.E.HasKind.form)
+    (g.P5.Parser.meaning g.E.HasKind.form) _ _ _ _ _ _ _
+    (sym (ap (λ x. x.left) c.in_default-attempt-2.ensures.ran.2))
+    c.in_default-attempt-3.ensures.ran c.parse_next.ensures.ran)))
