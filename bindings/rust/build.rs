@@ -1,13 +1,13 @@
-//! Finds the library, and has it linked: in the folder that `PERGIDAU_LIB` names, else where
-//! `pkg-config` says, else in `bindings/out` beside this crate, where `bindings/build` puts it. Where
-//! `PERGIDAU_UNPROVED` is 1, it is the one that was built with no proof.
+//! Finds the library and links it: in the folder that `PERGIDAU_LIB` names; otherwise as
+//! `pkg-config` reports; otherwise in `bindings/out` next to this crate, where `bindings/build`
+//! puts it. If `PERGIDAU_UNPROVED` is 1, links the library that was built without proofs.
 use std::env;
 use std::path::{Path, PathBuf};
 use std::process::Command;
 
 const VERSION: &str = env!("CARGO_PKG_VERSION");
 
-/// What `pkg-config` answers.
+/// Returns the output of `pkg-config`.
 fn asked(words: &[&str]) -> Option<String> {
     let program = env::var("PKG_CONFIG").unwrap_or_else(|_| "pkg-config".to_string());
     let done = Command::new(program).args(words).output().ok()?;
@@ -15,8 +15,8 @@ fn asked(words: &[&str]) -> Option<String> {
     done.status.success().then(|| text.trim().to_string())
 }
 
-/// Whether the library stands in a folder, and is then linked from there: the static one before the
-/// shared one.
+/// Links the library from `folder` if it is there, and returns whether it is. The static library is
+/// preferred to the shared one.
 fn links(folder: &Path, name: &str) -> bool {
     for (file, kind) in [(format!("lib{name}.a"), "static"), (format!("lib{name}.so"), "dylib")] {
         println!("cargo:rerun-if-changed={}", folder.join(&file).display());

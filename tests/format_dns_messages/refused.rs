@@ -1,4 +1,4 @@
-//! Memory that is refused, and faults as text.
+//! Allocation failures, and errors as text.
 use format_dns::fault::{Fault, MessageFault, Section};
 use format_dns::message::read_message;
 use std::alloc::Global;
@@ -15,7 +15,7 @@ const MESSAGE: &[u8] = b"\0\0\0\0\0\x02\0\x02\0\x02\0\x02\
 \xc0\x0c\0\x01\0\x01\0\0\0\0\0\x04\x7f\0\0\x01\
 \xc0\x0c\0\x01\0\x01\0\0\0\0\0\x04\x7f\0\0\x01";
 
-/// How many entries of such a message stand before that of a fault.
+/// Returns the number of entries of the message before that of the error.
 fn entries_before(fault: MessageFault) -> usize {
     let sections = match fault.section {
         Section::Header => 9,
@@ -27,7 +27,7 @@ fn entries_before(fault: MessageFault) -> usize {
     2 * sections + fault.entry
 }
 
-/// Each entry wants memory, and where it is refused is told by the first that it was refused for.
+/// Each entry allocates; the error names the first entry whose allocation failed.
 #[test]
 fn read_message_refused_memory(rt: HostRuntime) {
     let mut met = true;
@@ -51,7 +51,7 @@ fn read_message_refused_memory(rt: HostRuntime) {
     assert_eq!(rt; before, 7);
 }
 
-/// A header that counts 65,535 entries in each section asks for no memory.
+/// A header that counts 65,535 entries in each section does not allocate.
 #[test]
 fn read_message_that_counts_too_many(rt: HostRuntime) {
     let header = b"\0\0\0\0\xff\xff\xff\xff\xff\xff\xff\xff".as_slice();

@@ -7,7 +7,6 @@ use format_http::heads::head::read_head;
 use std::alloc::Global;
 use std::process::Abort;
 
-/// What is answered.
 type Answer = Result<BodyLength, FramingFault>;
 
 const NO_BODY: Answer = Ok(BodyLength::NoBody);
@@ -28,8 +27,8 @@ const NOT_CHUNKED: Answer = Err(FramingFault::NotChunked);
 
 const BEFORE: Answer = Err(FramingFault::CodingBeforeVersion);
 
-/// Field lines of a message of HTTP/1.1, and the answer for a request and for a response to GET of
-/// status 200 (rules 3 to 8).
+/// Field lines of an HTTP/1.1 message, and the body lengths of a request and of a response to GET
+/// with status 200 (rules 3 to 8).
 const FIELDS: &[(&[u8], Answer, Answer)] = &[
     (b"", NO_BODY, CLOSE),
     (b"X: Content-Length\r\nContent-Lengths: 1\r\nTransfer-Encodings: a\r\n", NO_BODY, CLOSE),
@@ -70,8 +69,8 @@ const FIELDS: &[(&[u8], Answer, Answer)] = &[
     (b"Transfer-Encoding: gzip\r\ncontent-length: a, b\r\n", BESIDE, BESIDE),
 ];
 
-/// The method of a request, the status of the response to it, and the answer for the response where
-/// it has a length of 7 (rules 1 and 2).
+/// The method of a request, the status of the response to it, and the body length of the response
+/// if its Content-Length is 7 (rules 1 and 2).
 const STATUSES: &[(&[u8], u16, Answer)] = &[
     (b"HEAD", 200, NO_BODY),
     (b"HEAD", 404, NO_BODY),
@@ -95,7 +94,7 @@ const STATUSES: &[(&[u8], u16, Answer)] = &[
     (b"connect", 200, Ok(BodyLength::Length(7))),
 ];
 
-/// The fields of field lines one behind the other.
+/// Parses consecutive field lines.
 fn fields_of<'i>(rt: &impl Abort, alloc: Global, text: &'i [u8]) -> Vec<Field<'i>> {
     let mut fields = Vec::new(alloc);
     let mut input = text;
@@ -133,7 +132,7 @@ fn body_length_of_statuses(rt: HostRuntime) {
     }
 }
 
-/// Numbers of versions, and whether a coding is a fault there (section 6.1).
+/// HTTP versions, and whether a transfer coding is an error in them (section 6.1).
 const VERSIONS: &[(u8, u8, bool)] = &[
     (0, 9, true),
     (1, 0, true),

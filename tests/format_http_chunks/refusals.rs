@@ -1,11 +1,11 @@
-//! Requests that a server must refuse, by their heads.
+//! Requests that a server must reject, by their heads.
 use format_http::heads::field_line::read_field_line;
 use format_http::chunks::refusals::{Refusal, refusal_of};
 use format_http::heads::head::read_head;
 use std::alloc::Global;
 use std::process::Abort;
 
-/// Heads, and why each is refused (RFC 9112, section 3.2, whose examples are the first rows).
+/// Heads, and why each is rejected (RFC 9112, section 3.2, whose examples are the first rows).
 const HEADS: &[(&[u8], Option<Refusal>)] = &[
     (b"GET /where?q=now HTTP/1.1\r\nHost: www.example.org\r\n\r\n", None),
     (b"OPTIONS * HTTP/1.1\r\nHost: www.example.org:8001\r\n\r\n", None),
@@ -32,8 +32,8 @@ const DIFFER: Option<Refusal> = Some(Refusal::LengthsDiffer);
 
 const NO_NUMBER: Option<Refusal> = Some(Refusal::LengthIsNoNumber);
 
-/// Fields behind a Host field of a request of HTTP/1.1, and why it is refused (RFC 9112, sections
-/// 6.1 and 6.3, and RFC 9110, section 8.6).
+/// Fields after a Host field of an HTTP/1.1 request, and why the request is rejected (RFC 9112,
+/// sections 6.1 and 6.3, and RFC 9110, section 8.6).
 const FRAMINGS: &[(&[u8], Option<Refusal>)] = &[
     (b"", None),
     (b"Content-Length: 42\r\n", None),
@@ -95,7 +95,7 @@ fn refusal_of_heads(rt: HostRuntime) {
     }
 }
 
-/// Whether the request of a head is refused so.
+/// Checks the reason for which the request of a head is rejected.
 fn refuses(rt: &impl Abort, alloc: Global, text: &[u8], want: Option<Refusal>) {
     let mut input = text;
     let head = read_head(alloc, &mut input);

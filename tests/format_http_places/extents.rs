@@ -70,7 +70,7 @@ fn agree(rt: &impl Abort, text: &[u8], cut: usize) {
     }
 }
 
-/// Heads of which some bytes are replaced, at random, and cut.
+/// Heads with some bytes replaced at random, and random prefixes of them.
 #[test]
 fn advance_as_heads_are_read(rt: HostRuntime) {
     let bytes = b"\r\n \t:aG/1.\x7f\x00\xff,H".as_slice();

@@ -1,11 +1,11 @@
-//! Faults: where, and what is expected there, as people read it.
+//! Errors: the position and the expected item, as displayed.
 use format_json::{Fault, Location, Value, from_bytes, from_text};
 use std::alloc::Global;
 use std::process::Abort;
 use test_support::outcomes::Kind;
 use test_support::refusing::{Refusing, refused_in_turn};
 
-/// A text, and what is said of it.
+/// A text and its error message.
 const ROWS: &[(&str, &str)] = &[
     ("", "line 1, column 1: unexpected end, expected a value"),
     (" \n ", "line 2, column 2: unexpected end, expected a value"),
@@ -47,7 +47,7 @@ const ROWS: &[(&str, &str)] = &[
     ("{\"a\": [{}]}", "line 1, column 8: nested too deep for level 2"),
 ];
 
-/// What a fault says.
+/// Returns the message of an error.
 fn said(alloc: Global, fault: Fault) -> Option<String<Global>> {
     format!(in alloc; "{fault}").ok()
 }
@@ -103,7 +103,7 @@ fn the_place_of_a_fault(rt: HostRuntime) {
     assert_eq!(rt; fault.and_then(|fault| fault.location()), Some(want));
 }
 
-/// What a read comes to.
+/// The outcome of a read.
 fn read(answer: Result<Value<&Refusing<Global>>, Fault>) -> (Result<(), Kind>, usize) {
     match answer {
         Ok(_) => (Ok(()), 0),

@@ -1,8 +1,9 @@
-//! What faults say, and what a tree has.
+//! The messages of errors, and the contents of a tree.
 use format_toml_document::{Document, Fault, Location, Refusal, from_bytes, from_text};
 use std::alloc::Global;
 
-/// What is said of a text of one level, or nothing where it is a document.
+/// Returns the error message for a text, with a maximum nesting depth of 1, or an empty text if it
+/// is a document.
 fn said(rt: &HostRuntime, text: &str) -> String<Global> {
     let alloc = rt.alloc();
     let mut document = Document::new(alloc);

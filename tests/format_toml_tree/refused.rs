@@ -1,12 +1,12 @@
-//! Documents that are refused.
+//! Rejected documents.
 use super::lines::lines_of;
 use format_toml_tree::build::{Fault, build};
 use format_toml_tree::roles::Refusal;
 
-/// A document, the first line that is refused, counted from 0, and why. The first are of
-/// toml.io/en/v1.0.0 (Keys to Array of Tables), those behind them of toml-test (invalid: table, array,
-/// inline-table, key), with integers for strings. Python's `tomllib` refuses the lines up to that
-/// one, and none before.
+/// A document, its first invalid line, counted from 0, and the reason. The first are from
+/// toml.io/en/v1.0.0 (Keys to Array of Tables), the following from toml-test (invalid: table,
+/// array, inline-table, key), with integers for strings. Python's `tomllib` rejects the text up to
+/// and including that line, and accepts the lines before it.
 const ROWS: &[(&str, usize, Refusal)] = &[
     ("name = 1\nname = 2", 1, Refusal::Defined),
     ("spelling = 1\nspelling = 2", 1, Refusal::Defined),

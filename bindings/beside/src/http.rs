@@ -4,7 +4,7 @@ use crate::text::{Outcome, Text};
 use pergidau::http::{self, Field};
 use pergidau::Error;
 
-/// How many bytes come at a time, where they come in pieces.
+/// The size of the chunks in bytes, for incremental readers.
 const PIECE: usize = 512;
 const FIELDS: usize = 32;
 
@@ -39,7 +39,7 @@ pub fn heads_in_pieces(text: &Text) -> Outcome {
     out
 }
 
-/// The length of the head with which the bytes begin, and what it adds.
+/// Parses a head, and returns its length and its contribution to the sum.
 fn by_httparse(bytes: &[u8]) -> httparse::Result<(usize, usize)> {
     let mut fields = [httparse::EMPTY_HEADER; FIELDS];
     let mut request = httparse::Request::new(&mut fields);

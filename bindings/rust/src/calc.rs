@@ -8,12 +8,20 @@
 //! ```
 use crate::{exports, Error, Place, NOTHING};
 
-/// The value of a formula of whole numbers.
+/// Evaluates a formula of integers.
 ///
-/// Operators are, the strongest first: `!` after a number, `+` and `-` before one, `^`, then `*`,
-/// `/` and `%`, then `+` and `-`, and `=`, which is 1 or 0. An error has the place where the formula
-/// is refused, or where it has no value that fits; `%` has none where the quotient does not fit, as
-/// in `-2 ^ 63 % -1`. While it runs it holds up to 100 bytes of memory for each byte of the text.
+/// The operators, from the highest precedence to the lowest, are: `!` after a number; `+` and `-`
+/// before one; `^`; `*`, `/` and `%`; `+` and `-`; and `=`, which gives 1 or 0.
+///
+/// # Errors
+///
+/// [`Error::Refused`] holds the position of the error: of a syntax error, or of an operation whose
+/// value is undefined or does not fit. `%` fails if the quotient does not fit, as in `-2 ^ 63 %
+/// -1`.
+///
+/// # Memory
+///
+/// A call holds up to 100 bytes of memory for each byte of the text (measured).
 ///
 /// ```
 /// use pergidau::calc;

@@ -1,4 +1,4 @@
-//! Records of comma separated values (RFC 4180), whole and in pieces.
+//! Records of comma-separated values (RFC 4180), from complete or partial input.
 //!
 //! ```
 //! use pergidau::csv::{self, LineEnd};
@@ -13,13 +13,13 @@ pub use self::extent::{Extent, Size};
 
 use crate::{at, exports, Error, Place, Span, Wanted};
 
-/// What ends a line.
+/// A line ending.
 #[derive(Clone, Copy, Debug, Default, PartialEq, Eq)]
 pub enum LineEnd {
-    /// A carriage return and a line feed, as RFC 4180 has it.
+    /// A carriage return and a line feed, as in RFC 4180.
     #[default]
     CrLf,
-    /// A line feed alone.
+    /// Only a line feed.
     Lf,
 }
 
@@ -43,7 +43,7 @@ impl<'i, 'b> Record<'i, 'b> {
         self.places.get(number).map(|place| at(self.text, *place))
     }
 
-    /// What stands after the record and its line end.
+    /// Returns the input after the record and its line ending.
     pub fn rest(&self) -> &'i [u8] {
         self.rest
     }
@@ -89,11 +89,17 @@ fn read<'i, 'b>(
     }
 }
 
-/// The record of comma separated values (RFC 4180) with which the bytes begin; a line end, or the
-/// end of the bytes, stands after it. The bytes of its fields are written into `text`, and their
-/// places into `fields`; where one of them is too small, the error says how much is wanted. No bytes
-/// begin with no record. A refusal has the place of the first byte with which no record goes on. No
-/// memory is asked for.
+/// Parses one record of comma-separated values (RFC 4180), followed by a line ending or the end of
+/// the input. Does not allocate.
+///
+/// The contents of the fields are written into `text`, and their positions into `fields`. Empty
+/// input does not start with a record.
+///
+/// # Errors
+///
+/// - [`Error::TooSmall`] if a buffer is too small; it holds the required sizes.
+/// - [`Error::Refused`] if `bytes` does not start with a record; it holds the position of the first
+///   invalid byte.
 ///
 /// ```
 /// use pergidau::csv::{self, LineEnd};
@@ -116,12 +122,18 @@ pub fn record<'i, 'b>(
     read(exports::exported_csv_record, bytes, end, text, fields)
 }
 
-/// The same record where the bytes come in pieces: [`Error::Incomplete`] says that no record with its
-/// line end is there, and that with three bytes more at most they can begin with one;
-/// [`Error::Refused`], that they begin with none, whatever comes after them. A field in quotes that
-/// are not closed goes on for ever, so a caller bounds how many bytes are held. Where no more bytes
-/// come, [`record`] reads a last record that has no line end. Each call reads from the first byte on:
-/// of a long record in many pieces an [`Extent`] finds the end.
+/// Like [`record`], for partial input.
+///
+/// A quoted field without a closing quote never ends, so the caller must limit how many bytes are
+/// buffered. The last record may have no line ending: at the end of the input, parse it with
+/// [`record`]. Each call parses from the first byte; for a long record in many chunks, find its end
+/// with an [`Extent`].
+///
+/// # Errors
+///
+/// - [`Error::Incomplete`] if `bytes` contains no record with its line ending, and at most three
+///   more bytes can complete one.
+/// - [`Error::Refused`] if `bytes` does not start with a record, regardless of what follows.
 ///
 /// ```
 /// use pergidau::csv::{self, LineEnd};
@@ -141,8 +153,8 @@ pub fn record_in_pieces<'i, 'b>(
     read(exports::exported_csv_record_in_pieces, bytes, end, text, fields)
 }
 
-/// The records of a document, one after the other, each with fields of its own. After an error
-/// there are no more.
+/// An iterator over the records of a document. Each record owns its fields. After an error the
+/// iterator returns `None`.
 #[cfg(feature = "std")]
 #[derive(Clone, Debug)]
 pub struct Records<'i> {
@@ -184,8 +196,8 @@ impl Iterator for Records<'_> {
     }
 }
 
-/// The records of a document. Where the bytes begin with no record any more, the error has the place
-/// of the first byte with which none goes on.
+/// Returns an iterator over the records of a document. If a record is invalid, the error holds the
+/// position of the first invalid byte.
 ///
 /// ```
 /// use pergidau::csv::{self, LineEnd};

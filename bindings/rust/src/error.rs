@@ -1,11 +1,11 @@
-//! Why a reader gives no answer.
+//! The errors of readers.
 use crate::exports;
 use core::fmt;
 
-/// A place in what was read.
+/// A position in the input.
 #[derive(Clone, Copy, Debug, PartialEq, Eq)]
 pub struct Place {
-    /// How many bytes stand before it.
+    /// The offset in bytes.
     pub offset: usize,
     /// The number of its line, from 1 on.
     pub line: usize,
@@ -32,27 +32,27 @@ impl fmt::Display for Place {
     }
 }
 
-/// Why a reader gives no answer.
+/// The error of a reader.
 #[derive(Clone, Copy, Debug, PartialEq, Eq)]
 #[non_exhaustive]
 pub enum Error {
-    /// The bytes are not what is read, and where, if the reader says so.
+    /// The input is invalid, at this position if the reader reports one.
     Refused(Option<Place>),
-    /// The bytes are not yet what is read; whether more after them can be is said at the function.
+    /// The input is incomplete. The function documents whether more bytes can complete it.
     Incomplete,
-    /// A request for memory was refused.
+    /// Memory allocation failed.
     NoMemory,
-    /// The bytes are no UTF-8, where text is asked for.
+    /// Input is not valid UTF-8.
     NotText,
-    /// The buffer is too small, and this is how much is wanted.
+    /// The buffer is too small; holds the required size.
     TooSmall(Wanted),
-    /// More levels are asked for than [`MOST_LEVELS`](crate::MOST_LEVELS).
+    /// The requested depth limit is above [`MOST_LEVELS`](crate::MOST_LEVELS).
     TooDeep,
     /// The library said what this crate does not know: it is another one.
     Unknown(u32),
 }
 
-/// What a buffer is to have room for.
+/// The required size of a buffer.
 #[derive(Clone, Copy, Debug, PartialEq, Eq)]
 pub struct Wanted {
     /// How many entries.
@@ -62,7 +62,7 @@ pub struct Wanted {
 }
 
 impl Error {
-    /// What a code other than that for done says.
+    /// Converts a code other than `DONE` to an error.
     pub(crate) fn of(code: u32, refused: Option<Place>, wanted: Wanted) -> Error {
         match code {
             exports::REFUSED => Error::Refused(refused),

@@ -1,4 +1,5 @@
-//! Heads of requests and of responses of HTTP/1.1, whole and in pieces, and chunked bodies, in pieces.
+//! Heads of HTTP/1.1 requests and responses, from complete or partial input, and chunked bodies,
+//! from partial input.
 //!
 //! ```
 //! use pergidau::http::{self, Field};
@@ -46,7 +47,8 @@ impl<'i, 'f> Head<'i, 'f> {
         (self.places.major, self.places.minor)
     }
 
-    /// The names and the values of the fields, in order. White space round a value is no part of it.
+    /// Returns the names and values of the fields, in order. Values do not include the whitespace
+    /// around them.
     pub fn fields(&self) -> impl ExactSizeIterator<Item = (&'i [u8], &'i [u8])> + 'f
     where
         'i: 'f,
@@ -55,7 +57,7 @@ impl<'i, 'f> Head<'i, 'f> {
         self.fields.iter().map(move |it| (at(bytes, it.name), at(bytes, it.value)))
     }
 
-    /// What stands after the head.
+    /// Returns the input after the head.
     pub fn rest(&self) -> &'i [u8] {
         &self.bytes[self.places.length..]
     }
@@ -82,10 +84,19 @@ fn read<'i, 'f>(
     }
 }
 
-/// The head of a request of HTTP/1.1 (RFC 9112) with which the bytes begin. The places of its fields
-/// are written into `fields`; where these are too few, the error says how many are wanted. Where the
-/// bytes begin with no head, the error says the first place at which none goes on. At an error any
-/// entry may be written. No empty line is passed before the request line. No memory is asked for.
+/// Parses the head of an HTTP/1.1 request (RFC 9112) at the start of `bytes`. Does not allocate.
+///
+/// The offsets of the fields are written into `fields`. Empty lines before the request line are not
+/// skipped.
+///
+/// # Errors
+///
+/// - [`Error::TooSmall`] if the head has more fields than `fields` has entries; it holds the number
+///   of fields.
+/// - [`Error::Refused`] if `bytes` does not start with a head; it holds the position of the first
+///   invalid byte, or the end of the input.
+///
+/// After an error the contents of `fields` are unspecified.
 ///
 /// ```
 /// let mut fields = [pergidau::http::Field::default(); 16];
@@ -98,10 +109,16 @@ pub fn head<'i, 'f>(bytes: &'i [u8], fields: &'f mut [Field]) -> Result<Head<'i,
     read(exports::exported_http_head, bytes, fields)
 }
 
-/// The same head where the bytes come in pieces: [`Error::Incomplete`] says that with more bytes
-/// after them they can begin with one, and [`Error::Refused`] that they cannot, and the first place
-/// at which none goes on. Each call reads from the first byte on: of a head in many pieces a
-/// [`HeadExtent`] finds the end.
+/// Like [`head`], for partial input.
+///
+/// Each call parses from the first byte; for a head in many chunks, find its end with a
+/// [`HeadExtent`].
+///
+/// # Errors
+///
+/// - [`Error::Incomplete`] if `bytes` does not start with a head, but more bytes can complete one.
+/// - [`Error::Refused`] if `bytes` does not start with a head, regardless of what follows; it holds
+///   the position of the first invalid byte.
 ///
 /// ```
 /// let head = pergidau::http::head_in_pieces(b"GET / HTT", &mut []);
@@ -114,35 +131,35 @@ pub fn head_in_pieces<'i, 'f>(
     read(exports::exported_http_head_in_pieces, bytes, fields)
 }
 
-/// What bytes of a chunked body are.
+/// A part of a chunked body.
 #[derive(Clone, Copy, Debug, PartialEq, Eq)]
 pub enum Step<'i> {
     /// Data of a chunk, one byte or more.
     Data(&'i [u8]),
-    /// Bytes of the trailer section, one or more: after one another all of them are field lines, whole
-    /// ones, each with its line end.
+    /// Bytes of the trailer section, one or more. All of them together are complete field lines,
+    /// each with its line ending.
     Trailers(&'i [u8]),
-    /// The body is whole. What is left is after it.
+    /// The end of the body. The remaining bytes follow the body.
     End,
     /// All bytes are taken, and more are needed.
     More,
 }
 
-/// Why a byte of a chunked body is refused.
+/// The reason why a byte of a chunked body is invalid.
 #[derive(Clone, Copy, Debug, PartialEq, Eq)]
 #[non_exhaustive]
 pub enum Fault {
-    /// A size line is due, and begins with no hexadecimal digit.
+    /// A size line does not start with a hexadecimal digit.
     Size,
-    /// No size line goes on with the byte.
+    /// The byte is invalid in a size line.
     SizeLine,
     /// With this digit the size is 2<sup>64</sup> or more.
     SizeTooLarge,
-    /// More bytes than the limit lets would stand before the next data, or the end.
+    /// There are more bytes than the limit allows before the next data, or before the end.
     SizeLineTooLong,
-    /// A carriage return and a line feed are due after the data of a chunk.
+    /// The data of a chunk is not followed by a carriage return and a line feed.
     DataEnd,
-    /// No field line goes on with the byte, nor the line end after the trailer section.
+    /// The byte can continue neither a field line nor the line ending after the trailer section.
     Trailers,
     /// The trailer section would have more bytes than the limit lets.
     TrailersTooLong,
@@ -169,7 +186,7 @@ impl fmt::Display for Fault {
 impl std::error::Error for Fault {}
 
 impl Fault {
-    /// What a number of the library says.
+    /// Converts a number of the library to an error.
     fn of(number: usize) -> Fault {
         match number {
             exports::CHUNKED_FAULT_SIZE => Fault::Size,
@@ -184,13 +201,15 @@ impl Fault {
     }
 }
 
-/// How many bytes a size line may have, where nothing else is said.
+/// The default limit for the bytes between data.
 const SIZE_LINE: usize = 4096;
-/// How many bytes the trailer section may have, where nothing else is said.
+/// The default limit for the bytes of the trailer section.
 const TRAILERS: usize = 8192;
 
-/// How far a chunked body that comes in pieces was decoded. What one call took, no other looks at
-/// again, and no memory is asked for: a copy goes on from the same place.
+/// The state of a decoder for chunked bodies that arrive in chunks of any size.
+///
+/// No call looks again at bytes that an earlier call consumed. It does not allocate. A copy resumes
+/// at the same point.
 ///
 /// ```
 /// use pergidau::http::{Chunked, Step};
@@ -224,8 +243,8 @@ impl Default for Chunked {
 }
 
 impl Chunked {
-    /// Nothing of a body is taken. 4,096 bytes may stand between data, and the trailer section may
-    /// have 8,192.
+    /// Returns a decoder at the start of a body. At most 4,096 bytes may separate data, and the
+    /// trailer section may have at most 8,192 bytes.
     ///
     /// ```
     /// use pergidau::http::Chunked;
@@ -236,7 +255,8 @@ impl Chunked {
         Chunked::with_limits(SIZE_LINE, TRAILERS)
     }
 
-    /// The same, where so many bytes may stand between data, and be of the trailer section.
+    /// Like [`new`](Chunked::new), with limits: at most `size_line` bytes between data, and at most
+    /// `trailers` bytes in the trailer section.
     ///
     /// ```
     /// use pergidau::http::{Chunked, Fault};
@@ -256,12 +276,17 @@ impl Chunked {
         Chunked { state }
     }
 
-    /// Takes the first of the bytes, and says what they are; or takes all, and says that more are
-    /// needed. The bytes of the next call follow those that were taken. Extensions are passed over.
+    /// Consumes a prefix of `bytes`, and returns it as a [`Step`]; or consumes all of `bytes`, and
+    /// returns [`Step::More`].
     ///
-    /// Of all bytes that are taken the data are the content of the chunked body that they begin, in
-    /// order, wherever they are cut. An error is for the first byte with which no body goes on, or for
-    /// one that is past the limits: the bytes then begin with it, and it is refused again.
+    /// The bytes of the next call must follow those that were consumed. Extensions are skipped. The
+    /// data of all steps together are the content of the body, in order, however the input is
+    /// split.
+    ///
+    /// # Errors
+    ///
+    /// Fails at the first byte that no body can continue with, or that exceeds a limit. `bytes`
+    /// then starts with that byte, and further calls give the same error.
     pub fn advance<'i>(&mut self, bytes: &mut &'i [u8]) -> Result<Step<'i>, Fault> {
         let all: &'i [u8] = bytes;
         let mut step = exports::ChunkedStep::default();

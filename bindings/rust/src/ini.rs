@@ -19,8 +19,8 @@ pub use crate::exports::Entry;
 
 use crate::{at, exports, Error, Place, Wanted, NOTHING};
 
-/// The key and the value of one line, as `key=value`: a key of ASCII letters or digits, and a value
-/// of any bytes but a line feed; one line feed may stand at the end.
+/// Parses a line of the form `key=value`. The key consists of ASCII letters or digits, the value of
+/// any bytes except line feeds. The line may end with one line feed.
 ///
 /// ```
 /// use pergidau::ini;
@@ -93,12 +93,22 @@ impl<'b> Section<'b> {
     }
 }
 
-/// A document of sections, each a name in brackets and pairs, with white space and comments between
-/// them. The bytes of its names, keys and values are written into `text`, and their places into
-/// `entries`; where one of them is too small, the error says how much is wanted. A refusal has the
-/// place where the first part begins that is no section, pair, white space or comment; a pair ends
-/// where its line does, so a pair with bytes that are no UTF-8 is refused at its key. While it runs it
-/// holds up to 100 bytes of memory for each byte of the document.
+/// Parses a document of sections: names in brackets, each followed by pairs, with whitespace and
+/// comments between them.
+///
+/// The bytes of the names, keys and values are written into `text`, and their offsets into
+/// `entries`.
+///
+/// # Errors
+///
+/// - [`Error::TooSmall`] if a buffer is too small; it holds the required sizes.
+/// - [`Error::Refused`] holds the position of the first part that is not a section, pair,
+///   whitespace or comment. A pair extends to the end of its line, so a pair with bytes that are
+///   not UTF-8 is rejected at its key.
+///
+/// # Memory
+///
+/// A call holds up to 100 bytes of memory for each byte of the document (measured).
 ///
 /// ```
 /// use pergidau::ini::{self, Entry};

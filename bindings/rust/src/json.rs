@@ -17,7 +17,7 @@ mod steps;
 pub use scalars::unescape;
 pub use steps::{steps, Step, Steps};
 
-/// What a value is.
+/// The type of a value.
 #[derive(Clone, Copy, Debug, PartialEq, Eq)]
 pub enum Kind {
     /// The word null.
@@ -36,10 +36,12 @@ pub enum Kind {
     Object,
 }
 
-/// A value of a text of JSON: what it is, and its text. What stands in it is read when it is asked
-/// for, so a walk by [`elements`](Value::elements) and [`members`](Value::members) through all levels
-/// reads each byte once for each level that it stands in. [`steps`](Value::steps) reads each once.
-/// Values of one kind with the same text are equal.
+/// A value of a JSON text: its type and its source text.
+///
+/// Elements and members are parsed on demand. So a walk with [`elements`](Value::elements) and
+/// [`members`](Value::members) through all levels scans each byte once for each level that contains
+/// it; [`steps`](Value::steps) scans each byte once. Values of one type with the same source text
+/// are equal.
 ///
 /// ```
 /// use pergidau::json;
@@ -63,7 +65,7 @@ impl PartialEq for Value<'_> {
 impl Eq for Value<'_> {}
 
 impl<'i> Value<'i> {
-    /// What it is.
+    /// Returns the type of the value.
     pub fn kind(&self) -> Kind {
         self.kind
     }
@@ -74,19 +76,20 @@ impl<'i> Value<'i> {
         self.text
     }
 
-    /// The elements of an array, in order. What is none has none.
+    /// Returns the elements of an array, in order. The iterator is empty if the value is not an
+    /// array.
     pub fn elements(&self) -> Elements<'i> {
         Elements(Inside::of(self, Kind::Array))
     }
 
-    /// The members of an object, in order, repeats kept: of each the name, as it is written between
-    /// its quotes, and the value. What is no object has none.
+    /// Returns the members of an object, in order, including repeated ones: the name as written
+    /// between its quotes, and the value. The iterator is empty if the value is not an object.
     pub fn members(&self) -> Members<'i> {
         Members(Inside::of(self, Kind::Object))
     }
 
-    /// All that stands in it, through all levels, from its start to its end: of a value that has no
-    /// others in it, itself.
+    /// Returns the steps of the value from its start to its end, through all levels. A value that
+    /// contains no others is one step.
     pub fn steps(&self) -> Steps<'i> {
         Steps::of(self.text)
     }
@@ -99,7 +102,7 @@ fn unknown(number: usize) -> ! {
     panic!("the library answered the unknown number {number}")
 }
 
-/// What stands after an opening bracket or after a value, and how many levels it may have.
+/// The text after an opening bracket or after a value, and the depth limit for values in it.
 #[derive(Clone, Copy, Debug)]
 struct Inside<'i> {
     left: &'i str,
@@ -168,8 +171,8 @@ impl<'i> Iterator for Members<'i> {
     }
 }
 
-/// The value of a text of JSON (RFC 8259), in which no more than `levels` arrays and objects stand
-/// in one another; a text that is none is refused as a whole, as [`check`] does it.
+/// Parses a JSON text (RFC 8259) whose arrays and objects are nested at most `levels` deep. The
+/// whole text is checked first, as by [`check`].
 ///
 /// ```
 /// let text = " {\"a\": [1, null], \"b\": \"x\"}";
@@ -185,8 +188,8 @@ pub fn parse(text: &str, levels: usize) -> Result<Value<'_>, Error> {
     Inside { left: text, levels }.next().ok_or(Error::Refused(None))
 }
 
-/// Whether a text is one of JSON (RFC 8259), in which no more than `levels` arrays and objects stand
-/// in one another: an error says that it is none. Of a text that is none no place is told.
+/// Checks that `text` is a JSON text (RFC 8259) whose arrays and objects are nested at most
+/// `levels` deep. The error has no position.
 ///
 /// ```
 /// use pergidau::{json, Error};
@@ -204,8 +207,8 @@ pub fn check(text: &[u8], levels: usize) -> Result<(), Error> {
     }
 }
 
-/// The longest value of JSON (RFC 8259) with which the bytes begin, and what stands after it. White
-/// space before it is not passed, and bytes of 128 and above are not looked at.
+/// Returns the longest JSON value (RFC 8259) at the start of `bytes`, and the rest. Whitespace
+/// before the value is not skipped, and bytes of 128 and above are not checked.
 ///
 /// ```
 /// use pergidau::json;

@@ -17,19 +17,19 @@ pub use crate::exports::TomlNode as Node;
 use crate::{exports, Place, Span, Wanted};
 use core::{fmt, str};
 
-/// Why a text is no document, and where.
+/// The reason why a text is not a document, and its position.
 #[derive(Clone, Copy, Debug, PartialEq, Eq)]
 #[non_exhaustive]
 pub enum Error {
-    /// A line is none of TOML: what stands at the place is not what may stand there.
+    /// A syntax error: the text at the position is not as expected.
     Unexpected(Place, Expected),
-    /// The standard refuses the line that begins at the place, for what those before it say.
+    /// The standard forbids the line that starts at the position, because of earlier lines.
     Refused(Place, Refusal),
-    /// Another reason, which is no matter of TOML.
+    /// An error that is not specific to TOML.
     Other(crate::Error),
 }
 
-/// What is expected at a place.
+/// The expected element at a position.
 #[derive(Clone, Copy, Debug, PartialEq, Eq)]
 pub enum Expected {
     /// A key, or a table.
@@ -46,16 +46,16 @@ pub enum Expected {
     LineEnd,
 }
 
-/// Why the standard refuses a line.
+/// The reason why the standard forbids a line.
 #[derive(Clone, Copy, Debug, PartialEq, Eq)]
 pub enum Refusal {
-    /// What it defines is defined already.
+    /// Its key is already defined.
     Defined,
     /// It takes a value for a table.
     NoTable,
     /// It adds to a table that is closed: an inline table, or by dotted keys one of a header.
     Closed,
-    /// It adds a table to what is no array of tables.
+    /// It adds a table to a key that is not an array of tables.
     NoTables,
 }
 
@@ -97,7 +97,7 @@ impl fmt::Display for Refusal {
 impl std::error::Error for Error {}
 
 impl Error {
-    /// What a code other than that for done says, with what was written.
+    /// Converts a code other than `DONE`, with the fields that were written.
     fn of(code: u32, text: &str, out: &exports::TomlDocument) -> Error {
         let place = Place::of(text.as_bytes(), out.place);
         let expected = match out.fault {
@@ -140,7 +140,7 @@ impl<'b> Document<'b> {
     }
 }
 
-/// What there is at a path of a document: a table, an array or another value.
+/// An item of a document: a table, an array or another value.
 #[derive(Clone, Copy)]
 pub struct Item<'b> {
     text: &'b str,
@@ -178,7 +178,7 @@ pub struct Time<'b> {
     pub fraction: &'b str,
 }
 
-/// What there is.
+/// The value of an item.
 #[derive(Clone, Copy, Debug, PartialEq, Eq)]
 #[non_exhaustive]
 pub enum Value<'b> {
@@ -194,13 +194,14 @@ pub enum Value<'b> {
     Float(&'b str),
     /// The word `true` or `false`.
     Boolean(bool),
-    /// A date and a time, so many minutes ahead of UTC.
+    /// A date and a time, with the offset from UTC in minutes; it is positive for times ahead of
+    /// UTC.
     OffsetDateTime(Date, Time<'b>, i16),
     /// A date and a time with no offset.
     LocalDateTime(Date, Time<'b>),
-    /// A date alone.
+    /// A date without a time.
     LocalDate(Date),
-    /// A time alone.
+    /// A time without a date.
     LocalTime(Time<'b>),
 }
 
@@ -229,13 +230,13 @@ impl<'b> Item<'b> {
         Time { hour: it.hour, minute: it.minute, second: it.second, fraction }
     }
 
-    /// Its name in its table. An element of an array has none, and nor has the first table.
+    /// Returns its name in its table. Elements of arrays and the root table have no name.
     pub fn name(&self) -> Option<&'b str> {
         let node = self.node();
         (self.number != 0 && !node.is_element).then(|| self.at(node.name))
     }
 
-    /// What there is.
+    /// The value of an item.
     pub fn value(&self) -> Value<'b> {
         let it = &self.node().value;
         match it.kind {
@@ -259,17 +260,20 @@ impl<'b> Item<'b> {
         self.item(self.node().first)
     }
 
-    /// What is in a table or an array, in the order in which the document first speaks of it.
+    /// Returns the items in a table or an array, in the order in which the document first mentions
+    /// them.
     pub fn children(&self) -> Children<'b> {
         Children { next: self.first() }
     }
 
-    /// The entries of a table, each with its name. What is no table has none.
+    /// Returns the entries of a table, each with its name. The iterator is empty if the item is not
+    /// a table.
     pub fn entries(&self) -> impl Iterator<Item = (&'b str, Item<'b>)> {
         self.children().filter_map(|it| Some((it.name()?, it)))
     }
 
-    /// The elements of an array, in order. What is no array has none.
+    /// Returns the elements of an array, in order. The iterator is empty if the item is not an
+    /// array.
     pub fn elements(&self) -> impl Iterator<Item = Item<'b>> {
         self.children().filter(|it| it.node().is_element)
     }
@@ -322,7 +326,7 @@ impl<'b> Item<'b> {
     }
 }
 
-/// What is in a table or an array.
+/// An iterator over the items in a table or an array.
 #[derive(Clone, Copy, Debug)]
 pub struct Children<'b> {
     next: Option<Item<'b>>,
@@ -338,11 +342,21 @@ impl<'b> Iterator for Children<'b> {
     }
 }
 
-/// The document that a text is, in whose values no more than `levels` arrays and inline tables stand in
-/// one another. The nodes are written into `nodes`, and the bytes of their names and texts into `text`;
-/// where one of them is too small, the error says how much is wanted. More than
-/// [`MOST_LEVELS`](crate::MOST_LEVELS) levels are an error. While it runs it holds up to 600 bytes of
-/// memory for each byte of the document.
+/// Parses a TOML document whose values have arrays and inline tables nested at most `levels` deep.
+///
+/// The nodes are written into `nodes`, and the bytes of their names and texts into `text`.
+///
+/// # Errors
+///
+/// - [`Error::Unexpected`] or [`Error::Refused`] if `source` is not a document.
+/// - [`Error::Other`] with [`crate::Error::TooSmall`] if a buffer is too small; it holds the
+///   required sizes.
+/// - [`Error::Other`] with [`crate::Error::TooDeep`] if `levels` is above
+///   [`MOST_LEVELS`](crate::MOST_LEVELS).
+///
+/// # Memory
+///
+/// A call holds up to 600 bytes of memory for each byte of the document (measured).
 ///
 /// ```
 /// use pergidau::toml::{self, Node};

@@ -1,9 +1,9 @@
-//! Rows of heads of responses, and of heads of requests and records whose end is found in pieces.
+//! Tables of response heads, and of request heads and records whose end is found incrementally.
 use pergidau::csv::{Extent, LineEnd, Size};
 use pergidau::http::{self, Field, HeadExtent};
 use pergidau::{Error, Place, Wanted};
 
-/// How many bytes stand before the place of a refusal.
+/// Returns the offset of an error in bytes.
 fn offset_of(error: Error) -> Option<usize> {
     match error {
         Error::Refused(place) => place.map(|it| it.offset),
@@ -88,7 +88,7 @@ fn http_head_extent_of_pieces() {
             assert!(have - end < step);
         }
     }
-    // What was passed is kept.
+    // The state records the bytes that were scanned.
     let mut extent = HeadExtent::new();
     assert_eq!(extent.advance(b"GET /"), Ok(None));
     assert_ne!(extent, HeadExtent::new());
@@ -126,7 +126,7 @@ fn csv_extent_of_pieces() {
             assert_eq!(size, want, "{bytes:?} {step}");
         }
     }
-    // What was passed is kept.
+    // The state records the bytes that were scanned.
     let mut extent = Extent::new(LineEnd::Lf);
     assert_eq!(extent.advance(b"a,\"b"), Ok(None));
     assert_ne!(extent, Extent::new(LineEnd::Lf));

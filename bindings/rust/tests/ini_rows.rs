@@ -1,8 +1,8 @@
-//! Rows of INI files of any dialect, entry by entry, from Rust. What is wanted of rows in the
-//! dialect of Python is what its `configparser` has.
+//! Tables of INI files of any dialect, entry by entry, from Rust. In the dialect of Python the
+//! expected results are those of its `configparser`.
 use pergidau::ini::dialects::{entries, Continued, Delimiters, Dialect, Entry, Marks, Refusal};
 
-/// The entries of a document, in short, and why and in which line and column one is refused.
+/// Formats the entries of a document, and the reason, line and column of an error.
 fn told(text: &str, dialect: Dialect) -> String {
     let mut shown = String::new();
     for entry in entries(text, dialect) {

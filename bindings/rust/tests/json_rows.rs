@@ -1,4 +1,5 @@
-//! Rows of what texts of JSON say, from Rust. What is wanted is what Python's `json` answers.
+//! Tables of JSON texts and their values, from Rust. The expected results are those of Python's
+//! `json`.
 use pergidau::json::{self, Kind, Step};
 use pergidau::{Error, Wanted};
 

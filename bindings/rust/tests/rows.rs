@@ -74,7 +74,8 @@ fn json_of_texts() {
     assert_eq!(json::check(deep.as_bytes(), MOST_LEVELS - 1), Err(Error::Refused(None)));
 }
 
-/// The texts of what is no array or object, in order, and the names, each with a colon.
+/// Collects the texts of all values other than arrays and objects, in order, and the names, each
+/// with a colon.
 fn walk<'i>(value: Value<'i>, into: &mut Vec<String>) {
     match value.kind() {
         Kind::Array => value.elements().for_each(|it| walk(it, into)),
@@ -156,7 +157,7 @@ fn ini_document_of_sections() {
     }
 }
 
-/// The request of RFC 9110, section 3.9, and what a client sends after it.
+/// The request of RFC 9110, section 3.9, and the start of a next one.
 const HELLO: &[u8] = b"GET /hello.txt HTTP/1.1\r\nUser-Agent: curl/7.64.1\r\n\
 Host: www.example.com\r\nAccept-Language: en, mi\r\n\r\nGET";
 
@@ -194,7 +195,7 @@ fn http_head_of_requests() {
     assert_eq!(never.unwrap_err(), Error::Refused(Some(place)));
 }
 
-/// How many bytes stand before the place of a refusal.
+/// Returns the offset of an error in bytes.
 fn offset_of(error: Error) -> Option<usize> {
     match error {
         Error::Refused(place) => place.map(|it| it.offset),
@@ -247,7 +248,7 @@ fn csv_record_of_pieces() {
     }
 }
 
-/// The bytes before the first at which no record goes on can begin one; with that byte none begins.
+/// The bytes before the first invalid byte are a prefix of a record; with that byte they are not.
 #[test]
 fn csv_record_of_pieces_is_refused_where_none_goes_on() {
     let rows: [(&[u8], LineEnd, usize); 6] = [
@@ -308,7 +309,7 @@ fn resp_extent_of_pieces() {
             assert!(have - end < step);
         }
     }
-    // What was passed is kept.
+    // The state records the bytes that were scanned.
     let mut extent = Extent::new();
     assert_eq!(extent.advance(b"*2\r\n:1\r\n"), Ok(None));
     assert_ne!(extent, Extent::new());
@@ -322,8 +323,8 @@ fn resp_extent_of_pieces() {
     }
 }
 
-/// A chunked body of pieces of so many bytes: its content, its trailers, how many bytes are behind it,
-/// and whether it ends, or why it is refused.
+/// The result for a chunked body that arrives in chunks: its content, its trailers, the number of
+/// bytes after it, and whether it ends or why it is invalid.
 type Decoded = (Vec<u8>, Vec<u8>, usize, Result<bool, Fault>);
 
 fn decode(mut body: Chunked, bytes: &[u8], piece: usize) -> Decoded {

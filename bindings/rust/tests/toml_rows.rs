@@ -2,7 +2,7 @@
 //! the standard.
 use pergidau::toml::{self, Date, Error, Expected, Item, Node, Refusal, Time, Value};
 
-/// What a document says: tables in braces, arrays in brackets.
+/// Formats the contents of a document: tables in braces, arrays in brackets.
 fn said(item: Item<'_>) -> String {
     let joined = |parts: Vec<String>| parts.join(" ");
     match item.value() {

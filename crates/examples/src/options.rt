@@ -1,5 +1,5 @@
-//! Options in brackets, as `[mode=fast,debug]`: a composition of eleven parsers that reads by its
-//! grammar, on a whole input and in pieces.
+//! Options in brackets, as `[mode=fast,debug]`: a composition of eleven parsers that is specified
+//! by its grammar, on complete and on partial input.
 ghost use Rattle.std.specs.Prelude.{◌≡◌, []};
 ghost use Rattle.winnow.specs.Class.Says.{SeenOnce};
 ghost use Rattle.winnow.specs.Form.{answer_by, modal};
@@ -22,7 +22,8 @@ use winnow::exact::ReadsPieces;
 use winnow::stable::Stable;
 use winnow::stream::{AsChar, Compare, Partial, Range, Stream, StreamIsPartial};
 
-/// What `option` reads, with commas between them, in brackets, from any stream of bytes.
+/// Parses zero or more items by `option`, with commas between them, in brackets, over any stream of
+/// bytes.
 fn in_brackets<I, E, O, A, P>(alloc: A, option: P, input: &mut I) -> Result<Vec<O, A>, E>
 where
     I: StreamIsPartial + Compare<u8>,
@@ -67,10 +68,12 @@ where
     in_brackets(alloc, (Alpha1, opt(preceded(b'=', Alphanumeric1))), input)
 }
 
-/// Options in brackets: names of letters, each with a value of letters and digits after an equals
-/// sign, or without one, and commas between them. What stands first is read, and what is after the
-/// bracket that closes is left. An error leaves an end of the input, and backtracks: no options
-/// stand first. Else it is out of memory.
+/// Parses options in brackets, with commas between them, and leaves the rest after the closing
+/// bracket. An option is a name of letters, with or without an equals sign and a value of letters
+/// and digits.
+///
+/// An error leaves the input at a suffix. It is a backtrack if the input does not start with
+/// options. Otherwise it is out of memory.
 ///
 /// ```
 /// use examples::options::read_options;

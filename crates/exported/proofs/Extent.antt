@@ -1,4 +1,4 @@
--- What calls in turn tell of the end of a reply.
+-- Lemmas about successive calls for the end of a reply.
 use Rattle.std.specs.Prelude.{◌≡◌, ◌++◌, ℕ, List, [], Option, None, Some, Result, Ok, Err}
 use Rattle.std.specs.Prelude.{IfOk, OnOk}
 use Rattle.std.proofs.Common.{refl, sym, subst, arith}
@@ -12,7 +12,7 @@ use Rattle.exported.specs.Turns.{all_of}
 use Rattle.exported.specs.declared.resp.RespExtent.{RespExtent}
 use Rattle.exported.proofs.Turns.{calls_from_nothing}
 
--- ---- one call, by what was answered of the extent
+-- ---- one call, from the specification of the extent
 
 module _ (old new : Extent) (bytes : List ℕ) (answer : Result (Option ℕ) Refused)
     (told : IsOf old bytes → IsTold bytes answer)

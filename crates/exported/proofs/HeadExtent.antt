@@ -1,4 +1,4 @@
--- What calls in turn tell of the end of the head of a request.
+-- Lemmas about successive calls for the end of the head of a request.
 use Rattle.std.specs.Prelude.{◌≡◌, ◌++◌, ℕ, List, [], Option, None, Some, Result, Ok, Err}
 use Rattle.std.proofs.Common.{refl, sym, subst}
 use Rattle.format_http_places.specs.Extents.{IsOf, IsTold}
@@ -11,7 +11,6 @@ use Rattle.exported.specs.Turns.{all_of}
 use Rattle.exported.specs.declared.http.extent.HttpHeadExtent.{HttpHeadExtent}
 use Rattle.exported.proofs.Turns.{calls_from_nothing}
 
--- one call, by what was answered of the extent
 pub tells_head : (old new : HeadExtent) (bytes : List ℕ) (answer : Result (Option ℕ) Refused)
     (before after : HttpHeadExtent) (code out : ℕ)
     → (IsOf old bytes → IsTold bytes answer)

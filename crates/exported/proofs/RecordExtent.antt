@@ -1,4 +1,4 @@
--- What calls in turn tell of the end of a record.
+-- Lemmas about successive calls for the end of a record.
 use Rattle.std.specs.Prelude.{◌≡◌, ◌++◌, ℕ, List, [], Option, None, Some, Result, Ok, Err}
 use Rattle.std.proofs.Common.{inr, refl, sym, subst}
 use Rattle.format_csv_records.specs.Extents.{IsOf, IsTold}
@@ -16,7 +16,6 @@ use Rattle.exported.specs.declared.csv.extent.CsvRecordExtent.{CsvRecordExtent}
 use Rattle.exported.proofs.Records.{Tells, wanted}
 use Rattle.exported.proofs.Turns.{calls_from_nothing}
 
--- one call, by what was answered of the extent
 module _ (d : Dialect) (old new : RecordExtent) (bytes : List ℕ)
     (answer : Result (Option RecordSize) RecordFault) (before after : CsvRecordExtent) (code : ℕ)
     (out : Record) (told : IsOf d old bytes → IsTold d bytes answer)

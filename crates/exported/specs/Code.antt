@@ -28,6 +28,6 @@ end = 9
 abbrev pub no_integer : ℕ
 no_integer = 10
 
--- how many levels of JSON may be asked for
+-- the largest depth limit for JSON
 abbrev pub most_levels : ℕ
 most_levels = 512

@@ -1,4 +1,4 @@
--- How far bytes that come in pieces are searched for the end of a record.
+-- The search for the end of a record in partial input.
 use Rattle.std.specs.Prelude.{◌≡◌, ◌++◌, ℕ, List, [], ◌∷◌, get_or}
 use Rattle.format_csv_records.specs.Buffers.{IsForGood, NoneForGood}
 use Rattle.format_csv_records.specs.Early.{BeginsNone, GoesOn}
@@ -13,12 +13,12 @@ use Rattle.exported.specs.Turns.{CallsFrom}
 use Rattle.exported.specs.declared.csv.Record.{Record}
 use Rattle.exported.specs.declared.csv.extent.CsvRecordExtent.{CsvRecordExtent}
 
--- where in a record the next byte is due, by its number
+-- the part of a record that is expected next, from its number
 abbrev pub place_at : ℕ → RecordPlace
 place_at n = get_or
     (place.Field ∷ place.Plain ∷ place.Quoted ∷ place.Quote ∷ place.Return ∷ []) n place.Done
 
--- What a state says: what is passed, and what is due after that.
+-- the extent that a state represents
 abbrev pub record_extent_of : CsvRecordExtent → RecordExtent
 record_extent_of s = record {
   passed = s.passed;
@@ -31,10 +31,11 @@ record_extent_of s = record {
 abbrev pub nothing : CsvRecordExtent
 nothing = record { passed = 0; text = 0; fields = 0; place = 0 }
 
--- What a call says of its bytes, by its code: whatever follows they begin with a record, of these
--- sizes; or with none whatever follows, and with more bytes after them with one; or they never do,
--- and this is the first place at which none goes on. The state that it leaves is one of these
--- bytes, whatever comes after them.
+-- `TellsRecord d bytes code out state`: the result of a call on `bytes`, by `code`. `done`: for any
+-- continuation, `bytes` starts with a record of the sizes in `out`. `incomplete`: this holds for no
+-- record, but some continuation completes one. `refused`: no continuation starts with a record, and
+-- `out.place` is the first offset at which no record can continue. `state` is a state of `bytes`,
+-- for any continuation.
 pub record TellsRecord (d : Dialect) (bytes : List ℕ) (code : ℕ) (out : Record)
     (state : CsvRecordExtent) : Type 0 where
   pub ends : code ≡ done → WantsRecord (IsForGood d) bytes out
@@ -42,7 +43,7 @@ pub record TellsRecord (d : Dialect) (bytes : List ℕ) (code : ℕ) (out : Reco
   pub never : code ≡ refused → BeginsNone d bytes × IsRefusedAt d bytes out.place
   pub kept : (more : List ℕ) → IsOf d (record_extent_of state) (bytes ++ more)
 
--- Calls that follow one another, and all ask for more.
+-- Successive calls that all return `incomplete`.
 abbrev pub RecordCalls : Dialect → CsvRecordExtent → List ℕ → List (List ℕ) → CsvRecordExtent
     → Type 0
 RecordCalls d state bytes pieces last =

@@ -21,9 +21,9 @@ use Rattle.format_toml_tree.specs.declared.roles.Refusal.TheVariants as refusals
 use Rattle.format_toml_tree.specs.declared.tree.Tree.{Tree}
 use Rattle.format_toml_tree.specs.declared.value.Item.{Item}
 
--- ---- faults
+-- ---- errors
 
--- the number of what is expected
+-- the number of an expected element
 abbrev pub lack_of : Expected → ℕ
 lack_of lacks.Key = 1
 lack_of lacks.EqualsSign = 2
@@ -32,7 +32,7 @@ lack_of lacks.TableName = 4
 lack_of lacks.ClosingBracket = 5
 lack_of lacks.LineEnd = 6
 
--- the number of why a line is refused
+-- the number of the reason why a line is invalid
 abbrev pub refusal_of : Refusal → ℕ
 refusal_of refusals.Defined = 7
 refusal_of refusals.NoTable = 8
@@ -51,15 +51,15 @@ place_of (faults.Refused at why) = at.offset
 place_of (faults.NotUtf8 at) = at.offset
 place_of faults.OutOfMemory = 0
 
--- the code that a fault is answered by
+-- the code that reports an error
 abbrev pub code_of : Fault → ℕ
 code_of (faults.Unexpected at expected) = refused
 code_of (faults.Refused at why) = refused
 code_of (faults.NotUtf8 at) = no_text
 code_of faults.OutOfMemory = no_memory
 
--- What is told of bytes is a fault of them, which is answered by this code, with its place and its
--- number.
+-- `IsFaultOf code level bytes out`: `out` has the offset and the number of an error of `bytes`, and
+-- `code` reports it.
 pub record IsFaultOf (code level : ℕ) (bytes : List ℕ) (out : TomlDocument) : Type 0 where
   pub fault : Fault
   pub is_code : code_of fault ≡ code
@@ -80,12 +80,12 @@ abbrev pub ShowsTree : Tree Global → List ℕ → List TomlNode → Type 0
 ShowsTree tree text nodes = (given : Given Global) → HoldsTree tree.slots.items given
     → AreNodesOf given text nodes
 
--- So many nodes and bytes are wanted.
+-- `WantsTree tree found`: `tree` needs the sizes in `found`.
 abbrev pub WantsTree : Tree Global → TomlDocument → Type 0
 WantsTree tree found = IsSizeOf tree (record { nodes = found.nodes; text = found.text })
 
--- The bytes are UTF-8 and lines of TOML, of which the standard refuses none, and the nodes are
--- those of the tree that they give.
+-- `ShowsDocument level bytes text nodes`: `bytes` is UTF-8, its lines are TOML, the standard allows
+-- all of them, and `nodes` and `text` are the nodes of the tree that they define.
 pub record ShowsDocument (level : ℕ) (bytes text : List ℕ) (nodes : List TomlNode) : Type 0 where
   pub is_text : IsUtf8 bytes
   pub lines : Vec (Option (Item Global)) Global
@@ -94,7 +94,8 @@ pub record ShowsDocument (level : ℕ) (bytes text : List ℕ) (nodes : List Tom
   pub gives : Gives (empty, []) 0 lines.items (Ok given)
   pub nodes_are : AreNodesOf given text nodes
 
--- The bytes are UTF-8 and a document, for which so much room is wanted.
+-- `WantsDocument level bytes found`: `bytes` is UTF-8, and a document that needs the sizes in
+-- `found`.
 abbrev pub WantsDocument : ℕ → List ℕ → TomlDocument → Type 0
 WantsDocument level bytes found = IsUtf8 bytes
     × ((tree : Tree Global) × IsDocument Global level bytes tree × WantsTree tree found)

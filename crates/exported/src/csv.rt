@@ -17,7 +17,7 @@ use crate::span::Span;
 use format_csv_records::buffers::{RecordSize, record_size, write_fields};
 use format_csv_records::dialect::{Dialect, LineEnds};
 
-/// What a record has.
+/// The sizes of a record, or the offset of an error.
 #[repr(C)]
 #[derive(Clone, Copy, Drop)]
 pub struct Record {
@@ -25,14 +25,13 @@ pub struct Record {
     pub fields: usize,
     /// How many bytes the fields have together, as they are written.
     pub text: usize,
-    /// How many bytes the record has where it was read, the line end among them.
+    /// The length of the record in the input in bytes, including its line ending.
     pub length: usize,
-    /// Where the bytes are refused: how many stand before the first with which no record goes on.
-    /// Else 0.
+    /// The offset of the first invalid byte; 0 otherwise.
     pub place: usize,
 }
 
-/// A refusal at a place, or no record.
+/// Returns a record without fields, with the offset of an error.
 pub(crate) fn none_at(place: usize) -> Record
     ensures { result.place ≡ place }
 {
@@ -90,25 +89,38 @@ fn write_record(
     }
 }
 
-/// The record of comma separated values (RFC 4180) with which the bytes begin. A line end stands
-/// after it, or the end of the bytes: a carriage return and a line feed where `line_feeds` is 0,
-/// and else a line feed alone. A field in quotes may have any bytes, and each quote in it is
-/// doubled; one without has no quote, comma, carriage return or line feed. No bytes begin with no
-/// record, and a line end alone is a record of one empty field.
+/// Parses a record of comma-separated values (RFC 4180) at the start of `bytes`.
 ///
-/// `DONE`: the bytes of the fields, without the quotes round them and with each quote once, are
-/// written into `text`, one field after the other, and that many places there, in order. `REFUSED`:
-/// the bytes begin with no record; written is the first place at which none goes on: what stands
-/// before it begins one, and with the byte there none begins. `TOO_SMALL`: they begin with one that
-/// wants more entries or more bytes than the buffers have; how many of both is written. But for
-/// `DONE` the buffers are left as they were.
+/// The record is followed by a line ending or the end of the input. A line ending is a carriage
+/// return and a line feed if `line_feeds` is 0, and a line feed otherwise. A quoted field may have
+/// any bytes, and quotes in it are doubled. An unquoted field has no quote, comma, carriage return
+/// or line feed. Empty input does not start with a record. A line ending on its own is a record of
+/// one empty field.
 ///
-/// No memory is asked for. A record is passed over twice, so that nothing is written where there is
-/// no room.
+/// `DONE`: the contents of the fields are written into `text`, one field after another, without the
+/// quotes around them and with doubled quotes replaced by single ones. The span of each field in
+/// `text` is written into `fields`, in order.
 ///
-/// The caller owes `bytes_length` bytes at `bytes` that can be read and that nothing changes while
-/// the call runs, `text_length` bytes at `text` and `fields_length` entries at `fields` that can be
-/// written, room for one record at `out`, each apart from the others, and 16 KiB of stack.
+/// The function does not allocate. It scans a record twice, so that it writes nothing if a buffer
+/// is too small.
+///
+/// # Errors
+///
+/// `REFUSED`: `bytes` does not start with a record. The first offset at which no record can
+/// continue is written: the bytes before it are a prefix of a record, and together with the byte
+/// there they are not.
+///
+/// `TOO_SMALL`: the record has more fields or more bytes than the buffers. The required numbers of
+/// both are written.
+///
+/// After an error the buffers are unchanged.
+///
+/// # Safety
+///
+/// `bytes` must be valid for reads of `bytes_length` bytes, which must not change during the call.
+/// `text` must be valid for writes of `text_length` bytes, `fields` for writes of `fields_length`
+/// entries, and `out` for writes of one record. None of these may overlap. The call needs 16 KiB of
+/// stack.
 #[unsafe(no_mangle)]
 pub extern "C" fn exported_csv_record(
     bytes: &[u8],
@@ -141,21 +153,31 @@ pub extern "C" fn exported_csv_record(
     }
 }
 
-/// The same record where the bytes come in pieces: a record or a refusal that it answers is that of
-/// all longer bytes too.
+/// Parses the same record from partial input. A record or an error that it returns is also that of
+/// every continuation.
 ///
-/// `DONE`, `TOO_SMALL`: as for a record that is whole. `INCOMPLETE`: no record with its line end is
-/// there, and with three bytes more at most they can begin with one. `REFUSED`: whatever comes
-/// after the bytes, they begin with no record, and that is answered as soon as the byte is there
-/// at which none goes on, whose place is written: so of `x"`, 1. A field in quotes that are not
-/// closed goes on for ever, so the caller bounds how many bytes are held. The last record may have
-/// no line end: where no more bytes come, the call for whole ones reads it.
+/// `DONE`: as for complete input.
 ///
-/// Each call reads from the first byte on, and asks for no memory.
+/// `INCOMPLETE`: `bytes` contains no record with its line ending, and at most three more bytes can
+/// complete one.
 ///
-/// The caller owes `bytes_length` bytes at `bytes` that can be read and that nothing changes while
-/// the call runs, `text_length` bytes at `text` and `fields_length` entries at `fields` that can be
-/// written, room for one record at `out`, each apart from the others, and 16 KiB of stack.
+/// A quoted field without a closing quote never ends, so the caller must limit how many bytes are
+/// buffered. The last record may have no line ending: at the end of the input, parse it with the
+/// function for complete input. Each call parses from the first byte, and does not allocate.
+///
+/// # Errors
+///
+/// `REFUSED`: `bytes` does not start with a record, regardless of what follows. This is returned as
+/// soon as the first invalid byte is there, and its offset is written: 1 for `x"`.
+///
+/// `TOO_SMALL`: as for complete input.
+///
+/// # Safety
+///
+/// `bytes` must be valid for reads of `bytes_length` bytes, which must not change during the call.
+/// `text` must be valid for writes of `text_length` bytes, `fields` for writes of `fields_length`
+/// entries, and `out` for writes of one record. None of these may overlap. The call needs 16 KiB of
+/// stack.
 #[unsafe(no_mangle)]
 pub extern "C" fn exported_csv_record_in_pieces(
     bytes: &[u8],

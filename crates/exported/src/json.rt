@@ -19,8 +19,7 @@ use crate::span::{NOWHERE, Span};
 use format_json_extents::walk::Kind;
 use format_json_extents::{value, walk};
 
-/// How many levels of arrays and objects in one another may be asked for. Each takes some of the
-/// stack.
+/// The largest supported depth limit for nested arrays and objects. Each level takes some stack.
 pub const MOST_LEVELS: usize = 512;
 
 /// The word null.
@@ -44,12 +43,13 @@ pub const JSON_ARRAY: usize = 5;
 /// An object: its place has the brackets round it.
 pub const JSON_OBJECT: usize = 6;
 
-/// A value, or a name in an object; or a bracket, by `exported_json_step` alone.
+/// A value, a name in an object, or a bracket. Only `exported_json_step` returns brackets.
 #[repr(C)]
 #[derive(Clone, Copy, Drop)]
 pub struct JsonItem {
-    /// What it is: a number of those from `JSON_NULL` to `JSON_END_OBJECT`. Those after
-    /// `JSON_OBJECT` are of `exported_json_step` alone; else a name is a string.
+    /// The kind of the item: one of the constants from `JSON_NULL` to `JSON_END_OBJECT`. Only
+    /// `exported_json_step` returns those after `JSON_OBJECT`; `exported_json_next` returns a name
+    /// as a string.
     pub kind: usize,
     /// Its bytes.
     pub place: Span,
@@ -61,7 +61,7 @@ pub(crate) const NO_ITEM: JsonItem = JsonItem {
     place: NOWHERE,
 };
 
-/// The number of what a value is.
+/// Returns the number of a type of values.
 fn number_of(kind: Kind) -> usize
     ensures { result ≡ number_of kind }
 {
@@ -76,16 +76,26 @@ fn number_of(kind: Kind) -> usize
     }
 }
 
-/// Whether a text is one of JSON (RFC 8259): a value with white space round it, in which no more
-/// than `levels` arrays and objects stand in one another. What has a surrogate that is escaped
-/// alone, as `\ud800`, is none, since no character is meant by it, though the grammar of the
-/// standard has it.
+/// Checks that a text is a JSON text (RFC 8259): a value, with optional whitespace around it, whose
+/// arrays and objects are nested at most `levels` deep.
 ///
-/// `DONE`: it is. `REFUSED`: it is not. `NO_TEXT`: it is no UTF-8. `TOO_DEEP`: more than 512
-/// levels are asked for.
+/// A text with an unpaired surrogate escape such as `\ud800` is rejected, because it denotes no
+/// character, although the grammar of the standard allows it.
 ///
-/// The caller owes `text_length` bytes at `text` that can be read and that nothing changes while
-/// the call runs, and 512 KiB of stack.
+/// `DONE`: the text is a JSON text.
+///
+/// # Errors
+///
+/// `REFUSED`: the text is not a JSON text.
+///
+/// `NO_TEXT`: the text is not UTF-8.
+///
+/// `TOO_DEEP`: `levels` is above 512.
+///
+/// # Safety
+///
+/// `text` must be valid for reads of `text_length` bytes, which must not change during the call.
+/// The call needs 512 KiB of stack.
 #[unsafe(no_mangle)]
 pub extern "C" fn exported_json_check(text: &[u8], levels: usize) -> u32
     ensures is { result ≡ done → IsUtf8 text.now × IsText levels text.now }
@@ -110,16 +120,25 @@ pub extern "C" fn exported_json_check(text: &[u8], levels: usize) -> u32
     }
 }
 
-/// The longest value of JSON (RFC 8259) with which the bytes begin, in which no more than `levels`
-/// arrays and objects stand in one another: how many bytes it has is written. White space before
-/// it is not passed. Bytes of 128 and above are not looked at: the value is JSON where it is UTF-8.
-/// Values are those of `exported_json_check`.
+/// Finds the longest JSON value (RFC 8259) at the start of `bytes` whose arrays and objects are
+/// nested at most `levels` deep.
 ///
-/// `DONE`: it is found. `REFUSED`: the bytes begin with none, and 0 is written. `TOO_DEEP`: more
-/// than 512 levels are asked for, and 0 is written.
+/// Whitespace before the value is not skipped. Bytes of 128 and above are not checked: the value is
+/// JSON if it is UTF-8. Values are those of `exported_json_check`.
 ///
-/// The caller owes `bytes_length` bytes at `bytes` that can be read and that nothing changes while
-/// the call runs, room for one length at `out`, apart from them, and 512 KiB of stack.
+/// `DONE`: the length of the value in bytes is written.
+///
+/// # Errors
+///
+/// `REFUSED`: `bytes` does not start with a value. 0 is written.
+///
+/// `TOO_DEEP`: `levels` is above 512. 0 is written.
+///
+/// # Safety
+///
+/// `bytes` must be valid for reads of `bytes_length` bytes, which must not change during the call,
+/// and `out` must be valid for writes of one length. They must not overlap. The call needs 512 KiB
+/// of stack.
 #[unsafe(no_mangle)]
 pub extern "C" fn exported_json_value(bytes: &[u8], levels: usize, out: &mut usize) -> u32
     ensures found { result ≡ done → IsLongest (IsValue levels) (take out.new bytes.now) bytes.now
@@ -148,24 +167,35 @@ pub extern "C" fn exported_json_value(bytes: &[u8], levels: usize, out: &mut usi
     }
 }
 
-/// The next value of JSON (RFC 8259), for a walk through a text that was checked: the longest value
-/// that stands after white space, a comma or a colon at most, and white space, in which no more
-/// than `levels` arrays and objects stand in one another.
+/// Finds the next JSON value (RFC 8259) of a walk through a text that was checked. It is the
+/// longest value after whitespace, at most one comma or colon, and whitespace, whose arrays and
+/// objects are nested at most `levels` deep.
 ///
-/// From the start of the text it reads the text's value. What an array has in it is read from
-/// after its first byte on: a value at each call, of the bytes after the place of the last one.
-/// What an object has in it are names and values in turn. Their levels are one less than those of
-/// the value that they stand in. So a walk through all levels reads each byte once for each level
-/// that it stands in; a walk by `exported_json_step` reads each byte once, however deep it stands,
-/// in a time that is linear in the text. Of bytes that were not checked as a text, more than JSON
-/// allows is passed, as a comma before the first value.
+/// At the start of the text this is the value of the text. To walk through an array, start after
+/// its first byte, and call the function for each element with the bytes after the span of the
+/// previous one. An object gives its names and values alternately. For the values in an array or
+/// object, pass one level less.
 ///
-/// `DONE`: what it is and its place are written. `END`: after white space stands a closing
-/// bracket, or nothing. `REFUSED`: neither stands there. `TOO_DEEP`: more than 512 levels are asked
-/// for. With these three all that is written is 0.
+/// A walk through all levels scans each byte once for each level that contains it. A walk by
+/// `exported_json_step` scans each byte once, at any depth, in time linear in the text. If the
+/// bytes were not checked as a text, more is accepted than JSON allows, such as a comma before the
+/// first value.
 ///
-/// The caller owes `bytes_length` bytes at `bytes` that can be read and that nothing changes while
-/// the call runs, room for one item at `out`, apart from them, and 512 KiB of stack.
+/// `DONE`: the kind of the value and its span are written.
+///
+/// `END`: whitespace is followed by a closing bracket or the end of the input. Zeros are written.
+///
+/// # Errors
+///
+/// `REFUSED`: there is neither a value nor an end. Zeros are written.
+///
+/// `TOO_DEEP`: `levels` is above 512. Zeros are written.
+///
+/// # Safety
+///
+/// `bytes` must be valid for reads of `bytes_length` bytes, which must not change during the call,
+/// and `out` must be valid for writes of one item. They must not overlap. The call needs 512 KiB of
+/// stack.
 #[unsafe(no_mangle)]
 pub extern "C" fn exported_json_next(bytes: &[u8], levels: usize, out: &mut JsonItem) -> u32
     ensures item { result ≡ done → ShowsItem levels bytes.now out.new }

@@ -18,7 +18,7 @@ pub use format_toml_nodes::node::{
 use format_toml_nodes::nodes::{size_of, write_nodes};
 use std::alloc::Global;
 
-/// Nothing is refused.
+/// No error.
 pub const TOML_FAULT_NONE: usize = 0;
 
 /// A key or a table is expected.
@@ -27,7 +27,7 @@ pub const TOML_FAULT_KEY: usize = 1;
 /// The equals sign after a key is expected.
 pub const TOML_FAULT_EQUALS_SIGN: usize = 2;
 
-/// A value is expected, of no more levels than are asked for.
+/// A value is expected, nested no deeper than the depth limit.
 pub const TOML_FAULT_VALUE: usize = 3;
 
 /// The name of a table is expected.
@@ -48,10 +48,10 @@ pub const TOML_FAULT_NO_TABLE: usize = 8;
 /// The line adds to a table that is closed: an inline table, or by dotted keys one of a header.
 pub const TOML_FAULT_CLOSED: usize = 9;
 
-/// The line adds a table to what is no array of tables.
+/// The line adds a table to a key that is not an array of tables.
 pub const TOML_FAULT_NO_TABLES: usize = 10;
 
-/// What was read of a document.
+/// The sizes of a document, or an error.
 #[repr(C)]
 #[derive(Clone, Copy, Drop)]
 pub struct TomlDocument {
@@ -59,9 +59,9 @@ pub struct TomlDocument {
     pub nodes: usize,
     /// How many bytes their names and texts have together.
     pub text: usize,
-    /// Where the bytes are no document: how many stand before the place. Else 0.
+    /// The offset of the error in bytes; 0 otherwise.
     pub place: usize,
-    /// Why they are none: a number of those from `TOML_FAULT_NONE` to `TOML_FAULT_NO_TABLES`.
+    /// The error: one of the constants from `TOML_FAULT_NONE` to `TOML_FAULT_NO_TABLES`.
     pub fault: usize,
 }
 
@@ -73,7 +73,7 @@ const NONE: TomlDocument = TomlDocument {
     fault: TOML_FAULT_NONE,
 };
 
-/// The number of what is expected.
+/// Returns the number of an expected element.
 fn number_of_lack(expected: Expected) -> usize
     ensures { result ≡ lack_of expected }
 {
@@ -87,7 +87,7 @@ fn number_of_lack(expected: Expected) -> usize
     }
 }
 
-/// The number of why a line is refused.
+/// Returns the number of an error.
 fn number_of_refusal(why: Refusal) -> usize
     ensures { result ≡ refusal_of why }
 {
@@ -99,7 +99,7 @@ fn number_of_refusal(why: Refusal) -> usize
     }
 }
 
-/// Writes why bytes are no document, and where.
+/// Writes an error and its offset.
 fn write_fault(fault: Fault, out: &mut TomlDocument) -> u32
     ensures code { result ≡ code_of fault }
     ensures place { out.new.place ≡ place_of fault }
@@ -148,27 +148,43 @@ fn write_tree<'t>(
     }
 }
 
-/// The document of TOML 1.0 (toml.io/en/v1.0.0) that bytes are, in whose values no more than
-/// `levels` arrays and inline tables stand in one another. What the standard leaves open is as most
-/// readers have it: an integer has 64 bits, and a float is its text.
+/// Parses a document of TOML 1.0 (toml.io/en/v1.0.0) whose values have arrays and inline tables
+/// nested at most `levels` deep.
+///
+/// Where the standard leaves a choice, this follows most parsers: integers have 64 bits, and floats
+/// are returned as text.
 ///
 /// `DONE`: the nodes of the document are written into `nodes`, and the bytes of their names and
-/// texts into `text`. A node is a table, an array or another value. The nodes stand in the order
-/// in which the document first speaks of them: the first is the table that has all others, and a
-/// table or an array stands before what is in it. Each says which node it is in, which is the first
-/// in it, and which the next beside it, so that a loop walks them. `REFUSED`: the bytes are no
-/// document; written is why, and where: at the first line that is none of TOML, where it goes on as
-/// none does, or at the beginning of the first line that the standard refuses for what those before
-/// it say. `NO_TEXT`: they are no UTF-8; written is where the longest beginning ends that is.
-/// `TOO_SMALL`: they are a document that wants more nodes or more bytes than the buffers have; how
-/// many of both is written. `NO_MEMORY`. `TOO_DEEP`: more than 512 levels are asked for. But for
-/// `DONE` the buffers are left as they were.
+/// texts into `text`. A node is a table, an array or another value. Nodes are in the order in which
+/// the document first mentions them. The first is the root table, and a table or an array precedes
+/// its contents. Each node has the index of its parent, of its first child and of its next sibling,
+/// so that a loop can walk them.
 ///
-/// While it runs it holds up to 600 bytes of memory for each byte of the document.
+/// A call holds up to 600 bytes of memory for each byte of the document.
 ///
-/// The caller owes `bytes_length` bytes at `bytes` that can be read and that nothing changes while
-/// the call runs, `text_length` bytes at `text` and `nodes_length` entries at `nodes` that can be
-/// written, room for one document at `out`, each apart from the others, and 1 MiB of stack.
+/// # Errors
+///
+/// `REFUSED`: `bytes` is not a document. The reason and the offset are written. For the first line
+/// that is not valid TOML, this is the first offset at which no document can continue; for a line
+/// that the standard forbids because of earlier lines, the start of that line.
+///
+/// `NO_TEXT`: `bytes` is not UTF-8. The length of the longest prefix that is UTF-8 is written.
+///
+/// `TOO_SMALL`: the document needs more nodes or more bytes than the buffers have. The required
+/// numbers of both are written.
+///
+/// `TOO_DEEP`: `levels` is above 512.
+///
+/// `NO_MEMORY`.
+///
+/// After an error the buffers are unchanged.
+///
+/// # Safety
+///
+/// `bytes` must be valid for reads of `bytes_length` bytes, which must not change during the call.
+/// `text` must be valid for writes of `text_length` bytes, `nodes` for writes of `nodes_length`
+/// entries, and `out` for writes of one document. None of these may overlap. The call needs 1 MiB
+/// of stack.
 #[unsafe(no_mangle)]
 pub extern "C" fn exported_toml_document(
     alloc: Global,

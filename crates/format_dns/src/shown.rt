@@ -1,4 +1,4 @@
-//! Faults as people read them.
+//! Error messages.
 
 use crate::fault::{Fault, MessageFault, Section};
 use std::error::Error;
@@ -34,7 +34,7 @@ impl Display for Section {
     }
 }
 
-/// What people are told: entries of a section are counted from 0.
+/// The text of the error. Entries of a section are counted from 0.
 impl Display for MessageFault {
     fn fmt<W: fmt::Write>(&self, f: &mut Formatter<W>) -> fmt::Result {
         let (section, entry, why) = (self.section, self.entry, self.why);

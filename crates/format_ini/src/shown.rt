@@ -1,4 +1,4 @@
-//! Faults as people read them: line, column and words.
+//! Errors for users: line, column and message.
 
 ghost use Rattle.std.specs.Prelude.{◌↔◌, IfSome, IsSome, take};
 ghost use Rattle.std.specs.Str.{IsCharBoundary, chars};

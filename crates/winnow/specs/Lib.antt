@@ -1,7 +1,6 @@
--- What the clauses of public functions cite, and the lemmas that stand beside it: the modules of
--- the crates that have the definitions, under their own names; and the types of Rust that clauses
--- name.
--- What callers name in `using(..)`, which takes the files of this crate alone.
+-- The modules that clauses of public functions cite, with their lemmas, under the names that they
+-- have in the crates that define them; and the Rust types that clauses name. `Rules` has the names
+-- for `using(..)`, which only accepts files of this crate.
 pub mod Rules
 -- The types of Rust.
 pub use Rattle.streams.specs.declared.needed.Needed.{Needed}

@@ -1,4 +1,4 @@
-//! What parsers answer where they have no output.
+//! Errors of parsers.
 pub use stream_expected::expected::ExpectedError;
 pub use streams::needed::Needed;
 pub use winnow_recovery::parser::NoMemory;

@@ -4,8 +4,8 @@ use Rattle.streams.specs.Input.{Input}
 use Rattle.stream_errors.specs.Form.{Answer}
 use Rattle.winnow_core.specs.Runs.{Runs}
 
--- In the states that are known, an output of the parser shows the tokens that stood first and were
--- taken, and is of P; and whatever it answers, it is in such a state again.
+-- In the known states, an output shows the consumed tokens and satisfies `P`. Every call keeps the
+-- states known.
 pub record ReadsShown {S T O : Type 0} (run : Runs S T O) (known : S → Type 0) (shown : O → List T)
     (P : O → Type 0) : Type 0 where
   pub reads : (s : S) (i : Input T) (o : O) (t : S) (j : Input T) → known s

@@ -1,10 +1,11 @@
 //! Where heads of requests end.
 use crate::{exports, Error, Place, NOTHING};
 
-/// How far bytes that come in pieces were searched for the end of the head of a request that they
-/// begin with. What one call passed, no other looks at again: so all calls for a head take a time that
-/// is linear in its bytes, however many pieces there are, where
-/// [`head_in_pieces`](crate::http::head_in_pieces) reads from the first byte each time.
+/// The state of a search for the end of the head of a request in input that arrives in chunks.
+///
+/// No call looks again at bytes that an earlier call scanned. So all calls for a head take time
+/// linear in its length, for any number of chunks, whereas
+/// [`head_in_pieces`](crate::http::head_in_pieces) parses from the first byte each time.
 ///
 /// ```
 /// use pergidau::http::{self, Field, HeadExtent};
@@ -28,15 +29,20 @@ pub struct HeadExtent {
 }
 
 impl HeadExtent {
-    /// That of a head of which nothing was passed.
+    /// Returns the initial state.
     pub fn new() -> HeadExtent {
         HeadExtent::default()
     }
 
-    /// How many bytes the head has with which the bytes begin, if it is there. They are all of those of
-    /// the call before, and a piece more. `None` says that with more bytes after them they can begin
-    /// with a head; [`Error::Refused`], that they cannot, and the first place at which none goes on.
-    /// What is told of other bytes than those of the call before may be wrong.
+    /// Returns the length in bytes of the head at the start of `bytes`, if it is complete.
+    ///
+    /// `bytes` must be the bytes of the previous call, followed by a new chunk; otherwise the
+    /// result may be wrong. `None` means that more bytes can complete a head.
+    ///
+    /// # Errors
+    ///
+    /// [`Error::Refused`] if `bytes` does not start with a head, regardless of what follows; it
+    /// holds the position of the first invalid byte.
     pub fn advance(&mut self, bytes: &[u8]) -> Result<Option<usize>, Error> {
         let mut out = 0;
         // SAFETY: the pointers are those of live borrows, and the bytes are only read. The call takes up

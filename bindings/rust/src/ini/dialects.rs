@@ -17,39 +17,39 @@ use crate::exports::{self, IniEntry, IniState};
 use crate::{Place, Span};
 use core::fmt;
 
-/// What ends a key: the first of these in a line.
+/// The delimiter that ends a key: the first one in its line.
 #[derive(Clone, Copy, Debug, PartialEq, Eq)]
 pub enum Delimiters {
-    /// `=` alone; a colon is part of a key.
+    /// Only `=`; a colon is part of a key.
     Equals,
-    /// `:` alone; an equals sign is part of a key.
+    /// Only `:`; an equals sign is part of a key.
     Colon,
     /// One or the other.
     Either,
 }
 
-/// What begins a comment.
+/// The character that starts a comment.
 #[derive(Clone, Copy, Debug, PartialEq, Eq)]
 pub enum Marks {
     /// Nothing: there are no such comments.
     Neither,
-    /// `#` alone.
+    /// Only `#`.
     NumberSign,
-    /// `;` alone.
+    /// Only `;`.
     Semicolon,
     /// One or the other.
     Either,
 }
 
-/// What a line means that is indented deeper than the pair before it.
+/// The meaning of a line that is indented deeper than the pair before it.
 #[derive(Clone, Copy, Debug, PartialEq, Eq)]
 pub enum Continued {
     /// It is a line of its own.
     Never,
-    /// It goes on the value of that pair, until an empty line or a comment.
+    /// It continues the value of that pair. An empty line or a comment ends the value.
     UntilEmpty,
-    /// It goes on the value of that pair, and empty lines within are part of the value. Comments
-    /// within are passed over.
+    /// It continues the value of that pair, and empty lines within are part of the value. Comments
+    /// within are skipped.
     PastEmpty,
 }
 
@@ -64,23 +64,23 @@ pub enum Continued {
 /// ```
 #[derive(Clone, Copy, Debug, PartialEq, Eq)]
 pub struct Dialect {
-    /// What ends a key.
+    /// The delimiters that end a key.
     pub delimiters: Delimiters,
-    /// What begins a comment where it is the first of a line, after white space.
+    /// The characters that start a comment if they are the first in a line, after whitespace.
     pub comments: Marks,
-    /// What begins a comment at the start of a line, or after white space in it.
+    /// The characters that start a comment at the start of a line, or after whitespace in it.
     pub inline_comments: Marks,
-    /// What a line means that is indented deeper than the pair before it.
+    /// The meaning of a line that is indented deeper than the pair before it.
     pub continued: Continued,
-    /// Whether a line without a delimiter is a key without a value; else it is refused.
+    /// Whether a line without a delimiter is a key without a value; otherwise it is an error.
     pub valueless: bool,
-    /// Whether pairs may stand before the first section; else they are refused.
+    /// Whether pairs may precede the first section; otherwise they are an error.
     pub before_sections: bool,
 }
 
 impl Dialect {
-    /// The dialect of Python's `configparser`, unless it is told another: `=` and `:`, `#` and `;`
-    /// at the start of lines, continued lines with empty lines within.
+    /// The default dialect of Python's `configparser`: `=` and `:`, `#` and `;` at the start of
+    /// lines, continued lines with empty lines within.
     pub const PYTHON: Dialect = Dialect {
         delimiters: Delimiters::Either,
         comments: Marks::Either,
@@ -154,16 +154,16 @@ const _: () = assert!(Dialect::PYTHON.flags() == exports::INI_DIALECT_PYTHON);
 const _: () = assert!(Dialect::DESKTOP.flags() == exports::INI_DIALECT_DESKTOP);
 const _: () = assert!(Dialect::LENIENT.flags() == exports::INI_DIALECT_LENIENT);
 
-/// What a line says.
+/// The content of a line.
 #[derive(Clone, Copy, Debug, PartialEq, Eq)]
 pub enum Entry<'i> {
     /// `[name]` begins a section.
     Section(&'i str),
-    /// A pair, with its value, or what stands of that on this line.
+    /// A pair, with its value, or the part of the value on this line.
     Pair {
         /// The key, without white space at either end.
         key: &'i str,
-        /// The value, without white space at either end; none where no delimiter stands.
+        /// The value, without whitespace at either end; `None` if there is no delimiter.
         value: Option<&'i str>,
     },
     /// One more line of the value of the pair before, without white space at either end. It is
@@ -175,15 +175,15 @@ pub enum Entry<'i> {
 #[derive(Clone, Copy, Debug, PartialEq, Eq)]
 #[non_exhaustive]
 pub enum Refusal {
-    /// No `]` stands after the `[` that begins the line.
+    /// The line starts with `[` and has no `]`.
     OpenSection,
-    /// Nothing stands between `[` and `]`.
+    /// There is nothing between `[` and `]`.
     EmptySection,
-    /// Something stands after the `]`.
+    /// There is text after the `]`.
     TextBehindSection,
-    /// No section stands before the pair.
+    /// There is no section before the pair.
     NoSection,
-    /// No key stands before the delimiter.
+    /// There is no key before the delimiter.
     NoKey,
     /// There is no delimiter.
     NoDelimiter,
@@ -247,9 +247,10 @@ pub struct Entries<'i> {
     is_over: bool,
 }
 
-/// The entries of a document, one after the other; a byte order mark in front is passed over. The
-/// first line that is none of the dialect is an error, with its line, its column and why. Nothing
-/// is allocated, and all calls for a document take a time that is linear in its length.
+/// Returns an iterator over the entries of a document. A byte order mark at the start is skipped.
+///
+/// The first line that is invalid in the dialect gives an error with its line, its column and the
+/// reason. Nothing is allocated. All calls for a document take time linear in its length.
 ///
 /// ```
 /// use pergidau::ini::dialects::{entries, Dialect, Entry, Refusal};

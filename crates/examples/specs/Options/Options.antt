@@ -20,7 +20,7 @@ use Rattle.winnow.specs.Grammar.{Both, Class, Gathered, Grammar, Optional, Parte
 use Rattle.winnow.specs.Grammar.Known.{Byte}
 
 module _ {T O : Type 0} (literal : ℕ → Grammar T ℕ) (option : Grammar T O) where
-  -- as many as stand, with commas between them, in brackets
+  -- Options with commas between them, in brackets, as many as match.
   abbrev pub InBrackets : {A : Type 0} → Grammar T (Vec O A)
   InBrackets {A} = Three (λ _ list _. list) (literal 91)
       (Gathered (λ (list : Vec O A) options. list.items ≡ options)
@@ -28,8 +28,8 @@ module _ {T O : Type 0} (literal : ℕ → Grammar T ℕ) (option : Grammar T O)
 
 module _ {K T L : Type 0} (reading : Reading T L) (seen : K → T) (code : K → ℕ)
     (literal : ℕ → Grammar T ℕ) where
-  -- the longest beginning of letters, at least one; and after it an equals sign and the longest
-  -- beginning of letters and digits, at least one, or neither stands there
+  -- The longest prefix of letters, at least one, and optionally an equals sign and the longest
+  -- prefix of letters and digits, at least one.
   abbrev pub OptionOf : Grammar T (L × Option L)
   OptionOf = Both (λ name value. (name, value)) (Class IsAlpha 1 code seen reading)
       (Optional (Both (λ _ value. value) (literal 61) (Class IsAlphanum 1 code seen reading)))

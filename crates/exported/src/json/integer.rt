@@ -10,15 +10,23 @@ ghost use Rattle.exported.specs.JsonInteger.{ShowsNoNatural};
 use crate::code::{DONE, NO_INTEGER, REFUSED};
 use format_json_extents::{integer, number};
 
-/// The integer that a number of JSON (RFC 8259) is written as: of the longest number with which the
-/// bytes begin. It has neither a point nor an exponent, so `1.0` and `1e2` are none, and fits 64
-/// bits with a sign; `-0` is 0. White space before it is not passed.
+/// Converts the longest JSON number (RFC 8259) at the start of `bytes` to a signed 64-bit integer.
+/// `-0` gives 0. Whitespace before the number is not skipped.
 ///
-/// `DONE`: it is written. `NO_INTEGER`: the number is none, or does not fit. `REFUSED`: the bytes
-/// begin with no number. With these two 0 is written.
+/// `DONE`: the integer is written.
 ///
-/// The caller owes `bytes_length` bytes at `bytes` that can be read and that nothing changes while
-/// the call runs, room for one integer at `out`, apart from them, and 16 KiB of stack.
+/// # Errors
+///
+/// `NO_INTEGER`: the number has a point or an exponent, like `1.0` and `1e2`, or does not fit. 0 is
+/// written.
+///
+/// `REFUSED`: `bytes` does not start with a number. 0 is written.
+///
+/// # Safety
+///
+/// `bytes` must be valid for reads of `bytes_length` bytes, which must not change during the call,
+/// and `out` must be valid for writes of one integer. They must not overlap. The call needs 16 KiB
+/// of stack.
 #[unsafe(no_mangle)]
 pub extern "C" fn exported_json_integer(bytes: &[u8], out: &mut i64) -> u32
     ensures integer { result ≡ done → ShowsInteger bytes.now out.new }
@@ -41,13 +49,22 @@ pub extern "C" fn exported_json_integer(bytes: &[u8], out: &mut i64) -> u32
     }
 }
 
-/// As `exported_json_integer`, of 64 bits without a sign: a number with a minus is none, `-0` too.
+/// Like `exported_json_integer`, for an unsigned 64-bit integer.
 ///
-/// `DONE`: it is written. `NO_INTEGER`: the number is none, or does not fit. `REFUSED`: the bytes
-/// begin with no number. With these two 0 is written.
+/// `DONE`: the integer is written.
 ///
-/// The caller owes `bytes_length` bytes at `bytes` that can be read and that nothing changes while
-/// the call runs, room for one integer at `out`, apart from them, and 16 KiB of stack.
+/// # Errors
+///
+/// `NO_INTEGER`: the number has a minus sign, even `-0`, a point or an exponent, or does not fit. 0
+/// is written.
+///
+/// `REFUSED`: `bytes` does not start with a number. 0 is written.
+///
+/// # Safety
+///
+/// `bytes` must be valid for reads of `bytes_length` bytes, which must not change during the call,
+/// and `out` must be valid for writes of one integer. They must not overlap. The call needs 16 KiB
+/// of stack.
 #[unsafe(no_mangle)]
 pub extern "C" fn exported_json_natural(bytes: &[u8], out: &mut u64) -> u32
     ensures integer { result ≡ done → ShowsNatural bytes.now out.new }

@@ -1,4 +1,4 @@
--- The element that stands in a part of a list.
+-- Lemmas about the element in a part of a list.
 use Rattle.std.specs.Prelude.{◌≡◌, ◌<◌, ◌++◌, ℕ, List, [], ◌∷◌, length}
 use Rattle.std.specs.List.{All}
 use Rattle.std.proofs.Common.{refl, sym, ap, subst, ◌∙◌, arith, append_assoc}
@@ -9,7 +9,6 @@ use Rattle.format_http.specs.Heads.Bytes.{IsWhite}
 use Rattle.format_http.specs.Heads.FieldLine.{BeginsBare, EndsBare, IsTrimmed}
 use Rattle.format_http.specs.Heads.FieldRead.{all_front}
 
--- white space alone ends with white space
 ends_white : (x : ℕ) (xs : List ℕ) → All IsWhite (x ∷ xs) → EndsBare (x ∷ xs) → ⊥
 ends_white x [] all bare = bare x [] refl (All-head IsWhite x [] all)
 ends_white x (y ∷ ys) all bare =
@@ -45,7 +44,7 @@ one_beginning (w ∷ b) e s (v ∷ c) f t same all each some more bare bald =
     one_beginning b e s c f t (same_others same) (All-tail IsWhite w b all)
     (All-tail IsWhite v c each) some more bare bald
 
--- one element stands in a part at most
+-- a part has at most one element
 pub one_element : (e f part : List ℕ) → IsElement e part → IsElement f part → e ≡ f
 one_element e f part x y =
     one_end e x.behind f y.behind (one_beginning x.before e x.behind y.before f y.behind
@@ -89,7 +88,6 @@ found_element b more left part (v ∷ value) is e not trimmed = record {
   ends_bare = trimmed.ends_bare;
 }
 
--- in white space alone there is none
 pub no_element : (e part : List ℕ) → All IsWhite part → IsElement e part → ⊥
 no_element e part all x = by x.before e x.some x.ends_bare (subst (λ l. All IsWhite l) x.splits all)
   where

@@ -1,5 +1,5 @@
--- What the Content-Length fields of a message say (RFC 9112, section 6.3, and RFC 9110, section
--- 8.6).
+-- The values of the Content-Length fields of a message (RFC 9112, section 6.3, and RFC 9110,
+-- section 8.6).
 use Rattle.std.specs.Prelude.{◌≡◌, ◌⊎◌, ℕ, List, [], ◌∷◌}
 use Rattle.format_http.specs.Bodies.Lists.{HasElement, parts_of}
 use Rattle.format_http.specs.Chunks.Framing.{IsNamed, IsNumber, content_length}

@@ -6,12 +6,12 @@ use Rattle.std.specs.List.{All, slice_split}
 use Rattle.format_http.specs.Heads.Bytes.{IsWhite}
 use Rattle.format_http.specs.Heads.FieldLine.{BeginsBare, EndsBare}
 
--- What stands between the commas of a list.
+-- The parts of a list between its commas.
 abbrev pub parts_of : List ℕ → List (List ℕ)
 parts_of = slice_split (λ b. b == 44)
 
--- The element that stands in a part of a list: one byte or more, with white space alone around it,
--- which is no part of it.
+-- `IsElement element part`: the part of a list is `element`, of at least one byte, surrounded only
+-- by whitespace, which does not belong to it.
 pub record IsElement (element part : List ℕ) : Type 0 where
   pub before : List ℕ
   pub behind : List ℕ
@@ -22,14 +22,15 @@ pub record IsElement (element part : List ℕ) : Type 0 where
   pub begins_bare : BeginsBare element
   pub ends_bare : EndsBare element
 
--- The element stands in one of the parts. A part of white space alone has none, and is passed over.
+-- `HasElement element parts`: one of the parts has this element. Parts of only whitespace have no
+-- element, and are skipped.
 abbrev pub HasElement : List ℕ → List (List ℕ) → Type 0
 HasElement element [] = ⊥
 HasElement element (part ∷ parts) = IsElement element part ⊎ HasElement element parts
 
 -- ---- what functions return
 
--- This text is what there is.
+-- `IsThe found text`: `found` is `text`.
 abbrev pub IsThe : Option (Bor (List ℕ)) → List ℕ → Type 0
 IsThe None text = ⊥
 IsThe (Some slice) text = slice.now ≡ text

@@ -13,7 +13,8 @@ fn comma_in(list: &[u8]) -> Option<usize>
     list.iter().position(|b| *b == b',')
 }
 
-/// What stands before the first comma of a list, and the list after that comma, if there is one.
+/// Returns the part before the first comma of a list, and the rest after that comma, if there is
+/// one.
 pub(crate) fn next_part<'i>(list: &'i [u8]) -> (&'i [u8], Option<&'i [u8]>)
     ensures { parts_of list.now ≡ result.0.now ∷ parts_in result.1 }
 {
@@ -23,8 +24,8 @@ pub(crate) fn next_part<'i>(list: &'i [u8]) -> (&'i [u8], Option<&'i [u8]>)
     }
 }
 
-/// The element that stands in a part of a list, without the white space around it; none where the
-/// part is white space alone.
+/// Returns the element in a part of a list, without the surrounding whitespace, or `None` if the
+/// part is only whitespace.
 pub(crate) fn element_of<'i>(part: &'i [u8]) -> Option<&'i [u8]>
     ensures { (element : List ℕ) → IsElement element part.now ↔ IsThe result element }
 {

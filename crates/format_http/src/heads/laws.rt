@@ -8,9 +8,9 @@ ghost use Rattle.format_http.specs.Responses.Head.{IsResponseHead, Status};
 ghost use Rattle.std.specs.List.{All};
 ghost use Rattle.std.specs.Prelude.{◌≡◌, ◌++◌, ◌∷◌, List, ℕ};
 
-/// Before the first colon of a field line no byte is white space. So a request with white space
-/// between the name of a field and its colon, which a server must refuse (RFC 9112, section 5.1),
-/// has no head that is read.
+/// Proves that no byte before the first colon of a field line is whitespace. So
+/// [`read_head`](crate::heads::head::read_head) reads no head with whitespace between the name of a
+/// field and its colon, which a server must reject (RFC 9112, section 5.1).
 pub fn no_white_space_stands_before_a_colon()
     ensures { (name value bytes rest front more : List ℕ) → IsFieldLine name value bytes rest
         → bytes ≡ front ++ 58 ∷ more → All (λ b. b ≡ 58 → ⊥) front

@@ -1,4 +1,4 @@
--- What a caller knows of one run of a literal that answered.
+-- Lemmas for callers about one call of a literal.
 use Rattle.std.specs.Prelude.{◌≡◌, false, List, [], ◌∷◌, ◌++◌, Ok, Err}
 use Rattle.std.proofs.Common.{refl, sym, ap, ◌∙◌, inl, inr}
 use Rattle.streams.specs.Equal.{true_is_false}
@@ -36,7 +36,7 @@ literal_taken reading form spelled output i o j (inr (inl (short, cut, e, same))
 literal_taken reading form spelled output i o j (inr (inr (other, whole, e, same))) =
     ok_is_err refl e
 
--- A literal that does not stand first in a whole input, which stays.
+-- Complete input does not start with the literal, and is unchanged.
 pub record LiteralMissing {T : Type 0} (spelled : List T → Type 0) (i : Input T) (k : Kind)
     (j : Input T) : Type 0 where
   pub stays : j ≡ i
@@ -54,7 +54,7 @@ literal_missing reading form spelled output i k j whole (inr (inl (short, cut, e
 literal_missing reading form spelled output i k j whole (inr (inr (other, open_too, e, same))) =
     record { stays = same; kind = same_err refl e; other = other }
 
--- A literal of one token that was taken: the token, and after it what is left.
+-- A literal of one token matched: the token is followed by the rest.
 pub record TokenTaken {T : Type 0} (x : T) (i j : Input T) : Type 0 where
   pub splits : i.left.tokens ≡ x ∷ j.left.tokens
   pub status : j.status ≡ i.status
@@ -69,7 +69,7 @@ token_taken reading form x output i o j ran =
       status = taken.takes.passed.status;
     }
 
--- One that does not stand first in a whole input, which stays.
+-- Complete input does not start with the token, and is unchanged.
 pub record TokenMissing {T : Type 0} (x : T) (i : Input T) (k : Kind) (j : Input T) : Type 0 where
   pub stays : j ≡ i
   pub kind : k ≡ backtrack

@@ -8,12 +8,14 @@ use crate::parser::Parser;
 use stream_errors::parser_error::ParserError;
 use streams::stream::Stream;
 
-/// A parser that runs the caller's closure, which owes that it leaves an end of its input: from the
-/// state that it is in, and from each that its calls lead to (`LeavesEndsFrom`). What a call owes
-/// beside that is the caller's own clause. `leaves_always` and `leaves_within` in `specs/Func.antt`
-/// show it for closures whose every state leaves ends, and for a set of states that calls keep.
+/// A parser that calls a closure.
 ///
-/// A plain function owes one clause, over bytes, or over any stream where it is then used at one:
+/// Every call must leave a suffix of its input, from the current state of the closure and from
+/// every state that its calls lead to (`LeavesEndsFrom`). Any further requirement is in the
+/// caller's own clause. `leaves_always` and `leaves_within` in `specs/Func.antt` prove this for
+/// closures that leave a suffix in every state, and for a set of states that calls preserve.
+///
+/// A plain function needs one clause, over bytes, or over any stream if it is used at one:
 ///
 /// ```
 /// ghost use Rattle.streams.specs.Bytes.{bytes_input, bytes_reading};

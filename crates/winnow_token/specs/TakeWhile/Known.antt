@@ -1,4 +1,4 @@
--- What a caller knows of one run of a take of members that answered.
+-- Lemmas for callers about one call of `take_while`.
 use Rattle.std.specs.Prelude.{◌≡◌, ◌<◌, ◌≤◌, ℕ, Bool, true, false, List, [], ◌∷◌, ◌++◌, length}
 use Rattle.std.specs.Prelude.{Option, None, Ok, Err, IsTrue, ◌⊎◌, ◌↔◌}
 use Rattle.std.specs.Borrow.{Bor}
@@ -19,14 +19,14 @@ use Rattle.stream_errors.specs.Form.Known.{ok_is_err, same_err, same_ok}
 use Rattle.winnow_token.specs.TakeWhile.{IsEnded, TakeWhileRuns}
 use Rattle.stream_sets.specs.Longest.{IsLongest}
 
--- Tokens that were taken: the longest beginning of members, enough of them, and what is left.
+-- The tokens that were taken are the longest prefix of members, and there are enough of them.
 pub record Took {T : Type 0} (member : T → Bool → Type 0) (least : ℕ) (greatest : Option ℕ)
     (i : Input T) (taken : List T) (j : Input T) : Type 0 where
   pub longest : IsLongest member greatest i.left.tokens taken j.left.tokens
-  -- whatever more input comes, or no more does
+  -- more input cannot extend it, or the input is complete
   pub ended : IsEnded member greatest taken j.left.tokens ⊎ (i.status.cut ≡ false)
   pub enough : least ≤ length taken
-  -- an input that was whole is whole
+  -- complete input stays complete
   pub whole : i.status.cut ≡ false → j.status.cut ≡ false
 
 -- the slice of a take, and the tokens that it shows
@@ -68,7 +68,8 @@ took_counted {T} form member least greatest i slice j ran =
     let P : List T → Type 0 = λ l. Took member least greatest i l j in
     subst P (sym takes.shown) all
 
--- A take of a whole input that failed: it stays, and too few members stand first.
+-- A `take_while` failed on complete input, and the input is unchanged: it starts with too few
+-- members.
 pub record TooFew {T : Type 0} (member : T → Bool → Type 0) (least : ℕ) (greatest : Option ℕ)
     (i : Input T) (k : Kind) (j : Input T) : Type 0 where
   pub stays : j ≡ i
@@ -102,7 +103,7 @@ too_few reading form member least greatest i k j whole within
       few = lt;
     }
 
--- the runs of a take by a range that is known, and what it took, or lacks
+-- the calls for a known range, with the tokens that were taken, or are missing
 pub by_range : {T S : Type 0} (reading : Reading T S) (form : ErrorForm)
     (member : T → Bool → Type 0) (range : Range) (least : ℕ) (last : Option ℕ) (i : Input T)
     (answer : Answer S) (j : Input T)
@@ -133,7 +134,7 @@ too_few_by reading form member range least last i k j e whole within ran =
     too_few reading form member least (greatest_of least last) i k j whole within
     (by_range reading form member range least last i (Err k) j e ran)
 
--- a take of none or more of a whole input never fails
+-- in the form `0..` it never fails on complete input
 pub never_too_few : {T P : Type 0} (member : T → Bool → Type 0) (greatest : Option ℕ)
     (i : Input T) (k : Kind) (j : Input T) → TooFew member 0 greatest i k j → P
 never_too_few member greatest i k j none = let h = none.few in absurd (omega (arith, h))
@@ -145,7 +146,8 @@ pub took_all : {T : Type 0} (P : T → Type 0) (member : T → Bool → Type 0) 
 took_all P member least greatest i taken j is all =
     All-weaker (λ x. member x true) P is taken all.longest.members
 
--- after a take with no greatest number nothing stands, or what is of Q, where the others are
+-- without a greatest number, the rest is empty or starts with a token in `Q`, if all tokens that
+-- are not members are in `Q`
 pub took_stops : {T : Type 0} (Q : T → Type 0) (member : T → Bool → Type 0) (least : ℕ)
     (i : Input T) (taken : List T) (j : Input T) → ((x : T) → member x false → Q x)
     → Took member least None i taken j
@@ -154,7 +156,8 @@ took_stops Q member least i taken j other all x more e =
     elim (all.longest.stops x more e)
     [ inl stranger ↦ other x stranger | inr full ↦ none_is_some full ]
 
--- where not one member was there, nothing stands first, or what is of Q, where the others are
+-- if there is no member, the input is empty or starts with a token in `Q`, if all tokens that are
+-- not members are in `Q`
 pub none_first : {T : Type 0} (Q : T → Type 0) (member : T → Bool → Type 0) (i : Input T)
     (k : Kind) (j : Input T) → ((x : T) → member x false → Q x) → TooFew member 1 None i k j
     → (x : T) (more : List T) → i.left.tokens ≡ x ∷ more → Q x
@@ -169,7 +172,7 @@ none_first {T} Q member i k j other none x more e =
 
 -- ---- sets by their members
 
--- A set by its members: what is told true is of P, and what is told false is not.
+-- `member` decides `P`: it is true for the tokens in `P`, and false for all others.
 pub record Tells {T : Type 0} (member : T → Bool → Type 0) (P : T → Type 0) : Type 0 where
   pub yes : (t : T) → member t true → P t
   pub no : (t : T) → member t false → P t → ⊥
