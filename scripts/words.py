@@ -55,7 +55,7 @@ PHRASES = [
     (rf"(?<!here )\b{BE} no (?!longer|more|less|different|other|such|need|way|reason|use)[a-z]+",
      "is not a"),
     (r"\b(?:that|so) (?:many|much)\b", "the name of the number"),
-    (r"(?:^|(?<=[.;] )|(?<=, )|(?<=and )|(?<=or ))[Ee]lse\b(?! if\b)", "otherwise"),
+    (r"(?:^|(?<=[.;] )|(?<=, ))[Ee]lse\b(?! if\b)", "otherwise"),
     (r"\bwhatever (?:follows|comes|it|is|the)\b", "for every, regardless of"),
     (rf"\b{BE} (?:told|said)\b|\b(?:tells?|says?) (?:so|of|what|where|which|how|why)\b",
      "returned, reported, documented, specified; has"),
