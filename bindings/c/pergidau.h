@@ -56,30 +56,33 @@ int pergidau_is_proved(void);
 
 /* The result codes of functions. */
 enum pergidau_code {
-    /* The bytes were read, and what was found is written. */
+    /* Success. The result is written. */
     PERGIDAU_DONE = 0,
-    /* The bytes are not what is read. Where the function says so, the place is written. */
+    /* Invalid input. If the function documents it, the offset of the error is written. */
     PERGIDAU_REFUSED = 1,
-    /* The bytes are not yet what is read, and with more after them they may be. */
+    /* Incomplete input: more bytes are needed. */
     PERGIDAU_INCOMPLETE = 2,
-    /* A request for memory was refused. */
+    /* Memory allocation failed. */
     PERGIDAU_NO_MEMORY = 3,
-    /* The bytes are no UTF-8, where text is asked for. */
+    /* Input is not valid UTF-8. */
     PERGIDAU_NO_TEXT = 4,
     /*
-     * The buffer has too few entries. How many are wanted is written, and the buffer is left
-     * as it was, where the function does not say otherwise.
+     * Buffer too small. The required sizes are written, and the buffer is unchanged unless the
+     * function documents otherwise.
      */
     PERGIDAU_TOO_SMALL = 5,
-    /* More levels are asked for than PERGIDAU_MOST_LEVELS. */
+    /*
+     * Depth limit too large: at most 512 levels are supported. That number is
+     * PERGIDAU_MOST_LEVELS.
+     */
     PERGIDAU_TOO_DEEP = 6,
-    /* A pointer is null where something is to be read or written. */
+    /* Null pointer. Memory would be read or written through it. */
     PERGIDAU_NULL = 7,
-    /* A length is more than PTRDIFF_MAX bytes. */
+    /* Length too large: at most PTRDIFF_MAX bytes are supported. */
     PERGIDAU_TOO_LONG = 8,
-    /* Nothing more is told: what stands there is said at the function. */
+    /* No more items. Each function documents the end that it reports. */
     PERGIDAU_END = 9,
-    /* The number is no integer, or does not fit as many bits as are asked for. */
+    /* Number is not an integer or out of range. The function determines the range. */
     PERGIDAU_NO_INTEGER = 10,
 };
 
@@ -87,8 +90,8 @@ enum pergidau_code {
 const char *pergidau_message(enum pergidau_code code);
 
 /*
- * How many levels of arrays and objects in one another may be asked for. Each takes some of
- * the stack.
+ * The largest supported depth limit for nested arrays and objects. Each level takes some
+ * stack.
  */
 #define PERGIDAU_MOST_LEVELS 512
 
@@ -110,11 +113,11 @@ enum pergidau_json_kind {
     PERGIDAU_JSON_OBJECT = 6,
     /* The name of a member, which is a string: its place has the quotes round it. */
     PERGIDAU_JSON_NAME = 7,
-    /* The bracket before what an array has in it. */
+    /* The opening bracket of an array. */
     PERGIDAU_JSON_BEGIN_ARRAY = 8,
     /* The bracket after it. */
     PERGIDAU_JSON_END_ARRAY = 9,
-    /* The bracket before what an object has in it. */
+    /* The opening bracket of an object. */
     PERGIDAU_JSON_BEGIN_OBJECT = 10,
     /* The bracket after it. */
     PERGIDAU_JSON_END_OBJECT = 11,
@@ -140,13 +143,13 @@ enum pergidau_resp_kind {
 
 /* The errors of TOML documents: the values of fault of a document. */
 enum pergidau_toml_fault {
-    /* Nothing is refused. */
+    /* No error. */
     PERGIDAU_TOML_FAULT_NONE = 0,
     /* A key or a table is expected. */
     PERGIDAU_TOML_FAULT_KEY = 1,
     /* The equals sign after a key is expected. */
     PERGIDAU_TOML_FAULT_EQUALS_SIGN = 2,
-    /* A value is expected, of no more levels than are asked for. */
+    /* A value is expected, nested no deeper than the depth limit. */
     PERGIDAU_TOML_FAULT_VALUE = 3,
     /* The name of a table is expected. */
     PERGIDAU_TOML_FAULT_TABLE_NAME = 4,
@@ -163,7 +166,7 @@ enum pergidau_toml_fault {
      * header.
      */
     PERGIDAU_TOML_FAULT_CLOSED = 9,
-    /* The line adds a table to what is no array of tables. */
+    /* The line adds a table to a key that is not an array of tables. */
     PERGIDAU_TOML_FAULT_NO_TABLES = 10,
 };
 
@@ -185,25 +188,31 @@ enum pergidau_toml_kind {
     PERGIDAU_TOML_OFFSET_DATE_TIME = 6,
     /* A date and a time with no offset. */
     PERGIDAU_TOML_LOCAL_DATE_TIME = 7,
-    /* A date alone. */
+    /* A date without a time. */
     PERGIDAU_TOML_LOCAL_DATE = 8,
-    /* A time alone. */
+    /* A time without a date. */
     PERGIDAU_TOML_LOCAL_TIME = 9,
 };
 
 /* The errors of chunked bodies: the values of fault of a step. */
 enum pergidau_chunked_fault {
-    /* A size line is due, and begins with no hexadecimal digit. */
+    /* A size line does not start with a hexadecimal digit. */
     PERGIDAU_CHUNKED_FAULT_SIZE = 0,
-    /* No size line goes on with the byte: it is in no extension, or in no line end. */
+    /*
+     * The byte is invalid in a size line: it can continue neither an extension nor a line
+     * ending.
+     */
     PERGIDAU_CHUNKED_FAULT_SIZE_LINE = 1,
     /* With this digit the size is 2^64 or more. */
     PERGIDAU_CHUNKED_FAULT_SIZE_TOO_LARGE = 2,
-    /* More bytes than the limit lets would stand before the next data, or the end. */
+    /* There are more bytes than the limit allows before the next data, or before the end. */
     PERGIDAU_CHUNKED_FAULT_SIZE_LINE_TOO_LONG = 3,
-    /* A carriage return and a line feed are due after the data of a chunk. */
+    /* The data of a chunk is not followed by a carriage return and a line feed. */
     PERGIDAU_CHUNKED_FAULT_DATA_END = 4,
-    /* No field line goes on with the byte, nor the line end after the trailer section. */
+    /*
+     * The byte can continue neither a field line nor the line ending after the trailer
+     * section.
+     */
     PERGIDAU_CHUNKED_FAULT_TRAILERS = 5,
     /* The trailer section would have more bytes than the limit lets. */
     PERGIDAU_CHUNKED_FAULT_TRAILERS_TOO_LONG = 6,
@@ -214,23 +223,23 @@ enum pergidau_chunked_kind {
     /* Data of a chunk, one byte or more. */
     PERGIDAU_CHUNKED_DATA = 0,
     /*
-     * Bytes of the trailer section, one or more: after one another all of them are field
-     * lines, whole ones, each with its line end.
+     * Bytes of the trailer section, one or more. All of them together are complete field
+     * lines, each with its line ending.
      */
     PERGIDAU_CHUNKED_TRAILERS = 1,
 };
 
 /* The errors of INI lines: the values of fault of an INI entry. */
 enum pergidau_ini_fault {
-    /* No ] stands after the [ that begins the line. */
+    /* The line starts with [ and has no ]. */
     PERGIDAU_INI_FAULT_OPEN_SECTION = 0,
-    /* Nothing stands between [ and ]. */
+    /* There is nothing between [ and ]. */
     PERGIDAU_INI_FAULT_EMPTY_SECTION = 1,
-    /* Something stands after the ]. */
+    /* There is text after the ]. */
     PERGIDAU_INI_FAULT_TEXT_BEHIND_SECTION = 2,
-    /* No section stands before the pair. */
+    /* There is no section before the pair. */
     PERGIDAU_INI_FAULT_NO_SECTION = 3,
-    /* No key stands before the delimiter. */
+    /* There is no key before the delimiter. */
     PERGIDAU_INI_FAULT_NO_KEY = 4,
     /* There is no delimiter. */
     PERGIDAU_INI_FAULT_NO_DELIMITER = 5,
@@ -251,22 +260,22 @@ enum pergidau_ini_dialect {
     /* ; does. */
     PERGIDAU_INI_DIALECT_INLINE_SEMICOLON = 32,
     /*
-     * A line that is indented deeper than the pair before it goes on the value of that pair,
-     * until an empty line or a comment.
+     * A line that is indented deeper than the pair before it continues the value of that pair.
+     * An empty line or a comment ends the value.
      */
     PERGIDAU_INI_DIALECT_UNTIL_EMPTY = 64,
     /*
-     * Such a line goes on the value, and empty lines within are part of it; comments within
-     * are passed over. With this the flag before counts for nothing.
+     * Such a line continues the value, and empty lines within are part of it; comments within
+     * are skipped. If this flag is set, the previous one has no effect.
      */
     PERGIDAU_INI_DIALECT_PAST_EMPTY = 128,
-    /* A line without a delimiter is a key without a value; else it is refused. */
+    /* A line without a delimiter is a key without a value; otherwise it is an error. */
     PERGIDAU_INI_DIALECT_VALUELESS = 256,
-    /* Pairs may stand before the first section; else they are refused. */
+    /* Pairs may precede the first section; otherwise they are an error. */
     PERGIDAU_INI_DIALECT_BEFORE_SECTIONS = 512,
     /*
-     * The dialect of Python's configparser, unless it is told another: = and :, # and ; at the
-     * start of lines, continued lines with empty lines within.
+     * The default dialect of Python's configparser: = and :, # and ; at the start of lines,
+     * continued lines with empty lines within.
      */
     PERGIDAU_INI_DIALECT_PYTHON = 143,
     /* The dialect of desktop entries: =, # at the start of lines, a line for each pair. */
@@ -293,41 +302,38 @@ enum pergidau_ini_kind {
     PERGIDAU_INI_MORE = 3,
 };
 
-/* A place in the caller's bytes: that many of them, from one on. */
+/* A span of the caller's bytes: an offset and a length. */
 struct pergidau_span {
-    /* How many bytes stand before it. */
+    /* The offset in bytes. */
     size_t offset;
     /* How many bytes it has. */
     size_t length;
 };
 
-/* What a formula comes to. */
+/* The value of a formula, or the offset of an error. */
 struct pergidau_number {
     /* The value, or 0 where there is none. */
     int64_t value;
-    /* Where it is refused: how many bytes stand before the place. Else 0. */
+    /* The offset of the error in bytes; 0 otherwise. */
     size_t place;
 };
 
-/* What a record has. */
+/* The sizes of a record, or the offset of an error. */
 struct pergidau_record {
     /* How many fields there are. */
     size_t fields;
     /* How many bytes the fields have together, as they are written. */
     size_t text;
-    /* How many bytes the record has where it was read, the line end among them. */
+    /* The length of the record in the input in bytes, including its line ending. */
     size_t length;
-    /*
-     * Where the bytes are refused: how many stand before the first with which no record goes
-     * on. Else 0.
-     */
+    /* The offset of the first invalid byte; 0 otherwise. */
     size_t place;
 };
 
 /*
- * How far bytes were searched for the end of a record of comma separated values. The numbers
- * are for the calls alone, and all zeros say that nothing was passed: so it is begun for each
- * record.
+ * The state of a search for the end of a record of comma-separated values. Only the functions
+ * of this library may interpret its fields. All zeros is the initial state; start from it for
+ * each record.
  */
 struct pergidau_csv_record_extent {
     /* How many bytes were passed. */
@@ -336,7 +342,7 @@ struct pergidau_csv_record_extent {
     size_t text;
     /* How many fields were passed with the comma after them. */
     size_t fields;
-    /* Where in the record the next byte is due: 0 where a field begins. */
+    /* The part of the record that is expected next; 0 at the start of a field. */
     size_t place;
 };
 
@@ -344,10 +350,7 @@ struct pergidau_csv_record_extent {
 struct pergidau_field {
     /* The name. */
     struct pergidau_span name;
-    /*
-     * The value, without the white space round it. One without bytes stands at the end of its
-     * line.
-     */
+    /* The value, without the surrounding whitespace. An empty value is at the end of its line. */
     struct pergidau_span value;
 };
 
@@ -359,9 +362,9 @@ struct pergidau_head {
     struct pergidau_span target;
     /* How many fields there are. */
     size_t fields;
-    /* How many bytes the head has, the empty line after the fields among them. */
+    /* The length of the head in bytes, including the empty line after the fields. */
     size_t length;
-    /* Where the bytes are refused: how many stand before the place. Else 0. */
+    /* The offset of the error in bytes; 0 otherwise. */
     size_t place;
     /* The number before the point of the version, below 10. */
     uint8_t major;
@@ -370,64 +373,68 @@ struct pergidau_head {
 };
 
 /*
- * How far a chunked body was decoded, as numbers, for a caller who keeps it where no type of
- * Rust can be. They are for the calls alone, and a place of 0 says that nothing of a body was
- * taken, whatever the others are: so it is begun for each body, with the limits for a server,
- * 4,096 bytes between data and 8,192 of the trailer section. For other limits place is 1, room
- * and size_line are the one, and trailer_room and trailers the other.
+ * The state of decoding a chunked body as numbers, for callers that cannot keep a Rust type.
+ * Only the calls interpret them. A place of 0 means that nothing was consumed, regardless of
+ * the other numbers: use it at the start of each body. The limits are then those for a server,
+ * 4,096 bytes between data and 8,192 of the trailer section. For other limits set place to 1,
+ * room and size_line to the first limit, and trailer_room and trailers to the second.
  */
 struct pergidau_chunked_state {
-    /* Where in the body the next byte is due: 0 or 1 where nothing was taken. */
+    /* The position of the next byte in the body: 0 or 1 if nothing was consumed. */
     size_t place;
     /* Where in a size line, or in a field line. */
     size_t within;
-    /* What the digits of a size make so far; or the size; or how many bytes of data are due. */
+    /*
+     * The number of the size's digits so far; or the size; or the number of bytes of data that
+     * remain.
+     */
     uint64_t size;
-    /* How many bytes more may stand before the next data. */
+    /* The number of bytes allowed before the next data. */
     size_t room;
     /* How many bytes more the trailer section may have. */
     size_t trailer_room;
-    /* How many bytes may stand between data. */
+    /* The number of bytes allowed between data. */
     size_t size_line;
     /* How many bytes the trailer section may have. */
     size_t trailers;
 };
 
-/* What a call took of a chunked body. */
+/* The result of a call for a chunked body. */
 struct pergidau_chunked_step {
-    /* What is given out: PERGIDAU_CHUNKED_DATA or PERGIDAU_CHUNKED_TRAILERS. */
+    /* The kind of the output: PERGIDAU_CHUNKED_DATA or PERGIDAU_CHUNKED_TRAILERS. */
     size_t kind;
-    /* Where it stands. Else nothing. */
+    /* The span of the output in the input; zeros if there is no output. */
     struct pergidau_span place;
     /* How many bytes were taken. Those after them are the first of the next call. */
     size_t taken;
     /*
-     * Why the byte after those that were taken is refused: a number of those from
-     * PERGIDAU_CHUNKED_FAULT_SIZE on. Else 0.
+     * The error of the byte after the consumed bytes: PERGIDAU_CHUNKED_FAULT_SIZE or one of
+     * the constants after it; 0 otherwise.
      */
     size_t fault;
 };
 
 /*
- * How far bytes were searched for the end of the head of a request. The numbers are for the
- * calls alone, and all zeros say that nothing was passed: so it is begun for each head.
+ * The state of a search for the end of the head of a request. Only the functions of this
+ * library may interpret its fields. All zeros is the initial state; start from it for each
+ * head.
  */
 struct pergidau_http_head_extent {
     /* How many bytes were passed. */
     size_t passed;
-    /* Where in the head the next one is due: 0 where it begins. */
+    /* The part of the head that is expected next; 0 at its start. */
     size_t place;
 };
 
 /* The numbers and the places of the parts of the head of a response. */
 struct pergidau_response_head {
-    /* The reason. One without bytes stands at the end of its line. */
+    /* The span of the reason phrase. If it is empty, the span is at the end of its line. */
     struct pergidau_span reason;
     /* How many fields there are. */
     size_t fields;
-    /* How many bytes the head has, the empty line after the fields among them. */
+    /* The length of the head in bytes, including the empty line after the fields. */
     size_t length;
-    /* Where the bytes are refused: how many stand before the place. Else 0. */
+    /* The offset of the error in bytes; 0 otherwise. */
     size_t place;
     /* The status code, below 1000. */
     uint16_t status;
@@ -443,28 +450,25 @@ struct pergidau_pair {
     struct pergidau_span key;
     /* The value. */
     struct pergidau_span value;
-    /* Where the line is refused: how many bytes stand before the place. Else 0. */
+    /* The offset of the error in bytes; 0 otherwise. */
     size_t place;
 };
 
 /* An entry of a document: a pair, or the head of a section. */
 struct pergidau_entry {
-    /*
-     * The key of a pair. The head of a section has none, and by that it is known: a key has
-     * bytes.
-     */
+    /* The key of a pair. It is empty for the head of a section, and only there. */
     struct pergidau_span key;
     /* The value of a pair, or the name of a section. It may have no bytes. */
     struct pergidau_span value;
 };
 
-/* What a document has. */
+/* The sizes of a document, or the offset of an error. */
 struct pergidau_document {
     /* How many entries there are. */
     size_t entries;
     /* How many bytes the keys, the values and the names have together. */
     size_t text;
-    /* Where the document is refused: how many bytes stand before the place. Else 0. */
+    /* The offset of the error in bytes; 0 otherwise. */
     size_t place;
 };
 
@@ -472,33 +476,40 @@ struct pergidau_document {
 struct pergidau_ini_state {
     /* How many bytes are read: the next line begins after them. */
     size_t offset;
-    /* 1 where a section has begun. Else 0. */
+    /* 1 after the head of a section; 0 otherwise. */
     size_t section;
-    /* 1 where the next line may go on the value of a pair. Else 0. */
+    /* 1 if the next line may continue the value of a pair; 0 otherwise. */
     size_t pair;
-    /* How many blanks stand before that pair. Else 0. */
+    /* The number of blanks before that pair; 0 otherwise. */
     size_t indent;
 };
 
-/* What a line says. */
+/* The content of a line. */
 struct pergidau_ini_entry {
-    /* What it is: a number of those from PERGIDAU_INI_SECTION to PERGIDAU_INI_MORE. */
+    /*
+     * The kind of the entry: one of the constants from PERGIDAU_INI_SECTION to
+     * PERGIDAU_INI_MORE.
+     */
     size_t kind;
-    /* The name of a section, or the key of a pair. Else nothing. */
+    /* The name of a section, or the key of a pair; zeros otherwise. */
     struct pergidau_span key;
-    /* The value of a pair, or one more line of it. Else nothing. */
+    /* The value of a pair, or a further line of it; zeros otherwise. */
     struct pergidau_span value;
-    /* Where the line begins that is refused, or is no UTF-8. Else 0. */
+    /* The offset of the line that is invalid or not UTF-8; 0 otherwise. */
     size_t place;
-    /* Why it is refused: a number of those from PERGIDAU_INI_FAULT_OPEN_SECTION on. Else 0. */
+    /*
+     * The reason why the line is invalid: PERGIDAU_INI_FAULT_OPEN_SECTION or one of the
+     * constants after it; 0 otherwise.
+     */
     size_t fault;
 };
 
-/* A value, or a name in an object; or a bracket, by pergidau_json_step alone. */
+/* A value, a name in an object, or a bracket. Only pergidau_json_step returns brackets. */
 struct pergidau_json_item {
     /*
-     * What it is: a number of those from PERGIDAU_JSON_NULL to PERGIDAU_JSON_END_OBJECT. Those
-     * after PERGIDAU_JSON_OBJECT are of pergidau_json_step alone; else a name is a string.
+     * The kind of the item: one of the constants from PERGIDAU_JSON_NULL to
+     * PERGIDAU_JSON_END_OBJECT. Only pergidau_json_step returns those after
+     * PERGIDAU_JSON_OBJECT; pergidau_json_next returns a name as a string.
      */
     size_t kind;
     /* Its bytes. */
@@ -515,15 +526,18 @@ struct pergidau_json_text {
 
 /* A reply. */
 struct pergidau_reply {
-    /* What it is: a number of those from PERGIDAU_RESP_SIMPLE to PERGIDAU_RESP_NULL_ARRAY. */
+    /*
+     * The kind of the reply: one of the constants from PERGIDAU_RESP_SIMPLE to
+     * PERGIDAU_RESP_NULL_ARRAY.
+     */
     size_t kind;
-    /* The number that an integer is. Else 0. */
+    /* The number of an integer; 0 otherwise. */
     int64_t number;
-    /* How many elements an array has. Else 0. */
+    /* The number of elements of an array; 0 otherwise. */
     size_t elements;
     /*
      * The bytes of a string or of an error, or those of the elements of an array, which are
-     * replies, one after the other. Else nothing.
+     * consecutive replies; zeros otherwise.
      */
     struct pergidau_span place;
     /* How many bytes the reply has. */
@@ -531,20 +545,23 @@ struct pergidau_reply {
 };
 
 /*
- * How far bytes that come in pieces were searched for the end of the reply that they begin
- * with. Its numbers are for the calls alone, and all zeros say that nothing was passed: so it
- * is begun for each reply.
+ * The state of a search for the end of a reply in input that arrives in chunks. Only the
+ * functions of this library may interpret its fields. All zeros is the initial state; start
+ * from it for each reply.
  */
 struct pergidau_resp_extent {
-    /* What is due: 0 where nothing was passed, 1 for a line, 2 for the bytes of a string. */
+    /*
+     * The part that is expected next: 0 in the initial state, 1 for a line, 2 for the bytes of
+     * a string.
+     */
     size_t due;
     /* How many bytes were passed. */
     size_t passed;
-    /* How many of the bytes after the next one have no part of a line end. */
+    /* The number of bytes after the next one that are not part of a line ending. */
     size_t sought;
     /* How many bytes the string has. */
     size_t bulk;
-    /* How many replies are due, by the lower 64 bits of their number. */
+    /* The number of expected replies, its lower 64 bits. */
     size_t low;
     /* By the upper 64 bits. */
     size_t high;
@@ -558,9 +575,9 @@ struct pergidau_position {
     size_t column;
 };
 
-/* What there is at a node. What its kind has no use for is 0. */
+/* The value of a node. Fields that its kind does not use are 0. */
 struct pergidau_toml_value {
-    /* What it is: one of the numbers PERGIDAU_TOML_TABLE to PERGIDAU_TOML_LOCAL_TIME. */
+    /* The kind: one of the numbers PERGIDAU_TOML_TABLE to PERGIDAU_TOML_LOCAL_TIME. */
     size_t kind;
     /* The year of a date, from 0 to 9999. */
     uint16_t year;
@@ -579,9 +596,9 @@ struct pergidau_toml_value {
     /* The integer, or 1 for true and 0 for false. */
     int64_t integer;
     /*
-     * Where in the text its own bytes stand: those of a string, with its escapes undone; of a
+     * The span of its own bytes in the text: those of a string, with its escapes undone; of a
      * float, without underscores, as -1.5e+3, inf and nan; or the digits of the fraction of a
-     * second. Other values have none.
+     * second. Other values have no bytes.
      */
     struct pergidau_span text;
 };
@@ -597,53 +614,65 @@ struct pergidau_toml_node {
     size_t first;
     /* The number of the next node in the same table or array, or 0 where there is none. */
     size_t next;
-    /* How many elements stand before it in its array. In a table 0. */
+    /* The number of elements before it in its array; 0 in a table. */
     size_t index;
     /*
-     * Where in the text its name in its table stands, its quotes and escapes undone. In an
-     * array it has no bytes.
+     * The span of its name in its table, with quotes and escapes undone. In an array it has no
+     * bytes.
      */
     struct pergidau_span name;
-    /* What there is. */
+    /* The value of a node. */
     struct pergidau_toml_value value;
-    /* Whether it is an element of an array. Else it is an entry of a table, or the first node. */
+    /*
+     * Whether it is an element of an array. Otherwise it is an entry of a table, or the first
+     * node.
+     */
     bool is_element;
 };
 
-/* What was read of a document. */
+/* The sizes of a document, or an error. */
 struct pergidau_toml_document {
     /* How many nodes there are. */
     size_t nodes;
     /* How many bytes their names and texts have together. */
     size_t text;
-    /* Where the bytes are no document: how many stand before the place. Else 0. */
+    /* The offset of the error in bytes; 0 otherwise. */
     size_t place;
     /*
-     * Why they are none: a number of those from PERGIDAU_TOML_FAULT_NONE to
+     * The error: one of the constants from PERGIDAU_TOML_FAULT_NONE to
      * PERGIDAU_TOML_FAULT_NO_TABLES.
      */
     size_t fault;
 };
 
 /*
- * The value of a formula of whole numbers, as -2 * 3! ^ 2.
+ * Evaluates a formula of integers, such as -2 * 3! ^ 2.
  *
- * White space may stand before the formula and after each number and operator. Operators are,
- * the strongest first: ! after a number, its factorial; + and - before one; ^, a power, joined
- * from the right; *, / and %, and then + and -, joined from the left; and =, which is 1 where
- * both sides are equal and else 0. / cuts towards 0, and % has the sign of its left side.
+ * Whitespace may precede the formula, and may follow each number and operator. The operators,
+ * from the highest precedence to the lowest, are: ! after a number, its factorial; + and -
+ * before a number; ^, a power, right-associative; *, / and %, left-associative; + and -, left-
+ * associative; and =, which gives 1 if both sides are equal and 0 otherwise. / rounds towards
+ * 0, and the result of % has the sign of its left operand.
  *
- * PERGIDAU_DONE: the value is written. PERGIDAU_REFUSED: the text is no formula, or a number
- * or a result in it does not fit 64 bits with a sign, a divisor is 0, an exponent is negative,
- * or a factorial is of a negative number; so is % where the quotient does not fit, as in -2 ^
- * 63 % -1. The place is written: an end of the text, or one between two of its characters.
- * That the formula was read up to there when it was refused is tested, not proved.
+ * PERGIDAU_DONE: the value is written.
+ *
+ * A call holds up to 100 bytes of memory for each byte of the text.
+ *
+ * # Errors
+ *
+ * PERGIDAU_REFUSED: the text is not a formula, a number or a result does not fit a signed
+ * 64-bit integer, a divisor is 0, an exponent is negative, or the operand of a factorial is
+ * negative. % also fails if the quotient does not fit, as in -2 ^ 63 % -1. The offset of the
+ * error is written. It is the start or the end of the text, or lies between two of its
+ * characters. It is tested, but not proved, that the formula was parsed up to there.
+ *
  * PERGIDAU_NO_TEXT, PERGIDAU_NO_MEMORY.
  *
- * While it runs it holds up to 100 bytes of memory for each byte of the text.
+ * # Safety
  *
- * The caller owes text_length bytes at text that can be read and that nothing changes while
- * the call runs, room for one number at out, apart from them, and 16 KiB of stack.
+ * text must be valid for reads of text_length bytes, which must not change during the call,
+ * and out must be valid for writes of one number. They must not overlap. The call needs 16 KiB
+ * of stack.
  */
 enum pergidau_code pergidau_calc_value(
     const uint8_t *text,
@@ -651,26 +680,38 @@ enum pergidau_code pergidau_calc_value(
     struct pergidau_number *out);
 
 /*
- * The record of comma separated values (RFC 4180) with which the bytes begin. A line end
- * stands after it, or the end of the bytes: a carriage return and a line feed where line_feeds
- * is 0, and else a line feed alone. A field in quotes may have any bytes, and each quote in it
- * is doubled; one without has no quote, comma, carriage return or line feed. No bytes begin
- * with no record, and a line end alone is a record of one empty field.
+ * Parses a record of comma-separated values (RFC 4180) at the start of bytes.
  *
- * PERGIDAU_DONE: the bytes of the fields, without the quotes round them and with each quote
- * once, are written into text, one field after the other, and that many places there, in
- * order. PERGIDAU_REFUSED: the bytes begin with no record; written is the first place at which
- * none goes on: what stands before it begins one, and with the byte there none begins.
- * PERGIDAU_TOO_SMALL: they begin with one that wants more entries or more bytes than the
- * buffers have; how many of both is written. But for PERGIDAU_DONE the buffers are left as
- * they were.
+ * The record is followed by a line ending or the end of the input. A line ending is a carriage
+ * return and a line feed if line_feeds is 0, and a line feed otherwise. A quoted field may
+ * have any bytes, and quotes in it are doubled. An unquoted field has no quote, comma,
+ * carriage return or line feed. Empty input does not start with a record. A line ending on its
+ * own is a record of one empty field.
  *
- * No memory is asked for. A record is passed over twice, so that nothing is written where
- * there is no room.
+ * PERGIDAU_DONE: the contents of the fields are written into text, one field after another,
+ * without the quotes around them and with doubled quotes replaced by single ones. The span of
+ * each field in text is written into fields, in order.
  *
- * The caller owes bytes_length bytes at bytes that can be read and that nothing changes while
- * the call runs, text_length bytes at text and fields_length entries at fields that can be
- * written, room for one record at out, each apart from the others, and 16 KiB of stack.
+ * The function does not allocate. It scans a record twice, so that it writes nothing if a
+ * buffer is too small.
+ *
+ * # Errors
+ *
+ * PERGIDAU_REFUSED: bytes does not start with a record. The first offset at which no record
+ * can continue is written: the bytes before it are a prefix of a record, and together with the
+ * byte there they are not.
+ *
+ * PERGIDAU_TOO_SMALL: the record has more fields or more bytes than the buffers. The required
+ * numbers of both are written.
+ *
+ * After an error the buffers are unchanged.
+ *
+ * # Safety
+ *
+ * bytes must be valid for reads of bytes_length bytes, which must not change during the call.
+ * text must be valid for writes of text_length bytes, fields for writes of fields_length
+ * entries, and out for writes of one record. None of these may overlap. The call needs 16 KiB
+ * of stack.
  */
 enum pergidau_code pergidau_csv_record(
     const uint8_t *bytes,
@@ -683,22 +724,32 @@ enum pergidau_code pergidau_csv_record(
     struct pergidau_record *out);
 
 /*
- * The same record where the bytes come in pieces: a record or a refusal that it answers is
- * that of all longer bytes too.
+ * Parses the same record from partial input. A record or an error that it returns is also that
+ * of every continuation.
  *
- * PERGIDAU_DONE, PERGIDAU_TOO_SMALL: as for a record that is whole. PERGIDAU_INCOMPLETE: no
- * record with its line end is there, and with three bytes more at most they can begin with
- * one. PERGIDAU_REFUSED: whatever comes after the bytes, they begin with no record, and that
- * is answered as soon as the byte is there at which none goes on, whose place is written: so
- * of x", 1. A field in quotes that are not closed goes on for ever, so the caller bounds how
- * many bytes are held. The last record may have no line end: where no more bytes come, the
- * call for whole ones reads it.
+ * PERGIDAU_DONE: as for complete input.
  *
- * Each call reads from the first byte on, and asks for no memory.
+ * PERGIDAU_INCOMPLETE: bytes contains no record with its line ending, and at most three more
+ * bytes can complete one.
  *
- * The caller owes bytes_length bytes at bytes that can be read and that nothing changes while
- * the call runs, text_length bytes at text and fields_length entries at fields that can be
- * written, room for one record at out, each apart from the others, and 16 KiB of stack.
+ * A quoted field without a closing quote never ends, so the caller must limit how many bytes
+ * are buffered. The last record may have no line ending: at the end of the input, parse it
+ * with the function for complete input. Each call parses from the first byte, and does not
+ * allocate.
+ *
+ * # Errors
+ *
+ * PERGIDAU_REFUSED: bytes does not start with a record, regardless of what follows. This is
+ * returned as soon as the first invalid byte is there, and its offset is written: 1 for x".
+ *
+ * PERGIDAU_TOO_SMALL: as for complete input.
+ *
+ * # Safety
+ *
+ * bytes must be valid for reads of bytes_length bytes, which must not change during the call.
+ * text must be valid for writes of text_length bytes, fields for writes of fields_length
+ * entries, and out for writes of one record. None of these may overlap. The call needs 16 KiB
+ * of stack.
  */
 enum pergidau_code pergidau_csv_record_in_pieces(
     const uint8_t *bytes,
@@ -711,31 +762,39 @@ enum pergidau_code pergidau_csv_record_in_pieces(
     struct pergidau_record *out);
 
 /*
- * Where the record of comma separated values (RFC 4180) ends whose bytes come in pieces: what
- * a call passed, no call looks at again, so all calls for a record take a time that is linear
- * in its bytes, however many there are. Its fields are then written by one call for a whole
- * one, with that many bytes and the same line_feeds.
+ * Finds the end of a record of comma-separated values (RFC 4180) in input that arrives in
+ * chunks.
  *
- * For the first call the numbers of state are zeros. Each further call for the same record has
- * the state that the last one left, all of the bytes of the last one with more after them, and
- * the same line_feeds.
+ * No call looks again at bytes that an earlier call scanned, so all calls for a record take
+ * time linear in its length. To obtain the fields, pass the bytes of the record and the same
+ * line_feeds to pergidau_csv_record.
  *
- * PERGIDAU_DONE: whatever follows, the bytes begin with a record, its line end among them;
- * written is how many fields it has, how many bytes these have together, and how many bytes
- * the record has. For the next one, zeros are put into the state. PERGIDAU_INCOMPLETE: no
- * record with its line end is there, and with three bytes more at most they can begin with
- * one. A field in quotes that are not closed goes on for ever, so the caller bounds how many
- * bytes are held. The last record may have no line end: where no more bytes come, the call for
- * whole ones reads it. PERGIDAU_REFUSED: whatever comes after the bytes, they begin with no
- * record, and that is answered as soon as the byte is there at which none goes on, whose place
- * is written.
+ * For the first call, state must be all zeros. Each further call for the same record must have
+ * the state that the previous call left, the bytes of the previous call followed by more
+ * bytes, and the same line_feeds.
  *
- * Of a state that calls left for other bytes, or that is changed, what is told may be wrong;
- * nothing outside of the bytes is read then either.
+ * PERGIDAU_DONE: bytes starts with a record and its line ending, regardless of what follows.
+ * The number of its fields, their total length, and the length of the record are written.
+ * Reset the state to zeros for the next record.
  *
- * The caller owes a state at state that can be read and written, bytes_length bytes at bytes
- * that can be read and that nothing changes while the call runs, room for one record at out,
- * each apart from the others, and 16 KiB of stack.
+ * PERGIDAU_INCOMPLETE: bytes contains no record with its line ending, and at most three more
+ * bytes can complete one. A quoted field without a closing quote never ends, so the caller
+ * must limit how many bytes are buffered. The last record may have no line ending: at the end
+ * of the input, parse it with pergidau_csv_record.
+ *
+ * If state belongs to other bytes or was modified, the result may be wrong, but nothing
+ * outside bytes is read.
+ *
+ * # Errors
+ *
+ * PERGIDAU_REFUSED: bytes does not start with a record, regardless of what follows. This is
+ * returned as soon as the first invalid byte is there, and its offset is written.
+ *
+ * # Safety
+ *
+ * state must be valid for reads and writes of one state, and out for writes of one record.
+ * bytes must be valid for reads of bytes_length bytes, which must not change during the call.
+ * None of these may overlap. The call needs 16 KiB of stack.
  */
 enum pergidau_code pergidau_csv_record_extent(
     struct pergidau_csv_record_extent *state,
@@ -745,23 +804,32 @@ enum pergidau_code pergidau_csv_record_extent(
     struct pergidau_record *out);
 
 /*
- * The head of a request of HTTP/1.1 (RFC 9112) with which the bytes begin: a request line,
- * field lines one after the other, and an empty line. What stands after it is not looked at.
+ * Parses the head of an HTTP/1.1 request (RFC 9112) at the start of bytes: a request line,
+ * field lines, and an empty line. The bytes after it are not read.
  *
- * PERGIDAU_DONE: the places of its parts are written, and of that many fields, in order.
- * PERGIDAU_REFUSED: the bytes begin with no head; written is the first place at which none
- * goes on, which is their end where they end within one. PERGIDAU_TOO_SMALL: they begin with
- * one that has more fields than the buffer has entries; how many it has is written. Where it
- * does not answer PERGIDAU_DONE, any entry of the buffer may be written: the fields are
- * written as they are read.
+ * PERGIDAU_DONE: the offsets of the parts of the head are written, and those of its fields, in
+ * order.
  *
- * No empty line is passed before the request line: a server that is to be lenient, as section
- * 2.2 of RFC 9112 has it, passes one CRLF there itself. The bytes are read once, and no memory
- * is asked for.
+ * Empty lines before the request line are not skipped. A lenient server (RFC 9112, section
+ * 2.2) must skip one CRLF there itself. The bytes are scanned once. The function does not
+ * allocate.
  *
- * The caller owes bytes_length bytes at bytes that can be read and that nothing changes while
- * the call runs, fields_length entries at fields that can be written, room for one head at
- * out, each apart from the others, and 16 KiB of stack.
+ * # Errors
+ *
+ * PERGIDAU_REFUSED: bytes does not start with a head. The first offset at which no head can
+ * continue is written; it is the end of bytes if they end within a head.
+ *
+ * PERGIDAU_TOO_SMALL: the head has more fields than the buffer has entries. The number of
+ * fields is written.
+ *
+ * After an error the contents of the buffer are unspecified, because the fields are written
+ * during parsing.
+ *
+ * # Safety
+ *
+ * bytes must be valid for reads of bytes_length bytes, which must not change during the call.
+ * fields must be valid for writes of fields_length entries, and out for writes of one head.
+ * None of these may overlap. The call needs 16 KiB of stack.
  */
 enum pergidau_code pergidau_http_head(
     const uint8_t *bytes,
@@ -771,19 +839,27 @@ enum pergidau_code pergidau_http_head(
     struct pergidau_head *out);
 
 /*
- * The same head where the bytes come in pieces: it answers as soon as the empty line is there.
+ * Parses the same head from partial input. It succeeds as soon as the empty line is there.
  *
- * PERGIDAU_DONE, PERGIDAU_TOO_SMALL: as for a head that is whole. PERGIDAU_INCOMPLETE: the
- * bytes begin with no head, and with more after them they can. PERGIDAU_REFUSED: whatever
- * comes after the bytes, they begin with no head; written is the first place at which none
- * goes on: with the bytes before it a head can begin, and with these and the byte there none
- * does.
+ * PERGIDAU_DONE: as for complete input.
  *
- * Each call reads from the first byte on.
+ * PERGIDAU_INCOMPLETE: bytes does not start with a head, but more bytes can complete one.
  *
- * The caller owes bytes_length bytes at bytes that can be read and that nothing changes while
- * the call runs, fields_length entries at fields that can be written, room for one head at
- * out, each apart from the others, and 16 KiB of stack.
+ * Each call parses from the first byte.
+ *
+ * # Errors
+ *
+ * PERGIDAU_REFUSED: bytes does not start with a head, regardless of what follows. The offset
+ * of the first invalid byte is written: the bytes before it are a prefix of a head, and
+ * together with the byte there they are not.
+ *
+ * PERGIDAU_TOO_SMALL: as for complete input.
+ *
+ * # Safety
+ *
+ * bytes must be valid for reads of bytes_length bytes, which must not change during the call.
+ * fields must be valid for writes of fields_length entries, and out for writes of one head.
+ * None of these may overlap. The call needs 16 KiB of stack.
  */
 enum pergidau_code pergidau_http_head_in_pieces(
     const uint8_t *bytes,
@@ -793,30 +869,41 @@ enum pergidau_code pergidau_http_head_in_pieces(
     struct pergidau_head *out);
 
 /*
- * What the first bytes are of a chunked body of HTTP/1.1 (RFC 9112, section 7.1) that comes in
- * pieces: data, bytes of trailers, or its end. What a call took, no other looks at again, so
- * all calls for a body take a time that is linear in its bytes, however many there are.
+ * Decodes the next part of a chunked body of HTTP/1.1 (RFC 9112, section 7.1) in input that
+ * arrives in chunks of any size: data, bytes of trailers, or the end.
  *
- * For the first call the numbers of state are zeros, or those of other limits. Each further
- * call for the same body has the state that the last one left, and bytes that follow those
- * that it took.
+ * No call looks again at bytes that an earlier call consumed, so all calls for a body take
+ * time linear in its length.
  *
- * PERGIDAU_DONE: what is given out and its place are written; after one another the data are
- * the content of the body, and the bytes of trailers are its trailer section, without the line
- * end after it. PERGIDAU_END: the body is whole, and what is after the bytes that were taken
- * is after it; so it is told of the same state again. For the next body, the first numbers are
- * put into the state. PERGIDAU_INCOMPLETE: all bytes are taken, they are no body as yet, and
- * with more after them they can be. PERGIDAU_REFUSED: with the byte after those that were
- * taken no body goes on, or one that has 2^64 bytes or more; or the limits do not let it be
- * taken. With these three no kind and no place are written.
+ * For the first call, state must be all zeros, or an initial state with other limits. Each
+ * further call for the same body must have the state that the previous call left, and bytes
+ * that follow the consumed ones.
  *
- * Extensions of size lines are passed over. Bytes of data are not looked at. Of a state that
- * is changed, or with bytes that do not follow, what is told may be wrong; nothing outside of
- * the bytes is read then either.
+ * PERGIDAU_DONE: the kind and the span of the output are written. The data of all calls
+ * together are the content of the body. The bytes of trailers together are its trailer
+ * section, without the line ending after it.
  *
- * The caller owes a state at state that can be read and written, bytes_length bytes at bytes
- * that can be read and that nothing changes while the call runs, room for one step at out,
- * each apart from the others, and 16 KiB of stack.
+ * PERGIDAU_END: the body is complete, and the bytes after the consumed ones follow it. A
+ * further call with the same state returns the same. Reset the state to its initial value for
+ * the next body.
+ *
+ * PERGIDAU_INCOMPLETE: all bytes are consumed. They are not a complete body, but more bytes
+ * can complete one.
+ *
+ * Only PERGIDAU_DONE writes a kind and a span. Extensions of size lines are skipped, and bytes
+ * of data are not checked. If the state was modified or the bytes do not follow, the result
+ * may be wrong, but nothing outside bytes is read.
+ *
+ * # Errors
+ *
+ * PERGIDAU_REFUSED: no body can continue with the byte after the consumed ones, or only one of
+ * 2^64 bytes or more, or a limit is exceeded.
+ *
+ * # Safety
+ *
+ * state must be valid for reads and writes of one state, and out for writes of one step. bytes
+ * must be valid for reads of bytes_length bytes, which must not change during the call. None
+ * of these may overlap. The call needs 16 KiB of stack.
  */
 enum pergidau_code pergidau_http_chunked(
     struct pergidau_chunked_state *state,
@@ -825,25 +912,34 @@ enum pergidau_code pergidau_http_chunked(
     struct pergidau_chunked_step *out);
 
 /*
- * Where the head of a request of HTTP/1.1 (RFC 9112) ends whose bytes come in pieces: what a
- * call passed, no call looks at again, so all calls for a head take a time that is linear in
- * its bytes, however many there are. The parts of the head are then read by one call for a
- * whole one.
+ * Finds the end of the head of an HTTP/1.1 request (RFC 9112) in input that arrives in chunks.
  *
- * For the first call the numbers of state are zeros. Each further call for the same head has
- * the state that the last one left, and all of the bytes of the last one with more after them.
+ * No call looks again at bytes that an earlier call scanned, so all calls for a head take time
+ * linear in its length. To obtain the parts of the head, pass its bytes to pergidau_http_head.
  *
- * PERGIDAU_DONE: that many of the first bytes are a head; how many is written. For the next
- * one, zeros are put into the state. PERGIDAU_INCOMPLETE: the bytes begin with no head, and
- * with more after them they can; 0 is written. PERGIDAU_REFUSED: whatever comes after the
- * bytes, they begin with no head; written is the first place at which none goes on.
+ * For the first call, state must be all zeros. Each further call for the same head must have
+ * the state that the previous call left, and the bytes of the previous call followed by more
+ * bytes.
  *
- * Of a state that calls left for other bytes, or that is changed, what is told may be wrong;
- * nothing outside of the bytes is read then either.
+ * PERGIDAU_DONE: bytes starts with a head, whose length is written. Reset the state to zeros
+ * for the next head.
  *
- * The caller owes a state at state that can be read and written, bytes_length bytes at bytes
- * that can be read and that nothing changes while the call runs, room for one length at out,
- * each apart from the others, and 16 KiB of stack.
+ * PERGIDAU_INCOMPLETE: bytes does not start with a head, but more bytes can complete one. 0 is
+ * written.
+ *
+ * If state belongs to other bytes or was modified, the result may be wrong, but nothing
+ * outside bytes is read.
+ *
+ * # Errors
+ *
+ * PERGIDAU_REFUSED: bytes does not start with a head, regardless of what follows. The first
+ * offset at which no head can continue is written.
+ *
+ * # Safety
+ *
+ * state must be valid for reads and writes of one state, and out for writes of one length.
+ * bytes must be valid for reads of bytes_length bytes, which must not change during the call.
+ * None of these may overlap. The call needs 16 KiB of stack.
  */
 enum pergidau_code pergidau_http_head_extent(
     struct pergidau_http_head_extent *state,
@@ -852,24 +948,33 @@ enum pergidau_code pergidau_http_head_extent(
     size_t *out);
 
 /*
- * The head of a response of HTTP/1.1 (RFC 9112) with which the bytes begin: a status line,
- * field lines one after the other, and an empty line. What stands after it is not looked at.
+ * Parses the head of an HTTP/1.1 response (RFC 9112) at the start of bytes: a status line,
+ * field lines, and an empty line. The bytes after it are not read.
  *
- * PERGIDAU_DONE: the version, the status code and the place of the reason are written, and the
- * places of that many fields, in order. The status code is three digits, of which the first
- * may be any. The reason may have no bytes, and then the space before it may be wanting too.
- * PERGIDAU_REFUSED: the bytes begin with no head; written is the first place at which none
- * goes on, which is their end where they end within one. PERGIDAU_TOO_SMALL: they begin with
- * one that has more fields than the buffer has entries; how many it has is written. Where it
- * does not answer PERGIDAU_DONE, any entry of the buffer may be written: the fields are
- * written as they are read.
+ * PERGIDAU_DONE: the version, the status code, the span of the reason phrase, and the offsets
+ * of the fields are written, in order. The status code has three digits, and the first may be
+ * any digit. The reason phrase may be empty; then the space before it may also be missing.
  *
- * Whether a body follows, and how long it is, the method of the request, the status code and
- * the fields say (RFC 9112, section 6.3). The bytes are read once, and no memory is asked for.
+ * The method of the request, the status code and the fields determine whether a body follows,
+ * and its length (RFC 9112, section 6.3). The bytes are scanned once. The function does not
+ * allocate.
  *
- * The caller owes bytes_length bytes at bytes that can be read and that nothing changes while
- * the call runs, fields_length entries at fields that can be written, room for one head at
- * out, each apart from the others, and 16 KiB of stack.
+ * # Errors
+ *
+ * PERGIDAU_REFUSED: bytes does not start with a head. The first offset at which no head can
+ * continue is written; it is the end of bytes if they end within a head.
+ *
+ * PERGIDAU_TOO_SMALL: the head has more fields than the buffer has entries. The number of
+ * fields is written.
+ *
+ * After an error the contents of the buffer are unspecified, because the fields are written
+ * during parsing.
+ *
+ * # Safety
+ *
+ * bytes must be valid for reads of bytes_length bytes, which must not change during the call.
+ * fields must be valid for writes of fields_length entries, and out for writes of one head.
+ * None of these may overlap. The call needs 16 KiB of stack.
  */
 enum pergidau_code pergidau_http_response_head(
     const uint8_t *bytes,
@@ -879,19 +984,27 @@ enum pergidau_code pergidau_http_response_head(
     struct pergidau_response_head *out);
 
 /*
- * The same head where the bytes come in pieces: it answers as soon as the empty line is there.
+ * Parses the same head from partial input. It succeeds as soon as the empty line is there.
  *
- * PERGIDAU_DONE, PERGIDAU_TOO_SMALL: as for a head that is whole. PERGIDAU_INCOMPLETE: the
- * bytes begin with no head, and with more after them they can. PERGIDAU_REFUSED: whatever
- * comes after the bytes, they begin with no head; written is the first place at which none
- * goes on: with the bytes before it a head can begin, and with these and the byte there none
- * does.
+ * PERGIDAU_DONE: as for complete input.
  *
- * Each call reads from the first byte on.
+ * PERGIDAU_INCOMPLETE: bytes does not start with a head, but more bytes can complete one.
  *
- * The caller owes bytes_length bytes at bytes that can be read and that nothing changes while
- * the call runs, fields_length entries at fields that can be written, room for one head at
- * out, each apart from the others, and 16 KiB of stack.
+ * Each call parses from the first byte.
+ *
+ * # Errors
+ *
+ * PERGIDAU_REFUSED: bytes does not start with a head, regardless of what follows. The offset
+ * of the first invalid byte is written: the bytes before it are a prefix of a head, and
+ * together with the byte there they are not.
+ *
+ * PERGIDAU_TOO_SMALL: as for complete input.
+ *
+ * # Safety
+ *
+ * bytes must be valid for reads of bytes_length bytes, which must not change during the call.
+ * fields must be valid for writes of fields_length entries, and out for writes of one head.
+ * None of these may overlap. The call needs 16 KiB of stack.
  */
 enum pergidau_code pergidau_http_response_head_in_pieces(
     const uint8_t *bytes,
@@ -901,14 +1014,22 @@ enum pergidau_code pergidau_http_response_head_in_pieces(
     struct pergidau_response_head *out);
 
 /*
- * The key and the value of one line: a key of one or more ASCII letters or digits, =, a value
- * of bytes other than a line feed, which may be none, and at most one line feed.
+ * Parses a line of the form key=value. The key consists of one or more ASCII letters or
+ * digits. The value consists of any bytes except line feeds, and may be empty. The line may
+ * end with one line feed.
  *
- * PERGIDAU_DONE: their places are written. PERGIDAU_REFUSED: the bytes are no such line;
- * written is the length of their longest beginning that begins one.
+ * PERGIDAU_DONE: the spans of the key and of the value are written.
  *
- * The caller owes bytes_length bytes at bytes that can be read and that nothing changes while
- * the call runs, room for one pair at out, apart from them, and 16 KiB of stack.
+ * # Errors
+ *
+ * PERGIDAU_REFUSED: bytes is not such a line. The length of its longest prefix that is a
+ * prefix of such a line is written.
+ *
+ * # Safety
+ *
+ * bytes must be valid for reads of bytes_length bytes, which must not change during the call,
+ * and out must be valid for writes of one pair. They must not overlap. The call needs 16 KiB
+ * of stack.
  */
 enum pergidau_code pergidau_ini_pair(
     const uint8_t *bytes,
@@ -916,27 +1037,38 @@ enum pergidau_code pergidau_ini_pair(
     struct pergidau_pair *out);
 
 /*
- * A document of sections: each a name in brackets, and pairs, a key of ASCII letters or
- * digits, = with spaces and tabs round it, and a value that ends before ; and the end of its
- * line, without the white space after it. White space, and comments from ; to the end of a
- * line, stand before, between and after them. Names and values are UTF-8, and no pair stands
- * before the first section.
+ * Parses a document of sections, each a name in brackets followed by pairs.
  *
- * PERGIDAU_DONE: the bytes of its entries are written into text, those of the key before those
- * of the value and one entry after the other, and that many places there, in order: of each
- * section its head, and then its pairs. PERGIDAU_REFUSED: the bytes are no document; written
- * is the length of their longest beginning that is made of such parts, each of which is one
- * where it stands in all of the bytes: a pair ends where its line does, so of [a], a line
- * feed, and x= before a byte that is no UTF-8 it is 4. PERGIDAU_TOO_SMALL: they are one that
- * wants more entries or more bytes than the buffers have; how many of both is written, and the
- * buffers are left as they were. PERGIDAU_NO_MEMORY.
+ * A pair is a key of ASCII letters or digits, = with optional spaces and tabs around it, and a
+ * value. The value ends before ; or the end of its line, without the whitespace there.
+ * Whitespace, and comments from ; to the end of a line, may precede, separate and follow these
+ * parts. Names and values are UTF-8. Pairs before the first section are invalid.
  *
- * While it runs it holds up to 100 bytes of memory for each byte of the document, also where
- * it then answers PERGIDAU_REFUSED or PERGIDAU_TOO_SMALL.
+ * PERGIDAU_DONE: the bytes of the entries are written into text, one entry after another, each
+ * key before its value. Their spans are written into entries, in order: the head of each
+ * section, and then its pairs.
  *
- * The caller owes bytes_length bytes at bytes that can be read and that nothing changes while
- * the call runs, text_length bytes at text and entries_length entries at entries that can be
- * written, room for one document at out, each apart from the others, and 16 KiB of stack.
+ * A call holds up to 100 bytes of memory for each byte of the document, even if it then
+ * returns PERGIDAU_REFUSED or PERGIDAU_TOO_SMALL.
+ *
+ * # Errors
+ *
+ * PERGIDAU_REFUSED: bytes is not a document. The length of the longest prefix that consists of
+ * such parts is written; each part is determined in the context of all bytes. A pair extends
+ * to the end of its line: for [a], a line feed, and x= before a byte that is not UTF-8, the
+ * length is 4.
+ *
+ * PERGIDAU_TOO_SMALL: the document needs more entries or more bytes than the buffers have. The
+ * required numbers of both are written, and the buffers are unchanged.
+ *
+ * PERGIDAU_NO_MEMORY.
+ *
+ * # Safety
+ *
+ * bytes must be valid for reads of bytes_length bytes, which must not change during the call.
+ * text must be valid for writes of text_length bytes, entries for writes of entries_length
+ * entries, and out for writes of one document. None of these may overlap. The call needs 16
+ * KiB of stack.
  */
 enum pergidau_code pergidau_ini_document(
     const uint8_t *bytes,
@@ -948,35 +1080,46 @@ enum pergidau_code pergidau_ini_document(
     struct pergidau_document *out);
 
 /*
- * The next entry of an INI file, as people have them, in any dialect: .ini, .cfg, .desktop. A
- * line feed ends a line. [name] begins a section; any other line is a key, a delimiter and a
- * value, without white space at the ends of either; empty lines and comments are passed over,
- * and so is a byte order mark in front. White space is tab, form feed, carriage return and
- * space. Quotes are kept, and keys and sections may come twice.
+ * Parses the next entry of an INI file in any dialect, as common in .ini, .cfg and .desktop
+ * files.
+ *
+ * A line feed ends a line. [name] starts a section. Any other line is a key, a delimiter and a
+ * value, without whitespace at the ends of either. Empty lines, comments and a byte order mark
+ * at the start are skipped. Whitespace is tab, form feed, carriage return and space. Quotes
+ * are kept, and keys and sections may be repeated.
  *
  * dialect is a sum of flags: PERGIDAU_INI_DIALECT_PYTHON, PERGIDAU_INI_DIALECT_DESKTOP,
  * PERGIDAU_INI_DIALECT_LENIENT, or others from PERGIDAU_INI_DIALECT_EQUALS to
- * PERGIDAU_INI_DIALECT_BEFORE_SECTIONS. Other bits count for nothing.
+ * PERGIDAU_INI_DIALECT_BEFORE_SECTIONS. Other bits are ignored.
  *
- * For the first call the numbers of state are zeros. Each further call has the state that the
- * last one left, with the same bytes, all of the document, and the same dialect. What a call
- * passed, no other looks at again, so all calls for a document take a time that is linear in
- * its bytes.
+ * For the first call, state must be all zeros. Each further call must have the state that the
+ * previous call left, with the same bytes, which are the complete document, and the same
+ * dialect. No call looks again at bytes that an earlier call parsed, so all calls for a
+ * document take time linear in its length.
  *
- * PERGIDAU_DONE: what the entry is and the places of its texts are written; its line is UTF-8.
- * A value of more lines comes as a pair and one PERGIDAU_INI_MORE for each further line.
- * PERGIDAU_END: no entry is left. PERGIDAU_REFUSED: the next line is none of the dialect;
- * where it begins, and why, is written. PERGIDAU_NO_TEXT: the next line is no UTF-8; where it
- * begins is written. With these three no kind and no texts are written, and a further call
- * tells the same. Lines are checked one by one, so entries are told of a document in which a
- * later line is no UTF-8.
+ * PERGIDAU_DONE: the kind of the entry and the spans of its texts are written. Its line is
+ * UTF-8. A value of several lines is returned as a pair, and one PERGIDAU_INI_MORE for each
+ * further line.
  *
- * Of a state that calls left for other bytes, or that is changed, what is told may be wrong;
- * nothing outside of the bytes is read then either.
+ * PERGIDAU_END: there are no more entries.
  *
- * The caller owes a state at state that can be read and written, bytes_length bytes at bytes
- * that can be read and that nothing changes while the call runs, room for one entry at out,
- * each apart from the others, and 16 KiB of stack.
+ * Only PERGIDAU_DONE writes a kind and spans. After another code, a further call returns the
+ * same. Lines are checked one at a time, so entries before a line that is not UTF-8 are
+ * returned. If state belongs to other bytes or was modified, the result may be wrong, but
+ * nothing outside bytes is read.
+ *
+ * # Errors
+ *
+ * PERGIDAU_REFUSED: the next line is invalid in the dialect. Its offset and the reason are
+ * written.
+ *
+ * PERGIDAU_NO_TEXT: the next line is not UTF-8. Its offset is written.
+ *
+ * # Safety
+ *
+ * state must be valid for reads and writes of one state, and out for writes of one entry.
+ * bytes must be valid for reads of bytes_length bytes, which must not change during the call.
+ * None of these may overlap. The call needs 16 KiB of stack.
  */
 enum pergidau_code pergidau_ini_next(
     struct pergidau_ini_state *state,
@@ -986,16 +1129,26 @@ enum pergidau_code pergidau_ini_next(
     struct pergidau_ini_entry *out);
 
 /*
- * Whether a text is one of JSON (RFC 8259): a value with white space round it, in which no
- * more than levels arrays and objects stand in one another. What has a surrogate that is
- * escaped alone, as \ud800, is none, since no character is meant by it, though the grammar of
- * the standard has it.
+ * Checks that a text is a JSON text (RFC 8259): a value, with optional whitespace around it,
+ * whose arrays and objects are nested at most levels deep.
  *
- * PERGIDAU_DONE: it is. PERGIDAU_REFUSED: it is not. PERGIDAU_NO_TEXT: it is no UTF-8.
- * PERGIDAU_TOO_DEEP: more than 512 levels are asked for.
+ * A text with an unpaired surrogate escape such as \ud800 is rejected, because it denotes no
+ * character, although the grammar of the standard allows it.
  *
- * The caller owes text_length bytes at text that can be read and that nothing changes while
- * the call runs, and 512 KiB of stack.
+ * PERGIDAU_DONE: the text is a JSON text.
+ *
+ * # Errors
+ *
+ * PERGIDAU_REFUSED: the text is not a JSON text.
+ *
+ * PERGIDAU_NO_TEXT: the text is not UTF-8.
+ *
+ * PERGIDAU_TOO_DEEP: levels is above 512.
+ *
+ * # Safety
+ *
+ * text must be valid for reads of text_length bytes, which must not change during the call.
+ * The call needs 512 KiB of stack.
  */
 enum pergidau_code pergidau_json_check(
     const uint8_t *text,
@@ -1003,16 +1156,25 @@ enum pergidau_code pergidau_json_check(
     size_t levels);
 
 /*
- * The longest value of JSON (RFC 8259) with which the bytes begin, in which no more than
- * levels arrays and objects stand in one another: how many bytes it has is written. White
- * space before it is not passed. Bytes of 128 and above are not looked at: the value is JSON
- * where it is UTF-8. Values are those of pergidau_json_check.
+ * Finds the longest JSON value (RFC 8259) at the start of bytes whose arrays and objects are
+ * nested at most levels deep.
  *
- * PERGIDAU_DONE: it is found. PERGIDAU_REFUSED: the bytes begin with none, and 0 is written.
- * PERGIDAU_TOO_DEEP: more than 512 levels are asked for, and 0 is written.
+ * Whitespace before the value is not skipped. Bytes of 128 and above are not checked: the
+ * value is JSON if it is UTF-8. Values are those of pergidau_json_check.
  *
- * The caller owes bytes_length bytes at bytes that can be read and that nothing changes while
- * the call runs, room for one length at out, apart from them, and 512 KiB of stack.
+ * PERGIDAU_DONE: the length of the value in bytes is written.
+ *
+ * # Errors
+ *
+ * PERGIDAU_REFUSED: bytes does not start with a value. 0 is written.
+ *
+ * PERGIDAU_TOO_DEEP: levels is above 512. 0 is written.
+ *
+ * # Safety
+ *
+ * bytes must be valid for reads of bytes_length bytes, which must not change during the call,
+ * and out must be valid for writes of one length. They must not overlap. The call needs 512
+ * KiB of stack.
  */
 enum pergidau_code pergidau_json_value(
     const uint8_t *bytes,
@@ -1021,24 +1183,36 @@ enum pergidau_code pergidau_json_value(
     size_t *out);
 
 /*
- * The next value of JSON (RFC 8259), for a walk through a text that was checked: the longest
- * value that stands after white space, a comma or a colon at most, and white space, in which
- * no more than levels arrays and objects stand in one another.
+ * Finds the next JSON value (RFC 8259) of a walk through a text that was checked. It is the
+ * longest value after whitespace, at most one comma or colon, and whitespace, whose arrays and
+ * objects are nested at most levels deep.
  *
- * From the start of the text it reads the text's value. What an array has in it is read from
- * after its first byte on: a value at each call, of the bytes after the place of the last one.
- * What an object has in it are names and values in turn. Their levels are one less than those
- * of the value that they stand in. So a walk through all levels reads each byte once for each
- * level that it stands in; a walk by pergidau_json_step reads each byte once, however deep it
- * stands, in a time that is linear in the text. Of bytes that were not checked as a text, more
- * than JSON allows is passed, as a comma before the first value.
+ * At the start of the text this is the value of the text. To walk through an array, start
+ * after its first byte, and call the function for each element with the bytes after the span
+ * of the previous one. An object gives its names and values alternately. For the values in an
+ * array or object, pass one level less.
  *
- * PERGIDAU_DONE: what it is and its place are written. PERGIDAU_END: after white space stands
- * a closing bracket, or nothing. PERGIDAU_REFUSED: neither stands there. PERGIDAU_TOO_DEEP:
- * more than 512 levels are asked for. With these three all that is written is 0.
+ * A walk through all levels scans each byte once for each level that contains it. A walk by
+ * pergidau_json_step scans each byte once, at any depth, in time linear in the text. If the
+ * bytes were not checked as a text, more is accepted than JSON allows, such as a comma before
+ * the first value.
  *
- * The caller owes bytes_length bytes at bytes that can be read and that nothing changes while
- * the call runs, room for one item at out, apart from them, and 512 KiB of stack.
+ * PERGIDAU_DONE: the kind of the value and its span are written.
+ *
+ * PERGIDAU_END: whitespace is followed by a closing bracket or the end of the input. Zeros are
+ * written.
+ *
+ * # Errors
+ *
+ * PERGIDAU_REFUSED: there is neither a value nor an end. Zeros are written.
+ *
+ * PERGIDAU_TOO_DEEP: levels is above 512. Zeros are written.
+ *
+ * # Safety
+ *
+ * bytes must be valid for reads of bytes_length bytes, which must not change during the call,
+ * and out must be valid for writes of one item. They must not overlap. The call needs 512 KiB
+ * of stack.
  */
 enum pergidau_code pergidau_json_next(
     const uint8_t *bytes,
@@ -1047,15 +1221,23 @@ enum pergidau_code pergidau_json_next(
     struct pergidau_json_item *out);
 
 /*
- * The integer that a number of JSON (RFC 8259) is written as: of the longest number with which
- * the bytes begin. It has neither a point nor an exponent, so 1.0 and 1e2 are none, and fits
- * 64 bits with a sign; -0 is 0. White space before it is not passed.
+ * Converts the longest JSON number (RFC 8259) at the start of bytes to a signed 64-bit
+ * integer. -0 gives 0. Whitespace before the number is not skipped.
  *
- * PERGIDAU_DONE: it is written. PERGIDAU_NO_INTEGER: the number is none, or does not fit.
- * PERGIDAU_REFUSED: the bytes begin with no number. With these two 0 is written.
+ * PERGIDAU_DONE: the integer is written.
  *
- * The caller owes bytes_length bytes at bytes that can be read and that nothing changes while
- * the call runs, room for one integer at out, apart from them, and 16 KiB of stack.
+ * # Errors
+ *
+ * PERGIDAU_NO_INTEGER: the number has a point or an exponent, like 1.0 and 1e2, or does not
+ * fit. 0 is written.
+ *
+ * PERGIDAU_REFUSED: bytes does not start with a number. 0 is written.
+ *
+ * # Safety
+ *
+ * bytes must be valid for reads of bytes_length bytes, which must not change during the call,
+ * and out must be valid for writes of one integer. They must not overlap. The call needs 16
+ * KiB of stack.
  */
 enum pergidau_code pergidau_json_integer(
     const uint8_t *bytes,
@@ -1063,13 +1245,22 @@ enum pergidau_code pergidau_json_integer(
     int64_t *out);
 
 /*
- * As pergidau_json_integer, of 64 bits without a sign: a number with a minus is none, -0 too.
+ * Like pergidau_json_integer, for an unsigned 64-bit integer.
  *
- * PERGIDAU_DONE: it is written. PERGIDAU_NO_INTEGER: the number is none, or does not fit.
- * PERGIDAU_REFUSED: the bytes begin with no number. With these two 0 is written.
+ * PERGIDAU_DONE: the integer is written.
  *
- * The caller owes bytes_length bytes at bytes that can be read and that nothing changes while
- * the call runs, room for one integer at out, apart from them, and 16 KiB of stack.
+ * # Errors
+ *
+ * PERGIDAU_NO_INTEGER: the number has a minus sign, even -0, a point or an exponent, or does
+ * not fit. 0 is written.
+ *
+ * PERGIDAU_REFUSED: bytes does not start with a number. 0 is written.
+ *
+ * # Safety
+ *
+ * bytes must be valid for reads of bytes_length bytes, which must not change during the call,
+ * and out must be valid for writes of one integer. They must not overlap. The call needs 16
+ * KiB of stack.
  */
 enum pergidau_code pergidau_json_natural(
     const uint8_t *bytes,
@@ -1077,21 +1268,30 @@ enum pergidau_code pergidau_json_natural(
     uint64_t *out);
 
 /*
- * The next step of a walk through a text of JSON (RFC 8259) that was checked, from its start
- * to its end and through all levels: a bracket, a name, or a value that has no others in it.
- * It is what stands after white space, a comma or a colon at most, and white space. Each call
- * is of the bytes after the place of the last one, so each byte of the text is read once,
- * however deep it stands. How many brackets are open is for the caller to count. Of bytes that
- * were not checked as a text more is passed than JSON allows, as a comma before the first
- * value.
+ * Finds the next step of a walk through a JSON text (RFC 8259) that was checked, from its
+ * start to its end and through all levels. A step is a bracket, a name, or a value that
+ * contains no others. It follows whitespace, at most one comma or colon, and whitespace.
  *
- * PERGIDAU_DONE: what it is and its place are written. It is a word, a number, a string, a
- * name or a bracket, so never PERGIDAU_JSON_ARRAY or PERGIDAU_JSON_OBJECT. PERGIDAU_END: white
- * space is all that is left. PERGIDAU_REFUSED: neither stands there. With these two all that
- * is written is 0.
+ * Call the function with the bytes after the span of the previous step. So each byte of the
+ * text is scanned once, at any depth. The caller must count the open brackets. If the bytes
+ * were not checked as a text, more is accepted than JSON allows, such as a comma before the
+ * first value.
  *
- * The caller owes bytes_length bytes at bytes that can be read and that nothing changes while
- * the call runs, room for one item at out, apart from them, and 16 KiB of stack.
+ * PERGIDAU_DONE: the kind of the step and its span are written. The kind is never
+ * PERGIDAU_JSON_ARRAY or PERGIDAU_JSON_OBJECT: it is a word, a number, a string, a name or a
+ * bracket.
+ *
+ * PERGIDAU_END: only whitespace remains. Zeros are written.
+ *
+ * # Errors
+ *
+ * PERGIDAU_REFUSED: there is neither a step nor the end. Zeros are written.
+ *
+ * # Safety
+ *
+ * bytes must be valid for reads of bytes_length bytes, which must not change during the call,
+ * and out must be valid for writes of one item. They must not overlap. The call needs 16 KiB
+ * of stack.
  */
 enum pergidau_code pergidau_json_step(
     const uint8_t *bytes,
@@ -1099,26 +1299,35 @@ enum pergidau_code pergidau_json_step(
     struct pergidau_json_item *out);
 
 /*
- * The text of the string of JSON (RFC 8259) with which the bytes begin, without its quotes and
- * with its escapes undone: "r\u006fle" has the text role. White space before it is not passed.
+ * Decodes the JSON string (RFC 8259) at the start of bytes, without its quotes and with its
+ * escapes decoded: "r\u006fle" has the text role. Whitespace before the string is not skipped.
  *
  * \b, \f, \n, \r and \t are a backspace, a form feed, a line feed, a carriage return and a
- * tab, \", \\ and \/ what stands after the backslash, and \u with four digits the UTF-8 of a
- * character, of which two surrogates are one. An escape takes more bytes than its text: so
- * where the text has two bytes less than the string, it has no escape, and stands between the
- * quotes. Bytes of 128 and above are not looked at: the text is UTF-8 where the bytes are. It
- * may have zeros in it, by \u0000.
+ * tab. \", \\ and \/ are the character after the backslash. \u with four digits is the UTF-8
+ * of a character; two surrogates are one character. An escape is longer than its text, so if
+ * the text is two bytes shorter than the string, the string has no escape, and its text is
+ * between the quotes. Bytes of 128 and above are not checked: the text is UTF-8 if the bytes
+ * are. The text may contain zeros, from \u0000.
  *
- * PERGIDAU_DONE: the text is written into buffer, and its length and that of the string at
- * out; the other bytes of the buffer are left as they were. PERGIDAU_TOO_SMALL: the buffer has
- * fewer bytes than the text; both lengths are written, and what the buffer then holds is not
- * told. PERGIDAU_REFUSED: the bytes begin with no string, as with a surrogate that is escaped
- * alone; two zeros are written, and what the buffer then holds is not told. A string has at
- * least as many bytes as its text, so a buffer as long as the string is not too small.
+ * PERGIDAU_DONE: the text is written into buffer, and its length and that of the string into
+ * out. The other bytes of the buffer are unchanged.
  *
- * The caller owes bytes_length bytes at bytes that can be read and that nothing changes while
- * the call runs, buffer_length bytes at buffer that can be written, room for two lengths at
- * out, each apart from the others, and 16 KiB of stack.
+ * # Errors
+ *
+ * PERGIDAU_TOO_SMALL: the buffer has fewer bytes than the text. Both lengths are written. A
+ * string has at least as many bytes as its text, so a buffer as long as the string is always
+ * large enough.
+ *
+ * PERGIDAU_REFUSED: bytes does not start with a string. A string with an unpaired surrogate
+ * escape is also rejected. Zeros are written into out.
+ *
+ * After an error the contents of the buffer are unspecified.
+ *
+ * # Safety
+ *
+ * bytes must be valid for reads of bytes_length bytes, which must not change during the call.
+ * buffer must be valid for writes of buffer_length bytes, and out for writes of two lengths.
+ * None of these may overlap. The call needs 16 KiB of stack.
  */
 enum pergidau_code pergidau_json_string(
     const uint8_t *bytes,
@@ -1128,22 +1337,33 @@ enum pergidau_code pergidau_json_string(
     struct pergidau_json_text *out);
 
 /*
- * The reply of Redis (RESP2, the second version of its protocol) with which the bytes begin,
- * in which no more than levels arrays stand in one another. The elements of an array are read
- * by further calls, of the bytes at its place and of those after each element.
+ * Parses the Redis reply (RESP2, the second version of the protocol) at the start of bytes,
+ * whose arrays are nested at most levels deep.
  *
- * An integer may have a sign before it and zeros first, a size zeros first; -1 is the size of
- * a null.
+ * To parse the elements of an array, call the function with the bytes in its span, and then
+ * with those after each element. An integer may have a sign and leading zeros, a size leading
+ * zeros. -1 is the size of a null.
  *
- * PERGIDAU_DONE: the reply is written. PERGIDAU_REFUSED: the bytes begin with none.
- * PERGIDAU_TOO_DEEP: more than 512 levels are asked for. PERGIDAU_NO_MEMORY. With these three
- * all that is written is 0.
+ * PERGIDAU_DONE: the reply is written.
  *
- * While it runs it holds up to 32 bytes of memory for each byte of the reply, and 2 KiB for
- * each level of arrays that has begun.
+ * A call holds up to 32 bytes of memory for each byte of the reply, and 2 KiB for each level
+ * of arrays that has started.
  *
- * The caller owes bytes_length bytes at bytes that can be read and that nothing changes while
- * the call runs, room for one reply at out, apart from them, and 512 KiB of stack.
+ * # Errors
+ *
+ * PERGIDAU_REFUSED: bytes does not start with a reply.
+ *
+ * PERGIDAU_TOO_DEEP: levels is above 512.
+ *
+ * PERGIDAU_NO_MEMORY.
+ *
+ * After an error only zeros are written.
+ *
+ * # Safety
+ *
+ * bytes must be valid for reads of bytes_length bytes, which must not change during the call,
+ * and out must be valid for writes of one reply. They must not overlap. The call needs 512 KiB
+ * of stack.
  */
 enum pergidau_code pergidau_resp_reply(
     const uint8_t *bytes,
@@ -1152,18 +1372,28 @@ enum pergidau_code pergidau_resp_reply(
     struct pergidau_reply *out);
 
 /*
- * The same reply where the bytes come in pieces: what it answers is that of all longer bytes
- * too.
+ * Parses the same reply from partial input. Its result is also that of every continuation.
  *
- * PERGIDAU_DONE, PERGIDAU_TOO_DEEP, PERGIDAU_NO_MEMORY: as for a reply that is whole.
- * PERGIDAU_INCOMPLETE: more bytes may be needed; that no more are asked for once the reply is
- * there is tested, not proved. PERGIDAU_REFUSED: whatever comes after the bytes, they begin
- * with no reply. With these two all that is written is 0 too.
+ * PERGIDAU_DONE: as for complete input.
  *
- * Each call reads from the first byte on, and holds as much memory as that for a whole reply.
+ * PERGIDAU_INCOMPLETE: more bytes may be needed. Zeros are written. It is tested, but not
+ * proved, that this is not returned once the reply is complete.
  *
- * The caller owes bytes_length bytes at bytes that can be read and that nothing changes while
- * the call runs, room for one reply at out, apart from them, and 512 KiB of stack.
+ * Each call parses from the first byte, and holds as much memory as a call for a complete
+ * reply.
+ *
+ * # Errors
+ *
+ * PERGIDAU_REFUSED: bytes does not start with a reply, regardless of what follows. Zeros are
+ * written.
+ *
+ * PERGIDAU_TOO_DEEP, PERGIDAU_NO_MEMORY: as for complete input.
+ *
+ * # Safety
+ *
+ * bytes must be valid for reads of bytes_length bytes, which must not change during the call,
+ * and out must be valid for writes of one reply. They must not overlap. The call needs 512 KiB
+ * of stack.
  */
 enum pergidau_code pergidau_resp_reply_in_pieces(
     const uint8_t *bytes,
@@ -1172,26 +1402,35 @@ enum pergidau_code pergidau_resp_reply_in_pieces(
     struct pergidau_reply *out);
 
 /*
- * Where the reply of Redis (RESP2) ends whose bytes come in pieces: what a call passed, no
- * call looks at again, so all calls for a reply take a time that is linear in its bytes,
- * however many there are. The bytes of the reply are then read by one call for a whole one,
- * which also says whether it has more levels than are asked for: here they are not counted.
+ * Finds the end of a Redis reply (RESP2) in input that arrives in chunks.
  *
- * For the first call the numbers of state are zeros. Each further call for the same reply has
- * the state that the last one left, and all of the bytes of the last one with more after them.
+ * No call looks again at bytes that an earlier call scanned, so all calls for a reply take
+ * time linear in its length. To obtain the reply, pass its bytes to pergidau_resp_reply, which
+ * also checks the nesting depth; here it is not checked.
  *
- * PERGIDAU_DONE: that many of the first bytes are a reply, and whatever follows, no other
- * reply stands first. For the next one, zeros are put into the state. PERGIDAU_INCOMPLETE: the
- * bytes begin with none as yet: its last line is not ended, or bytes of a string are wanting.
- * PERGIDAU_REFUSED: whatever comes after the bytes, they begin with none; a line that is none
- * of a reply is refused where it ends. With these two 0 is written.
+ * For the first call, state must be all zeros. Each further call for the same reply must have
+ * the state that the previous call left, and the bytes of the previous call followed by more
+ * bytes.
  *
- * Of a state that calls left for other bytes, or that is changed, what is told may be wrong;
- * nothing outside of the bytes is read then either.
+ * PERGIDAU_DONE: bytes starts with a reply, whose length is written. It starts with no other
+ * reply, regardless of what follows. Reset the state to zeros for the next reply.
  *
- * The caller owes a state at state that can be read and written, bytes_length bytes at bytes
- * that can be read and that nothing changes while the call runs, room for one length at out,
- * each apart from the others, and 16 KiB of stack.
+ * PERGIDAU_INCOMPLETE: bytes does not start with a reply yet: its last line has not ended, or
+ * bytes of a string are missing. 0 is written.
+ *
+ * If state belongs to other bytes or was modified, the result may be wrong, but nothing
+ * outside bytes is read.
+ *
+ * # Errors
+ *
+ * PERGIDAU_REFUSED: bytes does not start with a reply, regardless of what follows. 0 is
+ * written. An invalid line is rejected at its end.
+ *
+ * # Safety
+ *
+ * state must be valid for reads and writes of one state, and out for writes of one length.
+ * bytes must be valid for reads of bytes_length bytes, which must not change during the call.
+ * None of these may overlap. The call needs 16 KiB of stack.
  */
 enum pergidau_code pergidau_resp_extent(
     struct pergidau_resp_extent *state,
@@ -1200,13 +1439,17 @@ enum pergidau_code pergidau_resp_extent(
     size_t *out);
 
 /*
- * The line and the column of the place after the first offset bytes. That they are is proved
- * of UTF-8 and a place at an end of it or between two of its characters, and elsewhere tested
- * alone: bytes that are no text count as the characters do that stand for them where they are
- * printed, and a place after the end is the end.
+ * Computes the line and the column of the position after the first offset bytes.
  *
- * The caller owes bytes_length bytes at bytes that can be read and that nothing changes while
- * the call runs, room for one position at out, apart from them, and 16 KiB of stack.
+ * This is proved for UTF-8 and an offset on a character boundary, and otherwise only tested.
+ * Bytes that are not UTF-8 count as the replacement characters that are printed for them, and
+ * an offset after the end counts as the end.
+ *
+ * # Safety
+ *
+ * bytes must be valid for reads of bytes_length bytes, which must not change during the call,
+ * and out must be valid for writes of one position. They must not overlap. The call needs 16
+ * KiB of stack.
  */
 enum pergidau_code pergidau_text_position(
     const uint8_t *bytes,
@@ -1215,28 +1458,45 @@ enum pergidau_code pergidau_text_position(
     struct pergidau_position *out);
 
 /*
- * The document of TOML 1.0 (toml.io/en/v1.0.0) that bytes are, in whose values no more than
- * levels arrays and inline tables stand in one another. What the standard leaves open is as
- * most readers have it: an integer has 64 bits, and a float is its text.
+ * Parses a document of TOML 1.0 (toml.io/en/v1.0.0) whose values have arrays and inline tables
+ * nested at most levels deep.
+ *
+ * Where the standard leaves a choice, this follows most parsers: integers have 64 bits, and
+ * floats are returned as text.
  *
  * PERGIDAU_DONE: the nodes of the document are written into nodes, and the bytes of their
- * names and texts into text. A node is a table, an array or another value. The nodes stand in
- * the order in which the document first speaks of them: the first is the table that has all
- * others, and a table or an array stands before what is in it. Each says which node it is in,
- * which is the first in it, and which the next beside it, so that a loop walks them.
- * PERGIDAU_REFUSED: the bytes are no document; written is why, and where: at the first line
- * that is none of TOML, where it goes on as none does, or at the beginning of the first line
- * that the standard refuses for what those before it say. PERGIDAU_NO_TEXT: they are no UTF-8;
- * written is where the longest beginning ends that is. PERGIDAU_TOO_SMALL: they are a document
- * that wants more nodes or more bytes than the buffers have; how many of both is written.
- * PERGIDAU_NO_MEMORY. PERGIDAU_TOO_DEEP: more than 512 levels are asked for. But for
- * PERGIDAU_DONE the buffers are left as they were.
+ * names and texts into text. A node is a table, an array or another value. Nodes are in the
+ * order in which the document first mentions them. The first is the root table, and a table or
+ * an array precedes its contents. Each node has the index of its parent, of its first child
+ * and of its next sibling, so that a loop can walk them.
  *
- * While it runs it holds up to 600 bytes of memory for each byte of the document.
+ * A call holds up to 600 bytes of memory for each byte of the document.
  *
- * The caller owes bytes_length bytes at bytes that can be read and that nothing changes while
- * the call runs, text_length bytes at text and nodes_length entries at nodes that can be
- * written, room for one document at out, each apart from the others, and 1 MiB of stack.
+ * # Errors
+ *
+ * PERGIDAU_REFUSED: bytes is not a document. The reason and the offset are written. For the
+ * first line that is not valid TOML, this is the first offset at which no document can
+ * continue; for a line that the standard forbids because of earlier lines, the start of that
+ * line.
+ *
+ * PERGIDAU_NO_TEXT: bytes is not UTF-8. The length of the longest prefix that is UTF-8 is
+ * written.
+ *
+ * PERGIDAU_TOO_SMALL: the document needs more nodes or more bytes than the buffers have. The
+ * required numbers of both are written.
+ *
+ * PERGIDAU_TOO_DEEP: levels is above 512.
+ *
+ * PERGIDAU_NO_MEMORY.
+ *
+ * After an error the buffers are unchanged.
+ *
+ * # Safety
+ *
+ * bytes must be valid for reads of bytes_length bytes, which must not change during the call.
+ * text must be valid for writes of text_length bytes, nodes for writes of nodes_length
+ * entries, and out for writes of one document. None of these may overlap. The call needs 1 MiB
+ * of stack.
  */
 enum pergidau_code pergidau_toml_document(
     const uint8_t *bytes,
