@@ -273,7 +273,7 @@ FAULTS = [
         ("more bytes are a refusal", "match code", "exports::INCOMPLETE => Error::Incomplete", "exports::INCOMPLETE => Error::Refused(refused)"),
         ("too deep is no text", "match code", "exports::TOO_DEEP => Error::TooDeep", "exports::TOO_DEEP => Error::NotText"),
         ("too small is out of memory", "match code", "exports::TOO_SMALL => Error::TooSmall(wanted)", "exports::TOO_SMALL => Error::NoMemory"),
-        ("a message is another", "Error::Incomplete =>", "more bytes are needed", "refused"),
+        ("a message is another", "Error::Incomplete =>", "incomplete input: more bytes are needed", "invalid input"),
     ),
     *of(
         RUST + "lib.rs",

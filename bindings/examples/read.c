@@ -13,7 +13,7 @@ static void formula(const char *text)
         printf("%s is %lld\n", text, (long long)number.value);
     } else {
         pergidau_text_position(bytes, strlen(text), number.place, &at);
-        printf("%s: refused at line %zu, column %zu\n", text, at.line, at.column);
+        printf("%s: invalid input at line %zu, column %zu\n", text, at.line, at.column);
     }
 }
 

@@ -4,7 +4,7 @@
 //! use pergidau::calc;
 //!
 //! assert_eq!(calc::value("2 + 3 * 4"), Ok(14));
-//! assert_eq!(calc::value("1 / 0").unwrap_err().to_string(), "refused at line 1, column 6");
+//! assert_eq!(calc::value("1 / 0").unwrap_err().to_string(), "invalid input at line 1, column 6");
 //! ```
 use crate::{exports, Error, Place, NOTHING};
 

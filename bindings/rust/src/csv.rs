@@ -104,7 +104,7 @@ fn read<'i, 'b>(
 /// assert_eq!(record.fields().collect::<Vec<_>>(), [&b"a"[..], b"b \"c\""]);
 /// assert_eq!(record.rest(), b"d");
 /// let refused = csv::record(b"a,b\"c", LineEnd::Lf, &mut text, &mut fields).unwrap_err();
-/// assert_eq!(refused.to_string(), "refused at line 1, column 4");
+/// assert_eq!(refused.to_string(), "invalid input at line 1, column 4");
 /// # Ok::<(), pergidau::Error>(())
 /// ```
 pub fn record<'i, 'b>(
@@ -130,7 +130,7 @@ pub fn record<'i, 'b>(
 /// let record = csv::record_in_pieces(b"a,b", LineEnd::CrLf, &mut [], &mut []);
 /// assert_eq!(record.unwrap_err(), Error::Incomplete);
 /// let never = csv::record_in_pieces(b"x\"y", LineEnd::CrLf, &mut [], &mut []);
-/// assert_eq!(never.unwrap_err().to_string(), "refused at line 1, column 2");
+/// assert_eq!(never.unwrap_err().to_string(), "invalid input at line 1, column 2");
 /// ```
 pub fn record_in_pieces<'i, 'b>(
     bytes: &'i [u8],
@@ -193,7 +193,7 @@ impl Iterator for Records<'_> {
 /// let records: Result<Vec<_>, _> = csv::records(b"a,b\n\"c\nd\",\n", LineEnd::Lf).collect();
 /// assert_eq!(records?, [[b"a".to_vec(), b"b".to_vec()], [b"c\nd".to_vec(), Vec::new()]]);
 /// let refused = csv::records(b"a\nb\"\n", LineEnd::Lf).last();
-/// assert_eq!(refused.unwrap().unwrap_err().to_string(), "refused at line 2, column 2");
+/// assert_eq!(refused.unwrap().unwrap_err().to_string(), "invalid input at line 2, column 2");
 /// # Ok::<(), pergidau::Error>(())
 /// ```
 #[cfg(feature = "std")]

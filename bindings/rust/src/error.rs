@@ -1,5 +1,5 @@
 //! Why a reader gives no answer.
-use crate::exports;
+use crate::exports::{self, MOST_LEVELS};
 use core::fmt;
 
 /// A place in what was read.
@@ -79,22 +79,24 @@ impl Error {
 impl fmt::Display for Error {
     fn fmt(&self, f: &mut fmt::Formatter<'_>) -> fmt::Result {
         match self {
-            Error::Refused(Some(place)) => write!(f, "refused at {place}"),
-            Error::Refused(None) => f.write_str("refused"),
-            Error::Incomplete => f.write_str("more bytes are needed"),
-            Error::NoMemory => f.write_str("a request for memory was refused"),
-            Error::NotText => f.write_str("the bytes are no UTF-8"),
+            Error::Refused(Some(place)) => write!(f, "invalid input at {place}"),
+            Error::Refused(None) => f.write_str("invalid input"),
+            Error::Incomplete => f.write_str("incomplete input: more bytes are needed"),
+            Error::NoMemory => f.write_str("memory allocation failed"),
+            Error::NotText => f.write_str("input is not valid UTF-8"),
             Error::TooSmall(Wanted { entries, bytes: 0 }) => {
-                write!(f, "the buffer is too small: {entries} entries are wanted")
+                write!(f, "buffer too small: {entries} entries required")
             }
             Error::TooSmall(Wanted { entries: 0, bytes }) => {
-                write!(f, "the buffer is too small: {bytes} bytes are wanted")
+                write!(f, "buffer too small: {bytes} bytes required")
             }
             Error::TooSmall(Wanted { entries, bytes }) => {
-                write!(f, "the buffer is too small: {entries} entries and {bytes} bytes are wanted")
+                write!(f, "buffer too small: {entries} entries and {bytes} bytes required")
             }
-            Error::TooDeep => f.write_str("more levels are asked for than are read"),
-            Error::Unknown(code) => write!(f, "the library answered the unknown code {code}"),
+            Error::TooDeep => {
+                write!(f, "depth limit too large: at most {MOST_LEVELS} levels are supported")
+            }
+            Error::Unknown(code) => write!(f, "unknown code {code} from the library"),
         }
     }
 }

@@ -153,14 +153,14 @@ pub enum Fault {
 impl fmt::Display for Fault {
     fn fmt(&self, f: &mut fmt::Formatter<'_>) -> fmt::Result {
         match self {
-            Fault::Size => f.write_str("the size of a chunk is due"),
-            Fault::SizeLine => f.write_str("no size line goes on so"),
-            Fault::SizeTooLarge => f.write_str("the size of a chunk is too large"),
-            Fault::SizeLineTooLong => f.write_str("a size line is too long"),
-            Fault::DataEnd => f.write_str("a line end is due after the data of a chunk"),
-            Fault::Trailers => f.write_str("no trailer section goes on so"),
-            Fault::TrailersTooLong => f.write_str("the trailer section is too long"),
-            Fault::Unknown(number) => write!(f, "the library answered the unknown number {number}"),
+            Fault::Size => f.write_str("expected a chunk size"),
+            Fault::SizeLine => f.write_str("invalid byte in chunk size line"),
+            Fault::SizeTooLarge => f.write_str("chunk size too large"),
+            Fault::SizeLineTooLong => f.write_str("chunk size line too long"),
+            Fault::DataEnd => f.write_str("expected CRLF after chunk data"),
+            Fault::Trailers => f.write_str("invalid byte in trailer section"),
+            Fault::TrailersTooLong => f.write_str("trailer section too long"),
+            Fault::Unknown(number) => write!(f, "unknown number {number} from the library"),
         }
     }
 }

@@ -109,7 +109,7 @@ impl<'b> Section<'b> {
 /// assert_eq!(section.name(), b"a");
 /// assert_eq!(section.pairs().collect::<Vec<_>>(), [(&b"x"[..], &b"1"[..]), (b"y", b"2")]);
 /// let refused = ini::document(b"[a]\nx\n", &mut text, &mut entries).unwrap_err();
-/// assert_eq!(refused.to_string(), "refused at line 2, column 1");
+/// assert_eq!(refused.to_string(), "invalid input at line 2, column 1");
 /// # Ok::<(), pergidau::Error>(())
 /// ```
 pub fn document<'b>(

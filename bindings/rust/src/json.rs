@@ -96,7 +96,7 @@ impl<'i> Value<'i> {
 /// seem to end here.
 #[cold]
 fn unknown(number: usize) -> ! {
-    panic!("the library answered the unknown number {number}")
+    panic!("unknown number {number} from the library")
 }
 
 /// What stands after an opening bracket or after a value, and how many levels it may have.

@@ -22,7 +22,7 @@
 //! assert_eq!(calc::value("2 + 3 * 4"), Ok(14));
 //! assert_eq!(ini::pair(b"key=value\n"), Ok((&b"key"[..], &b"value"[..])));
 //! let refused = calc::value("1 +\n 2 / 0").unwrap_err();
-//! assert_eq!(refused.to_string(), "refused at line 2, column 7");
+//! assert_eq!(refused.to_string(), "invalid input at line 2, column 7");
 //! ```
 //!
 //! # The library

@@ -85,10 +85,10 @@ impl fmt::Display for Expected {
 impl fmt::Display for Refusal {
     fn fmt(&self, f: &mut fmt::Formatter<'_>) -> fmt::Result {
         f.write_str(match self {
-            Refusal::Defined => "it is defined already",
-            Refusal::NoTable => "it takes a value for a table",
-            Refusal::Closed => "it adds to a table that is closed",
-            Refusal::NoTables => "it adds a table to what is no array of tables",
+            Refusal::Defined => "key is already defined",
+            Refusal::NoTable => "key is not a table",
+            Refusal::Closed => "table cannot be extended",
+            Refusal::NoTables => "key is not an array of tables",
         })
     }
 }
@@ -351,7 +351,7 @@ impl<'b> Iterator for Children<'b> {
 /// let refused = toml::parse("[a]\nb 2\n", 0, &mut text, &mut nodes).unwrap_err();
 /// assert_eq!(refused.to_string(), "line 2, column 3: expected `=`");
 /// let refused = toml::parse("a = 1\na = 2\n", 0, &mut text, &mut nodes).unwrap_err();
-/// assert_eq!(refused.to_string(), "line 2, column 1: it is defined already");
+/// assert_eq!(refused.to_string(), "line 2, column 1: key is already defined");
 /// ```
 pub fn parse<'b>(
     source: &str,

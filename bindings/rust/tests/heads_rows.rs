@@ -39,7 +39,7 @@ fn http_response_head_of_responses() {
     let head = http::response_head_in_pieces(&HELLO[..whole], &mut fields).unwrap();
     assert_eq!((head.status(), head.fields().len()), (200, 3));
     let small = http::response_head(HELLO, &mut fields[..2]).unwrap_err();
-    assert_eq!(small.to_string(), "the buffer is too small: 3 entries are wanted");
+    assert_eq!(small.to_string(), "buffer too small: 3 entries required");
     let rows: [(&[u8], (u8, u8), u16, &[u8]); 4] = [
         (b"HTTP/1.1 404 Not Found\r\n\r\n", (1, 1), 404, b"Not Found"),
         (b"HTTP/1.0 200 \r\n\r\n", (1, 0), 200, b""),

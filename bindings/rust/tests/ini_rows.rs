@@ -86,6 +86,6 @@ fn refused_lines() {
     let mut found = entries("[s]\na\nb=c\n", Dialect::PYTHON);
     let refused = found.nth(1).unwrap().unwrap_err();
     assert_eq!((refused.place.offset, refused.why), (4, Refusal::NoDelimiter));
-    assert_eq!(refused.to_string(), "no delimiter after the key, at line 2, column 1");
+    assert_eq!(refused.to_string(), "missing delimiter after the key at line 2, column 1");
     assert_eq!(found.next(), None);
 }

@@ -114,5 +114,5 @@ fn bytes_that_begin_with_strings() {
         assert_eq!(json::unescape(bytes, &mut buffer), Err(Error::Refused(None)), "{bytes:?}");
     }
     let small = json::unescape(b"\"abc\"", &mut [0; 2]).unwrap_err();
-    assert_eq!(small.to_string(), "the buffer is too small: 3 bytes are wanted");
+    assert_eq!(small.to_string(), "buffer too small: 3 bytes required");
 }

@@ -144,9 +144,9 @@ fn ini_document_of_sections() {
     let empty = ini::document(b" \n;x", &mut [], &mut []).unwrap();
     assert_eq!(empty.sections().count(), 0);
     let small = ini::document(bytes, &mut text[..10], &mut entries).unwrap_err();
-    assert_eq!(small.to_string(), "the buffer is too small: 7 entries and 12 bytes are wanted");
+    assert_eq!(small.to_string(), "buffer too small: 7 entries and 12 bytes required");
     let small = ini::document(bytes, &mut text[..12], &mut entries[..6]).unwrap_err();
-    assert_eq!(small.to_string(), "the buffer is too small: 7 entries and 12 bytes are wanted");
+    assert_eq!(small.to_string(), "buffer too small: 7 entries and 12 bytes required");
     assert!(ini::document(bytes, &mut text[..12], &mut entries[..7]).is_ok());
     for (bytes, offset, line, column) in
         [(&b"x=1"[..], 0, 1, 1), (b"[a]\nx\n", 4, 2, 1), (b"[a]\nx=1\n [b", 9, 3, 2)]
@@ -184,7 +184,7 @@ fn http_head_of_requests() {
     }
     assert!(http::head_in_pieces(&HELLO[..whole], &mut fields).is_ok());
     let small = http::head(HELLO, &mut fields[..2]).unwrap_err();
-    assert_eq!(small.to_string(), "the buffer is too small: 3 entries are wanted");
+    assert_eq!(small.to_string(), "buffer too small: 3 entries required");
     for (request, version) in [(&b"A b HTTP/1.0\r\n\r\n"[..], (1, 0)), (b"A b HTTP/2.9\r\n\r\n", (2, 9))] {
         assert_eq!(http::head(request, &mut []).unwrap().version(), version);
         assert_eq!(http::head_in_pieces(request, &mut []).unwrap().version(), version);
@@ -228,7 +228,7 @@ fn csv_record_of_lines() {
     }
     let (mut text, mut fields) = ([0; 3], [Span::default(); 2]);
     let small = csv::record(b"ab,cd", LineEnd::Lf, &mut text, &mut fields).unwrap_err();
-    assert_eq!(small.to_string(), "the buffer is too small: 2 entries and 4 bytes are wanted");
+    assert_eq!(small.to_string(), "buffer too small: 2 entries and 4 bytes required");
 }
 
 #[test]
@@ -384,7 +384,7 @@ fn http_chunked_of_pieces() {
     let mut begun = Chunked::default();
     assert_eq!(begun.advance(&mut &b""[..]), Ok(Step::More));
     assert_eq!(begun, Chunked::with_limits(4096, 8192));
-    assert_eq!(Fault::DataEnd.to_string(), "a line end is due after the data of a chunk");
+    assert_eq!(Fault::DataEnd.to_string(), "expected CRLF after chunk data");
 }
 
 #[test]
@@ -441,16 +441,16 @@ fn library_says_what_it_is() {
 #[test]
 fn errors_are_shown() {
     let error: Box<dyn std::error::Error> = Box::new(calc::value("1 +\n 2 / 0").unwrap_err());
-    assert_eq!(error.to_string(), "refused at line 2, column 7");
+    assert_eq!(error.to_string(), "invalid input at line 2, column 7");
     let wanted = Wanted { entries: 2, bytes: 4 };
     let rows = [
-        (Error::Refused(None), "refused"),
-        (Error::Incomplete, "more bytes are needed"),
-        (Error::NoMemory, "a request for memory was refused"),
-        (Error::NotText, "the bytes are no UTF-8"),
-        (Error::TooSmall(wanted), "the buffer is too small: 2 entries and 4 bytes are wanted"),
-        (Error::TooDeep, "more levels are asked for than are read"),
-        (Error::Unknown(7), "the library answered the unknown code 7"),
+        (Error::Refused(None), "invalid input"),
+        (Error::Incomplete, "incomplete input: more bytes are needed"),
+        (Error::NoMemory, "memory allocation failed"),
+        (Error::NotText, "input is not valid UTF-8"),
+        (Error::TooSmall(wanted), "buffer too small: 2 entries and 4 bytes required"),
+        (Error::TooDeep, "depth limit too large: at most 512 levels are supported"),
+        (Error::Unknown(7), "unknown code 7 from the library"),
     ];
     for (error, want) in rows {
         assert_eq!(error.to_string(), want);

@@ -87,10 +87,10 @@ fn errors_say_where_and_why() {
         ("[]", "line 1, column 2: expected the name of a table"),
         ("[a", "line 1, column 3: expected `]`"),
         ("a = 1 b = 2", "line 1, column 7: expected the end of the line"),
-        ("a = 1\na = 2\n", "line 2, column 1: it is defined already"),
-        ("a = 1\na.b = 2\n", "line 2, column 1: it takes a value for a table"),
-        ("a = {}\n[a.b]", "line 2, column 1: it adds to a table that is closed"),
-        ("[a]\n[[a]]\n", "line 2, column 1: it adds a table to what is no array of tables"),
+        ("a = 1\na = 2\n", "line 2, column 1: key is already defined"),
+        ("a = 1\na.b = 2\n", "line 2, column 1: key is not a table"),
+        ("a = {}\n[a.b]", "line 2, column 1: table cannot be extended"),
+        ("[a]\n[[a]]\n", "line 2, column 1: key is not an array of tables"),
     ];
     for (text, wanted) in rows {
         assert_eq!(read(text).unwrap_err().to_string(), wanted, "{text}");
@@ -103,7 +103,7 @@ fn errors_say_where_and_why() {
 fn buffers_that_are_too_small_are_named() {
     let (mut bytes, mut nodes) = ([0; 5], [Node::default(); 2]);
     let small = toml::parse("ab = 'cde'", 0, &mut bytes, &mut nodes[..1]).unwrap_err();
-    assert_eq!(small.to_string(), "the buffer is too small: 2 entries and 5 bytes are wanted");
+    assert_eq!(small.to_string(), "buffer too small: 2 entries and 5 bytes required");
     assert!(toml::parse("ab = 'cde'", 0, &mut bytes, &mut nodes).is_ok());
     let deep = toml::parse("a = 1", pergidau::MOST_LEVELS + 1, &mut bytes, &mut nodes).unwrap_err();
     assert_eq!(deep, Error::Other(pergidau::Error::TooDeep));

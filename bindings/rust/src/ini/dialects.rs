@@ -11,7 +11,7 @@
 //! assert_eq!(found.next(), Some(Ok(Entry::More("b"))));
 //! assert_eq!(found.next(), None);
 //! let refused = entries("[server]\nport\n", Dialect::PYTHON).last().unwrap().unwrap_err();
-//! assert_eq!(refused.to_string(), "no delimiter after the key, at line 2, column 1");
+//! assert_eq!(refused.to_string(), "missing delimiter after the key at line 2, column 1");
 //! ```
 use crate::exports::{self, IniEntry, IniState};
 use crate::{Place, Span};
@@ -209,13 +209,13 @@ impl Refusal {
 impl fmt::Display for Refusal {
     fn fmt(&self, f: &mut fmt::Formatter<'_>) -> fmt::Result {
         f.write_str(match self {
-            Refusal::OpenSection => "no `]` after `[`",
-            Refusal::EmptySection => "a section without a name",
-            Refusal::TextBehindSection => "text after a section",
-            Refusal::NoSection => "a pair before the first section",
-            Refusal::NoKey => "no key before the delimiter",
-            Refusal::NoDelimiter => "no delimiter after the key",
-            Refusal::Unknown(_) => "a line for a reason that is not known",
+            Refusal::OpenSection => "unclosed section header",
+            Refusal::EmptySection => "empty section name",
+            Refusal::TextBehindSection => "unexpected text after a section header",
+            Refusal::NoSection => "pair before the first section header",
+            Refusal::NoKey => "missing key before the delimiter",
+            Refusal::NoDelimiter => "missing delimiter after the key",
+            Refusal::Unknown(_) => "invalid line for an unknown reason",
         })
     }
 }
@@ -231,7 +231,7 @@ pub struct LineError {
 
 impl fmt::Display for LineError {
     fn fmt(&self, f: &mut fmt::Formatter<'_>) -> fmt::Result {
-        write!(f, "{}, at {}", self.why, self.place)
+        write!(f, "{} at {}", self.why, self.place)
     }
 }
 
