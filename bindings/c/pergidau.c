@@ -167,29 +167,29 @@ const char *pergidau_message(enum pergidau_code code)
 {
     switch (code) {
     case PERGIDAU_DONE:
-        return "the bytes were read, and what was found is written";
+        return "success";
     case PERGIDAU_REFUSED:
-        return "the bytes are not what is read";
+        return "invalid input";
     case PERGIDAU_INCOMPLETE:
-        return "the bytes are not yet what is read, and with more after them they may be";
+        return "incomplete input: more bytes are needed";
     case PERGIDAU_NO_MEMORY:
-        return "a request for memory was refused";
+        return "memory allocation failed";
     case PERGIDAU_NO_TEXT:
-        return "the bytes are no UTF-8, where text is asked for";
+        return "input is not valid UTF-8";
     case PERGIDAU_TOO_SMALL:
-        return "the buffer has too few entries";
+        return "buffer too small";
     case PERGIDAU_TOO_DEEP:
-        return "more levels are asked for than PERGIDAU_MOST_LEVELS";
+        return "depth limit too large: at most 512 levels are supported";
     case PERGIDAU_NULL:
-        return "a pointer is null where something is to be read or written";
+        return "null pointer";
     case PERGIDAU_TOO_LONG:
-        return "a length is more than PTRDIFF_MAX bytes";
+        return "length too large: at most PTRDIFF_MAX bytes are supported";
     case PERGIDAU_END:
-        return "nothing more is told: what stands there is said at the function";
+        return "no more items";
     case PERGIDAU_NO_INTEGER:
-        return "the number is no integer, or does not fit as many bits as are asked for";
+        return "number is not an integer or out of range";
     }
-    return "this is no code of Pergidau";
+    return "unknown code";
 }
 
 enum pergidau_code pergidau_calc_value(

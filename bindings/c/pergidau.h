@@ -56,30 +56,33 @@ int pergidau_is_proved(void);
 
 /* How a call ended. */
 enum pergidau_code {
-    /* The bytes were read, and what was found is written. */
+    /* Success. The result is written. */
     PERGIDAU_DONE = 0,
-    /* The bytes are not what is read. Where the function says so, the place is written. */
+    /* Invalid input. If the function documents it, the offset of the error is written. */
     PERGIDAU_REFUSED = 1,
-    /* The bytes are not yet what is read, and with more after them they may be. */
+    /* Incomplete input: more bytes are needed. */
     PERGIDAU_INCOMPLETE = 2,
-    /* A request for memory was refused. */
+    /* Memory allocation failed. */
     PERGIDAU_NO_MEMORY = 3,
-    /* The bytes are no UTF-8, where text is asked for. */
+    /* Input is not valid UTF-8. */
     PERGIDAU_NO_TEXT = 4,
     /*
-     * The buffer has too few entries. How many are wanted is written, and the buffer is left
-     * as it was, where the function does not say otherwise.
+     * Buffer too small. The required sizes are written, and the buffer is unchanged unless the
+     * function documents otherwise.
      */
     PERGIDAU_TOO_SMALL = 5,
-    /* More levels are asked for than PERGIDAU_MOST_LEVELS. */
+    /*
+     * Depth limit too large: at most 512 levels are supported. That number is
+     * PERGIDAU_MOST_LEVELS.
+     */
     PERGIDAU_TOO_DEEP = 6,
-    /* A pointer is null where something is to be read or written. */
+    /* Null pointer. Memory would be read or written through it. */
     PERGIDAU_NULL = 7,
-    /* A length is more than PTRDIFF_MAX bytes. */
+    /* Length too large: at most PTRDIFF_MAX bytes are supported. */
     PERGIDAU_TOO_LONG = 8,
-    /* Nothing more is told: what stands there is said at the function. */
+    /* No more items. Each function documents the end that it reports. */
     PERGIDAU_END = 9,
-    /* The number is no integer, or does not fit as many bits as are asked for. */
+    /* Number is not an integer or out of range. The function determines the range. */
     PERGIDAU_NO_INTEGER = 10,
 };
 

@@ -1014,18 +1014,18 @@ static void test_library(void)
     same("is proved", "the library", pergidau_is_proved(), IS_PROVED);
 #endif
     static const char *const messages[] = {
-        "the bytes were read, and what was found is written",
-        "the bytes are not what is read",
-        "the bytes are not yet what is read, and with more after them they may be",
-        "a request for memory was refused",
-        "the bytes are no UTF-8, where text is asked for",
-        "the buffer has too few entries",
-        "more levels are asked for than PERGIDAU_MOST_LEVELS",
-        "a pointer is null where something is to be read or written",
-        "a length is more than PTRDIFF_MAX bytes",
-        "nothing more is told: what stands there is said at the function",
-        "the number is no integer, or does not fit as many bits as are asked for",
-        "this is no code of Pergidau",
+        "success",
+        "invalid input",
+        "incomplete input: more bytes are needed",
+        "memory allocation failed",
+        "input is not valid UTF-8",
+        "buffer too small",
+        "depth limit too large: at most 512 levels are supported",
+        "null pointer",
+        "length too large: at most PTRDIFF_MAX bytes are supported",
+        "no more items",
+        "number is not an integer or out of range",
+        "unknown code",
     };
     for (int code = 0; code <= PERGIDAU_NO_INTEGER + 1; code++) {
         const char *message = pergidau_message((enum pergidau_code)code);
