@@ -38,11 +38,11 @@ COST = [
 KINDS = {
     "JSON_": ("json_kind", "What a value of JSON is: what `kind` of an item of JSON is."),
     "RESP_": ("resp_kind", "What a reply of Redis is: what `kind` of a reply is."),
-    "TOML_FAULT_": ("toml_fault", "Why bytes are no document of TOML: what `fault` of a document is."),
+    "TOML_ERROR_": ("toml_error", "Why bytes are no document of TOML: what `error` of a document is."),
     "TOML_": ("toml_kind", "What a node of a document of TOML is: what `kind` of a value is."),
-    "CHUNKED_FAULT_": ("chunked_fault", "Why a byte of a chunked body is refused: what `fault` of a step is."),
+    "CHUNKED_ERROR_": ("chunked_error", "Why a byte of a chunked body is refused: what `error` of a step is."),
     "CHUNKED_": ("chunked_kind", "What is given out of a chunked body: what `kind` of a step is."),
-    "INI_FAULT_": ("ini_fault", "Why a line is none of a dialect: what `fault` of an entry of INI is."),
+    "INI_ERROR_": ("ini_error", "Why a line is none of a dialect: what `error` of an entry of INI is."),
     "INI_DIALECT_": ("ini_dialect", "How lines of INI are read: flags, of which a dialect is a sum, and three dialects."),
     "INI_": ("ini_kind", "What a line of INI says: what `kind` of an entry of INI is."),
 }

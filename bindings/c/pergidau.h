@@ -39,10 +39,10 @@ extern "C" {
  * includes this header refers to it, so that it links with no other library. Define
  * PERGIDAU_NO_LINK_CHECK before the header for a file that is not linked with the library.
  */
-extern const char pergidau_0_0_0_declared_a22c8061;
+extern const char pergidau_0_0_0_declared_1ea91080;
 #if defined(__GNUC__) && !defined(PERGIDAU_NO_LINK_CHECK)
 __attribute__((__used__, __unused__)) static const char *const pergidau_linked =
-    &pergidau_0_0_0_declared_a22c8061;
+    &pergidau_0_0_0_declared_1ea91080;
 #endif
 
 /* The version of the library that is linked, as PERGIDAU_VERSION is written. */
@@ -59,23 +59,23 @@ enum pergidau_code {
     /* Success. The result is written. */
     PERGIDAU_DONE = 0,
     /* Invalid input. If the function documents it, the offset of the error is written. */
-    PERGIDAU_REFUSED = 1,
+    PERGIDAU_INVALID = 1,
     /* Incomplete input: more bytes are needed. */
     PERGIDAU_INCOMPLETE = 2,
     /* Memory allocation failed. */
     PERGIDAU_NO_MEMORY = 3,
     /* Input is not valid UTF-8. */
-    PERGIDAU_NO_TEXT = 4,
+    PERGIDAU_INVALID_UTF8 = 4,
     /*
      * Buffer too small. The required sizes are written, and the buffer is unchanged unless the
      * function documents otherwise.
      */
-    PERGIDAU_TOO_SMALL = 5,
+    PERGIDAU_BUFFER_TOO_SMALL = 5,
     /*
      * Depth limit too large: at most 512 levels are supported. That number is
-     * PERGIDAU_MOST_LEVELS.
+     * PERGIDAU_MAX_DEPTH.
      */
-    PERGIDAU_TOO_DEEP = 6,
+    PERGIDAU_MAX_DEPTH_TOO_LARGE = 6,
     /* Null pointer. Memory would be read or written through it. */
     PERGIDAU_NULL = 7,
     /* Length too large: at most PTRDIFF_MAX bytes are supported. */
@@ -83,7 +83,7 @@ enum pergidau_code {
     /* No more items. Each function documents the end that it reports. */
     PERGIDAU_END = 9,
     /* Number is not an integer or out of range. The function determines the range. */
-    PERGIDAU_NO_INTEGER = 10,
+    PERGIDAU_NOT_AN_INTEGER = 10,
 };
 
 /* What a code says, in English, with no full stop. The text is never freed. */
@@ -93,7 +93,7 @@ const char *pergidau_message(enum pergidau_code code);
  * How many levels of arrays and objects in one another may be asked for. Each takes some of
  * the stack.
  */
-#define PERGIDAU_MOST_LEVELS 512
+#define PERGIDAU_MAX_DEPTH 512
 
 /* What a value of JSON is: what kind of an item of JSON is. */
 enum pergidau_json_kind {
@@ -141,33 +141,33 @@ enum pergidau_resp_kind {
     PERGIDAU_RESP_NULL_ARRAY = 6,
 };
 
-/* Why bytes are no document of TOML: what fault of a document is. */
-enum pergidau_toml_fault {
+/* Why bytes are no document of TOML: what error of a document is. */
+enum pergidau_toml_error {
     /* Nothing is refused. */
-    PERGIDAU_TOML_FAULT_NONE = 0,
+    PERGIDAU_TOML_ERROR_NONE = 0,
     /* A key or a table is expected. */
-    PERGIDAU_TOML_FAULT_KEY = 1,
+    PERGIDAU_TOML_ERROR_KEY = 1,
     /* The equals sign after a key is expected. */
-    PERGIDAU_TOML_FAULT_EQUALS_SIGN = 2,
+    PERGIDAU_TOML_ERROR_EQUALS_SIGN = 2,
     /* A value is expected, of no more levels than are asked for. */
-    PERGIDAU_TOML_FAULT_VALUE = 3,
+    PERGIDAU_TOML_ERROR_VALUE = 3,
     /* The name of a table is expected. */
-    PERGIDAU_TOML_FAULT_TABLE_NAME = 4,
+    PERGIDAU_TOML_ERROR_TABLE_NAME = 4,
     /* A bracket after the name of a table is expected. */
-    PERGIDAU_TOML_FAULT_CLOSING_BRACKET = 5,
+    PERGIDAU_TOML_ERROR_CLOSING_BRACKET = 5,
     /* The end of the line is expected. */
-    PERGIDAU_TOML_FAULT_LINE_END = 6,
+    PERGIDAU_TOML_ERROR_LINE_END = 6,
     /* The line defines what is defined already. */
-    PERGIDAU_TOML_FAULT_DEFINED = 7,
+    PERGIDAU_TOML_ERROR_DEFINED = 7,
     /* The line takes a value for a table. */
-    PERGIDAU_TOML_FAULT_NO_TABLE = 8,
+    PERGIDAU_TOML_ERROR_NOT_A_TABLE = 8,
     /*
      * The line adds to a table that is closed: an inline table, or by dotted keys one of a
      * header.
      */
-    PERGIDAU_TOML_FAULT_CLOSED = 9,
+    PERGIDAU_TOML_ERROR_CLOSED = 9,
     /* The line adds a table to what is no array of tables. */
-    PERGIDAU_TOML_FAULT_NO_TABLES = 10,
+    PERGIDAU_TOML_ERROR_NOT_AN_ARRAY_OF_TABLES = 10,
 };
 
 /* What a node of a document of TOML is: what kind of a value is. */
@@ -194,22 +194,22 @@ enum pergidau_toml_kind {
     PERGIDAU_TOML_LOCAL_TIME = 9,
 };
 
-/* Why a byte of a chunked body is refused: what fault of a step is. */
-enum pergidau_chunked_fault {
+/* Why a byte of a chunked body is refused: what error of a step is. */
+enum pergidau_chunked_error {
     /* A size line is due, and begins with no hexadecimal digit. */
-    PERGIDAU_CHUNKED_FAULT_SIZE = 0,
+    PERGIDAU_CHUNKED_ERROR_SIZE = 0,
     /* No size line goes on with the byte: it is in no extension, or in no line end. */
-    PERGIDAU_CHUNKED_FAULT_SIZE_LINE = 1,
+    PERGIDAU_CHUNKED_ERROR_SIZE_LINE = 1,
     /* With this digit the size is 2^64 or more. */
-    PERGIDAU_CHUNKED_FAULT_SIZE_TOO_LARGE = 2,
+    PERGIDAU_CHUNKED_ERROR_SIZE_TOO_LARGE = 2,
     /* More bytes than the limit lets would stand before the next data, or the end. */
-    PERGIDAU_CHUNKED_FAULT_SIZE_LINE_TOO_LONG = 3,
+    PERGIDAU_CHUNKED_ERROR_SIZE_LINE_TOO_LONG = 3,
     /* A carriage return and a line feed are due after the data of a chunk. */
-    PERGIDAU_CHUNKED_FAULT_DATA_END = 4,
+    PERGIDAU_CHUNKED_ERROR_DATA_END = 4,
     /* No field line goes on with the byte, nor the line end after the trailer section. */
-    PERGIDAU_CHUNKED_FAULT_TRAILERS = 5,
+    PERGIDAU_CHUNKED_ERROR_TRAILERS = 5,
     /* The trailer section would have more bytes than the limit lets. */
-    PERGIDAU_CHUNKED_FAULT_TRAILERS_TOO_LONG = 6,
+    PERGIDAU_CHUNKED_ERROR_TRAILERS_TOO_LONG = 6,
 };
 
 /* What is given out of a chunked body: what kind of a step is. */
@@ -223,20 +223,20 @@ enum pergidau_chunked_kind {
     PERGIDAU_CHUNKED_TRAILERS = 1,
 };
 
-/* Why a line is none of a dialect: what fault of an entry of INI is. */
-enum pergidau_ini_fault {
+/* Why a line is none of a dialect: what error of an entry of INI is. */
+enum pergidau_ini_error {
     /* No ] stands after the [ that begins the line. */
-    PERGIDAU_INI_FAULT_OPEN_SECTION = 0,
+    PERGIDAU_INI_ERROR_UNCLOSED_SECTION = 0,
     /* Nothing stands between [ and ]. */
-    PERGIDAU_INI_FAULT_EMPTY_SECTION = 1,
+    PERGIDAU_INI_ERROR_EMPTY_SECTION = 1,
     /* Something stands after the ]. */
-    PERGIDAU_INI_FAULT_TEXT_BEHIND_SECTION = 2,
+    PERGIDAU_INI_ERROR_TRAILING_TEXT = 2,
     /* No section stands before the pair. */
-    PERGIDAU_INI_FAULT_NO_SECTION = 3,
+    PERGIDAU_INI_ERROR_MISSING_SECTION = 3,
     /* No key stands before the delimiter. */
-    PERGIDAU_INI_FAULT_NO_KEY = 4,
+    PERGIDAU_INI_ERROR_MISSING_KEY = 4,
     /* There is no delimiter. */
-    PERGIDAU_INI_FAULT_NO_DELIMITER = 5,
+    PERGIDAU_INI_ERROR_MISSING_DELIMITER = 5,
 };
 
 /* How lines of INI are read: flags, of which a dialect is a sum, and three dialects. */
@@ -332,7 +332,7 @@ struct pergidau_record {
  * are for the calls alone, and all zeros say that nothing was passed: so it is begun for each
  * record.
  */
-struct pergidau_csv_record_extent {
+struct pergidau_csv_record_state {
     /* How many bytes were passed. */
     size_t passed;
     /* How many bytes the fields have that were passed, as they are meant. */
@@ -406,16 +406,16 @@ struct pergidau_chunked_step {
     size_t taken;
     /*
      * Why the byte after those that were taken is refused: a number of those from
-     * PERGIDAU_CHUNKED_FAULT_SIZE on. Else 0.
+     * PERGIDAU_CHUNKED_ERROR_SIZE on. Else 0.
      */
-    size_t fault;
+    size_t error;
 };
 
 /*
  * How far bytes were searched for the end of the head of a request. The numbers are for the
  * calls alone, and all zeros say that nothing was passed: so it is begun for each head.
  */
-struct pergidau_http_head_extent {
+struct pergidau_http_head_state {
     /* How many bytes were passed. */
     size_t passed;
     /* Where in the head the next one is due: 0 where it begins. */
@@ -493,8 +493,11 @@ struct pergidau_ini_entry {
     struct pergidau_span value;
     /* Where the line begins that is refused, or is no UTF-8. Else 0. */
     size_t place;
-    /* Why it is refused: a number of those from PERGIDAU_INI_FAULT_OPEN_SECTION on. Else 0. */
-    size_t fault;
+    /*
+     * Why it is refused: a number of those from PERGIDAU_INI_ERROR_UNCLOSED_SECTION on. Else
+     * 0.
+     */
+    size_t error;
 };
 
 /* A value, or a name in an object; or a bracket, by pergidau_json_step alone. */
@@ -538,7 +541,7 @@ struct pergidau_reply {
  * with. Its numbers are for the calls alone, and all zeros say that nothing was passed: so it
  * is begun for each reply.
  */
-struct pergidau_resp_extent {
+struct pergidau_resp_reply_state {
     /* What is due: 0 where nothing was passed, 1 for a line, 2 for the bytes of a string. */
     size_t due;
     /* How many bytes were passed. */
@@ -614,7 +617,7 @@ struct pergidau_toml_node {
 };
 
 /* What was read of a document. */
-struct pergidau_toml_document {
+struct pergidau_toml_result {
     /* How many nodes there are. */
     size_t nodes;
     /* How many bytes their names and texts have together. */
@@ -622,10 +625,10 @@ struct pergidau_toml_document {
     /* Where the bytes are no document: how many stand before the place. Else 0. */
     size_t place;
     /*
-     * Why they are none: a number of those from PERGIDAU_TOML_FAULT_NONE to
-     * PERGIDAU_TOML_FAULT_NO_TABLES.
+     * Why they are none: a number of those from PERGIDAU_TOML_ERROR_NONE to
+     * PERGIDAU_TOML_ERROR_NOT_AN_ARRAY_OF_TABLES.
      */
-    size_t fault;
+    size_t error;
 };
 
 /*
@@ -636,12 +639,12 @@ struct pergidau_toml_document {
  * from the right; *, / and %, and then + and -, joined from the left; and =, which is 1 where
  * both sides are equal and else 0. / cuts towards 0, and % has the sign of its left side.
  *
- * PERGIDAU_DONE: the value is written. PERGIDAU_REFUSED: the text is no formula, or a number
+ * PERGIDAU_DONE: the value is written. PERGIDAU_INVALID: the text is no formula, or a number
  * or a result in it does not fit 64 bits with a sign, a divisor is 0, an exponent is negative,
  * or a factorial is of a negative number; so is % where the quotient does not fit, as in -2 ^
  * 63 % -1. The place is written: an end of the text, or one between two of its characters.
  * That the formula was read up to there when it was refused is tested, not proved.
- * PERGIDAU_NO_TEXT, PERGIDAU_NO_MEMORY.
+ * PERGIDAU_INVALID_UTF8, PERGIDAU_NO_MEMORY.
  *
  * While it runs it holds up to 100 bytes of memory for each byte of the text.
  *
@@ -662,10 +665,10 @@ enum pergidau_code pergidau_calc_value(
  *
  * PERGIDAU_DONE: the bytes of the fields, without the quotes round them and with each quote
  * once, are written into text, one field after the other, and that many places there, in
- * order. PERGIDAU_REFUSED: the bytes begin with no record; written is the first place at which
+ * order. PERGIDAU_INVALID: the bytes begin with no record; written is the first place at which
  * none goes on: what stands before it begins one, and with the byte there none begins.
- * PERGIDAU_TOO_SMALL: they begin with one that wants more entries or more bytes than the
- * buffers have; how many of both is written. But for PERGIDAU_DONE the buffers are left as
+ * PERGIDAU_BUFFER_TOO_SMALL: they begin with one that wants more entries or more bytes than
+ * the buffers have; how many of both is written. But for PERGIDAU_DONE the buffers are left as
  * they were.
  *
  * No memory is asked for. A record is passed over twice, so that nothing is written where
@@ -689,13 +692,13 @@ enum pergidau_code pergidau_csv_record(
  * The same record where the bytes come in pieces: a record or a refusal that it answers is
  * that of all longer bytes too.
  *
- * PERGIDAU_DONE, PERGIDAU_TOO_SMALL: as for a record that is whole. PERGIDAU_INCOMPLETE: no
- * record with its line end is there, and with three bytes more at most they can begin with
- * one. PERGIDAU_REFUSED: whatever comes after the bytes, they begin with no record, and that
- * is answered as soon as the byte is there at which none goes on, whose place is written: so
- * of x", 1. A field in quotes that are not closed goes on for ever, so the caller bounds how
- * many bytes are held. The last record may have no line end: where no more bytes come, the
- * call for whole ones reads it.
+ * PERGIDAU_DONE, PERGIDAU_BUFFER_TOO_SMALL: as for a record that is whole.
+ * PERGIDAU_INCOMPLETE: no record with its line end is there, and with three bytes more at most
+ * they can begin with one. PERGIDAU_INVALID: whatever comes after the bytes, they begin with
+ * no record, and that is answered as soon as the byte is there at which none goes on, whose
+ * place is written: so of x", 1. A field in quotes that are not closed goes on for ever, so
+ * the caller bounds how many bytes are held. The last record may have no line end: where no
+ * more bytes come, the call for whole ones reads it.
  *
  * Each call reads from the first byte on, and asks for no memory.
  *
@@ -703,7 +706,7 @@ enum pergidau_code pergidau_csv_record(
  * the call runs, text_length bytes at text and fields_length entries at fields that can be
  * written, room for one record at out, each apart from the others, and 16 KiB of stack.
  */
-enum pergidau_code pergidau_csv_record_in_pieces(
+enum pergidau_code pergidau_csv_record_partial(
     const uint8_t *bytes,
     size_t bytes_length,
     uint32_t line_feeds,
@@ -729,7 +732,7 @@ enum pergidau_code pergidau_csv_record_in_pieces(
  * record with its line end is there, and with three bytes more at most they can begin with
  * one. A field in quotes that are not closed goes on for ever, so the caller bounds how many
  * bytes are held. The last record may have no line end: where no more bytes come, the call for
- * whole ones reads it. PERGIDAU_REFUSED: whatever comes after the bytes, they begin with no
+ * whole ones reads it. PERGIDAU_INVALID: whatever comes after the bytes, they begin with no
  * record, and that is answered as soon as the byte is there at which none goes on, whose place
  * is written.
  *
@@ -741,7 +744,7 @@ enum pergidau_code pergidau_csv_record_in_pieces(
  * each apart from the others, and 16 KiB of stack.
  */
 enum pergidau_code pergidau_csv_record_extent(
-    struct pergidau_csv_record_extent *state,
+    struct pergidau_csv_record_state *state,
     const uint8_t *bytes,
     size_t bytes_length,
     uint32_t line_feeds,
@@ -752,10 +755,10 @@ enum pergidau_code pergidau_csv_record_extent(
  * field lines one after the other, and an empty line. What stands after it is not looked at.
  *
  * PERGIDAU_DONE: the places of its parts are written, and of that many fields, in order.
- * PERGIDAU_REFUSED: the bytes begin with no head; written is the first place at which none
- * goes on, which is their end where they end within one. PERGIDAU_TOO_SMALL: they begin with
- * one that has more fields than the buffer has entries; how many it has is written. Where it
- * does not answer PERGIDAU_DONE, any entry of the buffer may be written: the fields are
+ * PERGIDAU_INVALID: the bytes begin with no head; written is the first place at which none
+ * goes on, which is their end where they end within one. PERGIDAU_BUFFER_TOO_SMALL: they begin
+ * with one that has more fields than the buffer has entries; how many it has is written. Where
+ * it does not answer PERGIDAU_DONE, any entry of the buffer may be written: the fields are
  * written as they are read.
  *
  * No empty line is passed before the request line: a server that is to be lenient, as section
@@ -776,8 +779,8 @@ enum pergidau_code pergidau_http_head(
 /*
  * The same head where the bytes come in pieces: it answers as soon as the empty line is there.
  *
- * PERGIDAU_DONE, PERGIDAU_TOO_SMALL: as for a head that is whole. PERGIDAU_INCOMPLETE: the
- * bytes begin with no head, and with more after them they can. PERGIDAU_REFUSED: whatever
+ * PERGIDAU_DONE, PERGIDAU_BUFFER_TOO_SMALL: as for a head that is whole. PERGIDAU_INCOMPLETE:
+ * the bytes begin with no head, and with more after them they can. PERGIDAU_INVALID: whatever
  * comes after the bytes, they begin with no head; written is the first place at which none
  * goes on: with the bytes before it a head can begin, and with these and the byte there none
  * does.
@@ -788,7 +791,7 @@ enum pergidau_code pergidau_http_head(
  * the call runs, fields_length entries at fields that can be written, room for one head at
  * out, each apart from the others, and 16 KiB of stack.
  */
-enum pergidau_code pergidau_http_head_in_pieces(
+enum pergidau_code pergidau_http_head_partial(
     const uint8_t *bytes,
     size_t bytes_length,
     struct pergidau_field *fields,
@@ -809,7 +812,7 @@ enum pergidau_code pergidau_http_head_in_pieces(
  * end after it. PERGIDAU_END: the body is whole, and what is after the bytes that were taken
  * is after it; so it is told of the same state again. For the next body, the first numbers are
  * put into the state. PERGIDAU_INCOMPLETE: all bytes are taken, they are no body as yet, and
- * with more after them they can be. PERGIDAU_REFUSED: with the byte after those that were
+ * with more after them they can be. PERGIDAU_INVALID: with the byte after those that were
  * taken no body goes on, or one that has 2^64 bytes or more; or the limits do not let it be
  * taken. With these three no kind and no place are written.
  *
@@ -838,7 +841,7 @@ enum pergidau_code pergidau_http_chunked(
  *
  * PERGIDAU_DONE: that many of the first bytes are a head; how many is written. For the next
  * one, zeros are put into the state. PERGIDAU_INCOMPLETE: the bytes begin with no head, and
- * with more after them they can; 0 is written. PERGIDAU_REFUSED: whatever comes after the
+ * with more after them they can; 0 is written. PERGIDAU_INVALID: whatever comes after the
  * bytes, they begin with no head; written is the first place at which none goes on.
  *
  * Of a state that calls left for other bytes, or that is changed, what is told may be wrong;
@@ -849,7 +852,7 @@ enum pergidau_code pergidau_http_chunked(
  * each apart from the others, and 16 KiB of stack.
  */
 enum pergidau_code pergidau_http_head_extent(
-    struct pergidau_http_head_extent *state,
+    struct pergidau_http_head_state *state,
     const uint8_t *bytes,
     size_t bytes_length,
     size_t *out);
@@ -861,10 +864,10 @@ enum pergidau_code pergidau_http_head_extent(
  * PERGIDAU_DONE: the version, the status code and the place of the reason are written, and the
  * places of that many fields, in order. The status code is three digits, of which the first
  * may be any. The reason may have no bytes, and then the space before it may be wanting too.
- * PERGIDAU_REFUSED: the bytes begin with no head; written is the first place at which none
- * goes on, which is their end where they end within one. PERGIDAU_TOO_SMALL: they begin with
- * one that has more fields than the buffer has entries; how many it has is written. Where it
- * does not answer PERGIDAU_DONE, any entry of the buffer may be written: the fields are
+ * PERGIDAU_INVALID: the bytes begin with no head; written is the first place at which none
+ * goes on, which is their end where they end within one. PERGIDAU_BUFFER_TOO_SMALL: they begin
+ * with one that has more fields than the buffer has entries; how many it has is written. Where
+ * it does not answer PERGIDAU_DONE, any entry of the buffer may be written: the fields are
  * written as they are read.
  *
  * Whether a body follows, and how long it is, the method of the request, the status code and
@@ -884,8 +887,8 @@ enum pergidau_code pergidau_http_response_head(
 /*
  * The same head where the bytes come in pieces: it answers as soon as the empty line is there.
  *
- * PERGIDAU_DONE, PERGIDAU_TOO_SMALL: as for a head that is whole. PERGIDAU_INCOMPLETE: the
- * bytes begin with no head, and with more after them they can. PERGIDAU_REFUSED: whatever
+ * PERGIDAU_DONE, PERGIDAU_BUFFER_TOO_SMALL: as for a head that is whole. PERGIDAU_INCOMPLETE:
+ * the bytes begin with no head, and with more after them they can. PERGIDAU_INVALID: whatever
  * comes after the bytes, they begin with no head; written is the first place at which none
  * goes on: with the bytes before it a head can begin, and with these and the byte there none
  * does.
@@ -896,7 +899,7 @@ enum pergidau_code pergidau_http_response_head(
  * the call runs, fields_length entries at fields that can be written, room for one head at
  * out, each apart from the others, and 16 KiB of stack.
  */
-enum pergidau_code pergidau_http_response_head_in_pieces(
+enum pergidau_code pergidau_http_response_head_partial(
     const uint8_t *bytes,
     size_t bytes_length,
     struct pergidau_field *fields,
@@ -907,7 +910,7 @@ enum pergidau_code pergidau_http_response_head_in_pieces(
  * The key and the value of one line: a key of one or more ASCII letters or digits, =, a value
  * of bytes other than a line feed, which may be none, and at most one line feed.
  *
- * PERGIDAU_DONE: their places are written. PERGIDAU_REFUSED: the bytes are no such line;
+ * PERGIDAU_DONE: their places are written. PERGIDAU_INVALID: the bytes are no such line;
  * written is the length of their longest beginning that begins one.
  *
  * The caller owes bytes_length bytes at bytes that can be read and that nothing changes while
@@ -927,15 +930,15 @@ enum pergidau_code pergidau_ini_pair(
  *
  * PERGIDAU_DONE: the bytes of its entries are written into text, those of the key before those
  * of the value and one entry after the other, and that many places there, in order: of each
- * section its head, and then its pairs. PERGIDAU_REFUSED: the bytes are no document; written
+ * section its head, and then its pairs. PERGIDAU_INVALID: the bytes are no document; written
  * is the length of their longest beginning that is made of such parts, each of which is one
  * where it stands in all of the bytes: a pair ends where its line does, so of [a], a line
- * feed, and x= before a byte that is no UTF-8 it is 4. PERGIDAU_TOO_SMALL: they are one that
- * wants more entries or more bytes than the buffers have; how many of both is written, and the
- * buffers are left as they were. PERGIDAU_NO_MEMORY.
+ * feed, and x= before a byte that is no UTF-8 it is 4. PERGIDAU_BUFFER_TOO_SMALL: they are one
+ * that wants more entries or more bytes than the buffers have; how many of both is written,
+ * and the buffers are left as they were. PERGIDAU_NO_MEMORY.
  *
  * While it runs it holds up to 100 bytes of memory for each byte of the document, also where
- * it then answers PERGIDAU_REFUSED or PERGIDAU_TOO_SMALL.
+ * it then answers PERGIDAU_INVALID or PERGIDAU_BUFFER_TOO_SMALL.
  *
  * The caller owes bytes_length bytes at bytes that can be read and that nothing changes while
  * the call runs, text_length bytes at text and entries_length entries at entries that can be
@@ -968,11 +971,11 @@ enum pergidau_code pergidau_ini_document(
  *
  * PERGIDAU_DONE: what the entry is and the places of its texts are written; its line is UTF-8.
  * A value of more lines comes as a pair and one PERGIDAU_INI_MORE for each further line.
- * PERGIDAU_END: no entry is left. PERGIDAU_REFUSED: the next line is none of the dialect;
- * where it begins, and why, is written. PERGIDAU_NO_TEXT: the next line is no UTF-8; where it
- * begins is written. With these three no kind and no texts are written, and a further call
- * tells the same. Lines are checked one by one, so entries are told of a document in which a
- * later line is no UTF-8.
+ * PERGIDAU_END: no entry is left. PERGIDAU_INVALID: the next line is none of the dialect;
+ * where it begins, and why, is written. PERGIDAU_INVALID_UTF8: the next line is no UTF-8;
+ * where it begins is written. With these three no kind and no texts are written, and a further
+ * call tells the same. Lines are checked one by one, so entries are told of a document in
+ * which a later line is no UTF-8.
  *
  * Of a state that calls left for other bytes, or that is changed, what is told may be wrong;
  * nothing outside of the bytes is read then either.
@@ -990,12 +993,12 @@ enum pergidau_code pergidau_ini_next(
 
 /*
  * Whether a text is one of JSON (RFC 8259): a value with white space round it, in which no
- * more than levels arrays and objects stand in one another. What has a surrogate that is
+ * more than max_depth arrays and objects stand in one another. What has a surrogate that is
  * escaped alone, as \ud800, is none, since no character is meant by it, though the grammar of
  * the standard has it.
  *
- * PERGIDAU_DONE: it is. PERGIDAU_REFUSED: it is not. PERGIDAU_NO_TEXT: it is no UTF-8.
- * PERGIDAU_TOO_DEEP: more than 512 levels are asked for.
+ * PERGIDAU_DONE: it is. PERGIDAU_INVALID: it is not. PERGIDAU_INVALID_UTF8: it is no UTF-8.
+ * PERGIDAU_MAX_DEPTH_TOO_LARGE: more than 512 levels are asked for.
  *
  * The caller owes text_length bytes at text that can be read and that nothing changes while
  * the call runs, and 512 KiB of stack.
@@ -1003,16 +1006,16 @@ enum pergidau_code pergidau_ini_next(
 enum pergidau_code pergidau_json_check(
     const uint8_t *text,
     size_t text_length,
-    size_t levels);
+    size_t max_depth);
 
 /*
  * The longest value of JSON (RFC 8259) with which the bytes begin, in which no more than
- * levels arrays and objects stand in one another: how many bytes it has is written. White
+ * max_depth arrays and objects stand in one another: how many bytes it has is written. White
  * space before it is not passed. Bytes of 128 and above are not looked at: the value is JSON
  * where it is UTF-8. Values are those of pergidau_json_check.
  *
- * PERGIDAU_DONE: it is found. PERGIDAU_REFUSED: the bytes begin with none, and 0 is written.
- * PERGIDAU_TOO_DEEP: more than 512 levels are asked for, and 0 is written.
+ * PERGIDAU_DONE: it is found. PERGIDAU_INVALID: the bytes begin with none, and 0 is written.
+ * PERGIDAU_MAX_DEPTH_TOO_LARGE: more than 512 levels are asked for, and 0 is written.
  *
  * The caller owes bytes_length bytes at bytes that can be read and that nothing changes while
  * the call runs, room for one length at out, apart from them, and 512 KiB of stack.
@@ -1020,13 +1023,13 @@ enum pergidau_code pergidau_json_check(
 enum pergidau_code pergidau_json_value(
     const uint8_t *bytes,
     size_t bytes_length,
-    size_t levels,
+    size_t max_depth,
     size_t *out);
 
 /*
  * The next value of JSON (RFC 8259), for a walk through a text that was checked: the longest
  * value that stands after white space, a comma or a colon at most, and white space, in which
- * no more than levels arrays and objects stand in one another.
+ * no more than max_depth arrays and objects stand in one another.
  *
  * From the start of the text it reads the text's value. What an array has in it is read from
  * after its first byte on: a value at each call, of the bytes after the place of the last one.
@@ -1037,8 +1040,9 @@ enum pergidau_code pergidau_json_value(
  * than JSON allows is passed, as a comma before the first value.
  *
  * PERGIDAU_DONE: what it is and its place are written. PERGIDAU_END: after white space stands
- * a closing bracket, or nothing. PERGIDAU_REFUSED: neither stands there. PERGIDAU_TOO_DEEP:
- * more than 512 levels are asked for. With these three all that is written is 0.
+ * a closing bracket, or nothing. PERGIDAU_INVALID: neither stands there.
+ * PERGIDAU_MAX_DEPTH_TOO_LARGE: more than 512 levels are asked for. With these three all that
+ * is written is 0.
  *
  * The caller owes bytes_length bytes at bytes that can be read and that nothing changes while
  * the call runs, room for one item at out, apart from them, and 512 KiB of stack.
@@ -1046,7 +1050,7 @@ enum pergidau_code pergidau_json_value(
 enum pergidau_code pergidau_json_next(
     const uint8_t *bytes,
     size_t bytes_length,
-    size_t levels,
+    size_t max_depth,
     struct pergidau_json_item *out);
 
 /*
@@ -1054,8 +1058,8 @@ enum pergidau_code pergidau_json_next(
  * the bytes begin. It has neither a point nor an exponent, so 1.0 and 1e2 are none, and fits
  * 64 bits with a sign; -0 is 0. White space before it is not passed.
  *
- * PERGIDAU_DONE: it is written. PERGIDAU_NO_INTEGER: the number is none, or does not fit.
- * PERGIDAU_REFUSED: the bytes begin with no number. With these two 0 is written.
+ * PERGIDAU_DONE: it is written. PERGIDAU_NOT_AN_INTEGER: the number is none, or does not fit.
+ * PERGIDAU_INVALID: the bytes begin with no number. With these two 0 is written.
  *
  * The caller owes bytes_length bytes at bytes that can be read and that nothing changes while
  * the call runs, room for one integer at out, apart from them, and 16 KiB of stack.
@@ -1068,8 +1072,8 @@ enum pergidau_code pergidau_json_integer(
 /*
  * As pergidau_json_integer, of 64 bits without a sign: a number with a minus is none, -0 too.
  *
- * PERGIDAU_DONE: it is written. PERGIDAU_NO_INTEGER: the number is none, or does not fit.
- * PERGIDAU_REFUSED: the bytes begin with no number. With these two 0 is written.
+ * PERGIDAU_DONE: it is written. PERGIDAU_NOT_AN_INTEGER: the number is none, or does not fit.
+ * PERGIDAU_INVALID: the bytes begin with no number. With these two 0 is written.
  *
  * The caller owes bytes_length bytes at bytes that can be read and that nothing changes while
  * the call runs, room for one integer at out, apart from them, and 16 KiB of stack.
@@ -1090,7 +1094,7 @@ enum pergidau_code pergidau_json_natural(
  *
  * PERGIDAU_DONE: what it is and its place are written. It is a word, a number, a string, a
  * name or a bracket, so never PERGIDAU_JSON_ARRAY or PERGIDAU_JSON_OBJECT. PERGIDAU_END: white
- * space is all that is left. PERGIDAU_REFUSED: neither stands there. With these two all that
+ * space is all that is left. PERGIDAU_INVALID: neither stands there. With these two all that
  * is written is 0.
  *
  * The caller owes bytes_length bytes at bytes that can be read and that nothing changes while
@@ -1113,11 +1117,12 @@ enum pergidau_code pergidau_json_step(
  * may have zeros in it, by \u0000.
  *
  * PERGIDAU_DONE: the text is written into buffer, and its length and that of the string at
- * out; the other bytes of the buffer are left as they were. PERGIDAU_TOO_SMALL: the buffer has
- * fewer bytes than the text; both lengths are written, and what the buffer then holds is not
- * told. PERGIDAU_REFUSED: the bytes begin with no string, as with a surrogate that is escaped
- * alone; two zeros are written, and what the buffer then holds is not told. A string has at
- * least as many bytes as its text, so a buffer as long as the string is not too small.
+ * out; the other bytes of the buffer are left as they were. PERGIDAU_BUFFER_TOO_SMALL: the
+ * buffer has fewer bytes than the text; both lengths are written, and what the buffer then
+ * holds is not told. PERGIDAU_INVALID: the bytes begin with no string, as with a surrogate
+ * that is escaped alone; two zeros are written, and what the buffer then holds is not told. A
+ * string has at least as many bytes as its text, so a buffer as long as the string is not too
+ * small.
  *
  * The caller owes bytes_length bytes at bytes that can be read and that nothing changes while
  * the call runs, buffer_length bytes at buffer that can be written, room for two lengths at
@@ -1132,15 +1137,15 @@ enum pergidau_code pergidau_json_string(
 
 /*
  * The reply of Redis (RESP2, the second version of its protocol) with which the bytes begin,
- * in which no more than levels arrays stand in one another. The elements of an array are read
- * by further calls, of the bytes at its place and of those after each element.
+ * in which no more than max_depth arrays stand in one another. The elements of an array are
+ * read by further calls, of the bytes at its place and of those after each element.
  *
  * An integer may have a sign before it and zeros first, a size zeros first; -1 is the size of
  * a null.
  *
- * PERGIDAU_DONE: the reply is written. PERGIDAU_REFUSED: the bytes begin with none.
- * PERGIDAU_TOO_DEEP: more than 512 levels are asked for. PERGIDAU_NO_MEMORY. With these three
- * all that is written is 0.
+ * PERGIDAU_DONE: the reply is written. PERGIDAU_INVALID: the bytes begin with none.
+ * PERGIDAU_MAX_DEPTH_TOO_LARGE: more than 512 levels are asked for. PERGIDAU_NO_MEMORY. With
+ * these three all that is written is 0.
  *
  * While it runs it holds up to 32 bytes of memory for each byte of the reply, and 2 KiB for
  * each level of arrays that has begun.
@@ -1151,27 +1156,27 @@ enum pergidau_code pergidau_json_string(
 enum pergidau_code pergidau_resp_reply(
     const uint8_t *bytes,
     size_t bytes_length,
-    size_t levels,
+    size_t max_depth,
     struct pergidau_reply *out);
 
 /*
  * The same reply where the bytes come in pieces: what it answers is that of all longer bytes
  * too.
  *
- * PERGIDAU_DONE, PERGIDAU_TOO_DEEP, PERGIDAU_NO_MEMORY: as for a reply that is whole.
- * PERGIDAU_INCOMPLETE: more bytes may be needed; that no more are asked for once the reply is
- * there is tested, not proved. PERGIDAU_REFUSED: whatever comes after the bytes, they begin
- * with no reply. With these two all that is written is 0 too.
+ * PERGIDAU_DONE, PERGIDAU_MAX_DEPTH_TOO_LARGE, PERGIDAU_NO_MEMORY: as for a reply that is
+ * whole. PERGIDAU_INCOMPLETE: more bytes may be needed; that no more are asked for once the
+ * reply is there is tested, not proved. PERGIDAU_INVALID: whatever comes after the bytes, they
+ * begin with no reply. With these two all that is written is 0 too.
  *
  * Each call reads from the first byte on, and holds as much memory as that for a whole reply.
  *
  * The caller owes bytes_length bytes at bytes that can be read and that nothing changes while
  * the call runs, room for one reply at out, apart from them, and 512 KiB of stack.
  */
-enum pergidau_code pergidau_resp_reply_in_pieces(
+enum pergidau_code pergidau_resp_reply_partial(
     const uint8_t *bytes,
     size_t bytes_length,
-    size_t levels,
+    size_t max_depth,
     struct pergidau_reply *out);
 
 /*
@@ -1186,7 +1191,7 @@ enum pergidau_code pergidau_resp_reply_in_pieces(
  * PERGIDAU_DONE: that many of the first bytes are a reply, and whatever follows, no other
  * reply stands first. For the next one, zeros are put into the state. PERGIDAU_INCOMPLETE: the
  * bytes begin with none as yet: its last line is not ended, or bytes of a string are wanting.
- * PERGIDAU_REFUSED: whatever comes after the bytes, they begin with none; a line that is none
+ * PERGIDAU_INVALID: whatever comes after the bytes, they begin with none; a line that is none
  * of a reply is refused where it ends. With these two 0 is written.
  *
  * Of a state that calls left for other bytes, or that is changed, what is told may be wrong;
@@ -1197,7 +1202,7 @@ enum pergidau_code pergidau_resp_reply_in_pieces(
  * each apart from the others, and 16 KiB of stack.
  */
 enum pergidau_code pergidau_resp_extent(
-    struct pergidau_resp_extent *state,
+    struct pergidau_resp_reply_state *state,
     const uint8_t *bytes,
     size_t bytes_length,
     size_t *out);
@@ -1219,7 +1224,7 @@ enum pergidau_code pergidau_text_position(
 
 /*
  * The document of TOML 1.0 (toml.io/en/v1.0.0) that bytes are, in whose values no more than
- * levels arrays and inline tables stand in one another. What the standard leaves open is as
+ * max_depth arrays and inline tables stand in one another. What the standard leaves open is as
  * most readers have it: an integer has 64 bits, and a float is its text.
  *
  * PERGIDAU_DONE: the nodes of the document are written into nodes, and the bytes of their
@@ -1227,13 +1232,13 @@ enum pergidau_code pergidau_text_position(
  * the order in which the document first speaks of them: the first is the table that has all
  * others, and a table or an array stands before what is in it. Each says which node it is in,
  * which is the first in it, and which the next beside it, so that a loop walks them.
- * PERGIDAU_REFUSED: the bytes are no document; written is why, and where: at the first line
+ * PERGIDAU_INVALID: the bytes are no document; written is why, and where: at the first line
  * that is none of TOML, where it goes on as none does, or at the beginning of the first line
- * that the standard refuses for what those before it say. PERGIDAU_NO_TEXT: they are no UTF-8;
- * written is where the longest beginning ends that is. PERGIDAU_TOO_SMALL: they are a document
- * that wants more nodes or more bytes than the buffers have; how many of both is written.
- * PERGIDAU_NO_MEMORY. PERGIDAU_TOO_DEEP: more than 512 levels are asked for. But for
- * PERGIDAU_DONE the buffers are left as they were.
+ * that the standard refuses for what those before it say. PERGIDAU_INVALID_UTF8: they are no
+ * UTF-8; written is where the longest beginning ends that is. PERGIDAU_BUFFER_TOO_SMALL: they
+ * are a document that wants more nodes or more bytes than the buffers have; how many of both
+ * is written. PERGIDAU_NO_MEMORY. PERGIDAU_MAX_DEPTH_TOO_LARGE: more than 512 levels are asked
+ * for. But for PERGIDAU_DONE the buffers are left as they were.
  *
  * While it runs it holds up to 600 bytes of memory for each byte of the document.
  *
@@ -1244,12 +1249,12 @@ enum pergidau_code pergidau_text_position(
 enum pergidau_code pergidau_toml_document(
     const uint8_t *bytes,
     size_t bytes_length,
-    size_t levels,
+    size_t max_depth,
     uint8_t *text,
     size_t text_length,
     struct pergidau_toml_node *nodes,
     size_t nodes_length,
-    struct pergidau_toml_document *out);
+    struct pergidau_toml_result *out);
 
 #ifdef __cplusplus
 }

@@ -83,7 +83,7 @@ fn read<'i, 'b>(
             rest: &bytes[out.length..],
         }),
         code => {
-            let refused = (code == exports::REFUSED).then(|| Place::of(bytes, out.place));
+            let refused = (code == exports::INVALID).then(|| Place::of(bytes, out.place));
             Err(Error::of(code, refused, Wanted { entries: out.fields, bytes: out.text }))
         }
     }
@@ -138,7 +138,7 @@ pub fn record_in_pieces<'i, 'b>(
     text: &'b mut [u8],
     fields: &'b mut [Span],
 ) -> Result<Record<'i, 'b>, Error> {
-    read(exports::exported_csv_record_in_pieces, bytes, end, text, fields)
+    read(exports::exported_csv_record_partial, bytes, end, text, fields)
 }
 
 /// The records of a document, one after the other, each with fields of its own. After an error

@@ -1,5 +1,5 @@
 //! Why a reader gives no answer.
-use crate::exports::{self, MOST_LEVELS};
+use crate::exports::{self, MAX_DEPTH};
 use core::fmt;
 
 /// A place in what was read.
@@ -46,7 +46,7 @@ pub enum Error {
     NotText,
     /// The buffer is too small, and this is how much is wanted.
     TooSmall(Wanted),
-    /// More levels are asked for than [`MOST_LEVELS`](crate::MOST_LEVELS).
+    /// More levels are asked for than [`MAX_DEPTH`](crate::MAX_DEPTH).
     TooDeep,
     /// The library said what this crate does not know: it is another one.
     Unknown(u32),
@@ -65,12 +65,12 @@ impl Error {
     /// What a code other than that for done says.
     pub(crate) fn of(code: u32, refused: Option<Place>, wanted: Wanted) -> Error {
         match code {
-            exports::REFUSED => Error::Refused(refused),
+            exports::INVALID => Error::Refused(refused),
             exports::INCOMPLETE => Error::Incomplete,
             exports::NO_MEMORY => Error::NoMemory,
-            exports::NO_TEXT => Error::NotText,
-            exports::TOO_SMALL => Error::TooSmall(wanted),
-            exports::TOO_DEEP => Error::TooDeep,
+            exports::INVALID_UTF8 => Error::NotText,
+            exports::BUFFER_TOO_SMALL => Error::TooSmall(wanted),
+            exports::MAX_DEPTH_TOO_LARGE => Error::TooDeep,
             code => Error::Unknown(code),
         }
     }
@@ -94,7 +94,7 @@ impl fmt::Display for Error {
                 write!(f, "buffer too small: {entries} entries and {bytes} bytes required")
             }
             Error::TooDeep => {
-                write!(f, "depth limit too large: at most {MOST_LEVELS} levels are supported")
+                write!(f, "depth limit too large: at most {MAX_DEPTH} levels are supported")
             }
             Error::Unknown(code) => write!(f, "unknown code {code} from the library"),
         }

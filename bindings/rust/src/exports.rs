@@ -7,7 +7,7 @@ use core::ffi::{c_char, c_int};
 pub const DONE: u32 = 0;
 
 /// Invalid input. If the function documents it, the offset of the error is written.
-pub const REFUSED: u32 = 1;
+pub const INVALID: u32 = 1;
 
 /// Incomplete input: more bytes are needed.
 pub const INCOMPLETE: u32 = 2;
@@ -16,20 +16,20 @@ pub const INCOMPLETE: u32 = 2;
 pub const NO_MEMORY: u32 = 3;
 
 /// Input is not valid UTF-8.
-pub const NO_TEXT: u32 = 4;
+pub const INVALID_UTF8: u32 = 4;
 
 /// Buffer too small. The required sizes are written, and the buffer is unchanged unless the
 /// function documents otherwise.
-pub const TOO_SMALL: u32 = 5;
+pub const BUFFER_TOO_SMALL: u32 = 5;
 
-/// Depth limit too large: at most 512 levels are supported. That number is `MOST_LEVELS`.
-pub const TOO_DEEP: u32 = 6;
+/// Depth limit too large: at most 512 levels are supported. That number is `MAX_DEPTH`.
+pub const MAX_DEPTH_TOO_LARGE: u32 = 6;
 
 /// No more items. Each function documents the end that it reports.
 pub const END: u32 = 9;
 
 /// Number is not an integer or out of range. The function determines the range.
-pub const NO_INTEGER: u32 = 10;
+pub const NOT_AN_INTEGER: u32 = 10;
 
 /// Data of a chunk, one byte or more.
 pub const CHUNKED_DATA: usize = 0;
@@ -39,25 +39,25 @@ pub const CHUNKED_DATA: usize = 0;
 pub const CHUNKED_TRAILERS: usize = 1;
 
 /// A size line is due, and begins with no hexadecimal digit.
-pub const CHUNKED_FAULT_SIZE: usize = 0;
+pub const CHUNKED_ERROR_SIZE: usize = 0;
 
 /// No size line goes on with the byte: it is in no extension, or in no line end.
-pub const CHUNKED_FAULT_SIZE_LINE: usize = 1;
+pub const CHUNKED_ERROR_SIZE_LINE: usize = 1;
 
 /// With this digit the size is 2^64 or more.
-pub const CHUNKED_FAULT_SIZE_TOO_LARGE: usize = 2;
+pub const CHUNKED_ERROR_SIZE_TOO_LARGE: usize = 2;
 
 /// More bytes than the limit lets would stand before the next data, or the end.
-pub const CHUNKED_FAULT_SIZE_LINE_TOO_LONG: usize = 3;
+pub const CHUNKED_ERROR_SIZE_LINE_TOO_LONG: usize = 3;
 
 /// A carriage return and a line feed are due after the data of a chunk.
-pub const CHUNKED_FAULT_DATA_END: usize = 4;
+pub const CHUNKED_ERROR_DATA_END: usize = 4;
 
 /// No field line goes on with the byte, nor the line end after the trailer section.
-pub const CHUNKED_FAULT_TRAILERS: usize = 5;
+pub const CHUNKED_ERROR_TRAILERS: usize = 5;
 
 /// The trailer section would have more bytes than the limit lets.
-pub const CHUNKED_FAULT_TRAILERS_TOO_LONG: usize = 6;
+pub const CHUNKED_ERROR_TRAILERS_TOO_LONG: usize = 6;
 
 /// The name of a section, which begins there.
 pub const INI_SECTION: usize = 0;
@@ -73,22 +73,22 @@ pub const INI_KEY: usize = 2;
 pub const INI_MORE: usize = 3;
 
 /// No `]` stands after the `[` that begins the line.
-pub const INI_FAULT_OPEN_SECTION: usize = 0;
+pub const INI_ERROR_UNCLOSED_SECTION: usize = 0;
 
 /// Nothing stands between `[` and `]`.
-pub const INI_FAULT_EMPTY_SECTION: usize = 1;
+pub const INI_ERROR_EMPTY_SECTION: usize = 1;
 
 /// Something stands after the `]`.
-pub const INI_FAULT_TEXT_BEHIND_SECTION: usize = 2;
+pub const INI_ERROR_TRAILING_TEXT: usize = 2;
 
 /// No section stands before the pair.
-pub const INI_FAULT_NO_SECTION: usize = 3;
+pub const INI_ERROR_MISSING_SECTION: usize = 3;
 
 /// No key stands before the delimiter.
-pub const INI_FAULT_NO_KEY: usize = 4;
+pub const INI_ERROR_MISSING_KEY: usize = 4;
 
 /// There is no delimiter.
-pub const INI_FAULT_NO_DELIMITER: usize = 5;
+pub const INI_ERROR_MISSING_DELIMITER: usize = 5;
 
 /// `=` ends a key. Where neither this is set nor the next, both end one.
 pub const INI_DIALECT_EQUALS: usize = 1;
@@ -135,7 +135,7 @@ pub const INI_DIALECT_LENIENT: usize = 831;
 
 /// How many levels of arrays and objects in one another may be asked for. Each takes some of the
 /// stack.
-pub const MOST_LEVELS: usize = 512;
+pub const MAX_DEPTH: usize = 512;
 
 /// The word null.
 pub const JSON_NULL: usize = 0;
@@ -225,37 +225,37 @@ pub const TOML_LOCAL_DATE: usize = 8;
 pub const TOML_LOCAL_TIME: usize = 9;
 
 /// Nothing is refused.
-pub const TOML_FAULT_NONE: usize = 0;
+pub const TOML_ERROR_NONE: usize = 0;
 
 /// A key or a table is expected.
-pub const TOML_FAULT_KEY: usize = 1;
+pub const TOML_ERROR_KEY: usize = 1;
 
 /// The equals sign after a key is expected.
-pub const TOML_FAULT_EQUALS_SIGN: usize = 2;
+pub const TOML_ERROR_EQUALS_SIGN: usize = 2;
 
 /// A value is expected, of no more levels than are asked for.
-pub const TOML_FAULT_VALUE: usize = 3;
+pub const TOML_ERROR_VALUE: usize = 3;
 
 /// The name of a table is expected.
-pub const TOML_FAULT_TABLE_NAME: usize = 4;
+pub const TOML_ERROR_TABLE_NAME: usize = 4;
 
 /// A bracket after the name of a table is expected.
-pub const TOML_FAULT_CLOSING_BRACKET: usize = 5;
+pub const TOML_ERROR_CLOSING_BRACKET: usize = 5;
 
 /// The end of the line is expected.
-pub const TOML_FAULT_LINE_END: usize = 6;
+pub const TOML_ERROR_LINE_END: usize = 6;
 
 /// The line defines what is defined already.
-pub const TOML_FAULT_DEFINED: usize = 7;
+pub const TOML_ERROR_DEFINED: usize = 7;
 
 /// The line takes a value for a table.
-pub const TOML_FAULT_NO_TABLE: usize = 8;
+pub const TOML_ERROR_NOT_A_TABLE: usize = 8;
 
 /// The line adds to a table that is closed: an inline table, or by dotted keys one of a header.
-pub const TOML_FAULT_CLOSED: usize = 9;
+pub const TOML_ERROR_CLOSED: usize = 9;
 
 /// The line adds a table to what is no array of tables.
-pub const TOML_FAULT_NO_TABLES: usize = 10;
+pub const TOML_ERROR_NOT_AN_ARRAY_OF_TABLES: usize = 10;
 
 /// A place in the caller's bytes: that many of them, from one on.
 #[repr(C)]
@@ -296,7 +296,7 @@ pub struct Record {
 /// for the calls alone, and all zeros say that nothing was passed: so it is begun for each record.
 #[repr(C)]
 #[derive(Clone, Copy, Debug, Default, PartialEq, Eq)]
-pub struct CsvRecordExtent {
+pub struct CsvRecordState {
     /// How many bytes were passed.
     pub passed: usize,
     /// How many bytes the fields have that were passed, as they are meant.
@@ -373,15 +373,15 @@ pub struct ChunkedStep {
     /// How many bytes were taken. Those after them are the first of the next call.
     pub taken: usize,
     /// Why the byte after those that were taken is refused: a number of those from
-    /// `CHUNKED_FAULT_SIZE` on. Else 0.
-    pub fault: usize,
+    /// `CHUNKED_ERROR_SIZE` on. Else 0.
+    pub error: usize,
 }
 
 /// How far bytes were searched for the end of the head of a request. The numbers are for the calls
 /// alone, and all zeros say that nothing was passed: so it is begun for each head.
 #[repr(C)]
 #[derive(Clone, Copy, Debug, Default, PartialEq, Eq)]
-pub struct HttpHeadExtent {
+pub struct HttpHeadState {
     /// How many bytes were passed.
     pub passed: usize,
     /// Where in the head the next one is due: 0 where it begins.
@@ -468,8 +468,8 @@ pub struct IniEntry {
     pub value: Span,
     /// Where the line begins that is refused, or is no UTF-8. Else 0.
     pub place: usize,
-    /// Why it is refused: a number of those from `INI_FAULT_OPEN_SECTION` on. Else 0.
-    pub fault: usize,
+    /// Why it is refused: a number of those from `INI_ERROR_UNCLOSED_SECTION` on. Else 0.
+    pub error: usize,
 }
 
 /// A value, or a name in an object; or a bracket, by `exported_json_step` alone.
@@ -515,7 +515,7 @@ pub struct Reply {
 /// for each reply.
 #[repr(C)]
 #[derive(Clone, Copy, Debug, Default, PartialEq, Eq)]
-pub struct RespExtent {
+pub struct RespReplyState {
     /// What is due: 0 where nothing was passed, 1 for a line, 2 for the bytes of a string.
     pub due: usize,
     /// How many bytes were passed.
@@ -593,20 +593,21 @@ pub struct TomlNode {
 /// What was read of a document.
 #[repr(C)]
 #[derive(Clone, Copy, Debug, Default, PartialEq, Eq)]
-pub struct TomlDocument {
+pub struct TomlResult {
     /// How many nodes there are.
     pub nodes: usize,
     /// How many bytes their names and texts have together.
     pub text: usize,
     /// Where the bytes are no document: how many stand before the place. Else 0.
     pub place: usize,
-    /// Why they are none: a number of those from `TOML_FAULT_NONE` to `TOML_FAULT_NO_TABLES`.
-    pub fault: usize,
+    /// Why they are none: a number of those from `TOML_ERROR_NONE` to
+    /// `TOML_ERROR_NOT_AN_ARRAY_OF_TABLES`.
+    pub error: usize,
 }
 
 extern "C" {
     /// Stands in a library of this version and with these declarations alone.
-    #[link_name = "pergidau_0_0_0_declared_a22c8061"]
+    #[link_name = "pergidau_0_0_0_declared_1ea91080"]
     static VERSION_LINKED: c_char;
 
     /// The version of the library that is linked.
@@ -623,11 +624,11 @@ extern "C" {
     /// which is 1 where both sides are equal and else 0. `/` cuts towards 0, and `%` has the sign of
     /// its left side.
     ///
-    /// `DONE`: the value is written. `REFUSED`: the text is no formula, or a number or a result in it
+    /// `DONE`: the value is written. `INVALID`: the text is no formula, or a number or a result in it
     /// does not fit 64 bits with a sign, a divisor is 0, an exponent is negative, or a factorial is of
     /// a negative number; so is `%` where the quotient does not fit, as in `-2 ^ 63 % -1`. The place is
     /// written: an end of the text, or one between two of its characters. That the formula was read up
-    /// to there when it was refused is tested, not proved. `NO_TEXT`, `NO_MEMORY`.
+    /// to there when it was refused is tested, not proved. `INVALID_UTF8`, `NO_MEMORY`.
     ///
     /// While it runs it holds up to 100 bytes of memory for each byte of the text.
     ///
@@ -646,11 +647,11 @@ extern "C" {
     /// record, and a line end alone is a record of one empty field.
     ///
     /// `DONE`: the bytes of the fields, without the quotes round them and with each quote once, are
-    /// written into `text`, one field after the other, and that many places there, in order. `REFUSED`:
+    /// written into `text`, one field after the other, and that many places there, in order. `INVALID`:
     /// the bytes begin with no record; written is the first place at which none goes on: what stands
-    /// before it begins one, and with the byte there none begins. `TOO_SMALL`: they begin with one that
-    /// wants more entries or more bytes than the buffers have; how many of both is written. But for
-    /// `DONE` the buffers are left as they were.
+    /// before it begins one, and with the byte there none begins. `BUFFER_TOO_SMALL`: they begin with
+    /// one that wants more entries or more bytes than the buffers have; how many of both is written.
+    /// But for `DONE` the buffers are left as they were.
     ///
     /// No memory is asked for. A record is passed over twice, so that nothing is written where there is
     /// no room.
@@ -672,19 +673,19 @@ extern "C" {
     /// The same record where the bytes come in pieces: a record or a refusal that it answers is that of
     /// all longer bytes too.
     ///
-    /// `DONE`, `TOO_SMALL`: as for a record that is whole. `INCOMPLETE`: no record with its line end is
-    /// there, and with three bytes more at most they can begin with one. `REFUSED`: whatever comes
-    /// after the bytes, they begin with no record, and that is answered as soon as the byte is there
-    /// at which none goes on, whose place is written: so of `x"`, 1. A field in quotes that are not
-    /// closed goes on for ever, so the caller bounds how many bytes are held. The last record may have
-    /// no line end: where no more bytes come, the call for whole ones reads it.
+    /// `DONE`, `BUFFER_TOO_SMALL`: as for a record that is whole. `INCOMPLETE`: no record with its line
+    /// end is there, and with three bytes more at most they can begin with one. `INVALID`: whatever
+    /// comes after the bytes, they begin with no record, and that is answered as soon as the byte is
+    /// there at which none goes on, whose place is written: so of `x"`, 1. A field in quotes that are
+    /// not closed goes on for ever, so the caller bounds how many bytes are held. The last record may
+    /// have no line end: where no more bytes come, the call for whole ones reads it.
     ///
     /// Each call reads from the first byte on, and asks for no memory.
     ///
     /// The caller owes `bytes_length` bytes at `bytes` that can be read and that nothing changes while
     /// the call runs, `text_length` bytes at `text` and `fields_length` entries at `fields` that can be
     /// written, room for one record at `out`, each apart from the others, and 16 KiB of stack.
-    pub fn exported_csv_record_in_pieces(
+    pub fn exported_csv_record_partial(
         bytes: *const u8,
         bytes_length: usize,
         line_feeds: u32,
@@ -709,7 +710,7 @@ extern "C" {
     /// the next one, zeros are put into the state. `INCOMPLETE`: no record with its line end is there,
     /// and with three bytes more at most they can begin with one. A field in quotes that are not closed
     /// goes on for ever, so the caller bounds how many bytes are held. The last record may have no line
-    /// end: where no more bytes come, the call for whole ones reads it. `REFUSED`: whatever comes after
+    /// end: where no more bytes come, the call for whole ones reads it. `INVALID`: whatever comes after
     /// the bytes, they begin with no record, and that is answered as soon as the byte is there at which
     /// none goes on, whose place is written.
     ///
@@ -720,7 +721,7 @@ extern "C" {
     /// that can be read and that nothing changes while the call runs, room for one record at `out`,
     /// each apart from the others, and 16 KiB of stack.
     pub fn exported_csv_record_extent(
-        state: *mut CsvRecordExtent,
+        state: *mut CsvRecordState,
         bytes: *const u8,
         bytes_length: usize,
         line_feeds: u32,
@@ -730,11 +731,11 @@ extern "C" {
     /// The head of a request of HTTP/1.1 (RFC 9112) with which the bytes begin: a request line, field
     /// lines one after the other, and an empty line. What stands after it is not looked at.
     ///
-    /// `DONE`: the places of its parts are written, and of that many fields, in order. `REFUSED`: the
+    /// `DONE`: the places of its parts are written, and of that many fields, in order. `INVALID`: the
     /// bytes begin with no head; written is the first place at which none goes on, which is their end
-    /// where they end within one. `TOO_SMALL`: they begin with one that has more fields than the buffer
-    /// has entries; how many it has is written. Where it does not answer `DONE`, any entry of the
-    /// buffer may be written: the fields are written as they are read.
+    /// where they end within one. `BUFFER_TOO_SMALL`: they begin with one that has more fields than the
+    /// buffer has entries; how many it has is written. Where it does not answer `DONE`, any entry of
+    /// the buffer may be written: the fields are written as they are read.
     ///
     /// No empty line is passed before the request line: a server that is to be lenient, as section 2.2
     /// of RFC 9112 has it, passes one CRLF there itself. The bytes are read once, and no memory is
@@ -753,17 +754,17 @@ extern "C" {
 
     /// The same head where the bytes come in pieces: it answers as soon as the empty line is there.
     ///
-    /// `DONE`, `TOO_SMALL`: as for a head that is whole. `INCOMPLETE`: the bytes begin with no head,
-    /// and with more after them they can. `REFUSED`: whatever comes after the bytes, they begin with
-    /// no head; written is the first place at which none goes on: with the bytes before it a head can
-    /// begin, and with these and the byte there none does.
+    /// `DONE`, `BUFFER_TOO_SMALL`: as for a head that is whole. `INCOMPLETE`: the bytes begin with no
+    /// head, and with more after them they can. `INVALID`: whatever comes after the bytes, they begin
+    /// with no head; written is the first place at which none goes on: with the bytes before it a head
+    /// can begin, and with these and the byte there none does.
     ///
     /// Each call reads from the first byte on.
     ///
     /// The caller owes `bytes_length` bytes at `bytes` that can be read and that nothing changes while
     /// the call runs, `fields_length` entries at `fields` that can be written, room for one head at
     /// `out`, each apart from the others, and 16 KiB of stack.
-    pub fn exported_http_head_in_pieces(
+    pub fn exported_http_head_partial(
         bytes: *const u8,
         bytes_length: usize,
         fields: *mut Field,
@@ -784,7 +785,7 @@ extern "C" {
     /// `END`: the body is whole, and what is after the bytes that were taken is after it; so it is told
     /// of the same state again. For the next body, the first numbers are put into the state.
     /// `INCOMPLETE`: all bytes are taken, they are no body as yet, and with more after them they can
-    /// be. `REFUSED`: with the byte after those that were taken no body goes on, or one that has 2^64
+    /// be. `INVALID`: with the byte after those that were taken no body goes on, or one that has 2^64
     /// bytes or more; or the limits do not let it be taken. With these three no kind and no place are
     /// written.
     ///
@@ -811,7 +812,7 @@ extern "C" {
     ///
     /// `DONE`: that many of the first bytes are a head; how many is written. For the next one, zeros
     /// are put into the state. `INCOMPLETE`: the bytes begin with no head, and with more after them
-    /// they can; 0 is written. `REFUSED`: whatever comes after the bytes, they begin with no head;
+    /// they can; 0 is written. `INVALID`: whatever comes after the bytes, they begin with no head;
     /// written is the first place at which none goes on.
     ///
     /// Of a state that calls left for other bytes, or that is changed, what is told may be wrong;
@@ -821,7 +822,7 @@ extern "C" {
     /// that can be read and that nothing changes while the call runs, room for one length at `out`,
     /// each apart from the others, and 16 KiB of stack.
     pub fn exported_http_head_extent(
-        state: *mut HttpHeadExtent,
+        state: *mut HttpHeadState,
         bytes: *const u8,
         bytes_length: usize,
         out: *mut usize,
@@ -832,11 +833,11 @@ extern "C" {
     ///
     /// `DONE`: the version, the status code and the place of the reason are written, and the places of
     /// that many fields, in order. The status code is three digits, of which the first may be any. The
-    /// reason may have no bytes, and then the space before it may be wanting too. `REFUSED`: the bytes
+    /// reason may have no bytes, and then the space before it may be wanting too. `INVALID`: the bytes
     /// begin with no head; written is the first place at which none goes on, which is their end where
-    /// they end within one. `TOO_SMALL`: they begin with one that has more fields than the buffer has
-    /// entries; how many it has is written. Where it does not answer `DONE`, any entry of the buffer
-    /// may be written: the fields are written as they are read.
+    /// they end within one. `BUFFER_TOO_SMALL`: they begin with one that has more fields than the
+    /// buffer has entries; how many it has is written. Where it does not answer `DONE`, any entry of
+    /// the buffer may be written: the fields are written as they are read.
     ///
     /// Whether a body follows, and how long it is, the method of the request, the status code and the
     /// fields say (RFC 9112, section 6.3). The bytes are read once, and no memory is asked for.
@@ -854,17 +855,17 @@ extern "C" {
 
     /// The same head where the bytes come in pieces: it answers as soon as the empty line is there.
     ///
-    /// `DONE`, `TOO_SMALL`: as for a head that is whole. `INCOMPLETE`: the bytes begin with no head,
-    /// and with more after them they can. `REFUSED`: whatever comes after the bytes, they begin with
-    /// no head; written is the first place at which none goes on: with the bytes before it a head can
-    /// begin, and with these and the byte there none does.
+    /// `DONE`, `BUFFER_TOO_SMALL`: as for a head that is whole. `INCOMPLETE`: the bytes begin with no
+    /// head, and with more after them they can. `INVALID`: whatever comes after the bytes, they begin
+    /// with no head; written is the first place at which none goes on: with the bytes before it a head
+    /// can begin, and with these and the byte there none does.
     ///
     /// Each call reads from the first byte on.
     ///
     /// The caller owes `bytes_length` bytes at `bytes` that can be read and that nothing changes while
     /// the call runs, `fields_length` entries at `fields` that can be written, room for one head at
     /// `out`, each apart from the others, and 16 KiB of stack.
-    pub fn exported_http_response_head_in_pieces(
+    pub fn exported_http_response_head_partial(
         bytes: *const u8,
         bytes_length: usize,
         fields: *mut Field,
@@ -875,7 +876,7 @@ extern "C" {
     /// The key and the value of one line: a key of one or more ASCII letters or digits, `=`, a value of
     /// bytes other than a line feed, which may be none, and at most one line feed.
     ///
-    /// `DONE`: their places are written. `REFUSED`: the bytes are no such line; written is the length
+    /// `DONE`: their places are written. `INVALID`: the bytes are no such line; written is the length
     /// of their longest beginning that begins one.
     ///
     /// The caller owes `bytes_length` bytes at `bytes` that can be read and that nothing changes while
@@ -894,14 +895,15 @@ extern "C" {
     ///
     /// `DONE`: the bytes of its entries are written into `text`, those of the key before those of the
     /// value and one entry after the other, and that many places there, in order: of each section its
-    /// head, and then its pairs. `REFUSED`: the bytes are no document; written is the length of their
+    /// head, and then its pairs. `INVALID`: the bytes are no document; written is the length of their
     /// longest beginning that is made of such parts, each of which is one where it stands in all of the
     /// bytes: a pair ends where its line does, so of `[a]`, a line feed, and `x=` before a byte that is
-    /// no UTF-8 it is 4. `TOO_SMALL`: they are one that wants more entries or more bytes than the
-    /// buffers have; how many of both is written, and the buffers are left as they were. `NO_MEMORY`.
+    /// no UTF-8 it is 4. `BUFFER_TOO_SMALL`: they are one that wants more entries or more bytes than
+    /// the buffers have; how many of both is written, and the buffers are left as they were.
+    /// `NO_MEMORY`.
     ///
     /// While it runs it holds up to 100 bytes of memory for each byte of the document, also where it
-    /// then answers `REFUSED` or `TOO_SMALL`.
+    /// then answers `INVALID` or `BUFFER_TOO_SMALL`.
     ///
     /// The caller owes `bytes_length` bytes at `bytes` that can be read and that nothing changes while
     /// the call runs, `text_length` bytes at `text` and `entries_length` entries at `entries` that can
@@ -933,9 +935,9 @@ extern "C" {
     ///
     /// `DONE`: what the entry is and the places of its texts are written; its line is UTF-8. A value of
     /// more lines comes as a pair and one `INI_MORE` for each further line. `END`: no entry is left.
-    /// `REFUSED`: the next line is none of the dialect; where it begins, and why, is written.
-    /// `NO_TEXT`: the next line is no UTF-8; where it begins is written. With these three no kind and
-    /// no texts are written, and a further call tells the same. Lines are checked one by one, so
+    /// `INVALID`: the next line is none of the dialect; where it begins, and why, is written.
+    /// `INVALID_UTF8`: the next line is no UTF-8; where it begins is written. With these three no kind
+    /// and no texts are written, and a further call tells the same. Lines are checked one by one, so
     /// entries are told of a document in which a later line is no UTF-8.
     ///
     /// Of a state that calls left for other bytes, or that is changed, what is told may be wrong;
@@ -953,41 +955,41 @@ extern "C" {
     ) -> u32;
 
     /// Whether a text is one of JSON (RFC 8259): a value with white space round it, in which no more
-    /// than `levels` arrays and objects stand in one another. What has a surrogate that is escaped
+    /// than `max_depth` arrays and objects stand in one another. What has a surrogate that is escaped
     /// alone, as `\ud800`, is none, since no character is meant by it, though the grammar of the
     /// standard has it.
     ///
-    /// `DONE`: it is. `REFUSED`: it is not. `NO_TEXT`: it is no UTF-8. `TOO_DEEP`: more than 512
-    /// levels are asked for.
+    /// `DONE`: it is. `INVALID`: it is not. `INVALID_UTF8`: it is no UTF-8. `MAX_DEPTH_TOO_LARGE`: more
+    /// than 512 levels are asked for.
     ///
     /// The caller owes `text_length` bytes at `text` that can be read and that nothing changes while
     /// the call runs, and 512 KiB of stack.
     pub fn exported_json_check(
         text: *const u8,
         text_length: usize,
-        levels: usize,
+        max_depth: usize,
     ) -> u32;
 
-    /// The longest value of JSON (RFC 8259) with which the bytes begin, in which no more than `levels`
-    /// arrays and objects stand in one another: how many bytes it has is written. White space before
-    /// it is not passed. Bytes of 128 and above are not looked at: the value is JSON where it is UTF-8.
-    /// Values are those of `exported_json_check`.
+    /// The longest value of JSON (RFC 8259) with which the bytes begin, in which no more than
+    /// `max_depth` arrays and objects stand in one another: how many bytes it has is written. White
+    /// space before it is not passed. Bytes of 128 and above are not looked at: the value is JSON where
+    /// it is UTF-8. Values are those of `exported_json_check`.
     ///
-    /// `DONE`: it is found. `REFUSED`: the bytes begin with none, and 0 is written. `TOO_DEEP`: more
-    /// than 512 levels are asked for, and 0 is written.
+    /// `DONE`: it is found. `INVALID`: the bytes begin with none, and 0 is written.
+    /// `MAX_DEPTH_TOO_LARGE`: more than 512 levels are asked for, and 0 is written.
     ///
     /// The caller owes `bytes_length` bytes at `bytes` that can be read and that nothing changes while
     /// the call runs, room for one length at `out`, apart from them, and 512 KiB of stack.
     pub fn exported_json_value(
         bytes: *const u8,
         bytes_length: usize,
-        levels: usize,
+        max_depth: usize,
         out: *mut usize,
     ) -> u32;
 
     /// The next value of JSON (RFC 8259), for a walk through a text that was checked: the longest value
     /// that stands after white space, a comma or a colon at most, and white space, in which no more
-    /// than `levels` arrays and objects stand in one another.
+    /// than `max_depth` arrays and objects stand in one another.
     ///
     /// From the start of the text it reads the text's value. What an array has in it is read from
     /// after its first byte on: a value at each call, of the bytes after the place of the last one.
@@ -997,16 +999,16 @@ extern "C" {
     /// in a time that is linear in the text. Of bytes that were not checked as a text, more than JSON
     /// allows is passed, as a comma before the first value.
     ///
-    /// `DONE`: what it is and its place are written. `END`: after white space stands a closing
-    /// bracket, or nothing. `REFUSED`: neither stands there. `TOO_DEEP`: more than 512 levels are asked
-    /// for. With these three all that is written is 0.
+    /// `DONE`: what it is and its place are written. `END`: after white space stands a closing bracket,
+    /// or nothing. `INVALID`: neither stands there. `MAX_DEPTH_TOO_LARGE`: more than 512 levels are
+    /// asked for. With these three all that is written is 0.
     ///
     /// The caller owes `bytes_length` bytes at `bytes` that can be read and that nothing changes while
     /// the call runs, room for one item at `out`, apart from them, and 512 KiB of stack.
     pub fn exported_json_next(
         bytes: *const u8,
         bytes_length: usize,
-        levels: usize,
+        max_depth: usize,
         out: *mut JsonItem,
     ) -> u32;
 
@@ -1014,8 +1016,8 @@ extern "C" {
     /// bytes begin. It has neither a point nor an exponent, so `1.0` and `1e2` are none, and fits 64
     /// bits with a sign; `-0` is 0. White space before it is not passed.
     ///
-    /// `DONE`: it is written. `NO_INTEGER`: the number is none, or does not fit. `REFUSED`: the bytes
-    /// begin with no number. With these two 0 is written.
+    /// `DONE`: it is written. `NOT_AN_INTEGER`: the number is none, or does not fit. `INVALID`: the
+    /// bytes begin with no number. With these two 0 is written.
     ///
     /// The caller owes `bytes_length` bytes at `bytes` that can be read and that nothing changes while
     /// the call runs, room for one integer at `out`, apart from them, and 16 KiB of stack.
@@ -1027,8 +1029,8 @@ extern "C" {
 
     /// As `exported_json_integer`, of 64 bits without a sign: a number with a minus is none, `-0` too.
     ///
-    /// `DONE`: it is written. `NO_INTEGER`: the number is none, or does not fit. `REFUSED`: the bytes
-    /// begin with no number. With these two 0 is written.
+    /// `DONE`: it is written. `NOT_AN_INTEGER`: the number is none, or does not fit. `INVALID`: the
+    /// bytes begin with no number. With these two 0 is written.
     ///
     /// The caller owes `bytes_length` bytes at `bytes` that can be read and that nothing changes while
     /// the call runs, room for one integer at `out`, apart from them, and 16 KiB of stack.
@@ -1047,7 +1049,7 @@ extern "C" {
     ///
     /// `DONE`: what it is and its place are written. It is a word, a number, a string, a name or a
     /// bracket, so never `JSON_ARRAY` or `JSON_OBJECT`. `END`: white space is all that is left.
-    /// `REFUSED`: neither stands there. With these two all that is written is 0.
+    /// `INVALID`: neither stands there. With these two all that is written is 0.
     ///
     /// The caller owes `bytes_length` bytes at `bytes` that can be read and that nothing changes while
     /// the call runs, room for one item at `out`, apart from them, and 16 KiB of stack.
@@ -1068,11 +1070,11 @@ extern "C" {
     /// have zeros in it, by `\u0000`.
     ///
     /// `DONE`: the text is written into `buffer`, and its length and that of the string at `out`; the
-    /// other bytes of the buffer are left as they were. `TOO_SMALL`: the buffer has fewer bytes than
-    /// the text; both lengths are written, and what the buffer then holds is not told. `REFUSED`: the
-    /// bytes begin with no string, as with a surrogate that is escaped alone; two zeros are written,
-    /// and what the buffer then holds is not told. A string has at least as many bytes as its text, so
-    /// a buffer as long as the string is not too small.
+    /// other bytes of the buffer are left as they were. `BUFFER_TOO_SMALL`: the buffer has fewer bytes
+    /// than the text; both lengths are written, and what the buffer then holds is not told. `INVALID`:
+    /// the bytes begin with no string, as with a surrogate that is escaped alone; two zeros are
+    /// written, and what the buffer then holds is not told. A string has at least as many bytes as its
+    /// text, so a buffer as long as the string is not too small.
     ///
     /// The caller owes `bytes_length` bytes at `bytes` that can be read and that nothing changes while
     /// the call runs, `buffer_length` bytes at `buffer` that can be written, room for two lengths at
@@ -1086,14 +1088,14 @@ extern "C" {
     ) -> u32;
 
     /// The reply of Redis (RESP2, the second version of its protocol) with which the bytes begin, in
-    /// which no more than `levels` arrays stand in one another. The elements of an array are read by
+    /// which no more than `max_depth` arrays stand in one another. The elements of an array are read by
     /// further calls, of the bytes at its place and of those after each element.
     ///
     /// An integer may have a sign before it and zeros first, a size zeros first; `-1` is the size of a
     /// null.
     ///
-    /// `DONE`: the reply is written. `REFUSED`: the bytes begin with none. `TOO_DEEP`: more than 512
-    /// levels are asked for. `NO_MEMORY`. With these three all that is written is 0.
+    /// `DONE`: the reply is written. `INVALID`: the bytes begin with none. `MAX_DEPTH_TOO_LARGE`: more
+    /// than 512 levels are asked for. `NO_MEMORY`. With these three all that is written is 0.
     ///
     /// While it runs it holds up to 32 bytes of memory for each byte of the reply, and 2 KiB for each
     /// level of arrays that has begun.
@@ -1103,25 +1105,25 @@ extern "C" {
     pub fn exported_resp_reply(
         bytes: *const u8,
         bytes_length: usize,
-        levels: usize,
+        max_depth: usize,
         out: *mut Reply,
     ) -> u32;
 
     /// The same reply where the bytes come in pieces: what it answers is that of all longer bytes too.
     ///
-    /// `DONE`, `TOO_DEEP`, `NO_MEMORY`: as for a reply that is whole. `INCOMPLETE`: more bytes may be
-    /// needed; that no more are asked for once the reply is there is tested, not proved. `REFUSED`:
-    /// whatever comes after the bytes, they begin with no reply. With these two all that is written is
-    /// 0 too.
+    /// `DONE`, `MAX_DEPTH_TOO_LARGE`, `NO_MEMORY`: as for a reply that is whole. `INCOMPLETE`: more
+    /// bytes may be needed; that no more are asked for once the reply is there is tested, not proved.
+    /// `INVALID`: whatever comes after the bytes, they begin with no reply. With these two all that is
+    /// written is 0 too.
     ///
     /// Each call reads from the first byte on, and holds as much memory as that for a whole reply.
     ///
     /// The caller owes `bytes_length` bytes at `bytes` that can be read and that nothing changes while
     /// the call runs, room for one reply at `out`, apart from them, and 512 KiB of stack.
-    pub fn exported_resp_reply_in_pieces(
+    pub fn exported_resp_reply_partial(
         bytes: *const u8,
         bytes_length: usize,
-        levels: usize,
+        max_depth: usize,
         out: *mut Reply,
     ) -> u32;
 
@@ -1135,7 +1137,7 @@ extern "C" {
     ///
     /// `DONE`: that many of the first bytes are a reply, and whatever follows, no other reply stands
     /// first. For the next one, zeros are put into the state. `INCOMPLETE`: the bytes begin with none
-    /// as yet: its last line is not ended, or bytes of a string are wanting. `REFUSED`: whatever comes
+    /// as yet: its last line is not ended, or bytes of a string are wanting. `INVALID`: whatever comes
     /// after the bytes, they begin with none; a line that is none of a reply is refused where it ends.
     /// With these two 0 is written.
     ///
@@ -1146,7 +1148,7 @@ extern "C" {
     /// that can be read and that nothing changes while the call runs, room for one length at `out`,
     /// each apart from the others, and 16 KiB of stack.
     pub fn exported_resp_extent(
-        state: *mut RespExtent,
+        state: *mut RespReplyState,
         bytes: *const u8,
         bytes_length: usize,
         out: *mut usize,
@@ -1167,20 +1169,20 @@ extern "C" {
     ) -> u32;
 
     /// The document of TOML 1.0 (toml.io/en/v1.0.0) that bytes are, in whose values no more than
-    /// `levels` arrays and inline tables stand in one another. What the standard leaves open is as most
-    /// readers have it: an integer has 64 bits, and a float is its text.
+    /// `max_depth` arrays and inline tables stand in one another. What the standard leaves open is as
+    /// most readers have it: an integer has 64 bits, and a float is its text.
     ///
     /// `DONE`: the nodes of the document are written into `nodes`, and the bytes of their names and
-    /// texts into `text`. A node is a table, an array or another value. The nodes stand in the order
-    /// in which the document first speaks of them: the first is the table that has all others, and a
-    /// table or an array stands before what is in it. Each says which node it is in, which is the first
-    /// in it, and which the next beside it, so that a loop walks them. `REFUSED`: the bytes are no
+    /// texts into `text`. A node is a table, an array or another value. The nodes stand in the order in
+    /// which the document first speaks of them: the first is the table that has all others, and a table
+    /// or an array stands before what is in it. Each says which node it is in, which is the first in
+    /// it, and which the next beside it, so that a loop walks them. `INVALID`: the bytes are no
     /// document; written is why, and where: at the first line that is none of TOML, where it goes on as
     /// none does, or at the beginning of the first line that the standard refuses for what those before
-    /// it say. `NO_TEXT`: they are no UTF-8; written is where the longest beginning ends that is.
-    /// `TOO_SMALL`: they are a document that wants more nodes or more bytes than the buffers have; how
-    /// many of both is written. `NO_MEMORY`. `TOO_DEEP`: more than 512 levels are asked for. But for
-    /// `DONE` the buffers are left as they were.
+    /// it say. `INVALID_UTF8`: they are no UTF-8; written is where the longest beginning ends that is.
+    /// `BUFFER_TOO_SMALL`: they are a document that wants more nodes or more bytes than the buffers
+    /// have; how many of both is written. `NO_MEMORY`. `MAX_DEPTH_TOO_LARGE`: more than 512 levels are
+    /// asked for. But for `DONE` the buffers are left as they were.
     ///
     /// While it runs it holds up to 600 bytes of memory for each byte of the document.
     ///
@@ -1190,12 +1192,12 @@ extern "C" {
     pub fn exported_toml_document(
         bytes: *const u8,
         bytes_length: usize,
-        levels: usize,
+        max_depth: usize,
         text: *mut u8,
         text_length: usize,
         nodes: *mut TomlNode,
         nodes_length: usize,
-        out: *mut TomlDocument,
+        out: *mut TomlResult,
     ) -> u32;
 }
 

@@ -111,7 +111,7 @@ pub fn head_in_pieces<'i, 'f>(
     bytes: &'i [u8],
     fields: &'f mut [Field],
 ) -> Result<Head<'i, 'f>, Error> {
-    read(exports::exported_http_head_in_pieces, bytes, fields)
+    read(exports::exported_http_head_partial, bytes, fields)
 }
 
 /// What bytes of a chunked body are.
@@ -172,13 +172,13 @@ impl Fault {
     /// What a number of the library says.
     fn of(number: usize) -> Fault {
         match number {
-            exports::CHUNKED_FAULT_SIZE => Fault::Size,
-            exports::CHUNKED_FAULT_SIZE_LINE => Fault::SizeLine,
-            exports::CHUNKED_FAULT_SIZE_TOO_LARGE => Fault::SizeTooLarge,
-            exports::CHUNKED_FAULT_SIZE_LINE_TOO_LONG => Fault::SizeLineTooLong,
-            exports::CHUNKED_FAULT_DATA_END => Fault::DataEnd,
-            exports::CHUNKED_FAULT_TRAILERS => Fault::Trailers,
-            exports::CHUNKED_FAULT_TRAILERS_TOO_LONG => Fault::TrailersTooLong,
+            exports::CHUNKED_ERROR_SIZE => Fault::Size,
+            exports::CHUNKED_ERROR_SIZE_LINE => Fault::SizeLine,
+            exports::CHUNKED_ERROR_SIZE_TOO_LARGE => Fault::SizeTooLarge,
+            exports::CHUNKED_ERROR_SIZE_LINE_TOO_LONG => Fault::SizeLineTooLong,
+            exports::CHUNKED_ERROR_DATA_END => Fault::DataEnd,
+            exports::CHUNKED_ERROR_TRAILERS => Fault::Trailers,
+            exports::CHUNKED_ERROR_TRAILERS_TOO_LONG => Fault::TrailersTooLong,
             number => Fault::Unknown(number),
         }
     }
@@ -276,7 +276,7 @@ impl Chunked {
             (exports::DONE, exports::CHUNKED_TRAILERS) => Ok(Step::Trailers(at(all, step.place))),
             (exports::END, _) => Ok(Step::End),
             (exports::INCOMPLETE, _) => Ok(Step::More),
-            (exports::REFUSED, _) => Err(Fault::of(step.fault)),
+            (exports::INVALID, _) => Err(Fault::of(step.error)),
             (exports::DONE, kind) => Err(Fault::Unknown(kind)),
             (code, _) => Err(Fault::Unknown(code as usize)),
         }

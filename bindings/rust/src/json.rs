@@ -51,7 +51,7 @@ pub enum Kind {
 pub struct Value<'i> {
     kind: Kind,
     text: &'i str,
-    levels: usize,
+    max_depth: usize,
 }
 
 impl PartialEq for Value<'_> {
@@ -103,13 +103,13 @@ fn unknown(number: usize) -> ! {
 #[derive(Clone, Copy, Debug)]
 struct Inside<'i> {
     left: &'i str,
-    levels: usize,
+    max_depth: usize,
 }
 
 impl<'i> Inside<'i> {
     fn of(value: &Value<'i>, kind: Kind) -> Inside<'i> {
         let left = if value.kind == kind { &value.text[1..] } else { "" };
-        Inside { left, levels: value.levels.saturating_sub(1) }
+        Inside { left, max_depth: value.max_depth.saturating_sub(1) }
     }
 
     /// The next value. It is part of a text that was checked, so where there is none it is the end.
@@ -117,10 +117,10 @@ impl<'i> Inside<'i> {
         let mut out = JsonItem::default();
         let bytes = self.left.as_bytes();
         // SAFETY: the pointers are those of live borrows, and the bytes are only read. The call takes up to
-        // 57 KiB of stack at `MOST_LEVELS` (measured); where there is less, the thread's guard page ends
+        // 57 KiB of stack at `MAX_DEPTH` (measured); where there is less, the thread's guard page ends
         // the program.
         let code = unsafe {
-            exports::exported_json_next(bytes.as_ptr(), bytes.len(), self.levels, &mut out)
+            exports::exported_json_next(bytes.as_ptr(), bytes.len(), self.max_depth, &mut out)
         };
         match code {
             exports::DONE => {}
@@ -139,7 +139,7 @@ impl<'i> Inside<'i> {
         };
         let (front, left) = self.left.split_at(out.place.offset + out.place.length);
         self.left = left;
-        Some(Value { kind, text: &front[out.place.offset..], levels: self.levels })
+        Some(Value { kind, text: &front[out.place.offset..], max_depth: self.max_depth })
     }
 }
 
@@ -168,7 +168,7 @@ impl<'i> Iterator for Members<'i> {
     }
 }
 
-/// The value of a text of JSON (RFC 8259), in which no more than `levels` arrays and objects stand
+/// The value of a text of JSON (RFC 8259), in which no more than `max_depth` arrays and objects stand
 /// in one another; a text that is none is refused as a whole, as [`check`] does it.
 ///
 /// ```
@@ -180,12 +180,12 @@ impl<'i> Iterator for Members<'i> {
 /// assert_eq!(value.members().last().unwrap().1.kind(), pergidau::json::Kind::String);
 /// # Ok::<(), pergidau::Error>(())
 /// ```
-pub fn parse(text: &str, levels: usize) -> Result<Value<'_>, Error> {
-    check(text.as_bytes(), levels)?;
-    Inside { left: text, levels }.next().ok_or(Error::Refused(None))
+pub fn parse(text: &str, max_depth: usize) -> Result<Value<'_>, Error> {
+    check(text.as_bytes(), max_depth)?;
+    Inside { left: text, max_depth }.next().ok_or(Error::Refused(None))
 }
 
-/// Whether a text is one of JSON (RFC 8259), in which no more than `levels` arrays and objects stand
+/// Whether a text is one of JSON (RFC 8259), in which no more than `max_depth` arrays and objects stand
 /// in one another: an error says that it is none. Of a text that is none no place is told.
 ///
 /// ```
@@ -194,11 +194,11 @@ pub fn parse(text: &str, levels: usize) -> Result<Value<'_>, Error> {
 /// assert_eq!(json::check(b" {\"a\": [1, 2.5e3, true]}\n", 2), Ok(()));
 /// assert_eq!(json::check(b"[1, 2,]", 2), Err(Error::Refused(None)));
 /// ```
-pub fn check(text: &[u8], levels: usize) -> Result<(), Error> {
+pub fn check(text: &[u8], max_depth: usize) -> Result<(), Error> {
     // SAFETY: the pointer is that of a live borrow, and the bytes are only read. The call takes up to
-    // 57 KiB of stack at `MOST_LEVELS` (measured); where there is less, the thread's guard page ends
+    // 57 KiB of stack at `MAX_DEPTH` (measured); where there is less, the thread's guard page ends
     // the program.
-    match unsafe { exports::exported_json_check(text.as_ptr(), text.len(), levels) } {
+    match unsafe { exports::exported_json_check(text.as_ptr(), text.len(), max_depth) } {
         exports::DONE => Ok(()),
         code => Err(Error::of(code, None, NOTHING)),
     }
@@ -212,13 +212,13 @@ pub fn check(text: &[u8], levels: usize) -> Result<(), Error> {
 ///
 /// assert_eq!(json::longest(b"[1, {}] , 2", 2), Ok((&b"[1, {}]"[..], &b" , 2"[..])));
 /// ```
-pub fn longest(bytes: &[u8], levels: usize) -> Result<(&[u8], &[u8]), Error> {
+pub fn longest(bytes: &[u8], max_depth: usize) -> Result<(&[u8], &[u8]), Error> {
     let mut length = 0;
     // SAFETY: the pointers are those of live borrows, and the bytes are only read. The call takes up to
-    // 57 KiB of stack at `MOST_LEVELS` (measured); where there is less, the thread's guard page ends
+    // 57 KiB of stack at `MAX_DEPTH` (measured); where there is less, the thread's guard page ends
     // the program.
     let code = unsafe {
-        exports::exported_json_value(bytes.as_ptr(), bytes.len(), levels, &mut length)
+        exports::exported_json_value(bytes.as_ptr(), bytes.len(), max_depth, &mut length)
     };
     match code {
         exports::DONE => Ok(bytes.split_at(length)),

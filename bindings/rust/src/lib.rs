@@ -46,7 +46,7 @@ pub mod resp;
 pub mod toml;
 
 pub use crate::error::{Error, Place, Wanted};
-pub use crate::exports::{Span, MOST_LEVELS};
+pub use crate::exports::{Span, MAX_DEPTH};
 
 /// The examples of the page of this crate are run as those of its documentation.
 #[cfg(doctest)]

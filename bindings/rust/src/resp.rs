@@ -8,7 +8,7 @@
 //! assert_eq!(resp::reply(rest, 0)?, (Reply::Integer(7), &b""[..]));
 //! # Ok::<(), pergidau::Error>(())
 //! ```
-use crate::exports::{self, MOST_LEVELS};
+use crate::exports::{self, MAX_DEPTH};
 use crate::{at, Error, NOTHING};
 
 /// A reply of Redis: its strings are slices of the bytes that were read.
@@ -43,7 +43,7 @@ impl<'i> Iterator for Elements<'i> {
 
     fn next(&mut self) -> Option<Self::Item> {
         self.count = self.count.checked_sub(1)?;
-        match reply(self.left, MOST_LEVELS) {
+        match reply(self.left, MAX_DEPTH) {
             Ok((reply, rest)) => {
                 self.left = rest;
                 Some(Ok(reply))
@@ -64,12 +64,12 @@ impl ExactSizeIterator for Elements<'_> {}
 
 type Export = unsafe extern "C" fn(*const u8, usize, usize, *mut exports::Reply) -> u32;
 
-fn read(export: Export, bytes: &[u8], levels: usize) -> Result<(Reply<'_>, &[u8]), Error> {
+fn read(export: Export, bytes: &[u8], max_depth: usize) -> Result<(Reply<'_>, &[u8]), Error> {
     let mut out = exports::Reply::default();
     // SAFETY: the pointers are those of live borrows, and the bytes are only read. The call takes up to
-    // 107 KiB of stack at `MOST_LEVELS` (measured); where there is less, the thread's guard page ends
+    // 107 KiB of stack at `MAX_DEPTH` (measured); where there is less, the thread's guard page ends
     // the program.
-    let code = unsafe { export(bytes.as_ptr(), bytes.len(), levels, &mut out) };
+    let code = unsafe { export(bytes.as_ptr(), bytes.len(), max_depth, &mut out) };
     if code != exports::DONE {
         return Err(Error::of(code, None, NOTHING));
     }
@@ -87,7 +87,7 @@ fn read(export: Export, bytes: &[u8], levels: usize) -> Result<(Reply<'_>, &[u8]
     Ok((reply, &bytes[out.length..]))
 }
 
-/// The reply of Redis (RESP2) with which the bytes begin, in which no more than `levels` arrays stand
+/// The reply of Redis (RESP2) with which the bytes begin, in which no more than `max_depth` arrays stand
 /// in one another, and what stands after it. While it runs it holds up to 32 bytes of memory for each
 /// byte of the reply, and 2 KiB for each level of arrays that has begun.
 ///
@@ -101,8 +101,8 @@ fn read(export: Export, bytes: &[u8], levels: usize) -> Result<(Reply<'_>, &[u8]
 /// assert_eq!(rest, b"+");
 /// # Ok::<(), pergidau::Error>(())
 /// ```
-pub fn reply(bytes: &[u8], levels: usize) -> Result<(Reply<'_>, &[u8]), Error> {
-    read(exports::exported_resp_reply, bytes, levels)
+pub fn reply(bytes: &[u8], max_depth: usize) -> Result<(Reply<'_>, &[u8]), Error> {
+    read(exports::exported_resp_reply, bytes, max_depth)
 }
 
 /// The same reply where the bytes come in pieces: [`Error::Incomplete`] says that more of them may
@@ -115,8 +115,8 @@ pub fn reply(bytes: &[u8], levels: usize) -> Result<(Reply<'_>, &[u8]), Error> {
 /// assert_eq!(resp::reply_in_pieces(b"$6\r\nfoo", 0), Err(Error::Incomplete));
 /// assert_eq!(resp::reply_in_pieces(b"$x\r\n", 0), Err(Error::Refused(None)));
 /// ```
-pub fn reply_in_pieces(bytes: &[u8], levels: usize) -> Result<(Reply<'_>, &[u8]), Error> {
-    read(exports::exported_resp_reply_in_pieces, bytes, levels)
+pub fn reply_in_pieces(bytes: &[u8], max_depth: usize) -> Result<(Reply<'_>, &[u8]), Error> {
+    read(exports::exported_resp_reply_partial, bytes, max_depth)
 }
 
 /// How far bytes that come in pieces were searched for the end of the reply that they begin with. What
@@ -141,7 +141,7 @@ pub fn reply_in_pieces(bytes: &[u8], levels: usize) -> Result<(Reply<'_>, &[u8])
 /// ```
 #[derive(Clone, Debug, Default, PartialEq, Eq)]
 pub struct Extent {
-    state: exports::RespExtent,
+    state: exports::RespReplyState,
 }
 
 impl Extent {

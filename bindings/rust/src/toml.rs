@@ -98,23 +98,23 @@ impl std::error::Error for Error {}
 
 impl Error {
     /// What a code other than that for done says, with what was written.
-    fn of(code: u32, text: &str, out: &exports::TomlDocument) -> Error {
+    fn of(code: u32, text: &str, out: &exports::TomlResult) -> Error {
         let place = Place::of(text.as_bytes(), out.place);
-        let expected = match out.fault {
-            exports::TOML_FAULT_NONE => {
+        let expected = match out.error {
+            exports::TOML_ERROR_NONE => {
                 let wanted = Wanted { entries: out.nodes, bytes: out.text };
                 return Error::Other(crate::Error::of(code, Some(place), wanted));
             }
-            exports::TOML_FAULT_KEY => Expected::Key,
-            exports::TOML_FAULT_EQUALS_SIGN => Expected::EqualsSign,
-            exports::TOML_FAULT_VALUE => Expected::Value,
-            exports::TOML_FAULT_TABLE_NAME => Expected::TableName,
-            exports::TOML_FAULT_CLOSING_BRACKET => Expected::ClosingBracket,
-            exports::TOML_FAULT_LINE_END => Expected::LineEnd,
-            exports::TOML_FAULT_DEFINED => return Error::Refused(place, Refusal::Defined),
-            exports::TOML_FAULT_NO_TABLE => return Error::Refused(place, Refusal::NoTable),
-            exports::TOML_FAULT_CLOSED => return Error::Refused(place, Refusal::Closed),
-            exports::TOML_FAULT_NO_TABLES => return Error::Refused(place, Refusal::NoTables),
+            exports::TOML_ERROR_KEY => Expected::Key,
+            exports::TOML_ERROR_EQUALS_SIGN => Expected::EqualsSign,
+            exports::TOML_ERROR_VALUE => Expected::Value,
+            exports::TOML_ERROR_TABLE_NAME => Expected::TableName,
+            exports::TOML_ERROR_CLOSING_BRACKET => Expected::ClosingBracket,
+            exports::TOML_ERROR_LINE_END => Expected::LineEnd,
+            exports::TOML_ERROR_DEFINED => return Error::Refused(place, Refusal::Defined),
+            exports::TOML_ERROR_NOT_A_TABLE => return Error::Refused(place, Refusal::NoTable),
+            exports::TOML_ERROR_CLOSED => return Error::Refused(place, Refusal::Closed),
+            exports::TOML_ERROR_NOT_AN_ARRAY_OF_TABLES => return Error::Refused(place, Refusal::NoTables),
             _ => return Error::Other(crate::Error::Unknown(code)),
         };
         Error::Unexpected(place, expected)
@@ -338,10 +338,10 @@ impl<'b> Iterator for Children<'b> {
     }
 }
 
-/// The document that a text is, in whose values no more than `levels` arrays and inline tables stand in
+/// The document that a text is, in whose values no more than `max_depth` arrays and inline tables stand in
 /// one another. The nodes are written into `nodes`, and the bytes of their names and texts into `text`;
 /// where one of them is too small, the error says how much is wanted. More than
-/// [`MOST_LEVELS`](crate::MOST_LEVELS) levels are an error. While it runs it holds up to 600 bytes of
+/// [`MAX_DEPTH`](crate::MAX_DEPTH) levels are an error. While it runs it holds up to 600 bytes of
 /// memory for each byte of the document.
 ///
 /// ```
@@ -355,18 +355,18 @@ impl<'b> Iterator for Children<'b> {
 /// ```
 pub fn parse<'b>(
     source: &str,
-    levels: usize,
+    max_depth: usize,
     text: &'b mut [u8],
     nodes: &'b mut [Node],
 ) -> Result<Document<'b>, Error> {
-    let mut out = exports::TomlDocument::default();
+    let mut out = exports::TomlResult::default();
     let (bytes, room) = (text.as_mut_ptr(), text.len());
     let (places, count) = (nodes.as_mut_ptr(), nodes.len());
     // SAFETY: the pointers are those of live borrows, and the text is only read. The call takes up to
     // 510 KiB of stack (measured); where there is less, the thread's guard page ends the program.
     let code = unsafe {
         exports::exported_toml_document(
-            source.as_ptr(), source.len(), levels, bytes, room, places, count, &mut out,
+            source.as_ptr(), source.len(), max_depth, bytes, room, places, count, &mut out,
         )
     };
     match (code, str::from_utf8(&text[..out.text.min(text.len())])) {

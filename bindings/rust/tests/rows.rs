@@ -4,7 +4,7 @@ use pergidau::http::{self, Chunked, Fault, Field, Step};
 use pergidau::ini::{self, Entry};
 use pergidau::json::{self, Kind, Value};
 use pergidau::resp::{self, Extent, Reply};
-use pergidau::{calc, Error, Place, Span, Wanted, MOST_LEVELS};
+use pergidau::{calc, Error, Place, Span, Wanted, MAX_DEPTH};
 
 fn refused(offset: usize, column: usize) -> Error {
     Error::Refused(Some(Place { offset, line: 1, column }))
@@ -64,14 +64,14 @@ fn json_of_texts() {
         assert_eq!(json::check(text.as_bytes(), 2), Err(Error::Refused(None)), "{text}");
     }
     assert_eq!(json::check(b"\"\xff\"", 0), Err(Error::NotText));
-    assert_eq!(json::check(b"1", MOST_LEVELS + 1), Err(Error::TooDeep));
+    assert_eq!(json::check(b"1", MAX_DEPTH + 1), Err(Error::TooDeep));
     assert_eq!(json::longest(b"-1.5e3 ", 0), Ok((&b"-1.5e3"[..], &b" "[..])));
     assert_eq!(json::longest(b"[ \t\r\n]]", 1), Ok((&b"[ \t\r\n]"[..], &b"]"[..])));
     assert_eq!(json::longest(b" 1", 1), Err(Error::Refused(None)));
     assert_eq!(json::longest(b"\"\\ud800\"", 1), Err(Error::Refused(None)));
-    let deep = "[".repeat(MOST_LEVELS) + &"]".repeat(MOST_LEVELS);
-    assert_eq!(json::check(deep.as_bytes(), MOST_LEVELS), Ok(()));
-    assert_eq!(json::check(deep.as_bytes(), MOST_LEVELS - 1), Err(Error::Refused(None)));
+    let deep = "[".repeat(MAX_DEPTH) + &"]".repeat(MAX_DEPTH);
+    assert_eq!(json::check(deep.as_bytes(), MAX_DEPTH), Ok(()));
+    assert_eq!(json::check(deep.as_bytes(), MAX_DEPTH - 1), Err(Error::Refused(None)));
 }
 
 /// The texts of what is no array or object, in order, and the names, each with a colon.
@@ -117,13 +117,13 @@ fn json_walks() {
     assert_eq!(json::parse("1", 0).unwrap().elements().count(), 0);
     assert_eq!(json::parse("[1,]", 9), Err(Error::Refused(None)));
     assert_eq!(json::parse("", 9), Err(Error::Refused(None)));
-    assert_eq!(json::parse("1", MOST_LEVELS + 1), Err(Error::TooDeep));
-    let deep = "[".repeat(MOST_LEVELS) + &"]".repeat(MOST_LEVELS);
-    let (mut value, mut levels) = (json::parse(&deep, MOST_LEVELS).unwrap(), 1);
+    assert_eq!(json::parse("1", MAX_DEPTH + 1), Err(Error::TooDeep));
+    let deep = "[".repeat(MAX_DEPTH) + &"]".repeat(MAX_DEPTH);
+    let (mut value, mut levels) = (json::parse(&deep, MAX_DEPTH).unwrap(), 1);
     while let Some(inner) = value.elements().next() {
         (value, levels) = (inner, levels + 1);
     }
-    assert_eq!(levels, MOST_LEVELS);
+    assert_eq!(levels, MAX_DEPTH);
 }
 
 #[test]
@@ -412,7 +412,7 @@ fn resp_reply_of_bytes() {
         assert_eq!(resp::reply(bytes, 0), Err(Error::Refused(None)), "{bytes:?}");
         assert_eq!(resp::reply_in_pieces(bytes, 0), Err(Error::Refused(None)), "{bytes:?}");
     }
-    assert_eq!(resp::reply(b"+\r\n", MOST_LEVELS + 1), Err(Error::TooDeep));
+    assert_eq!(resp::reply(b"+\r\n", MAX_DEPTH + 1), Err(Error::TooDeep));
 }
 
 #[test]
@@ -426,9 +426,9 @@ fn resp_reply_of_arrays() {
     assert_eq!(elements.next(), Some(Ok(Reply::NullBulk)));
     assert_eq!(elements.next(), Some(Ok(Reply::Simple(b"a"))));
     assert_eq!(elements.next(), None);
-    let deep = "*1\r\n".repeat(MOST_LEVELS) + ":1\r\n";
-    assert!(resp::reply(deep.as_bytes(), MOST_LEVELS).is_ok());
-    assert_eq!(resp::reply(deep.as_bytes(), MOST_LEVELS - 1), Err(Error::Refused(None)));
+    let deep = "*1\r\n".repeat(MAX_DEPTH) + ":1\r\n";
+    assert!(resp::reply(deep.as_bytes(), MAX_DEPTH).is_ok());
+    assert_eq!(resp::reply(deep.as_bytes(), MAX_DEPTH - 1), Err(Error::Refused(None)));
 }
 
 #[test]

@@ -105,6 +105,6 @@ fn buffers_that_are_too_small_are_named() {
     let small = toml::parse("ab = 'cde'", 0, &mut bytes, &mut nodes[..1]).unwrap_err();
     assert_eq!(small.to_string(), "buffer too small: 2 entries and 5 bytes required");
     assert!(toml::parse("ab = 'cde'", 0, &mut bytes, &mut nodes).is_ok());
-    let deep = toml::parse("a = 1", pergidau::MOST_LEVELS + 1, &mut bytes, &mut nodes).unwrap_err();
+    let deep = toml::parse("a = 1", pergidau::MAX_DEPTH + 1, &mut bytes, &mut nodes).unwrap_err();
     assert_eq!(deep, Error::Other(pergidau::Error::TooDeep));
 }

@@ -19,7 +19,7 @@ use Rattle.format_ini.specs.declared.places.Placed.{Placed}
 use Rattle.format_ini.specs.declared.places.Reading.{Reading}
 use Rattle.format_ini.specs.declared.places.Stop.{Stop}
 use Rattle.format_ini.specs.declared.places.Stop.TheVariants as stops
-use Rattle.exported.specs.Code.{done, end, no_text, refused}
+use Rattle.exported.specs.Code.{done, end, invalid, invalid_utf8}
 use Rattle.exported.specs.Span.{nowhere, span_of}
 use Rattle.exported.specs.declared.ini.dialects.IniEntry.{IniEntry}
 use Rattle.exported.specs.declared.ini.dialects.IniState.{IniState}
@@ -99,7 +99,7 @@ fault_number why.NoDelimiter = 5
 
 -- No line is refused, and which number says what the entry is.
 abbrev pub IsOfKind : IniEntry → ℕ → Type 0
-IsOfKind out kind = (out.kind ≡ kind) × (out.place ≡ 0) × (out.fault ≡ 0)
+IsOfKind out kind = (out.kind ≡ kind) × (out.place ≡ 0) × (out.error ≡ 0)
 
 -- An entry, by what it is and the places of its texts: each begins where it does in the bytes, and
 -- has as many as the text.
@@ -117,15 +117,15 @@ ShowsEntry (entries.More value) at out = IsOfKind out 3
 -- No entry is told, and the line that is none begins there, for a reason of that number.
 abbrev pub ShowsNone : IniEntry → ℕ → ℕ → Type 0
 ShowsNone out place fault = (out.kind ≡ 0) × (out.key ≡ nowhere) × (out.value ≡ nowhere)
-    × (out.place ≡ place) × (out.fault ≡ fault)
+    × (out.place ≡ place) × (out.error ≡ fault)
 
 -- What is written where the reader of entries answers this, and the next line begins there.
 abbrev pub Writes : Result (Option Placed) Stop → ℕ → ℕ → IniEntry → Type 0
 Writes (Ok (Some it)) offset code out = (code ≡ done) × ShowsEntry it.entry it.at out
 Writes (Ok None) offset code out = (code ≡ end) × ShowsNone out 0 0
-Writes (Err stops.NoText) offset code out = (code ≡ no_text) × ShowsNone out offset 0
+Writes (Err stops.NoText) offset code out = (code ≡ invalid_utf8) × ShowsNone out offset 0
 Writes (Err (stops.Refused reason)) offset code out =
-    (code ≡ refused) × ShowsNone out offset (fault_number reason)
+    (code ≡ invalid) × ShowsNone out offset (fault_number reason)
 
 -- What a call says is what the reader of entries answers that goes on where the state says, and the
 -- state that it leaves is of where that one is then.

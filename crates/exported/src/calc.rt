@@ -4,9 +4,9 @@ ghost use Rattle.std.specs.Prelude.{◌≡◌, ◌⊎◌, pos};
 ghost use Rattle.std.specs.Str.{IsUtf8};
 ghost use Rattle.format_calculator.specs.Calculator.{IsFormulaFault, IsValue};
 ghost use Rattle.format_calculator.specs.declared.fault.Fault.TheVariants.{Refused};
-ghost use Rattle.exported.specs.Code.{done, no_memory, no_text, refused};
+ghost use Rattle.exported.specs.Code.{done, invalid, invalid_utf8, no_memory};
 
-use crate::code::{DONE, NO_MEMORY, NO_TEXT, REFUSED};
+use crate::code::{DONE, INVALID, INVALID_UTF8, NO_MEMORY};
 use format_calculator::calc;
 use format_calculator::fault::Fault;
 use std::alloc::Global;
@@ -27,10 +27,10 @@ const NONE: Number = Number { value: 0, place: 0 };
 /// Reads a text, and writes its value or the place of its refusal.
 fn read(alloc: Global, text: &str, out: &mut Number) -> u32
     ensures value { result ≡ done → IsValue text.now out.new.value }
-    ensures refused { result ≡ refused → IsFormulaFault text.now (Refused out.new.place) }
+    ensures refused { result ≡ invalid → IsFormulaFault text.now (Refused out.new.place) }
     ensures none { (result ≡ done → ⊥) → out.new.value ≡ pos 0 }
-    ensures nowhere { (result ≡ refused → ⊥) → out.new.place ≡ 0 }
-    ensures codes { (result ≡ done) ⊎ ((result ≡ refused) ⊎ (result ≡ no_memory)) }
+    ensures nowhere { (result ≡ invalid → ⊥) → out.new.place ≡ 0 }
+    ensures codes { (result ≡ done) ⊎ ((result ≡ invalid) ⊎ (result ≡ no_memory)) }
 {
     match calc::value(alloc, text) {
         Ok(value) => {
@@ -39,7 +39,7 @@ fn read(alloc: Global, text: &str, out: &mut Number) -> u32
         }
         Err(Fault::Refused(place)) => {
             *out = Number { value: 0, place };
-            REFUSED
+            INVALID
         }
         Err(Fault::NoMemory) => {
             *out = NONE;
@@ -56,11 +56,11 @@ fn read(alloc: Global, text: &str, out: &mut Number) -> u32
 /// which is 1 where both sides are equal and else 0. `/` cuts towards 0, and `%` has the sign of
 /// its left side.
 ///
-/// `DONE`: the value is written. `REFUSED`: the text is no formula, or a number or a result in it
+/// `DONE`: the value is written. `INVALID`: the text is no formula, or a number or a result in it
 /// does not fit 64 bits with a sign, a divisor is 0, an exponent is negative, or a factorial is of
 /// a negative number; so is `%` where the quotient does not fit, as in `-2 ^ 63 % -1`. The place is
 /// written: an end of the text, or one between two of its characters. That the formula was read up
-/// to there when it was refused is tested, not proved. `NO_TEXT`, `NO_MEMORY`.
+/// to there when it was refused is tested, not proved. `INVALID_UTF8`, `NO_MEMORY`.
 ///
 /// While it runs it holds up to 100 bytes of memory for each byte of the text.
 ///
@@ -69,19 +69,19 @@ fn read(alloc: Global, text: &str, out: &mut Number) -> u32
 #[unsafe(no_mangle)]
 pub extern "C" fn exported_calc_value(alloc: Global, text: &[u8], out: &mut Number) -> u32
     ensures value { result ≡ done → IsUtf8 text.now × IsValue text.now out.new.value }
-    ensures refused { result ≡ refused
+    ensures refused { result ≡ invalid
         → IsUtf8 text.now × IsFormulaFault text.now (Refused out.new.place) }
     ensures none { (result ≡ done → ⊥) → out.new.value ≡ pos 0 }
-    ensures nowhere { (result ≡ refused → ⊥) → out.new.place ≡ 0 }
-    ensures text { result ≡ no_text → IsUtf8 text.now → ⊥ }
-    ensures codes { (result ≡ done) ⊎ ((result ≡ refused) ⊎ ((result ≡ no_text)
+    ensures nowhere { (result ≡ invalid → ⊥) → out.new.place ≡ 0 }
+    ensures text { result ≡ invalid_utf8 → IsUtf8 text.now → ⊥ }
+    ensures codes { (result ≡ done) ⊎ ((result ≡ invalid) ⊎ ((result ≡ invalid_utf8)
         ⊎ (result ≡ no_memory))) }
 {
     match str::from_utf8(text) {
         Ok(chars) => read(alloc, chars, out),
         Err(_) => {
             *out = NONE;
-            NO_TEXT
+            INVALID_UTF8
         }
     }
 }

@@ -5,14 +5,14 @@ ghost use Rattle.format_csv_records.specs.Buffers.{IsForGood, IsSized, NoneForGo
 ghost use Rattle.format_csv_records.specs.Buffers.{ShowsFields};
 ghost use Rattle.format_csv_records.specs.Dialects.{IsRecord};
 ghost use Rattle.format_csv_records.specs.Early.{BeginsNone, GoesOn};
-ghost use Rattle.exported.specs.Code.{done, incomplete, refused, too_small};
+ghost use Rattle.exported.specs.Code.{buffer_too_small, done, incomplete, invalid};
 ghost use Rattle.exported.specs.Csv.{IsRefusedAt, NoRecord, ShowsRecord, WantsRecord};
 ghost use Rattle.exported.specs.Csv.{dialect_of};
 ghost use Rattle.exported.specs.Span.{span_of};
 
 pub mod extent;
 
-use crate::code::{DONE, INCOMPLETE, REFUSED, TOO_SMALL};
+use crate::code::{BUFFER_TOO_SMALL, DONE, INCOMPLETE, INVALID};
 use crate::span::Span;
 use format_csv_records::buffers::{RecordSize, record_size, write_fields};
 use format_csv_records::dialect::{Dialect, LineEnds};
@@ -72,10 +72,10 @@ fn write_record(
     ensures record { result ≡ done
         → ShowsFields span_of dialect bytes.now size (take out.new.text text.new)
         (take out.new.fields fields.new) }
-    ensures small { result ≡ too_small
+    ensures small { result ≡ buffer_too_small
         → (length fields.old < out.new.fields) ⊎ (length text.old < out.new.text) }
-    ensures kept { result ≡ too_small → (fields.new ≡ fields.old) × (text.new ≡ text.old) }
-    ensures codes { (result ≡ done) ⊎ (result ≡ too_small) }
+    ensures kept { result ≡ buffer_too_small → (fields.new ≡ fields.old) × (text.new ≡ text.old) }
+    ensures codes { (result ≡ done) ⊎ (result ≡ buffer_too_small) }
 {
     *out = Record {
         fields: size.fields,
@@ -86,7 +86,7 @@ fn write_record(
     if write_fields(dialect, bytes, size, text, fields) {
         DONE
     } else {
-        TOO_SMALL
+        BUFFER_TOO_SMALL
     }
 }
 
@@ -97,11 +97,11 @@ fn write_record(
 /// record, and a line end alone is a record of one empty field.
 ///
 /// `DONE`: the bytes of the fields, without the quotes round them and with each quote once, are
-/// written into `text`, one field after the other, and that many places there, in order. `REFUSED`:
+/// written into `text`, one field after the other, and that many places there, in order. `INVALID`:
 /// the bytes begin with no record; written is the first place at which none goes on: what stands
-/// before it begins one, and with the byte there none begins. `TOO_SMALL`: they begin with one that
-/// wants more entries or more bytes than the buffers have; how many of both is written. But for
-/// `DONE` the buffers are left as they were.
+/// before it begins one, and with the byte there none begins. `BUFFER_TOO_SMALL`: they begin with
+/// one that wants more entries or more bytes than the buffers have; how many of both is written.
+/// But for `DONE` the buffers are left as they were.
 ///
 /// No memory is asked for. A record is passed over twice, so that nothing is written where there is
 /// no room.
@@ -120,23 +120,23 @@ pub extern "C" fn exported_csv_record(
     ensures record { result ≡ done
         → ShowsRecord (IsRecord (dialect_of line_feeds)) bytes.now out.new
         (take out.new.text text.new) (take out.new.fields fields.new) }
-    ensures small { result ≡ too_small
+    ensures small { result ≡ buffer_too_small
         → WantsRecord (IsRecord (dialect_of line_feeds)) bytes.now out.new
         × ((length fields.old < out.new.fields) ⊎ (length text.old < out.new.text)) }
     ensures kept { (result ≡ done → ⊥) → (fields.new ≡ fields.old) × (text.new ≡ text.old) }
-    ensures refused { result ≡ refused → NoRecord (dialect_of line_feeds) bytes.now
+    ensures refused { result ≡ invalid → NoRecord (dialect_of line_feeds) bytes.now
         × IsRefusedAt (dialect_of line_feeds) bytes.now out.new.place }
-    ensures nowhere { (result ≡ refused → ⊥) → out.new.place ≡ 0 }
-    ensures codes { (result ≡ done) ⊎ ((result ≡ too_small) ⊎ (result ≡ refused)) }
+    ensures nowhere { (result ≡ invalid → ⊥) → out.new.place ≡ 0 }
+    ensures codes { (result ≡ done) ⊎ ((result ≡ buffer_too_small) ⊎ (result ≡ invalid)) }
 {
     *out = none_at(0);
     let dialect = dialect(line_feeds);
     match record_size(dialect, bytes) {
         Ok(Some(size)) => write_record(dialect, bytes, size, text, fields, out),
-        Ok(None) => REFUSED,
+        Ok(None) => INVALID,
         Err(fault) => {
             *out = none_at(fault.offset);
-            REFUSED
+            INVALID
         }
     }
 }
@@ -144,12 +144,12 @@ pub extern "C" fn exported_csv_record(
 /// The same record where the bytes come in pieces: a record or a refusal that it answers is that of
 /// all longer bytes too.
 ///
-/// `DONE`, `TOO_SMALL`: as for a record that is whole. `INCOMPLETE`: no record with its line end is
-/// there, and with three bytes more at most they can begin with one. `REFUSED`: whatever comes
-/// after the bytes, they begin with no record, and that is answered as soon as the byte is there
-/// at which none goes on, whose place is written: so of `x"`, 1. A field in quotes that are not
-/// closed goes on for ever, so the caller bounds how many bytes are held. The last record may have
-/// no line end: where no more bytes come, the call for whole ones reads it.
+/// `DONE`, `BUFFER_TOO_SMALL`: as for a record that is whole. `INCOMPLETE`: no record with its line
+/// end is there, and with three bytes more at most they can begin with one. `INVALID`: whatever
+/// comes after the bytes, they begin with no record, and that is answered as soon as the byte is
+/// there at which none goes on, whose place is written: so of `x"`, 1. A field in quotes that are
+/// not closed goes on for ever, so the caller bounds how many bytes are held. The last record may
+/// have no line end: where no more bytes come, the call for whole ones reads it.
 ///
 /// Each call reads from the first byte on, and asks for no memory.
 ///
@@ -157,7 +157,7 @@ pub extern "C" fn exported_csv_record(
 /// the call runs, `text_length` bytes at `text` and `fields_length` entries at `fields` that can be
 /// written, room for one record at `out`, each apart from the others, and 16 KiB of stack.
 #[unsafe(no_mangle)]
-pub extern "C" fn exported_csv_record_in_pieces(
+pub extern "C" fn exported_csv_record_partial(
     bytes: &[u8],
     line_feeds: u32,
     text: &mut [u8],
@@ -167,17 +167,17 @@ pub extern "C" fn exported_csv_record_in_pieces(
     ensures record { result ≡ done
         → ShowsRecord (IsForGood (dialect_of line_feeds)) bytes.now out.new
         (take out.new.text text.new) (take out.new.fields fields.new) }
-    ensures small { result ≡ too_small
+    ensures small { result ≡ buffer_too_small
         → WantsRecord (IsForGood (dialect_of line_feeds)) bytes.now out.new
         × ((length fields.old < out.new.fields) ⊎ (length text.old < out.new.text)) }
     ensures kept { (result ≡ done → ⊥) → (fields.new ≡ fields.old) × (text.new ≡ text.old) }
-    ensures refused { result ≡ refused → BeginsNone (dialect_of line_feeds) bytes.now
+    ensures refused { result ≡ invalid → BeginsNone (dialect_of line_feeds) bytes.now
         × IsRefusedAt (dialect_of line_feeds) bytes.now out.new.place
         × (out.new.place < length bytes.now) }
-    ensures nowhere { (result ≡ refused → ⊥) → out.new.place ≡ 0 }
+    ensures nowhere { (result ≡ invalid → ⊥) → out.new.place ≡ 0 }
     ensures incomplete { result ≡ incomplete → NoneForGood (dialect_of line_feeds) bytes.now
         × GoesOn (dialect_of line_feeds) bytes.now }
-    ensures codes { (result ≡ done) ⊎ ((result ≡ too_small) ⊎ ((result ≡ refused)
+    ensures codes { (result ≡ done) ⊎ ((result ≡ buffer_too_small) ⊎ ((result ≡ invalid)
         ⊎ (result ≡ incomplete))) }
 {
     *out = none_at(0);
@@ -196,7 +196,7 @@ pub extern "C" fn exported_csv_record_in_pieces(
                 return INCOMPLETE;
             }
             *out = none_at(fault.offset);
-            REFUSED
+            INVALID
         }
     }
 }

@@ -6,14 +6,14 @@ ghost use Rattle.format_http.specs.Heads.Head.{IsHead, Pair, Request};
 ghost use Rattle.format_http.specs.Pieces.Head.{BeginsHead, NoHead};
 ghost use Rattle.format_http_places.specs.Places.{IsWanted, ShowsHead};
 ghost use Rattle.format_http_places.specs.Refusals.{IsRefused};
-ghost use Rattle.exported.specs.Code.{done, incomplete, refused, too_small};
+ghost use Rattle.exported.specs.Code.{buffer_too_small, done, incomplete, invalid};
 ghost use Rattle.exported.specs.Http.{IsNoHead, places_of};
 
 pub mod chunked;
 pub mod extent;
 pub mod response;
 
-use crate::code::{DONE, INCOMPLETE, REFUSED, TOO_SMALL};
+use crate::code::{BUFFER_TOO_SMALL, DONE, INCOMPLETE, INVALID};
 use format_http_places::places;
 pub use format_http_places::places::{Field, Span};
 use format_http_places::read::{HeadError, read_head_into};
@@ -77,11 +77,11 @@ fn head_of(found: places::Head) -> Head
 /// The head of a request of HTTP/1.1 (RFC 9112) with which the bytes begin: a request line, field
 /// lines one after the other, and an empty line. What stands after it is not looked at.
 ///
-/// `DONE`: the places of its parts are written, and of that many fields, in order. `REFUSED`: the
+/// `DONE`: the places of its parts are written, and of that many fields, in order. `INVALID`: the
 /// bytes begin with no head; written is the first place at which none goes on, which is their end
-/// where they end within one. `TOO_SMALL`: they begin with one that has more fields than the buffer
-/// has entries; how many it has is written. Where it does not answer `DONE`, any entry of the
-/// buffer may be written: the fields are written as they are read.
+/// where they end within one. `BUFFER_TOO_SMALL`: they begin with one that has more fields than the
+/// buffer has entries; how many it has is written. Where it does not answer `DONE`, any entry of
+/// the buffer may be written: the fields are written as they are read.
 ///
 /// No empty line is passed before the request line: a server that is to be lenient, as section 2.2
 /// of RFC 9112 has it, passes one CRLF there itself. The bytes are read once, and no memory is
@@ -94,13 +94,13 @@ fn head_of(found: places::Head) -> Head
 pub extern "C" fn exported_http_head(bytes: &[u8], fields: &mut [Field], out: &mut Head) -> u32
     ensures head { result ≡ done
         → ShowsHead bytes.now (places_of out.new) (take out.new.fields fields.new) }
-    ensures small { result ≡ too_small → IsWanted bytes.now out.new.fields
+    ensures small { result ≡ buffer_too_small → IsWanted bytes.now out.new.fields
         × (length fields.old < out.new.fields) }
-    ensures refused { result ≡ refused → (line : Request) (pairs : List Pair) (rest : List ℕ)
+    ensures refused { result ≡ invalid → (line : Request) (pairs : List Pair) (rest : List ℕ)
         → IsHead line pairs bytes.now rest → ⊥ }
-    ensures place { result ≡ refused → IsNoHead bytes.now out.new.place }
-    ensures nowhere { (result ≡ refused → ⊥) → out.new.place ≡ 0 }
-    ensures codes { (result ≡ done) ⊎ ((result ≡ too_small) ⊎ (result ≡ refused)) }
+    ensures place { result ≡ invalid → IsNoHead bytes.now out.new.place }
+    ensures nowhere { (result ≡ invalid → ⊥) → out.new.place ≡ 0 }
+    ensures codes { (result ≡ done) ⊎ ((result ≡ buffer_too_small) ⊎ (result ≡ invalid)) }
 {
     match read_head_into(bytes, fields) {
         Ok(found) => {
@@ -109,25 +109,25 @@ pub extern "C" fn exported_http_head(bytes: &[u8], fields: &mut [Field], out: &m
         }
         Err(HeadError::TooManyFields(count)) => {
             *out = none(count, 0);
-            TOO_SMALL
+            BUFFER_TOO_SMALL
         }
         Err(HeadError::Incomplete) => {
             *out = none(0, bytes.len());
-            REFUSED
+            INVALID
         }
         Err(HeadError::Refused(place)) => {
             *out = none(0, place);
-            REFUSED
+            INVALID
         }
     }
 }
 
 /// The same head where the bytes come in pieces: it answers as soon as the empty line is there.
 ///
-/// `DONE`, `TOO_SMALL`: as for a head that is whole. `INCOMPLETE`: the bytes begin with no head,
-/// and with more after them they can. `REFUSED`: whatever comes after the bytes, they begin with
-/// no head; written is the first place at which none goes on: with the bytes before it a head can
-/// begin, and with these and the byte there none does.
+/// `DONE`, `BUFFER_TOO_SMALL`: as for a head that is whole. `INCOMPLETE`: the bytes begin with no
+/// head, and with more after them they can. `INVALID`: whatever comes after the bytes, they begin
+/// with no head; written is the first place at which none goes on: with the bytes before it a head
+/// can begin, and with these and the byte there none does.
 ///
 /// Each call reads from the first byte on.
 ///
@@ -135,22 +135,22 @@ pub extern "C" fn exported_http_head(bytes: &[u8], fields: &mut [Field], out: &m
 /// the call runs, `fields_length` entries at `fields` that can be written, room for one head at
 /// `out`, each apart from the others, and 16 KiB of stack.
 #[unsafe(no_mangle)]
-pub extern "C" fn exported_http_head_in_pieces(
+pub extern "C" fn exported_http_head_partial(
     bytes: &[u8],
     fields: &mut [Field],
     out: &mut Head,
 ) -> u32
     ensures head { result ≡ done
         → ShowsHead bytes.now (places_of out.new) (take out.new.fields fields.new) }
-    ensures small { result ≡ too_small → IsWanted bytes.now out.new.fields
+    ensures small { result ≡ buffer_too_small → IsWanted bytes.now out.new.fields
         × (length fields.old < out.new.fields) }
-    ensures refused { result ≡ refused → NoHead bytes.now }
-    ensures place { result ≡ refused → IsRefused bytes.now out.new.place }
-    ensures nowhere { (result ≡ refused → ⊥) → out.new.place ≡ 0 }
+    ensures refused { result ≡ invalid → NoHead bytes.now }
+    ensures place { result ≡ invalid → IsRefused bytes.now out.new.place }
+    ensures nowhere { (result ≡ invalid → ⊥) → out.new.place ≡ 0 }
     ensures incomplete { result ≡ incomplete → BeginsHead bytes.now
         × ((line : Request) (pairs : List Pair) (rest : List ℕ)
         → IsHead line pairs bytes.now rest → ⊥) }
-    ensures codes { (result ≡ done) ⊎ ((result ≡ too_small) ⊎ ((result ≡ refused)
+    ensures codes { (result ≡ done) ⊎ ((result ≡ buffer_too_small) ⊎ ((result ≡ invalid)
         ⊎ (result ≡ incomplete))) }
 {
     match read_head_into(bytes, fields) {
@@ -160,7 +160,7 @@ pub extern "C" fn exported_http_head_in_pieces(
         }
         Err(HeadError::TooManyFields(count)) => {
             *out = none(count, 0);
-            TOO_SMALL
+            BUFFER_TOO_SMALL
         }
         Err(HeadError::Incomplete) => {
             *out = none(0, 0);
@@ -168,7 +168,7 @@ pub extern "C" fn exported_http_head_in_pieces(
         }
         Err(HeadError::Refused(place)) => {
             *out = none(0, place);
-            REFUSED
+            INVALID
         }
     }
 }

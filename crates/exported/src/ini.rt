@@ -4,13 +4,13 @@ ghost use Rattle.std.specs.Prelude.{◌≡◌, ◌⊎◌, ◌<◌, ◌^◌, leng
 ghost use Rattle.readers.specs.Document.{IsRefusedDocument};
 ghost use Rattle.readers.specs.Pair.{IsRefusedPair};
 ghost use Rattle.readers.specs.Sections.{pair_text};
-ghost use Rattle.exported.specs.Code.{done, no_memory, refused, too_small};
+ghost use Rattle.exported.specs.Code.{buffer_too_small, done, invalid, no_memory};
 ghost use Rattle.exported.specs.Ini.{AreEntries, ShowsDocument, ShowsPair, WantsDocument, text_of};
 
 pub mod dialects;
 pub mod entries;
 
-use crate::code::{DONE, NO_MEMORY, REFUSED, TOO_SMALL};
+use crate::code::{BUFFER_TOO_SMALL, DONE, INVALID, NO_MEMORY};
 use crate::ini::entries::{bytes_of, copy_entries, entries_of, place_entries};
 use crate::span::{NOWHERE, Span};
 use readers::fault::Fault;
@@ -32,7 +32,7 @@ pub struct Pair {
 /// The key and the value of one line: a key of one or more ASCII letters or digits, `=`, a value of
 /// bytes other than a line feed, which may be none, and at most one line feed.
 ///
-/// `DONE`: their places are written. `REFUSED`: the bytes are no such line; written is the length
+/// `DONE`: their places are written. `INVALID`: the bytes are no such line; written is the length
 /// of their longest beginning that begins one.
 ///
 /// The caller owes `bytes_length` bytes at `bytes` that can be read and that nothing changes while
@@ -40,9 +40,9 @@ pub struct Pair {
 #[unsafe(no_mangle)]
 pub extern "C" fn exported_ini_pair(bytes: &[u8], out: &mut Pair) -> u32
     ensures pair { result ≡ done → ShowsPair bytes.now out.new }
-    ensures refused { result ≡ refused → IsRefusedPair bytes.now out.new.place }
-    ensures nowhere { (result ≡ refused → ⊥) → out.new.place ≡ 0 }
-    ensures codes { (result ≡ done) ⊎ (result ≡ refused) }
+    ensures refused { result ≡ invalid → IsRefusedPair bytes.now out.new.place }
+    ensures nowhere { (result ≡ invalid → ⊥) → out.new.place ≡ 0 }
+    ensures codes { (result ≡ done) ⊎ (result ≡ invalid) }
 {
     match ini::pair(bytes) {
         Ok((key, value)) => {
@@ -65,7 +65,7 @@ pub extern "C" fn exported_ini_pair(bytes: &[u8], out: &mut Pair) -> u32
                 value: NOWHERE,
                 place,
             };
-            REFUSED
+            INVALID
         }
         Err(Fault::NoMemory) => unreachable!(),
     }
@@ -114,10 +114,10 @@ fn write_entries(
     ensures entries { result ≡ done
         → AreEntries (take out.new.text text.new) (take out.new.entries entries.new)
         (map pair_text found.now) }
-    ensures small { result ≡ too_small
+    ensures small { result ≡ buffer_too_small
         → (length entries.old < out.new.entries) ⊎ (length text.old < out.new.text) }
-    ensures kept { result ≡ too_small → (entries.new ≡ entries.old) × (text.new ≡ text.old) }
-    ensures codes { (result ≡ done) ⊎ (result ≡ too_small) }
+    ensures kept { result ≡ buffer_too_small → (entries.new ≡ entries.old) × (text.new ≡ text.old) }
+    ensures codes { (result ≡ done) ⊎ (result ≡ buffer_too_small) }
 {
     let (count, total) = (found.len(), bytes_of(found));
     *out = Document {
@@ -126,7 +126,7 @@ fn write_entries(
         place: 0,
     };
     if entries.len() < count || text.len() < total {
-        return TOO_SMALL;
+        return BUFFER_TOO_SMALL;
     }
     copy_entries(found, &mut text[..total]);
     place_entries(found, &mut entries[..count]);
@@ -141,14 +141,15 @@ fn write_entries(
 ///
 /// `DONE`: the bytes of its entries are written into `text`, those of the key before those of the
 /// value and one entry after the other, and that many places there, in order: of each section its
-/// head, and then its pairs. `REFUSED`: the bytes are no document; written is the length of their
+/// head, and then its pairs. `INVALID`: the bytes are no document; written is the length of their
 /// longest beginning that is made of such parts, each of which is one where it stands in all of the
 /// bytes: a pair ends where its line does, so of `[a]`, a line feed, and `x=` before a byte that is
-/// no UTF-8 it is 4. `TOO_SMALL`: they are one that wants more entries or more bytes than the
-/// buffers have; how many of both is written, and the buffers are left as they were. `NO_MEMORY`.
+/// no UTF-8 it is 4. `BUFFER_TOO_SMALL`: they are one that wants more entries or more bytes than
+/// the buffers have; how many of both is written, and the buffers are left as they were.
+/// `NO_MEMORY`.
 ///
 /// While it runs it holds up to 100 bytes of memory for each byte of the document, also where it
-/// then answers `REFUSED` or `TOO_SMALL`.
+/// then answers `INVALID` or `BUFFER_TOO_SMALL`.
 ///
 /// The caller owes `bytes_length` bytes at `bytes` that can be read and that nothing changes while
 /// the call runs, `text_length` bytes at `text` and `entries_length` entries at `entries` that can
@@ -163,12 +164,12 @@ pub extern "C" fn exported_ini_document(
 ) -> u32
     ensures document { result ≡ done → ShowsDocument bytes.now out.new
         (take out.new.text text.new) (take out.new.entries entries.new) }
-    ensures small { result ≡ too_small → WantsDocument bytes.now out.new
+    ensures small { result ≡ buffer_too_small → WantsDocument bytes.now out.new
         × ((length entries.old < out.new.entries) ⊎ (length text.old < out.new.text)) }
-    ensures kept { result ≡ too_small → (entries.new ≡ entries.old) × (text.new ≡ text.old) }
-    ensures refused { result ≡ refused → IsRefusedDocument bytes.now out.new.place }
-    ensures nowhere { (result ≡ refused → ⊥) → out.new.place ≡ 0 }
-    ensures codes { (result ≡ done) ⊎ ((result ≡ too_small) ⊎ ((result ≡ refused)
+    ensures kept { result ≡ buffer_too_small → (entries.new ≡ entries.old) × (text.new ≡ text.old) }
+    ensures refused { result ≡ invalid → IsRefusedDocument bytes.now out.new.place }
+    ensures nowhere { (result ≡ invalid → ⊥) → out.new.place ≡ 0 }
+    ensures codes { (result ≡ done) ⊎ ((result ≡ buffer_too_small) ⊎ ((result ≡ invalid)
         ⊎ (result ≡ no_memory))) }
 {
     *out = NONE;
@@ -179,7 +180,7 @@ pub extern "C" fn exported_ini_document(
         },
         Err(Fault::Refused(place)) => {
             out.place = place;
-            REFUSED
+            INVALID
         }
         Err(Fault::NoMemory) => NO_MEMORY,
     }

@@ -4,7 +4,8 @@ ghost use Rattle.std.specs.Prelude.{◌≡◌, ◌<◌, ◌⊎◌, ◌↔◌, Li
 ghost use Rattle.winnow.specs.InTurn.{First};
 ghost use Rattle.format_resp.specs.Extents.{IsOf};
 ghost use Rattle.format_resp.specs.Resp.{ReplyText};
-ghost use Rattle.exported.specs.Code.{done, incomplete, most_levels, no_memory, refused, too_deep};
+ghost use Rattle.exported.specs.Code.{done, incomplete, invalid, max_depth_too_large, no_memory};
+ghost use Rattle.exported.specs.Code.{supported_depth};
 ghost use Rattle.exported.specs.Extent.{TellsEnd, extent_of};
 ghost use Rattle.exported.specs.Resp.{IsReply, IsReplyForGood, NoReply, NoReplyForGood, ShowsReply};
 ghost use Rattle.exported.specs.Resp.{no_reply};
@@ -12,11 +13,11 @@ ghost use Rattle.exported.specs.Resp.{no_reply};
 pub mod extent;
 pub mod places;
 
-use crate::code::{DONE, INCOMPLETE, NO_MEMORY, REFUSED, TOO_DEEP};
-use crate::json::MOST_LEVELS;
+use crate::code::{DONE, INCOMPLETE, INVALID, MAX_DEPTH_TOO_LARGE, NO_MEMORY};
+use crate::json::MAX_DEPTH;
 use crate::resp::extent::{extent_at, state_at};
 use crate::resp::places::reply_at;
-use crate::span::{MOST_IN_PIECES, NOWHERE, Span};
+use crate::span::{MAX_PARTIAL, NOWHERE, Span};
 use format_resp::extent::Refused;
 use format_resp::read::read_reply;
 use format_resp::reply::Protocol;
@@ -67,7 +68,7 @@ pub struct Reply {
 /// for each reply.
 #[repr(C)]
 #[derive(Clone, Copy, Drop)]
-pub struct RespExtent {
+pub struct RespReplyState {
     /// What is due: 0 where nothing was passed, 1 for a line, 2 for the bytes of a string.
     pub due: usize,
     /// How many bytes were passed.
@@ -92,14 +93,14 @@ pub(crate) const NONE: Reply = Reply {
 };
 
 /// The reply of Redis (RESP2, the second version of its protocol) with which the bytes begin, in
-/// which no more than `levels` arrays stand in one another. The elements of an array are read by
+/// which no more than `max_depth` arrays stand in one another. The elements of an array are read by
 /// further calls, of the bytes at its place and of those after each element.
 ///
 /// An integer may have a sign before it and zeros first, a size zeros first; `-1` is the size of a
 /// null.
 ///
-/// `DONE`: the reply is written. `REFUSED`: the bytes begin with none. `TOO_DEEP`: more than 512
-/// levels are asked for. `NO_MEMORY`. With these three all that is written is 0.
+/// `DONE`: the reply is written. `INVALID`: the bytes begin with none. `MAX_DEPTH_TOO_LARGE`: more
+/// than 512 levels are asked for. `NO_MEMORY`. With these three all that is written is 0.
 ///
 /// While it runs it holds up to 32 bytes of memory for each byte of the reply, and 2 KiB for each
 /// level of arrays that has begun.
@@ -110,32 +111,32 @@ pub(crate) const NONE: Reply = Reply {
 pub extern "C" fn exported_resp_reply(
     alloc: Global,
     bytes: &[u8],
-    levels: usize,
+    max_depth: usize,
     out: &mut Reply,
 ) -> u32
-    ensures reply { result ≡ done → ShowsReply (IsReply levels) levels bytes.now out.new }
-    ensures refused { result ≡ refused → NoReply levels bytes.now }
-    ensures deep { (result ≡ too_deep) ↔ (most_levels < levels) }
+    ensures reply { result ≡ done → ShowsReply (IsReply max_depth) max_depth bytes.now out.new }
+    ensures refused { result ≡ invalid → NoReply max_depth bytes.now }
+    ensures deep { (result ≡ max_depth_too_large) ↔ (supported_depth < max_depth) }
     ensures none { (result ≡ done → ⊥) → out.new ≡ no_reply }
-    ensures codes { (result ≡ done) ⊎ ((result ≡ refused) ⊎ ((result ≡ too_deep)
+    ensures codes { (result ≡ done) ⊎ ((result ≡ invalid) ⊎ ((result ≡ max_depth_too_large)
         ⊎ (result ≡ no_memory))) }
 {
     *out = NONE;
-    if levels > MOST_LEVELS {
-        return TOO_DEEP;
+    if max_depth > MAX_DEPTH {
+        return MAX_DEPTH_TOO_LARGE;
     }
     let mut whole = Partial::new(bytes);
     whole.complete();
-    match read_reply(alloc, Protocol::Resp2, levels, &mut whole) {
+    match read_reply(alloc, Protocol::Resp2, max_depth, &mut whole) {
         Ok(found) => {
-            *out = reply_at(bytes, levels, &found, whole.into_inner().len());
+            *out = reply_at(bytes, max_depth, &found, whole.into_inner().len());
             DONE
         }
         Err(error) => {
             if ParserError::<Partial<&[u8]>>::is_memory(&error) {
                 NO_MEMORY
             } else {
-                REFUSED
+                INVALID
             }
         }
     }
@@ -143,40 +144,41 @@ pub extern "C" fn exported_resp_reply(
 
 /// The same reply where the bytes come in pieces: what it answers is that of all longer bytes too.
 ///
-/// `DONE`, `TOO_DEEP`, `NO_MEMORY`: as for a reply that is whole. `INCOMPLETE`: more bytes may be
-/// needed; that no more are asked for once the reply is there is tested, not proved. `REFUSED`:
-/// whatever comes after the bytes, they begin with no reply. With these two all that is written is
-/// 0 too.
+/// `DONE`, `MAX_DEPTH_TOO_LARGE`, `NO_MEMORY`: as for a reply that is whole. `INCOMPLETE`: more
+/// bytes may be needed; that no more are asked for once the reply is there is tested, not proved.
+/// `INVALID`: whatever comes after the bytes, they begin with no reply. With these two all that is
+/// written is 0 too.
 ///
 /// Each call reads from the first byte on, and holds as much memory as that for a whole reply.
 ///
 /// The caller owes `bytes_length` bytes at `bytes` that can be read and that nothing changes while
 /// the call runs, room for one reply at `out`, apart from them, and 512 KiB of stack.
 #[unsafe(no_mangle)]
-pub extern "C" fn exported_resp_reply_in_pieces(
+pub extern "C" fn exported_resp_reply_partial(
     alloc: Global,
     bytes: &[u8],
-    levels: usize,
+    max_depth: usize,
     out: &mut Reply,
 ) -> u32
-    ensures reply { result ≡ done → ShowsReply (IsReplyForGood levels) levels bytes.now out.new }
-    ensures refused { result ≡ refused → NoReplyForGood levels bytes.now }
-    ensures deep { (result ≡ too_deep) ↔ (most_levels < levels) }
+    ensures reply { result ≡ done
+        → ShowsReply (IsReplyForGood max_depth) max_depth bytes.now out.new }
+    ensures refused { result ≡ invalid → NoReplyForGood max_depth bytes.now }
+    ensures deep { (result ≡ max_depth_too_large) ↔ (supported_depth < max_depth) }
     ensures none { (result ≡ done → ⊥) → out.new ≡ no_reply }
-    ensures codes { (result ≡ done) ⊎ ((result ≡ refused) ⊎ ((result ≡ too_deep)
+    ensures codes { (result ≡ done) ⊎ ((result ≡ invalid) ⊎ ((result ≡ max_depth_too_large)
         ⊎ ((result ≡ incomplete) ⊎ (result ≡ no_memory)))) }
 {
     *out = NONE;
-    if levels > MOST_LEVELS {
-        return TOO_DEEP;
+    if max_depth > MAX_DEPTH {
+        return MAX_DEPTH_TOO_LARGE;
     }
-    if bytes.len() > MOST_IN_PIECES {
-        return REFUSED;
+    if bytes.len() > MAX_PARTIAL {
+        return INVALID;
     }
     let mut pieces = Partial::new(bytes);
-    match read_reply(alloc, Protocol::Resp2, levels, &mut pieces) {
+    match read_reply(alloc, Protocol::Resp2, max_depth, &mut pieces) {
         Ok(found) => {
-            *out = reply_at(bytes, levels, &found, pieces.into_inner().len());
+            *out = reply_at(bytes, max_depth, &found, pieces.into_inner().len());
             DONE
         }
         Err(error) => {
@@ -185,7 +187,7 @@ pub extern "C" fn exported_resp_reply_in_pieces(
             } else if ParserError::<Partial<&[u8]>>::is_incomplete(&error) {
                 INCOMPLETE
             } else {
-                REFUSED
+                INVALID
             }
         }
     }
@@ -201,7 +203,7 @@ pub extern "C" fn exported_resp_reply_in_pieces(
 ///
 /// `DONE`: that many of the first bytes are a reply, and whatever follows, no other reply stands
 /// first. For the next one, zeros are put into the state. `INCOMPLETE`: the bytes begin with none
-/// as yet: its last line is not ended, or bytes of a string are wanting. `REFUSED`: whatever comes
+/// as yet: its last line is not ended, or bytes of a string are wanting. `INVALID`: whatever comes
 /// after the bytes, they begin with none; a line that is none of a reply is refused where it ends.
 /// With these two 0 is written.
 ///
@@ -212,11 +214,15 @@ pub extern "C" fn exported_resp_reply_in_pieces(
 /// that can be read and that nothing changes while the call runs, room for one length at `out`,
 /// each apart from the others, and 16 KiB of stack.
 #[unsafe(no_mangle)]
-pub extern "C" fn exported_resp_extent(state: &mut RespExtent, bytes: &[u8], out: &mut usize) -> u32
+pub extern "C" fn exported_resp_extent(
+    state: &mut RespReplyState,
+    bytes: &[u8],
+    out: &mut usize,
+) -> u32
     ensures told { IsOf (extent_of state.old) bytes.now
         → TellsEnd bytes.now result out.new state.new }
     ensures none { (result ≡ done → ⊥) → out.new ≡ 0 }
-    ensures codes { (result ≡ done) ⊎ ((result ≡ incomplete) ⊎ (result ≡ refused)) }
+    ensures codes { (result ≡ done) ⊎ ((result ≡ incomplete) ⊎ (result ≡ invalid)) }
 {
     *out = 0;
     let mut extent = extent_at(*state);
@@ -228,6 +234,6 @@ pub extern "C" fn exported_resp_extent(state: &mut RespExtent, bytes: &[u8], out
             DONE
         }
         Ok(None) => INCOMPLETE,
-        Err(Refused) => REFUSED,
+        Err(Refused) => INVALID,
     }
 }

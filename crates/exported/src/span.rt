@@ -45,4 +45,4 @@ pub fn first_of(input: &[u8], rest: &[u8], count: usize) -> Span
 }
 
 /// As many bytes as may come in pieces: 64 bits count the bits of no more.
-pub(crate) const MOST_IN_PIECES: usize = 2305843009213693951;
+pub(crate) const MAX_PARTIAL: usize = 2305843009213693951;

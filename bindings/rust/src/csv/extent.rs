@@ -37,14 +37,14 @@ pub struct Size {
 /// ```
 #[derive(Clone, Debug, Default, PartialEq, Eq)]
 pub struct Extent {
-    state: exports::CsvRecordExtent,
+    state: exports::CsvRecordState,
     end: LineEnd,
 }
 
 impl Extent {
     /// That of a record with these line ends of which nothing was passed.
     pub fn new(end: LineEnd) -> Extent {
-        Extent { state: exports::CsvRecordExtent::default(), end }
+        Extent { state: exports::CsvRecordState::default(), end }
     }
 
     /// The size of the record with which the bytes begin, whatever follows, if its line end is there.

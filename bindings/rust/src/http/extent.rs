@@ -24,7 +24,7 @@ use crate::{exports, Error, Place, NOTHING};
 /// ```
 #[derive(Clone, Debug, Default, PartialEq, Eq)]
 pub struct HeadExtent {
-    state: exports::HttpHeadExtent,
+    state: exports::HttpHeadState,
 }
 
 impl HeadExtent {

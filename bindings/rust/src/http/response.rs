@@ -98,5 +98,5 @@ pub fn response_head_in_pieces<'i, 'f>(
     bytes: &'i [u8],
     fields: &'f mut [Field],
 ) -> Result<ResponseHead<'i, 'f>, Error> {
-    read(exports::exported_http_response_head_in_pieces, bytes, fields)
+    read(exports::exported_http_response_head_partial, bytes, fields)
 }

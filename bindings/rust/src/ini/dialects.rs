@@ -195,12 +195,12 @@ impl Refusal {
     /// The reason of this number.
     fn of(number: usize) -> Refusal {
         match number {
-            exports::INI_FAULT_OPEN_SECTION => Refusal::OpenSection,
-            exports::INI_FAULT_EMPTY_SECTION => Refusal::EmptySection,
-            exports::INI_FAULT_TEXT_BEHIND_SECTION => Refusal::TextBehindSection,
-            exports::INI_FAULT_NO_SECTION => Refusal::NoSection,
-            exports::INI_FAULT_NO_KEY => Refusal::NoKey,
-            exports::INI_FAULT_NO_DELIMITER => Refusal::NoDelimiter,
+            exports::INI_ERROR_UNCLOSED_SECTION => Refusal::OpenSection,
+            exports::INI_ERROR_EMPTY_SECTION => Refusal::EmptySection,
+            exports::INI_ERROR_TRAILING_TEXT => Refusal::TextBehindSection,
+            exports::INI_ERROR_MISSING_SECTION => Refusal::NoSection,
+            exports::INI_ERROR_MISSING_KEY => Refusal::NoKey,
+            exports::INI_ERROR_MISSING_DELIMITER => Refusal::NoDelimiter,
             number => Refusal::Unknown(number),
         }
     }
@@ -293,10 +293,10 @@ impl<'i> Iterator for Entries<'i> {
                 Some(Ok(Entry::Pair { key: at(out.key), value: None }))
             }
             (exports::DONE, exports::INI_MORE) => Some(Ok(Entry::More(at(out.value)))),
-            (exports::REFUSED, _) => {
+            (exports::INVALID, _) => {
                 self.is_over = true;
                 let place = Place::of(bytes, out.place);
-                Some(Err(LineError { place, why: Refusal::of(out.fault) }))
+                Some(Err(LineError { place, why: Refusal::of(out.error) }))
             }
             (code, _) => {
                 debug_assert_eq!(code, exports::END);

@@ -75,7 +75,7 @@ impl<'i> Value<'i> {
 fn fits(code: u32) -> bool {
     match code {
         exports::DONE => true,
-        exports::NO_INTEGER => false,
+        exports::NOT_AN_INTEGER => false,
         code => unknown(code as usize),
     }
 }

@@ -50,7 +50,7 @@ impl<'i> Iterator for Steps<'i> {
         }
         let (front, left) = self.left.split_at(out.place.offset + out.place.length);
         let text = &front[out.place.offset..];
-        let value = |kind| Value { kind, text, levels: 0 };
+        let value = |kind| Value { kind, text, max_depth: 0 };
         let step = match out.kind {
             exports::JSON_NULL => Step::Value(value(Kind::Null)),
             exports::JSON_FALSE => Step::Value(value(Kind::False)),
@@ -69,7 +69,7 @@ impl<'i> Iterator for Steps<'i> {
     }
 }
 
-/// The steps of a text of JSON (RFC 8259), in which no more than `levels` arrays and objects stand
+/// The steps of a text of JSON (RFC 8259), in which no more than `max_depth` arrays and objects stand
 /// in one another; a text that is none is refused as a whole, as [`check`] does it.
 ///
 /// ```
@@ -80,7 +80,7 @@ impl<'i> Iterator for Steps<'i> {
 /// assert_eq!(numbers.count(), 2);
 /// # Ok::<(), pergidau::Error>(())
 /// ```
-pub fn steps(text: &str, levels: usize) -> Result<Steps<'_>, Error> {
-    check(text.as_bytes(), levels)?;
+pub fn steps(text: &str, max_depth: usize) -> Result<Steps<'_>, Error> {
+    check(text.as_bytes(), max_depth)?;
     Ok(Steps::of(text))
 }

@@ -2,14 +2,14 @@
 
 ghost use Rattle.std.specs.Prelude.{◌≡◌, ◌⊎◌, ◌++◌, [], List, ℕ};
 ghost use Rattle.format_csv_records.specs.Extents.{IsOf};
-ghost use Rattle.exported.specs.Code.{done, incomplete, refused};
+ghost use Rattle.exported.specs.Code.{done, incomplete, invalid};
 ghost use Rattle.exported.specs.Csv.{dialect_of};
 ghost use Rattle.exported.specs.CsvExtent.{RecordCalls, TellsRecord, nothing, place_at};
 ghost use Rattle.exported.specs.CsvExtent.{record_extent_of};
 ghost use Rattle.exported.specs.Turns.{all_of};
-ghost use Rattle.exported.specs.declared.csv.extent.CsvRecordExtent.{CsvRecordExtent};
+ghost use Rattle.exported.specs.declared.csv.extent.CsvRecordState.{CsvRecordState};
 
-use crate::code::{DONE, INCOMPLETE, REFUSED};
+use crate::code::{DONE, INCOMPLETE, INVALID};
 use crate::csv::{Record, dialect, none_at};
 use format_csv_records::extent::{RecordExtent, RecordPlace};
 
@@ -17,7 +17,7 @@ use format_csv_records::extent::{RecordExtent, RecordPlace};
 /// for the calls alone, and all zeros say that nothing was passed: so it is begun for each record.
 #[repr(C)]
 #[derive(Clone, Copy, Drop)]
-pub struct CsvRecordExtent {
+pub struct CsvRecordState {
     /// How many bytes were passed.
     pub passed: usize,
     /// How many bytes the fields have that were passed, as they are meant.
@@ -57,7 +57,7 @@ fn number_of(place: RecordPlace) -> usize
 }
 
 /// What a state says.
-fn extent_at(state: CsvRecordExtent) -> RecordExtent
+fn extent_at(state: CsvRecordState) -> RecordExtent
     ensures { result ≡ record_extent_of state }
 {
     RecordExtent {
@@ -69,10 +69,10 @@ fn extent_at(state: CsvRecordExtent) -> RecordExtent
 }
 
 /// The state that says so.
-fn state_at(extent: RecordExtent) -> CsvRecordExtent
+fn state_at(extent: RecordExtent) -> CsvRecordState
     ensures { record_extent_of result ≡ extent }
 {
-    CsvRecordExtent {
+    CsvRecordState {
         passed: extent.passed,
         text: extent.text,
         fields: extent.fields,
@@ -94,7 +94,7 @@ fn state_at(extent: RecordExtent) -> CsvRecordExtent
 /// the next one, zeros are put into the state. `INCOMPLETE`: no record with its line end is there,
 /// and with three bytes more at most they can begin with one. A field in quotes that are not closed
 /// goes on for ever, so the caller bounds how many bytes are held. The last record may have no line
-/// end: where no more bytes come, the call for whole ones reads it. `REFUSED`: whatever comes after
+/// end: where no more bytes come, the call for whole ones reads it. `INVALID`: whatever comes after
 /// the bytes, they begin with no record, and that is answered as soon as the byte is there at which
 /// none goes on, whose place is written.
 ///
@@ -106,15 +106,15 @@ fn state_at(extent: RecordExtent) -> CsvRecordExtent
 /// each apart from the others, and 16 KiB of stack.
 #[unsafe(no_mangle)]
 pub extern "C" fn exported_csv_record_extent(
-    state: &mut CsvRecordExtent,
+    state: &mut CsvRecordState,
     bytes: &[u8],
     line_feeds: u32,
     out: &mut Record,
 ) -> u32
     ensures told { IsOf (dialect_of line_feeds) (record_extent_of state.old) bytes.now
         → TellsRecord (dialect_of line_feeds) bytes.now result out.new state.new }
-    ensures nowhere { (result ≡ refused → ⊥) → out.new.place ≡ 0 }
-    ensures codes { (result ≡ done) ⊎ ((result ≡ incomplete) ⊎ (result ≡ refused)) }
+    ensures nowhere { (result ≡ invalid → ⊥) → out.new.place ≡ 0 }
+    ensures codes { (result ≡ done) ⊎ ((result ≡ incomplete) ⊎ (result ≡ invalid)) }
 {
     let dialect = dialect(line_feeds);
     let mut extent = extent_at(*state);
@@ -136,7 +136,7 @@ pub extern "C" fn exported_csv_record_extent(
         }
         Err(fault) => {
             *out = none_at(fault.offset);
-            REFUSED
+            INVALID
         }
     }
 }
@@ -147,7 +147,7 @@ pub extern "C" fn exported_csv_record_extent(
 /// whatever comes after them. So what the next call tells, it tells of all of its bytes, as one
 /// call with a state of zeros would.
 pub fn calls_in_turn_are_of_their_bytes()
-    ensures { (line_feeds : ℕ) (pieces : List (List ℕ)) (state : CsvRecordExtent)
+    ensures { (line_feeds : ℕ) (pieces : List (List ℕ)) (state : CsvRecordState)
         → RecordCalls (dialect_of line_feeds) nothing [] pieces state
         → (more : List ℕ)
         → IsOf (dialect_of line_feeds) (record_extent_of state) (all_of pieces ++ more) }

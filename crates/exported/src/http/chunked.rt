@@ -7,10 +7,10 @@ ghost use Rattle.format_http_chunked.specs.State.{decoder_of};
 ghost use Rattle.exported.specs.Chunked.{Call, CallsInTurn, IsFirst, TellsStep, Writes};
 ghost use Rattle.exported.specs.Chunked.{fault_number};
 ghost use Rattle.exported.specs.Span.{StandsAt};
-ghost use Rattle.exported.specs.Code.{done, end, incomplete, refused};
+ghost use Rattle.exported.specs.Code.{done, end, incomplete, invalid};
 ghost use Rattle.format_http_chunked.specs.declared.state.ChunkedState.{ChunkedState};
 
-use crate::code::{DONE, END, INCOMPLETE, REFUSED};
+use crate::code::{DONE, END, INCOMPLETE, INVALID};
 use crate::span::{NOWHERE, Span};
 use format_http_chunked::decoder::{Decoder, Fault, Step};
 pub use format_http_chunked::state::ChunkedState;
@@ -23,25 +23,25 @@ pub const CHUNKED_DATA: usize = 0;
 pub const CHUNKED_TRAILERS: usize = 1;
 
 /// A size line is due, and begins with no hexadecimal digit.
-pub const CHUNKED_FAULT_SIZE: usize = 0;
+pub const CHUNKED_ERROR_SIZE: usize = 0;
 
 /// No size line goes on with the byte: it is in no extension, or in no line end.
-pub const CHUNKED_FAULT_SIZE_LINE: usize = 1;
+pub const CHUNKED_ERROR_SIZE_LINE: usize = 1;
 
 /// With this digit the size is 2^64 or more.
-pub const CHUNKED_FAULT_SIZE_TOO_LARGE: usize = 2;
+pub const CHUNKED_ERROR_SIZE_TOO_LARGE: usize = 2;
 
 /// More bytes than the limit lets would stand before the next data, or the end.
-pub const CHUNKED_FAULT_SIZE_LINE_TOO_LONG: usize = 3;
+pub const CHUNKED_ERROR_SIZE_LINE_TOO_LONG: usize = 3;
 
 /// A carriage return and a line feed are due after the data of a chunk.
-pub const CHUNKED_FAULT_DATA_END: usize = 4;
+pub const CHUNKED_ERROR_DATA_END: usize = 4;
 
 /// No field line goes on with the byte, nor the line end after the trailer section.
-pub const CHUNKED_FAULT_TRAILERS: usize = 5;
+pub const CHUNKED_ERROR_TRAILERS: usize = 5;
 
 /// The trailer section would have more bytes than the limit lets.
-pub const CHUNKED_FAULT_TRAILERS_TOO_LONG: usize = 6;
+pub const CHUNKED_ERROR_TRAILERS_TOO_LONG: usize = 6;
 
 /// What a call took of a chunked body.
 #[repr(C)]
@@ -54,8 +54,8 @@ pub struct ChunkedStep {
     /// How many bytes were taken. Those after them are the first of the next call.
     pub taken: usize,
     /// Why the byte after those that were taken is refused: a number of those from
-    /// `CHUNKED_FAULT_SIZE` on. Else 0.
-    pub fault: usize,
+    /// `CHUNKED_ERROR_SIZE` on. Else 0.
+    pub error: usize,
 }
 
 /// The number of why a byte is refused.
@@ -63,13 +63,13 @@ fn number_of(fault: Fault) -> usize
     ensures { result ≡ fault_number fault }
 {
     match fault {
-        Fault::Size => CHUNKED_FAULT_SIZE,
-        Fault::SizeLine => CHUNKED_FAULT_SIZE_LINE,
-        Fault::SizeTooLarge => CHUNKED_FAULT_SIZE_TOO_LARGE,
-        Fault::SizeLineTooLong => CHUNKED_FAULT_SIZE_LINE_TOO_LONG,
-        Fault::DataEnd => CHUNKED_FAULT_DATA_END,
-        Fault::Trailers => CHUNKED_FAULT_TRAILERS,
-        Fault::TrailersTooLong => CHUNKED_FAULT_TRAILERS_TOO_LONG,
+        Fault::Size => CHUNKED_ERROR_SIZE,
+        Fault::SizeLine => CHUNKED_ERROR_SIZE_LINE,
+        Fault::SizeTooLarge => CHUNKED_ERROR_SIZE_TOO_LARGE,
+        Fault::SizeLineTooLong => CHUNKED_ERROR_SIZE_LINE_TOO_LONG,
+        Fault::DataEnd => CHUNKED_ERROR_DATA_END,
+        Fault::Trailers => CHUNKED_ERROR_TRAILERS,
+        Fault::TrailersTooLong => CHUNKED_ERROR_TRAILERS_TOO_LONG,
     }
 }
 
@@ -103,7 +103,7 @@ fn step_of(bytes: &[u8], rest: &[u8], said: Result<Step<'_>, Fault>) -> (u32, Ch
         kind: 0,
         place: NOWHERE,
         taken: taken_of(bytes, rest),
-        fault: 0,
+        error: 0,
     };
     match said {
         Ok(Step::Data(data)) => {
@@ -131,9 +131,9 @@ fn step_of(bytes: &[u8], rest: &[u8], said: Result<Step<'_>, Fault>) -> (u32, Ch
         Ok(Step::End) => (END, nothing),
         Ok(Step::More) => (INCOMPLETE, nothing),
         Err(fault) => (
-            REFUSED,
+            INVALID,
             ChunkedStep {
-                fault: number_of(fault),
+                error: number_of(fault),
                 ..nothing
             },
         ),
@@ -153,7 +153,7 @@ fn step_of(bytes: &[u8], rest: &[u8], said: Result<Step<'_>, Fault>) -> (u32, Ch
 /// `END`: the body is whole, and what is after the bytes that were taken is after it; so it is told
 /// of the same state again. For the next body, the first numbers are put into the state.
 /// `INCOMPLETE`: all bytes are taken, they are no body as yet, and with more after them they can
-/// be. `REFUSED`: with the byte after those that were taken no body goes on, or one that has 2^64
+/// be. `INVALID`: with the byte after those that were taken no body goes on, or one that has 2^64
 /// bytes or more; or the limits do not let it be taken. With these three no kind and no place are
 /// written.
 ///
@@ -172,7 +172,7 @@ pub extern "C" fn exported_http_chunked(
 ) -> u32
     ensures told { TellsStep state.old state.new bytes.now result out.new }
     ensures codes { (result ≡ done) ⊎ ((result ≡ end) ⊎ ((result ≡ incomplete)
-        ⊎ (result ≡ refused))) }
+        ⊎ (result ≡ invalid))) }
 {
     let mut decoder = Decoder::of_state(*state);
     let mut rest = bytes;

@@ -2,20 +2,20 @@
 
 ghost use Rattle.std.specs.Prelude.{◌≡◌, ◌⊎◌, ◌++◌, [], List, ℕ};
 ghost use Rattle.format_http_places.specs.Extents.{IsOf};
-ghost use Rattle.exported.specs.Code.{done, incomplete, refused};
+ghost use Rattle.exported.specs.Code.{done, incomplete, invalid};
 ghost use Rattle.exported.specs.HttpExtent.{HeadCalls, TellsHead, head_extent_of, nothing};
 ghost use Rattle.exported.specs.HttpExtent.{place_at};
 ghost use Rattle.exported.specs.Turns.{all_of};
-ghost use Rattle.exported.specs.declared.http.extent.HttpHeadExtent.{HttpHeadExtent};
+ghost use Rattle.exported.specs.declared.http.extent.HttpHeadState.{HttpHeadState};
 
-use crate::code::{DONE, INCOMPLETE, REFUSED};
+use crate::code::{DONE, INCOMPLETE, INVALID};
 use format_http_places::extent::{HeadExtent, HeadPlace};
 
 /// How far bytes were searched for the end of the head of a request. The numbers are for the calls
 /// alone, and all zeros say that nothing was passed: so it is begun for each head.
 #[repr(C)]
 #[derive(Clone, Copy, Drop)]
-pub struct HttpHeadExtent {
+pub struct HttpHeadState {
     /// How many bytes were passed.
     pub passed: usize,
     /// Where in the head the next one is due: 0 where it begins.
@@ -77,7 +77,7 @@ fn number_of(place: HeadPlace) -> usize
 }
 
 /// What a state says.
-fn extent_at(state: HttpHeadExtent) -> HeadExtent
+fn extent_at(state: HttpHeadState) -> HeadExtent
     ensures { result ≡ head_extent_of state }
 {
     HeadExtent {
@@ -87,10 +87,10 @@ fn extent_at(state: HttpHeadExtent) -> HeadExtent
 }
 
 /// The state that says so.
-fn state_at(extent: HeadExtent) -> HttpHeadExtent
+fn state_at(extent: HeadExtent) -> HttpHeadState
     ensures { head_extent_of result ≡ extent }
 {
-    HttpHeadExtent {
+    HttpHeadState {
         passed: extent.passed,
         place: number_of(extent.place),
     }
@@ -105,7 +105,7 @@ fn state_at(extent: HeadExtent) -> HttpHeadExtent
 ///
 /// `DONE`: that many of the first bytes are a head; how many is written. For the next one, zeros
 /// are put into the state. `INCOMPLETE`: the bytes begin with no head, and with more after them
-/// they can; 0 is written. `REFUSED`: whatever comes after the bytes, they begin with no head;
+/// they can; 0 is written. `INVALID`: whatever comes after the bytes, they begin with no head;
 /// written is the first place at which none goes on.
 ///
 /// Of a state that calls left for other bytes, or that is changed, what is told may be wrong;
@@ -116,14 +116,14 @@ fn state_at(extent: HeadExtent) -> HttpHeadExtent
 /// each apart from the others, and 16 KiB of stack.
 #[unsafe(no_mangle)]
 pub extern "C" fn exported_http_head_extent(
-    state: &mut HttpHeadExtent,
+    state: &mut HttpHeadState,
     bytes: &[u8],
     out: &mut usize,
 ) -> u32
     ensures told { IsOf (head_extent_of state.old) bytes.now
         → TellsHead bytes.now result out.new state.new }
     ensures none { result ≡ incomplete → out.new ≡ 0 }
-    ensures codes { (result ≡ done) ⊎ ((result ≡ incomplete) ⊎ (result ≡ refused)) }
+    ensures codes { (result ≡ done) ⊎ ((result ≡ incomplete) ⊎ (result ≡ invalid)) }
 {
     let mut extent = extent_at(*state);
     let answer = extent.advance(bytes);
@@ -139,7 +139,7 @@ pub extern "C" fn exported_http_head_extent(
         }
         Err(refused) => {
             *out = refused.place;
-            REFUSED
+            INVALID
         }
     }
 }
@@ -149,7 +149,7 @@ pub extern "C" fn exported_http_head_extent(
 /// more: then the state that is left is one of these bytes, whatever comes after them. So what the
 /// next call tells, it tells of all of its bytes, as one call with a state of zeros would.
 pub fn calls_in_turn_are_of_their_bytes()
-    ensures { (pieces : List (List ℕ)) (state : HttpHeadExtent)
+    ensures { (pieces : List (List ℕ)) (state : HttpHeadState)
         → HeadCalls nothing [] pieces state
         → (more : List ℕ) → IsOf (head_extent_of state) (all_of pieces ++ more) }
 {}

@@ -4,10 +4,10 @@ ghost use Rattle.std.specs.Prelude.{◌≡◌, ◌⊎◌, ◌<◌, length, take}
 ghost use Rattle.format_http.specs.Pieces.ResponseHead.{BeginsResponseHead, NoResponseHead};
 ghost use Rattle.format_http_places.specs.Responses.{IsResponseRefused, IsResponseWanted};
 ghost use Rattle.format_http_places.specs.Responses.{NoResponseRead, ShowsResponse};
-ghost use Rattle.exported.specs.Code.{done, incomplete, refused, too_small};
+ghost use Rattle.exported.specs.Code.{buffer_too_small, done, incomplete, invalid};
 ghost use Rattle.exported.specs.Http.{IsNoResponse, response_of};
 
-use crate::code::{DONE, INCOMPLETE, REFUSED, TOO_SMALL};
+use crate::code::{BUFFER_TOO_SMALL, DONE, INCOMPLETE, INVALID};
 use format_http_places::places;
 pub use format_http_places::places::{Field, Span};
 use format_http_places::read::HeadError;
@@ -74,11 +74,11 @@ fn head_of(found: places::ResponseHead) -> ResponseHead
 ///
 /// `DONE`: the version, the status code and the place of the reason are written, and the places of
 /// that many fields, in order. The status code is three digits, of which the first may be any. The
-/// reason may have no bytes, and then the space before it may be wanting too. `REFUSED`: the bytes
+/// reason may have no bytes, and then the space before it may be wanting too. `INVALID`: the bytes
 /// begin with no head; written is the first place at which none goes on, which is their end where
-/// they end within one. `TOO_SMALL`: they begin with one that has more fields than the buffer has
-/// entries; how many it has is written. Where it does not answer `DONE`, any entry of the buffer
-/// may be written: the fields are written as they are read.
+/// they end within one. `BUFFER_TOO_SMALL`: they begin with one that has more fields than the
+/// buffer has entries; how many it has is written. Where it does not answer `DONE`, any entry of
+/// the buffer may be written: the fields are written as they are read.
 ///
 /// Whether a body follows, and how long it is, the method of the request, the status code and the
 /// fields say (RFC 9112, section 6.3). The bytes are read once, and no memory is asked for.
@@ -94,12 +94,12 @@ pub extern "C" fn exported_http_response_head(
 ) -> u32
     ensures head { result ≡ done
         → ShowsResponse bytes.now (response_of out.new) (take out.new.fields fields.new) }
-    ensures small { result ≡ too_small → IsResponseWanted bytes.now out.new.fields
+    ensures small { result ≡ buffer_too_small → IsResponseWanted bytes.now out.new.fields
         × (length fields.old < out.new.fields) }
-    ensures refused { result ≡ refused → NoResponseRead bytes.now }
-    ensures place { result ≡ refused → IsNoResponse bytes.now out.new.place }
-    ensures nowhere { (result ≡ refused → ⊥) → out.new.place ≡ 0 }
-    ensures codes { (result ≡ done) ⊎ ((result ≡ too_small) ⊎ (result ≡ refused)) }
+    ensures refused { result ≡ invalid → NoResponseRead bytes.now }
+    ensures place { result ≡ invalid → IsNoResponse bytes.now out.new.place }
+    ensures nowhere { (result ≡ invalid → ⊥) → out.new.place ≡ 0 }
+    ensures codes { (result ≡ done) ⊎ ((result ≡ buffer_too_small) ⊎ (result ≡ invalid)) }
 {
     match read_response_head_into(bytes, fields) {
         Ok(found) => {
@@ -108,25 +108,25 @@ pub extern "C" fn exported_http_response_head(
         }
         Err(HeadError::TooManyFields(count)) => {
             *out = none(count, 0);
-            TOO_SMALL
+            BUFFER_TOO_SMALL
         }
         Err(HeadError::Incomplete) => {
             *out = none(0, bytes.len());
-            REFUSED
+            INVALID
         }
         Err(HeadError::Refused(place)) => {
             *out = none(0, place);
-            REFUSED
+            INVALID
         }
     }
 }
 
 /// The same head where the bytes come in pieces: it answers as soon as the empty line is there.
 ///
-/// `DONE`, `TOO_SMALL`: as for a head that is whole. `INCOMPLETE`: the bytes begin with no head,
-/// and with more after them they can. `REFUSED`: whatever comes after the bytes, they begin with
-/// no head; written is the first place at which none goes on: with the bytes before it a head can
-/// begin, and with these and the byte there none does.
+/// `DONE`, `BUFFER_TOO_SMALL`: as for a head that is whole. `INCOMPLETE`: the bytes begin with no
+/// head, and with more after them they can. `INVALID`: whatever comes after the bytes, they begin
+/// with no head; written is the first place at which none goes on: with the bytes before it a head
+/// can begin, and with these and the byte there none does.
 ///
 /// Each call reads from the first byte on.
 ///
@@ -134,21 +134,21 @@ pub extern "C" fn exported_http_response_head(
 /// the call runs, `fields_length` entries at `fields` that can be written, room for one head at
 /// `out`, each apart from the others, and 16 KiB of stack.
 #[unsafe(no_mangle)]
-pub extern "C" fn exported_http_response_head_in_pieces(
+pub extern "C" fn exported_http_response_head_partial(
     bytes: &[u8],
     fields: &mut [Field],
     out: &mut ResponseHead,
 ) -> u32
     ensures head { result ≡ done
         → ShowsResponse bytes.now (response_of out.new) (take out.new.fields fields.new) }
-    ensures small { result ≡ too_small → IsResponseWanted bytes.now out.new.fields
+    ensures small { result ≡ buffer_too_small → IsResponseWanted bytes.now out.new.fields
         × (length fields.old < out.new.fields) }
-    ensures refused { result ≡ refused → NoResponseHead bytes.now }
-    ensures place { result ≡ refused → IsResponseRefused bytes.now out.new.place }
-    ensures nowhere { (result ≡ refused → ⊥) → out.new.place ≡ 0 }
+    ensures refused { result ≡ invalid → NoResponseHead bytes.now }
+    ensures place { result ≡ invalid → IsResponseRefused bytes.now out.new.place }
+    ensures nowhere { (result ≡ invalid → ⊥) → out.new.place ≡ 0 }
     ensures incomplete { result ≡ incomplete
         → BeginsResponseHead bytes.now × NoResponseRead bytes.now }
-    ensures codes { (result ≡ done) ⊎ ((result ≡ too_small) ⊎ ((result ≡ refused)
+    ensures codes { (result ≡ done) ⊎ ((result ≡ buffer_too_small) ⊎ ((result ≡ invalid)
         ⊎ (result ≡ incomplete))) }
 {
     match read_response_head_into(bytes, fields) {
@@ -158,7 +158,7 @@ pub extern "C" fn exported_http_response_head_in_pieces(
         }
         Err(HeadError::TooManyFields(count)) => {
             *out = none(count, 0);
-            TOO_SMALL
+            BUFFER_TOO_SMALL
         }
         Err(HeadError::Incomplete) => {
             *out = none(0, 0);
@@ -166,7 +166,7 @@ pub extern "C" fn exported_http_response_head_in_pieces(
         }
         Err(HeadError::Refused(place)) => {
             *out = none(0, place);
-            REFUSED
+            INVALID
         }
     }
 }

@@ -5,14 +5,14 @@ ghost use Rattle.std.specs.Str.{IsUtf8};
 ghost use Rattle.format_ini.specs.Documents.{IsDocument, IsRefused};
 ghost use Rattle.format_ini.specs.Lines.{Said};
 ghost use Rattle.format_ini.specs.declared.lines.Refusal.{Refusal};
-ghost use Rattle.exported.specs.Code.{done, end, no_text, refused};
+ghost use Rattle.exported.specs.Code.{done, end, invalid, invalid_utf8};
 ghost use Rattle.exported.specs.Dialects.{EntriesInTurn, IsFrom, ShowsEntry, TellsEntry, Writes};
 ghost use Rattle.exported.specs.Dialects.{continued_of, delimiters_of, dialect_of, fault_number};
 ghost use Rattle.exported.specs.Dialects.{has, is_set, marks_of, reading_at, zeros};
 ghost use Rattle.exported.specs.declared.ini.dialects.IniEntry.{IniEntry};
 ghost use Rattle.exported.specs.declared.ini.dialects.IniState.{IniState};
 
-use crate::code::{DONE, END, NO_TEXT, REFUSED};
+use crate::code::{DONE, END, INVALID, INVALID_UTF8};
 use crate::span::{NOWHERE, Span};
 use format_ini::dialect::{Continued, Delimiters, Dialect, Marks};
 use format_ini::lines::{Entry, Places, Refusal, State};
@@ -32,22 +32,22 @@ pub const INI_KEY: usize = 2;
 pub const INI_MORE: usize = 3;
 
 /// No `]` stands after the `[` that begins the line.
-pub const INI_FAULT_OPEN_SECTION: usize = 0;
+pub const INI_ERROR_UNCLOSED_SECTION: usize = 0;
 
 /// Nothing stands between `[` and `]`.
-pub const INI_FAULT_EMPTY_SECTION: usize = 1;
+pub const INI_ERROR_EMPTY_SECTION: usize = 1;
 
 /// Something stands after the `]`.
-pub const INI_FAULT_TEXT_BEHIND_SECTION: usize = 2;
+pub const INI_ERROR_TRAILING_TEXT: usize = 2;
 
 /// No section stands before the pair.
-pub const INI_FAULT_NO_SECTION: usize = 3;
+pub const INI_ERROR_MISSING_SECTION: usize = 3;
 
 /// No key stands before the delimiter.
-pub const INI_FAULT_NO_KEY: usize = 4;
+pub const INI_ERROR_MISSING_KEY: usize = 4;
 
 /// There is no delimiter.
-pub const INI_FAULT_NO_DELIMITER: usize = 5;
+pub const INI_ERROR_MISSING_DELIMITER: usize = 5;
 
 /// `=` ends a key. Where neither this is set nor the next, both end one.
 pub const INI_DIALECT_EQUALS: usize = 1;
@@ -118,8 +118,8 @@ pub struct IniEntry {
     pub value: Span,
     /// Where the line begins that is refused, or is no UTF-8. Else 0.
     pub place: usize,
-    /// Why it is refused: a number of those from `INI_FAULT_OPEN_SECTION` on. Else 0.
-    pub fault: usize,
+    /// Why it is refused: a number of those from `INI_ERROR_UNCLOSED_SECTION` on. Else 0.
+    pub error: usize,
 }
 
 /// Nothing.
@@ -128,7 +128,7 @@ const NO_ENTRY: IniEntry = IniEntry {
     key: NOWHERE,
     value: NOWHERE,
     place: 0,
-    fault: 0,
+    error: 0,
 };
 
 /// Whether a flag is set.
@@ -246,12 +246,12 @@ fn fault_number(why: Refusal) -> usize
     ensures { result ≡ fault_number why }
 {
     match why {
-        Refusal::OpenSection => INI_FAULT_OPEN_SECTION,
-        Refusal::EmptySection => INI_FAULT_EMPTY_SECTION,
-        Refusal::TextBehindSection => INI_FAULT_TEXT_BEHIND_SECTION,
-        Refusal::NoSection => INI_FAULT_NO_SECTION,
-        Refusal::NoKey => INI_FAULT_NO_KEY,
-        Refusal::NoDelimiter => INI_FAULT_NO_DELIMITER,
+        Refusal::OpenSection => INI_ERROR_UNCLOSED_SECTION,
+        Refusal::EmptySection => INI_ERROR_EMPTY_SECTION,
+        Refusal::TextBehindSection => INI_ERROR_TRAILING_TEXT,
+        Refusal::NoSection => INI_ERROR_MISSING_SECTION,
+        Refusal::NoKey => INI_ERROR_MISSING_KEY,
+        Refusal::NoDelimiter => INI_ERROR_MISSING_DELIMITER,
     }
 }
 
@@ -300,24 +300,24 @@ fn entry_of(entry: Entry<'_>, at: Places) -> IniEntry
 /// What is written where the next line that says something begins at this place.
 fn told_of(found: Result<Option<Placed<'_>>, Stop>, offset: usize) -> (u32, IniEntry)
     ensures writes { Writes found.entry offset result.0 result.1 }
-    ensures codes { (result.0 ≡ done) ⊎ ((result.0 ≡ end) ⊎ ((result.0 ≡ refused)
-        ⊎ (result.0 ≡ no_text))) }
+    ensures codes { (result.0 ≡ done) ⊎ ((result.0 ≡ end) ⊎ ((result.0 ≡ invalid)
+        ⊎ (result.0 ≡ invalid_utf8))) }
 {
     match found {
         Ok(Some(placed)) => (DONE, entry_of(placed.entry, placed.at)),
         Ok(None) => (END, NO_ENTRY),
         Err(Stop::NoText) => (
-            NO_TEXT,
+            INVALID_UTF8,
             IniEntry {
                 place: offset,
                 ..NO_ENTRY
             },
         ),
         Err(Stop::Refused(why)) => (
-            REFUSED,
+            INVALID,
             IniEntry {
                 place: offset,
-                fault: fault_number(why),
+                error: fault_number(why),
                 ..NO_ENTRY
             },
         ),
@@ -341,9 +341,9 @@ fn told_of(found: Result<Option<Placed<'_>>, Stop>, offset: usize) -> (u32, IniE
 ///
 /// `DONE`: what the entry is and the places of its texts are written; its line is UTF-8. A value of
 /// more lines comes as a pair and one `INI_MORE` for each further line. `END`: no entry is left.
-/// `REFUSED`: the next line is none of the dialect; where it begins, and why, is written.
-/// `NO_TEXT`: the next line is no UTF-8; where it begins is written. With these three no kind and
-/// no texts are written, and a further call tells the same. Lines are checked one by one, so
+/// `INVALID`: the next line is none of the dialect; where it begins, and why, is written.
+/// `INVALID_UTF8`: the next line is no UTF-8; where it begins is written. With these three no kind
+/// and no texts are written, and a further call tells the same. Lines are checked one by one, so
 /// entries are told of a document in which a later line is no UTF-8.
 ///
 /// Of a state that calls left for other bytes, or that is changed, what is told may be wrong;
@@ -360,8 +360,8 @@ pub extern "C" fn exported_ini_next(
     out: &mut IniEntry,
 ) -> u32
     ensures told { TellsEntry dialect state.old state.new bytes.now result out.new }
-    ensures codes { (result ≡ done) ⊎ ((result ≡ end) ⊎ ((result ≡ refused)
-        ⊎ (result ≡ no_text))) }
+    ensures codes { (result ≡ done) ⊎ ((result ≡ end) ⊎ ((result ≡ invalid)
+        ⊎ (result ≡ invalid_utf8))) }
 {
     let mut reading = reading_of(*state, bytes);
     let found = next_placed(dialect_of(dialect), bytes, &mut reading);
@@ -385,11 +385,11 @@ pub fn entries_in_turn_are_of_the_document()
     ensures refuses { (dialect : ℕ) (bytes : List ℕ) (outs : List IniEntry) (said : List Said)
         (state next : IniState) (out : IniEntry)
         → EntriesInTurn dialect bytes zeros outs said state
-        → TellsEntry dialect state next bytes refused out
-        → (why : Refusal) × (out.fault ≡ fault_number why)
+        → TellsEntry dialect state next bytes invalid out
+        → (why : Refusal) × (out.error ≡ fault_number why)
         × IsRefused (dialect_of dialect) bytes (record { offset = out.place; why = why }) }
     ensures text { (dialect : ℕ) (bytes : List ℕ) (outs : List IniEntry) (said : List Said)
         (state next : IniState) (out : IniEntry)
         → EntriesInTurn dialect bytes zeros outs said state
-        → TellsEntry dialect state next bytes no_text out → IsUtf8 bytes → ⊥ }
+        → TellsEntry dialect state next bytes invalid_utf8 out → IsUtf8 bytes → ⊥ }
 {}

@@ -3,10 +3,10 @@
 ghost use Rattle.std.specs.Prelude.{◌≡◌, ◌<◌, ◌⊎◌, length};
 ghost use Rattle.format_json_extents.specs.Strings.{IsString};
 ghost use Rattle.format_json_extents.specs.Texts.{NoneStands};
-ghost use Rattle.exported.specs.Code.{done, refused, too_small};
+ghost use Rattle.exported.specs.Code.{buffer_too_small, done, invalid};
 ghost use Rattle.exported.specs.JsonString.{IsWritten, ShowsText, no_text};
 
-use crate::code::{DONE, REFUSED, TOO_SMALL};
+use crate::code::{BUFFER_TOO_SMALL, DONE, INVALID};
 use format_json_extents::unescape;
 
 /// The text of a string of JSON.
@@ -33,11 +33,11 @@ const NO_TEXT_FOUND: JsonText = JsonText { text: 0, length: 0 };
 /// have zeros in it, by `\u0000`.
 ///
 /// `DONE`: the text is written into `buffer`, and its length and that of the string at `out`; the
-/// other bytes of the buffer are left as they were. `TOO_SMALL`: the buffer has fewer bytes than
-/// the text; both lengths are written, and what the buffer then holds is not told. `REFUSED`: the
-/// bytes begin with no string, as with a surrogate that is escaped alone; two zeros are written,
-/// and what the buffer then holds is not told. A string has at least as many bytes as its text, so
-/// a buffer as long as the string is not too small.
+/// other bytes of the buffer are left as they were. `BUFFER_TOO_SMALL`: the buffer has fewer bytes
+/// than the text; both lengths are written, and what the buffer then holds is not told. `INVALID`:
+/// the bytes begin with no string, as with a surrogate that is escaped alone; two zeros are
+/// written, and what the buffer then holds is not told. A string has at least as many bytes as its
+/// text, so a buffer as long as the string is not too small.
 ///
 /// The caller owes `bytes_length` bytes at `bytes` that can be read and that nothing changes while
 /// the call runs, `buffer_length` bytes at `buffer` that can be written, room for two lengths at
@@ -45,11 +45,11 @@ const NO_TEXT_FOUND: JsonText = JsonText { text: 0, length: 0 };
 #[unsafe(no_mangle)]
 pub extern "C" fn exported_json_string(bytes: &[u8], buffer: &mut [u8], out: &mut JsonText) -> u32
     ensures text { result ≡ done → IsWritten bytes.now out.new buffer.old buffer.new }
-    ensures small { result ≡ too_small
+    ensures small { result ≡ buffer_too_small
         → ShowsText bytes.now out.new × (length buffer.old < out.new.text) }
-    ensures refused { result ≡ refused → NoneStands IsString bytes.now }
-    ensures none { result ≡ refused → out.new ≡ no_text }
-    ensures codes { (result ≡ done) ⊎ ((result ≡ too_small) ⊎ (result ≡ refused)) }
+    ensures refused { result ≡ invalid → NoneStands IsString bytes.now }
+    ensures none { result ≡ invalid → out.new ≡ no_text }
+    ensures codes { (result ≡ done) ⊎ ((result ≡ buffer_too_small) ⊎ (result ≡ invalid)) }
 {
     *out = NO_TEXT_FOUND;
     let mut left = bytes;
@@ -62,9 +62,9 @@ pub extern "C" fn exported_json_string(bytes: &[u8], buffer: &mut [u8], out: &mu
             if text <= buffer.len() {
                 DONE
             } else {
-                TOO_SMALL
+                BUFFER_TOO_SMALL
             }
         }
-        None => REFUSED,
+        None => INVALID,
     }
 }
