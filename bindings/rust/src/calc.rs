@@ -6,7 +6,7 @@
 //! assert_eq!(calc::value("2 + 3 * 4"), Ok(14));
 //! assert_eq!(calc::value("1 / 0").unwrap_err().to_string(), "invalid input at line 1, column 6");
 //! ```
-use crate::{exports, Error, Place, NOTHING};
+use crate::{exports, Error, Position, NOTHING};
 
 /// The value of a formula of whole numbers.
 ///
@@ -29,6 +29,6 @@ pub fn value(text: &str) -> Result<i64, Error> {
     let code = unsafe { exports::exported_calc_value(text.as_ptr(), text.len(), &mut out) };
     match code {
         exports::DONE => Ok(out.value),
-        code => Err(Error::of(code, Some(Place::of(text.as_bytes(), out.place)), NOTHING)),
+        code => Err(Error::of(code, Some(Position::of(text.as_bytes(), out.place)), NOTHING)),
     }
 }

@@ -11,7 +11,7 @@ mod extent;
 
 pub use self::extent::{Extent, Size};
 
-use crate::{at, exports, Error, Place, Span, Wanted};
+use crate::{at, exports, Error, Position, RequiredSize, Span};
 
 /// What ends a line.
 #[derive(Clone, Copy, Debug, Default, PartialEq, Eq)]
@@ -83,8 +83,8 @@ fn read<'i, 'b>(
             rest: &bytes[out.length..],
         }),
         code => {
-            let refused = (code == exports::INVALID).then(|| Place::of(bytes, out.place));
-            Err(Error::of(code, refused, Wanted { entries: out.fields, bytes: out.text }))
+            let position = (code == exports::INVALID).then(|| Position::of(bytes, out.place));
+            Err(Error::of(code, position, RequiredSize { entries: out.fields, bytes: out.text }))
         }
     }
 }
@@ -103,8 +103,8 @@ fn read<'i, 'b>(
 /// let record = csv::record(b"a,\"b \"\"c\"\"\"\nd", LineEnd::Lf, &mut text, &mut fields)?;
 /// assert_eq!(record.fields().collect::<Vec<_>>(), [&b"a"[..], b"b \"c\""]);
 /// assert_eq!(record.rest(), b"d");
-/// let refused = csv::record(b"a,b\"c", LineEnd::Lf, &mut text, &mut fields).unwrap_err();
-/// assert_eq!(refused.to_string(), "invalid input at line 1, column 4");
+/// let error = csv::record(b"a,b\"c", LineEnd::Lf, &mut text, &mut fields).unwrap_err();
+/// assert_eq!(error.to_string(), "invalid input at line 1, column 4");
 /// # Ok::<(), pergidau::Error>(())
 /// ```
 pub fn record<'i, 'b>(
@@ -118,7 +118,7 @@ pub fn record<'i, 'b>(
 
 /// The same record where the bytes come in pieces: [`Error::Incomplete`] says that no record with its
 /// line end is there, and that with three bytes more at most they can begin with one;
-/// [`Error::Refused`], that they begin with none, whatever comes after them. A field in quotes that
+/// [`Error::Invalid`], that they begin with none, whatever comes after them. A field in quotes that
 /// are not closed goes on for ever, so a caller bounds how many bytes are held. Where no more bytes
 /// come, [`record`] reads a last record that has no line end. Each call reads from the first byte on:
 /// of a long record in many pieces an [`Extent`] finds the end.
@@ -127,12 +127,12 @@ pub fn record<'i, 'b>(
 /// use pergidau::csv::{self, LineEnd};
 /// use pergidau::Error;
 ///
-/// let record = csv::record_in_pieces(b"a,b", LineEnd::CrLf, &mut [], &mut []);
+/// let record = csv::record_partial(b"a,b", LineEnd::CrLf, &mut [], &mut []);
 /// assert_eq!(record.unwrap_err(), Error::Incomplete);
-/// let never = csv::record_in_pieces(b"x\"y", LineEnd::CrLf, &mut [], &mut []);
+/// let never = csv::record_partial(b"x\"y", LineEnd::CrLf, &mut [], &mut []);
 /// assert_eq!(never.unwrap_err().to_string(), "invalid input at line 1, column 2");
 /// ```
-pub fn record_in_pieces<'i, 'b>(
+pub fn record_partial<'i, 'b>(
     bytes: &'i [u8],
     end: LineEnd,
     text: &'b mut [u8],
@@ -164,16 +164,17 @@ impl Iterator for Records<'_> {
                     self.left = record.rest();
                     return Some(Ok(record.fields().map(<[u8]>::to_vec).collect()));
                 }
-                Err(Error::TooSmall(wanted)) => {
-                    self.text.resize(wanted.bytes.max(self.text.len()), 0);
-                    self.fields.resize(wanted.entries.max(self.fields.len()), Span::default());
+                Err(Error::BufferTooSmall(required)) => {
+                    self.text.resize(required.bytes.max(self.text.len()), 0);
+                    self.fields.resize(required.entries.max(self.fields.len()), Span::default());
                 }
                 Err(error) => {
                     let before = self.document.len() - self.left.len();
                     self.left = &[];
                     return Some(Err(match error {
-                        Error::Refused(Some(place)) => {
-                            Error::Refused(Some(Place::of(self.document, before + place.offset)))
+                        Error::Invalid(Some(position)) => {
+                            let offset = before + position.offset;
+                            Error::Invalid(Some(Position::of(self.document, offset)))
                         }
                         error => error,
                     }));
@@ -192,8 +193,8 @@ impl Iterator for Records<'_> {
 ///
 /// let records: Result<Vec<_>, _> = csv::records(b"a,b\n\"c\nd\",\n", LineEnd::Lf).collect();
 /// assert_eq!(records?, [[b"a".to_vec(), b"b".to_vec()], [b"c\nd".to_vec(), Vec::new()]]);
-/// let refused = csv::records(b"a\nb\"\n", LineEnd::Lf).last();
-/// assert_eq!(refused.unwrap().unwrap_err().to_string(), "invalid input at line 2, column 2");
+/// let error = csv::records(b"a\nb\"\n", LineEnd::Lf).last();
+/// assert_eq!(error.unwrap().unwrap_err().to_string(), "invalid input at line 2, column 2");
 /// # Ok::<(), pergidau::Error>(())
 /// ```
 #[cfg(feature = "std")]

@@ -15,11 +15,11 @@ mod extent;
 mod response;
 
 pub use self::extent::HeadExtent;
-pub use self::response::{response_head, response_head_in_pieces, ResponseHead};
+pub use self::response::{response_head, response_head_partial, ResponseHead};
 pub use crate::exports::Field;
 
 use crate::exports;
-use crate::{at, Error, Place, Wanted};
+use crate::{at, Error, Position, RequiredSize};
 use core::fmt;
 
 /// The head of a request: its parts, as slices of the bytes that were read.
@@ -76,8 +76,8 @@ fn read<'i, 'f>(
     match code {
         exports::DONE => Ok(Head { bytes, places, fields: &fields[..places.fields] }),
         code => {
-            let wanted = Wanted { entries: places.fields, bytes: 0 };
-            Err(Error::of(code, Some(Place::of(bytes, places.place)), wanted))
+            let required = RequiredSize { entries: places.fields, bytes: 0 };
+            Err(Error::of(code, Some(Position::of(bytes, places.place)), required))
         }
     }
 }
@@ -99,15 +99,15 @@ pub fn head<'i, 'f>(bytes: &'i [u8], fields: &'f mut [Field]) -> Result<Head<'i,
 }
 
 /// The same head where the bytes come in pieces: [`Error::Incomplete`] says that with more bytes
-/// after them they can begin with one, and [`Error::Refused`] that they cannot, and the first place
+/// after them they can begin with one, and [`Error::Invalid`] that they cannot, and the first place
 /// at which none goes on. Each call reads from the first byte on: of a head in many pieces a
 /// [`HeadExtent`] finds the end.
 ///
 /// ```
-/// let head = pergidau::http::head_in_pieces(b"GET / HTT", &mut []);
+/// let head = pergidau::http::head_partial(b"GET / HTT", &mut []);
 /// assert_eq!(head.unwrap_err(), pergidau::Error::Incomplete);
 /// ```
-pub fn head_in_pieces<'i, 'f>(
+pub fn head_partial<'i, 'f>(
     bytes: &'i [u8],
     fields: &'f mut [Field],
 ) -> Result<Head<'i, 'f>, Error> {
@@ -131,7 +131,7 @@ pub enum Step<'i> {
 /// Why a byte of a chunked body is refused.
 #[derive(Clone, Copy, Debug, PartialEq, Eq)]
 #[non_exhaustive]
-pub enum Fault {
+pub enum ChunkedError {
     /// A size line is due, and begins with no hexadecimal digit.
     Size,
     /// No size line goes on with the byte.
@@ -150,36 +150,36 @@ pub enum Fault {
     Unknown(usize),
 }
 
-impl fmt::Display for Fault {
+impl fmt::Display for ChunkedError {
     fn fmt(&self, f: &mut fmt::Formatter<'_>) -> fmt::Result {
         match self {
-            Fault::Size => f.write_str("expected a chunk size"),
-            Fault::SizeLine => f.write_str("invalid byte in chunk size line"),
-            Fault::SizeTooLarge => f.write_str("chunk size too large"),
-            Fault::SizeLineTooLong => f.write_str("chunk size line too long"),
-            Fault::DataEnd => f.write_str("expected CRLF after chunk data"),
-            Fault::Trailers => f.write_str("invalid byte in trailer section"),
-            Fault::TrailersTooLong => f.write_str("trailer section too long"),
-            Fault::Unknown(number) => write!(f, "unknown number {number} from the library"),
+            ChunkedError::Size => f.write_str("expected a chunk size"),
+            ChunkedError::SizeLine => f.write_str("invalid byte in chunk size line"),
+            ChunkedError::SizeTooLarge => f.write_str("chunk size too large"),
+            ChunkedError::SizeLineTooLong => f.write_str("chunk size line too long"),
+            ChunkedError::DataEnd => f.write_str("expected CRLF after chunk data"),
+            ChunkedError::Trailers => f.write_str("invalid byte in trailer section"),
+            ChunkedError::TrailersTooLong => f.write_str("trailer section too long"),
+            ChunkedError::Unknown(number) => write!(f, "unknown number {number} from the library"),
         }
     }
 }
 
 #[cfg(feature = "std")]
-impl std::error::Error for Fault {}
+impl std::error::Error for ChunkedError {}
 
-impl Fault {
+impl ChunkedError {
     /// What a number of the library says.
-    fn of(number: usize) -> Fault {
+    fn of(number: usize) -> ChunkedError {
         match number {
-            exports::CHUNKED_ERROR_SIZE => Fault::Size,
-            exports::CHUNKED_ERROR_SIZE_LINE => Fault::SizeLine,
-            exports::CHUNKED_ERROR_SIZE_TOO_LARGE => Fault::SizeTooLarge,
-            exports::CHUNKED_ERROR_SIZE_LINE_TOO_LONG => Fault::SizeLineTooLong,
-            exports::CHUNKED_ERROR_DATA_END => Fault::DataEnd,
-            exports::CHUNKED_ERROR_TRAILERS => Fault::Trailers,
-            exports::CHUNKED_ERROR_TRAILERS_TOO_LONG => Fault::TrailersTooLong,
-            number => Fault::Unknown(number),
+            exports::CHUNKED_ERROR_SIZE => ChunkedError::Size,
+            exports::CHUNKED_ERROR_SIZE_LINE => ChunkedError::SizeLine,
+            exports::CHUNKED_ERROR_SIZE_TOO_LARGE => ChunkedError::SizeTooLarge,
+            exports::CHUNKED_ERROR_SIZE_LINE_TOO_LONG => ChunkedError::SizeLineTooLong,
+            exports::CHUNKED_ERROR_DATA_END => ChunkedError::DataEnd,
+            exports::CHUNKED_ERROR_TRAILERS => ChunkedError::Trailers,
+            exports::CHUNKED_ERROR_TRAILERS_TOO_LONG => ChunkedError::TrailersTooLong,
+            number => ChunkedError::Unknown(number),
         }
     }
 }
@@ -210,7 +210,7 @@ const TRAILERS: usize = 8192;
 ///     }
 /// }
 /// assert_eq!(content, b"Wiki");
-/// # Ok::<(), pergidau::http::Fault>(())
+/// # Ok::<(), pergidau::http::ChunkedError>(())
 /// ```
 #[derive(Clone, Copy, Debug, PartialEq, Eq)]
 pub struct Chunked {
@@ -239,10 +239,10 @@ impl Chunked {
     /// The same, where so many bytes may stand between data, and be of the trailer section.
     ///
     /// ```
-    /// use pergidau::http::{Chunked, Fault};
+    /// use pergidau::http::{Chunked, ChunkedError};
     ///
     /// let mut body = Chunked::with_limits(3, 0);
-    /// assert_eq!(body.advance(&mut &b"0;ab"[..]), Err(Fault::SizeLineTooLong));
+    /// assert_eq!(body.advance(&mut &b"0;ab"[..]), Err(ChunkedError::SizeLineTooLong));
     /// ```
     pub fn with_limits(size_line: usize, trailers: usize) -> Chunked {
         let state = exports::ChunkedState {
@@ -262,7 +262,7 @@ impl Chunked {
     /// Of all bytes that are taken the data are the content of the chunked body that they begin, in
     /// order, wherever they are cut. An error is for the first byte with which no body goes on, or for
     /// one that is past the limits: the bytes then begin with it, and it is refused again.
-    pub fn advance<'i>(&mut self, bytes: &mut &'i [u8]) -> Result<Step<'i>, Fault> {
+    pub fn advance<'i>(&mut self, bytes: &mut &'i [u8]) -> Result<Step<'i>, ChunkedError> {
         let all: &'i [u8] = bytes;
         let mut step = exports::ChunkedStep::default();
         // SAFETY: the pointers are those of live borrows, and the bytes are only read. The call takes up
@@ -276,9 +276,9 @@ impl Chunked {
             (exports::DONE, exports::CHUNKED_TRAILERS) => Ok(Step::Trailers(at(all, step.place))),
             (exports::END, _) => Ok(Step::End),
             (exports::INCOMPLETE, _) => Ok(Step::More),
-            (exports::INVALID, _) => Err(Fault::of(step.error)),
-            (exports::DONE, kind) => Err(Fault::Unknown(kind)),
-            (code, _) => Err(Fault::Unknown(code as usize)),
+            (exports::INVALID, _) => Err(ChunkedError::of(step.error)),
+            (exports::DONE, kind) => Err(ChunkedError::Unknown(kind)),
+            (code, _) => Err(ChunkedError::Unknown(code as usize)),
         }
     }
 }

@@ -182,7 +182,7 @@ impl<'i> Iterator for Members<'i> {
 /// ```
 pub fn parse(text: &str, max_depth: usize) -> Result<Value<'_>, Error> {
     check(text.as_bytes(), max_depth)?;
-    Inside { left: text, max_depth }.next().ok_or(Error::Refused(None))
+    Inside { left: text, max_depth }.next().ok_or(Error::Invalid(None))
 }
 
 /// Whether a text is one of JSON (RFC 8259), in which no more than `max_depth` arrays and objects stand
@@ -192,7 +192,7 @@ pub fn parse(text: &str, max_depth: usize) -> Result<Value<'_>, Error> {
 /// use pergidau::{json, Error};
 ///
 /// assert_eq!(json::check(b" {\"a\": [1, 2.5e3, true]}\n", 2), Ok(()));
-/// assert_eq!(json::check(b"[1, 2,]", 2), Err(Error::Refused(None)));
+/// assert_eq!(json::check(b"[1, 2,]", 2), Err(Error::Invalid(None)));
 /// ```
 pub fn check(text: &[u8], max_depth: usize) -> Result<(), Error> {
     // SAFETY: the pointer is that of a live borrow, and the bytes are only read. The call takes up to

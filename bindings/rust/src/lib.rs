@@ -21,8 +21,8 @@
 //!
 //! assert_eq!(calc::value("2 + 3 * 4"), Ok(14));
 //! assert_eq!(ini::pair(b"key=value\n"), Ok((&b"key"[..], &b"value"[..])));
-//! let refused = calc::value("1 +\n 2 / 0").unwrap_err();
-//! assert_eq!(refused.to_string(), "invalid input at line 2, column 7");
+//! let error = calc::value("1 +\n 2 / 0").unwrap_err();
+//! assert_eq!(error.to_string(), "invalid input at line 2, column 7");
 //! ```
 //!
 //! # The library
@@ -45,7 +45,7 @@ pub mod json;
 pub mod resp;
 pub mod toml;
 
-pub use crate::error::{Error, Place, Wanted};
+pub use crate::error::{Error, Position, RequiredSize};
 pub use crate::exports::{Span, MAX_DEPTH};
 
 /// The examples of the page of this crate are run as those of its documentation.
@@ -54,7 +54,7 @@ pub use crate::exports::{Span, MAX_DEPTH};
 pub struct Page;
 
 /// Nothing is wanted.
-const NOTHING: Wanted = Wanted { entries: 0, bytes: 0 };
+const NOTHING: RequiredSize = RequiredSize { entries: 0, bytes: 0 };
 
 /// What stands at a place of the bytes.
 fn at(bytes: &[u8], place: Span) -> &[u8] {

@@ -106,22 +106,22 @@ pub fn reply(bytes: &[u8], max_depth: usize) -> Result<(Reply<'_>, &[u8]), Error
 }
 
 /// The same reply where the bytes come in pieces: [`Error::Incomplete`] says that more of them may
-/// be needed, and [`Error::Refused`] that they begin with none, whatever comes after them. Each call
+/// be needed, and [`Error::Invalid`] that they begin with none, whatever comes after them. Each call
 /// reads from the first byte on: of a long reply in many pieces an [`Extent`] finds the end.
 ///
 /// ```
 /// use pergidau::{resp, Error};
 ///
-/// assert_eq!(resp::reply_in_pieces(b"$6\r\nfoo", 0), Err(Error::Incomplete));
-/// assert_eq!(resp::reply_in_pieces(b"$x\r\n", 0), Err(Error::Refused(None)));
+/// assert_eq!(resp::reply_partial(b"$6\r\nfoo", 0), Err(Error::Incomplete));
+/// assert_eq!(resp::reply_partial(b"$x\r\n", 0), Err(Error::Invalid(None)));
 /// ```
-pub fn reply_in_pieces(bytes: &[u8], max_depth: usize) -> Result<(Reply<'_>, &[u8]), Error> {
+pub fn reply_partial(bytes: &[u8], max_depth: usize) -> Result<(Reply<'_>, &[u8]), Error> {
     read(exports::exported_resp_reply_partial, bytes, max_depth)
 }
 
 /// How far bytes that come in pieces were searched for the end of the reply that they begin with. What
 /// one call passed, no other looks at again: so all calls for a reply take a time that is linear in its
-/// bytes, however many pieces there are, where [`reply_in_pieces`] reads from the first byte each time.
+/// bytes, however many pieces there are, where [`reply_partial`] reads from the first byte each time.
 ///
 /// ```
 /// use pergidau::resp::{self, Extent, Reply};
@@ -152,7 +152,7 @@ impl Extent {
 
     /// How many bytes the reply has with which the bytes begin, if it is there. They are all of those of
     /// the call before, and a piece more. `None` says that the reply's last line is not ended, or that
-    /// bytes of a string are wanting; [`Error::Refused`], that they begin with no reply, whatever comes
+    /// bytes of a string are wanting; [`Error::Invalid`], that they begin with no reply, whatever comes
     /// after them. What is told of other bytes than those of the call before may be wrong.
     ///
     /// How deep arrays stand in one another is not asked here: [`reply`] does, of the bytes of the reply.
@@ -181,7 +181,7 @@ mod tests {
         let mut elements = Elements { left: b":1\r\nx:2\r\n", count: 3 };
         assert_eq!(elements.next(), Some(Ok(Reply::Integer(1))));
         assert_eq!(elements.len(), 2);
-        assert_eq!(elements.next(), Some(Err(Error::Refused(None))));
+        assert_eq!(elements.next(), Some(Err(Error::Invalid(None))));
         assert_eq!(elements.len(), 0);
         assert_eq!(elements.next(), None);
     }

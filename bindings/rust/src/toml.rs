@@ -14,7 +14,7 @@
 //! ```
 pub use crate::exports::TomlNode as Node;
 
-use crate::{exports, Place, Span, Wanted};
+use crate::{exports, Position, RequiredSize, Span};
 use core::{fmt, str};
 
 /// Why a text is no document, and where.
@@ -22,9 +22,9 @@ use core::{fmt, str};
 #[non_exhaustive]
 pub enum Error {
     /// A line is none of TOML: what stands at the place is not what may stand there.
-    Unexpected(Place, Expected),
+    Unexpected(Position, Expected),
     /// The standard refuses the line that begins at the place, for what those before it say.
-    Refused(Place, Refusal),
+    Invalid(Position, Reason),
     /// Another reason, which is no matter of TOML.
     Other(crate::Error),
 }
@@ -48,22 +48,22 @@ pub enum Expected {
 
 /// Why the standard refuses a line.
 #[derive(Clone, Copy, Debug, PartialEq, Eq)]
-pub enum Refusal {
+pub enum Reason {
     /// What it defines is defined already.
     Defined,
     /// It takes a value for a table.
-    NoTable,
+    NotATable,
     /// It adds to a table that is closed: an inline table, or by dotted keys one of a header.
     Closed,
     /// It adds a table to what is no array of tables.
-    NoTables,
+    NotAnArrayOfTables,
 }
 
 impl fmt::Display for Error {
     fn fmt(&self, f: &mut fmt::Formatter<'_>) -> fmt::Result {
         match self {
-            Error::Unexpected(place, expected) => write!(f, "{place}: expected {expected}"),
-            Error::Refused(place, why) => write!(f, "{place}: {why}"),
+            Error::Unexpected(position, expected) => write!(f, "{position}: expected {expected}"),
+            Error::Invalid(position, reason) => write!(f, "{position}: {reason}"),
             Error::Other(error) => error.fmt(f),
         }
     }
@@ -82,13 +82,13 @@ impl fmt::Display for Expected {
     }
 }
 
-impl fmt::Display for Refusal {
+impl fmt::Display for Reason {
     fn fmt(&self, f: &mut fmt::Formatter<'_>) -> fmt::Result {
         f.write_str(match self {
-            Refusal::Defined => "key is already defined",
-            Refusal::NoTable => "key is not a table",
-            Refusal::Closed => "table cannot be extended",
-            Refusal::NoTables => "key is not an array of tables",
+            Reason::Defined => "key is already defined",
+            Reason::NotATable => "key is not a table",
+            Reason::Closed => "table cannot be extended",
+            Reason::NotAnArrayOfTables => "key is not an array of tables",
         })
     }
 }
@@ -99,11 +99,11 @@ impl std::error::Error for Error {}
 impl Error {
     /// What a code other than that for done says, with what was written.
     fn of(code: u32, text: &str, out: &exports::TomlResult) -> Error {
-        let place = Place::of(text.as_bytes(), out.place);
+        let position = Position::of(text.as_bytes(), out.place);
         let expected = match out.error {
             exports::TOML_ERROR_NONE => {
-                let wanted = Wanted { entries: out.nodes, bytes: out.text };
-                return Error::Other(crate::Error::of(code, Some(place), wanted));
+                let required = RequiredSize { entries: out.nodes, bytes: out.text };
+                return Error::Other(crate::Error::of(code, Some(position), required));
             }
             exports::TOML_ERROR_KEY => Expected::Key,
             exports::TOML_ERROR_EQUALS_SIGN => Expected::EqualsSign,
@@ -111,13 +111,15 @@ impl Error {
             exports::TOML_ERROR_TABLE_NAME => Expected::TableName,
             exports::TOML_ERROR_CLOSING_BRACKET => Expected::ClosingBracket,
             exports::TOML_ERROR_LINE_END => Expected::LineEnd,
-            exports::TOML_ERROR_DEFINED => return Error::Refused(place, Refusal::Defined),
-            exports::TOML_ERROR_NOT_A_TABLE => return Error::Refused(place, Refusal::NoTable),
-            exports::TOML_ERROR_CLOSED => return Error::Refused(place, Refusal::Closed),
-            exports::TOML_ERROR_NOT_AN_ARRAY_OF_TABLES => return Error::Refused(place, Refusal::NoTables),
+            exports::TOML_ERROR_DEFINED => return Error::Invalid(position, Reason::Defined),
+            exports::TOML_ERROR_NOT_A_TABLE => return Error::Invalid(position, Reason::NotATable),
+            exports::TOML_ERROR_CLOSED => return Error::Invalid(position, Reason::Closed),
+            exports::TOML_ERROR_NOT_AN_ARRAY_OF_TABLES => {
+                return Error::Invalid(position, Reason::NotAnArrayOfTables);
+            }
             _ => return Error::Other(crate::Error::Unknown(code)),
         };
-        Error::Unexpected(place, expected)
+        Error::Unexpected(position, expected)
     }
 }
 
@@ -338,20 +340,20 @@ impl<'b> Iterator for Children<'b> {
     }
 }
 
-/// The document that a text is, in whose values no more than `max_depth` arrays and inline tables stand in
-/// one another. The nodes are written into `nodes`, and the bytes of their names and texts into `text`;
-/// where one of them is too small, the error says how much is wanted. More than
-/// [`MAX_DEPTH`](crate::MAX_DEPTH) levels are an error. While it runs it holds up to 600 bytes of
-/// memory for each byte of the document.
+/// The document that a text is, in whose values no more than `max_depth` arrays and inline tables stand
+/// in one another. The nodes are written into `nodes`, and the bytes of their names and texts into
+/// `text`; where one of them is too small, the error says how much is wanted. A `max_depth` above
+/// [`MAX_DEPTH`](crate::MAX_DEPTH) is an error. While it runs it holds up to 600 bytes of memory for
+/// each byte of the document.
 ///
 /// ```
 /// use pergidau::toml::{self, Node};
 ///
 /// let (mut text, mut nodes) = ([0; 64], [Node::default(); 8]);
-/// let refused = toml::parse("[a]\nb 2\n", 0, &mut text, &mut nodes).unwrap_err();
-/// assert_eq!(refused.to_string(), "line 2, column 3: expected `=`");
-/// let refused = toml::parse("a = 1\na = 2\n", 0, &mut text, &mut nodes).unwrap_err();
-/// assert_eq!(refused.to_string(), "line 2, column 1: key is already defined");
+/// let error = toml::parse("[a]\nb 2\n", 0, &mut text, &mut nodes).unwrap_err();
+/// assert_eq!(error.to_string(), "line 2, column 3: expected `=`");
+/// let error = toml::parse("a = 1\na = 2\n", 0, &mut text, &mut nodes).unwrap_err();
+/// assert_eq!(error.to_string(), "line 2, column 1: key is already defined");
 /// ```
 pub fn parse<'b>(
     source: &str,

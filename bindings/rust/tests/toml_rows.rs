@@ -1,6 +1,6 @@
 //! Rows of documents of TOML. The wanted values are those of Python's tomllib, and of the examples of
 //! the standard.
-use pergidau::toml::{self, Date, Error, Expected, Item, Node, Refusal, Time, Value};
+use pergidau::toml::{self, Date, Error, Expected, Item, Node, Reason, Time, Value};
 
 /// What a document says: tables in braces, arrays in brackets.
 fn said(item: Item<'_>) -> String {
@@ -96,7 +96,7 @@ fn errors_say_where_and_why() {
         assert_eq!(read(text).unwrap_err().to_string(), wanted, "{text}");
     }
     assert!(matches!(read("a 1"), Err(Error::Unexpected(at, Expected::EqualsSign)) if at.offset == 2));
-    assert!(matches!(read("a=1\na=1"), Err(Error::Refused(at, Refusal::Defined)) if at.offset == 4));
+    assert!(matches!(read("a=1\na=1"), Err(Error::Invalid(at, Reason::Defined)) if at.offset == 4));
 }
 
 #[test]
@@ -106,5 +106,5 @@ fn buffers_that_are_too_small_are_named() {
     assert_eq!(small.to_string(), "buffer too small: 2 entries and 5 bytes required");
     assert!(toml::parse("ab = 'cde'", 0, &mut bytes, &mut nodes).is_ok());
     let deep = toml::parse("a = 1", pergidau::MAX_DEPTH + 1, &mut bytes, &mut nodes).unwrap_err();
-    assert_eq!(deep, Error::Other(pergidau::Error::TooDeep));
+    assert_eq!(deep, Error::Other(pergidau::Error::MaxDepthTooLarge));
 }

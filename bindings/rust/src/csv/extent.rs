@@ -1,6 +1,6 @@
 //! Where records end.
 use super::LineEnd;
-use crate::{exports, Error, Place, Wanted, NOTHING};
+use crate::{exports, Error, Position, RequiredSize, NOTHING};
 
 /// How much the record has that an [`Extent`] found.
 #[derive(Clone, Copy, Debug, PartialEq, Eq)]
@@ -9,12 +9,12 @@ pub struct Size {
     pub length: usize,
     /// The room that [`record`](crate::csv::record) wants for its fields: so many places, and so many
     /// bytes.
-    pub wanted: Wanted,
+    pub required: RequiredSize,
 }
 
 /// How far bytes that come in pieces were searched for the end of the record that they begin with. What
 /// one call passed, no other looks at again: so all calls for a record take a time that is linear in its
-/// bytes, however many pieces there are, where [`record_in_pieces`](crate::csv::record_in_pieces) reads
+/// bytes, however many pieces there are, where [`record_partial`](crate::csv::record_partial) reads
 /// from the first byte each time.
 ///
 /// ```
@@ -50,7 +50,7 @@ impl Extent {
     /// The size of the record with which the bytes begin, whatever follows, if its line end is there.
     /// They are all of those of the call before, and a piece more. `None` says that no record with its
     /// line end is there, and that with three bytes more at most they can begin with one;
-    /// [`Error::Refused`], that they begin with none, whatever comes after them, and the first place at
+    /// [`Error::Invalid`], that they begin with none, whatever comes after them, and the first place at
     /// which none goes on. A field in quotes that are not closed goes on for ever, so a caller bounds
     /// how many bytes are held. Where no more bytes come, [`record`](crate::csv::record) reads a last
     /// record that has no line end. What is told of other bytes than those of the call before may be
@@ -72,11 +72,11 @@ impl Extent {
         };
         match code {
             exports::DONE => {
-                let wanted = Wanted { entries: out.fields, bytes: out.text };
-                Ok(Some(Size { length: out.length, wanted }))
+                let required = RequiredSize { entries: out.fields, bytes: out.text };
+                Ok(Some(Size { length: out.length, required }))
             }
             exports::INCOMPLETE => Ok(None),
-            code => Err(Error::of(code, Some(Place::of(bytes, out.place)), NOTHING)),
+            code => Err(Error::of(code, Some(Position::of(bytes, out.place)), NOTHING)),
         }
     }
 }

@@ -1,10 +1,10 @@
 //! Where heads of requests end.
-use crate::{exports, Error, Place, NOTHING};
+use crate::{exports, Error, Position, NOTHING};
 
 /// How far bytes that come in pieces were searched for the end of the head of a request that they
 /// begin with. What one call passed, no other looks at again: so all calls for a head take a time that
 /// is linear in its bytes, however many pieces there are, where
-/// [`head_in_pieces`](crate::http::head_in_pieces) reads from the first byte each time.
+/// [`head_partial`](crate::http::head_partial) reads from the first byte each time.
 ///
 /// ```
 /// use pergidau::http::{self, Field, HeadExtent};
@@ -35,7 +35,7 @@ impl HeadExtent {
 
     /// How many bytes the head has with which the bytes begin, if it is there. They are all of those of
     /// the call before, and a piece more. `None` says that with more bytes after them they can begin
-    /// with a head; [`Error::Refused`], that they cannot, and the first place at which none goes on.
+    /// with a head; [`Error::Invalid`], that they cannot, and the first place at which none goes on.
     /// What is told of other bytes than those of the call before may be wrong.
     pub fn advance(&mut self, bytes: &[u8]) -> Result<Option<usize>, Error> {
         let mut out = 0;
@@ -47,7 +47,7 @@ impl HeadExtent {
         match code {
             exports::DONE => Ok(Some(out)),
             exports::INCOMPLETE => Ok(None),
-            code => Err(Error::of(code, Some(Place::of(bytes, out)), NOTHING)),
+            code => Err(Error::of(code, Some(Position::of(bytes, out)), NOTHING)),
         }
     }
 }

@@ -1,7 +1,7 @@
 //! Heads of responses.
 use super::Field;
 use crate::exports;
-use crate::{at, Error, Place, Wanted};
+use crate::{at, Error, Position, RequiredSize};
 
 /// The head of a response: its numbers, and its parts as slices of the bytes that were read.
 #[derive(Clone, Copy, Debug)]
@@ -59,8 +59,8 @@ fn read<'i, 'f>(
     match code {
         exports::DONE => Ok(ResponseHead { bytes, places, fields: &fields[..places.fields] }),
         code => {
-            let wanted = Wanted { entries: places.fields, bytes: 0 };
-            Err(Error::of(code, Some(Place::of(bytes, places.place)), wanted))
+            let required = RequiredSize { entries: places.fields, bytes: 0 };
+            Err(Error::of(code, Some(Position::of(bytes, places.place)), required))
         }
     }
 }
@@ -87,14 +87,14 @@ pub fn response_head<'i, 'f>(
 }
 
 /// The same head where the bytes come in pieces: [`Error::Incomplete`] says that with more bytes
-/// after them they can begin with one, and [`Error::Refused`] that they cannot, and the first place
+/// after them they can begin with one, and [`Error::Invalid`] that they cannot, and the first place
 /// at which none goes on.
 ///
 /// ```
-/// let head = pergidau::http::response_head_in_pieces(b"HTTP/1.1 20", &mut []);
+/// let head = pergidau::http::response_head_partial(b"HTTP/1.1 20", &mut []);
 /// assert_eq!(head.unwrap_err(), pergidau::Error::Incomplete);
 /// ```
-pub fn response_head_in_pieces<'i, 'f>(
+pub fn response_head_partial<'i, 'f>(
     bytes: &'i [u8],
     fields: &'f mut [Field],
 ) -> Result<ResponseHead<'i, 'f>, Error> {

@@ -10,11 +10,11 @@
 //! assert_eq!(found.next(), Some(Ok(Entry::Pair { key: "hosts", value: Some("a") })));
 //! assert_eq!(found.next(), Some(Ok(Entry::More("b"))));
 //! assert_eq!(found.next(), None);
-//! let refused = entries("[server]\nport\n", Dialect::PYTHON).last().unwrap().unwrap_err();
-//! assert_eq!(refused.to_string(), "missing delimiter after the key at line 2, column 1");
+//! let error = entries("[server]\nport\n", Dialect::PYTHON).last().unwrap().unwrap_err();
+//! assert_eq!(error.to_string(), "missing delimiter after the key at line 2, column 1");
 //! ```
 use crate::exports::{self, IniEntry, IniState};
-use crate::{Place, Span};
+use crate::{Position, Span};
 use core::fmt;
 
 /// What ends a key: the first of these in a line.
@@ -174,48 +174,48 @@ pub enum Entry<'i> {
 /// Why a line is none of the dialect.
 #[derive(Clone, Copy, Debug, PartialEq, Eq)]
 #[non_exhaustive]
-pub enum Refusal {
+pub enum Reason {
     /// No `]` stands after the `[` that begins the line.
-    OpenSection,
+    UnclosedSection,
     /// Nothing stands between `[` and `]`.
     EmptySection,
     /// Something stands after the `]`.
-    TextBehindSection,
+    TrailingText,
     /// No section stands before the pair.
-    NoSection,
+    MissingSection,
     /// No key stands before the delimiter.
-    NoKey,
+    MissingKey,
     /// There is no delimiter.
-    NoDelimiter,
+    MissingDelimiter,
     /// The library said what this crate does not know: it is another one.
     Unknown(usize),
 }
 
-impl Refusal {
+impl Reason {
     /// The reason of this number.
-    fn of(number: usize) -> Refusal {
+    fn of(number: usize) -> Reason {
         match number {
-            exports::INI_ERROR_UNCLOSED_SECTION => Refusal::OpenSection,
-            exports::INI_ERROR_EMPTY_SECTION => Refusal::EmptySection,
-            exports::INI_ERROR_TRAILING_TEXT => Refusal::TextBehindSection,
-            exports::INI_ERROR_MISSING_SECTION => Refusal::NoSection,
-            exports::INI_ERROR_MISSING_KEY => Refusal::NoKey,
-            exports::INI_ERROR_MISSING_DELIMITER => Refusal::NoDelimiter,
-            number => Refusal::Unknown(number),
+            exports::INI_ERROR_UNCLOSED_SECTION => Reason::UnclosedSection,
+            exports::INI_ERROR_EMPTY_SECTION => Reason::EmptySection,
+            exports::INI_ERROR_TRAILING_TEXT => Reason::TrailingText,
+            exports::INI_ERROR_MISSING_SECTION => Reason::MissingSection,
+            exports::INI_ERROR_MISSING_KEY => Reason::MissingKey,
+            exports::INI_ERROR_MISSING_DELIMITER => Reason::MissingDelimiter,
+            number => Reason::Unknown(number),
         }
     }
 }
 
-impl fmt::Display for Refusal {
+impl fmt::Display for Reason {
     fn fmt(&self, f: &mut fmt::Formatter<'_>) -> fmt::Result {
         f.write_str(match self {
-            Refusal::OpenSection => "unclosed section header",
-            Refusal::EmptySection => "empty section name",
-            Refusal::TextBehindSection => "unexpected text after a section header",
-            Refusal::NoSection => "pair before the first section header",
-            Refusal::NoKey => "missing key before the delimiter",
-            Refusal::NoDelimiter => "missing delimiter after the key",
-            Refusal::Unknown(_) => "invalid line for an unknown reason",
+            Reason::UnclosedSection => "unclosed section header",
+            Reason::EmptySection => "empty section name",
+            Reason::TrailingText => "unexpected text after a section header",
+            Reason::MissingSection => "pair before the first section header",
+            Reason::MissingKey => "missing key before the delimiter",
+            Reason::MissingDelimiter => "missing delimiter after the key",
+            Reason::Unknown(_) => "invalid line for an unknown reason",
         })
     }
 }
@@ -224,14 +224,14 @@ impl fmt::Display for Refusal {
 #[derive(Clone, Copy, Debug, PartialEq, Eq)]
 pub struct LineError {
     /// Where the line begins.
-    pub place: Place,
+    pub position: Position,
     /// Why it is none.
-    pub why: Refusal,
+    pub reason: Reason,
 }
 
 impl fmt::Display for LineError {
     fn fmt(&self, f: &mut fmt::Formatter<'_>) -> fmt::Result {
-        write!(f, "{} at {}", self.why, self.place)
+        write!(f, "{} at {}", self.reason, self.position)
     }
 }
 
@@ -252,14 +252,14 @@ pub struct Entries<'i> {
 /// is allocated, and all calls for a document take a time that is linear in its length.
 ///
 /// ```
-/// use pergidau::ini::dialects::{entries, Dialect, Entry, Refusal};
+/// use pergidau::ini::dialects::{entries, Dialect, Entry, Reason};
 ///
 /// let text = "[Desktop Entry]\n# a comment\nExec=run --now\n=x\n";
 /// let mut found = entries(text, Dialect::DESKTOP);
 /// assert_eq!(found.next(), Some(Ok(Entry::Section("Desktop Entry"))));
 /// assert_eq!(found.next(), Some(Ok(Entry::Pair { key: "Exec", value: Some("run --now") })));
-/// let refused = found.next().unwrap().unwrap_err();
-/// assert_eq!((refused.place.line, refused.why), (4, Refusal::NoKey));
+/// let error = found.next().unwrap().unwrap_err();
+/// assert_eq!((error.position.line, error.reason), (4, Reason::MissingKey));
 /// assert_eq!(found.next(), None);
 /// ```
 pub fn entries(text: &str, dialect: Dialect) -> Entries<'_> {
@@ -295,8 +295,8 @@ impl<'i> Iterator for Entries<'i> {
             (exports::DONE, exports::INI_MORE) => Some(Ok(Entry::More(at(out.value)))),
             (exports::INVALID, _) => {
                 self.is_over = true;
-                let place = Place::of(bytes, out.place);
-                Some(Err(LineError { place, why: Refusal::of(out.error) }))
+                let position = Position::of(bytes, out.place);
+                Some(Err(LineError { position, reason: Reason::of(out.error) }))
             }
             (code, _) => {
                 debug_assert_eq!(code, exports::END);

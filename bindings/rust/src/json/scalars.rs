@@ -1,7 +1,7 @@
 //! What numbers and strings of JSON say.
 use super::{unknown, Kind, Value};
 use crate::exports::{self, JsonText};
-use crate::{Error, Wanted};
+use crate::{Error, RequiredSize};
 
 impl<'i> Value<'i> {
     /// The integer that a number is written as. `None` where it has a point or an exponent, as `1.0`
@@ -49,7 +49,7 @@ impl<'i> Value<'i> {
     /// written; else it is written into the buffer.
     ///
     /// A buffer of as many bytes as the string is never too small; another may be, and then
-    /// [`Error::TooSmall`] says how many bytes are wanted.
+    /// [`Error::BufferTooSmall`] says how many bytes are wanted.
     ///
     /// ```
     /// let value = pergidau::json::parse("\"r\\u006fle\"", 0)?;
@@ -67,7 +67,7 @@ impl<'i> Value<'i> {
             return Ok(self.text.get(1..self.text.len() - 1));
         }
         let (text, _) = unescape(self.text.as_bytes(), buffer)?;
-        core::str::from_utf8(text).map(Some).map_err(|_| Error::NotText)
+        core::str::from_utf8(text).map(Some).map_err(|_| Error::InvalidUtf8)
     }
 }
 
@@ -84,7 +84,7 @@ fn fits(code: u32) -> bool {
 /// without its quotes and with its escapes undone, and what stands after the string. Bytes of 128
 /// and above are not looked at: the text is UTF-8 where the bytes are.
 ///
-/// A buffer that is too small, as [`Error::TooSmall`] says, and that of a refusal, may have been
+/// A buffer that is too small, as [`Error::BufferTooSmall`] says, and that of a refusal, may have been
 /// written to.
 ///
 /// ```
@@ -112,6 +112,6 @@ pub fn unescape<'i, 'b>(
     };
     match code {
         exports::DONE => Ok((&buffer[..out.text], &bytes[out.length..])),
-        code => Err(Error::of(code, None, Wanted { entries: 0, bytes: out.text })),
+        code => Err(Error::of(code, None, RequiredSize { entries: 0, bytes: out.text })),
     }
 }
