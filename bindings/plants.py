@@ -102,7 +102,7 @@ FAULTS = [
     *of(
         RUST + "calc.rs",
         ("a value is lost", "exports::DONE", "Ok(out.value)", "Ok(0)"),
-        ("a refusal has no place", "code =>", "Some(Position::of(text.as_bytes(), out.place))", "None"),
+        ("a refusal has no place", "code =>", "Some(Position::of(text.as_bytes(), out.error_offset))", "None"),
     ),
     *of(
         RUST + "ini.rs",
@@ -112,7 +112,7 @@ FAULTS = [
         ("sections have no end", "fn next", "self.left = left;", ""),
         ("keys and values of a section are turned", "pub fn pairs", "(at(text, it.key), at(text, it.value))", "(at(text, it.value), at(text, it.key))"),
         ("entries behind the last are shown", "exports::exported_ini_document", "&entries[..out.entries]", "entries"),
-        ("a document is refused at its begin", "exports::exported_ini_document", "out.place", "0"),
+        ("a document is refused at its begin", "exports::exported_ini_document", "out.error_offset", "0"),
         ("entries and bytes that are wanted are turned", "let required", "entries: out.entries, bytes: out.text", "entries: out.text, bytes: out.entries"),
     ),
     *of(
@@ -134,7 +134,7 @@ FAULTS = [
         ("a key has a value", "fn next", "value: None", "value: Some(at(out.value))"),
         ("one more line is a key", "fn next", "Entry::More(at(out.value))", "Entry::More(at(out.key))"),
         ("entries go on behind an error", "(exports::INVALID, _)", "self.is_over = true;", ""),
-        ("a line is refused at the begin", "(exports::INVALID, _)", "Position::of(bytes, out.place)", "Position::of(bytes, 0)"),
+        ("a line is refused at the begin", "(exports::INVALID, _)", "Position::of(bytes, out.error_offset)", "Position::of(bytes, 0)"),
     ),
     *of(
         RUST + "json.rs",
@@ -145,8 +145,8 @@ FAULTS = [
         ("two levels are left at each", "fn of(", "saturating_sub(1)", "saturating_sub(2)"),
         ("true is false", "match out.kind", "exports::JSON_TRUE => Kind::True", "exports::JSON_TRUE => Kind::False"),
         ("an array is an object", "match out.kind", "exports::JSON_ARRAY => Kind::Array", "exports::JSON_ARRAY => Kind::Object"),
-        ("the next value begins in this one", "fn next", "out.place.offset + out.place.length", "out.place.length"),
-        ("a value has what stands before it", "fn next", "&front[out.place.offset..]", "front"),
+        ("the next value begins in this one", "fn next", "out.span.offset + out.span.length", "out.span.length"),
+        ("a value has what stands before it", "fn next", "&front[out.span.offset..]", "front"),
         ("a name has its quotes", "for Members", "&name[1..name.len() - 1]", "name"),
         ("any text is walked", "pub fn parse", "check(text.as_bytes(), max_depth)?;", "let _ = check(text.as_bytes(), max_depth);"),
         ("a check says yes", "pub fn check", "code => Err(Error::of(code, None, NOTHING))", "_ => Ok(())"),
@@ -155,11 +155,11 @@ FAULTS = [
     *of(
         RUST + "json/steps.rs",
         ("a step is told twice", "fn next", "self.left = left;", ""),
-        ("the next step begins in this one", "fn next", "out.place.offset + out.place.length", "out.place.length"),
+        ("the next step begins in this one", "fn next", "out.span.offset + out.span.length", "out.span.length"),
         ("a name is a value", "match out.kind", "exports::JSON_NAME => Step::Name(", "exports::JSON_NAME => Step::Value("),
         ("false steps are true", "match out.kind", "Step::Value(value(Kind::False))", "Step::Value(value(Kind::True))"),
         ("an array ends as an object", "match out.kind", "exports::JSON_END_ARRAY => Step::EndArray", "exports::JSON_END_ARRAY => Step::EndObject"),
-        ("a step has what stands before it", "fn next", "&front[out.place.offset..]", "front"),
+        ("a step has what stands before it", "fn next", "&front[out.span.offset..]", "front"),
         ("steps are those of any text", "pub fn steps", "check(text.as_bytes(), max_depth)?;", "let _ = check(text.as_bytes(), max_depth);"),
     ),
     *of(
@@ -201,7 +201,7 @@ FAULTS = [
         ("a whole head is read in pieces (Rust)", "pub fn head<", "exports::exported_http_head,", "exports::exported_http_head_partial,"),
         ("a body keeps no state", "pub fn advance", "&mut self.state,", "&mut self.state.clone(),"),
         ("what was taken is left", "pub fn advance", "&all[step.taken..]", "all"),
-        ("data are trailers", "match (code, step.kind)", "Ok(Step::Data(at(all, step.place)))", "Ok(Step::Trailers(at(all, step.place)))"),
+        ("data are trailers", "match (code, step.kind)", "Ok(Step::Data(at(all, step.span)))", "Ok(Step::Trailers(at(all, step.span)))"),
         ("a body has no end", "match (code, step.kind)", "Ok(Step::End)", "Ok(Step::More)"),
         ("limits are turned", "pub fn with_limits", "trailer_room: trailers,", "trailer_room: size_line,"),
         ("a fault is another", "fn of(number: usize)", "exports::CHUNKED_ERROR_DATA_END => ChunkedError::DataEnd", "exports::CHUNKED_ERROR_DATA_END => ChunkedError::Size"),
@@ -216,7 +216,7 @@ FAULTS = [
         ("fields behind the last are shown (responses)", "exports::DONE", "&fields[..places.fields]", "fields"),
         ("the rest of a response is all", "pub fn rest", "&self.bytes[self.places.length..]", "self.bytes"),
         ("no field of a response is wanted", "code =>", "entries: places.fields", "entries: 0"),
-        ("a response has no place", "code =>", "places.place", "0"),
+        ("a response has no place", "code =>", "places.error_offset", "0"),
         ("a whole response is read in pieces (Rust)", "pub fn response_head<", "exports::exported_http_response_head,", "exports::exported_http_response_head_partial,"),
         ("a response in pieces is read whole (Rust)", "pub fn response_head_partial", "exports::exported_http_response_head_partial,", "exports::exported_http_response_head,"),
     ),
@@ -232,7 +232,7 @@ FAULTS = [
         ("line ends in turn are turned", "pub fn advance", "LineEnd::Lf", "LineEnd::CrLf"),
         ("a record in turn has no end", "pub fn advance", "Ok(Some(Size { length: out.length, required }))", "Ok(None)"),
         ("entries and bytes in turn are turned", "pub fn advance", "entries: out.fields, bytes: out.text", "entries: out.text, bytes: out.fields"),
-        ("a record in turn has no place", "pub fn advance", "Some(Position::of(bytes, out.place))", "None"),
+        ("a record in turn has no place", "pub fn advance", "Some(Position::of(bytes, out.error_offset))", "None"),
     ),
     *of(
         RUST + "csv.rs",
@@ -246,7 +246,7 @@ FAULTS = [
         ("records go on behind an error", "Err(error) =>", "self.left = &[];", ""),
         ("records begin again", "Ok(record) =>", "self.left = record.rest();", ""),
         ("a record is refused at the begin of all", "Err(error) =>", "self.document.len() - self.left.len()", "0"),
-        ("a record is refused at its begin", "code => {", "Position::of(bytes, out.place)", "Position::of(bytes, 0)"),
+        ("a record is refused at its begin", "code => {", "Position::of(bytes, out.error_offset)", "Position::of(bytes, 0)"),
         ("the last buffer does not grow", "Err(Error::BufferTooSmall(required))", "required.bytes.max(self.text.len())", "self.text.len()"),
     ),
     *of(

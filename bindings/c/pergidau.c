@@ -147,7 +147,7 @@ uint32_t exported_toml_document(
     size_t nodes_length,
     struct pergidau_toml_result *out);
 
-const char pergidau_0_0_0_declared_1ea91080 = 0;
+const char pergidau_0_0_0_declared_ab70bb49 = 0;
 
 const char *pergidau_version(void)
 {

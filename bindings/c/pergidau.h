@@ -39,10 +39,10 @@ extern "C" {
  * includes this header refers to it, so that it links with no other library. Define
  * PERGIDAU_NO_LINK_CHECK before the header for a file that is not linked with the library.
  */
-extern const char pergidau_0_0_0_declared_1ea91080;
+extern const char pergidau_0_0_0_declared_ab70bb49;
 #if defined(__GNUC__) && !defined(PERGIDAU_NO_LINK_CHECK)
 __attribute__((__used__, __unused__)) static const char *const pergidau_linked =
-    &pergidau_0_0_0_declared_1ea91080;
+    &pergidau_0_0_0_declared_ab70bb49;
 #endif
 
 /* The version of the library that is linked, as PERGIDAU_VERSION is written. */
@@ -309,7 +309,7 @@ struct pergidau_number {
     /* The value, or 0 where there is none. */
     int64_t value;
     /* Where it is refused: how many bytes stand before the place. Else 0. */
-    size_t place;
+    size_t error_offset;
 };
 
 /* What a record has. */
@@ -324,7 +324,7 @@ struct pergidau_record {
      * Where the bytes are refused: how many stand before the first with which no record goes
      * on. Else 0.
      */
-    size_t place;
+    size_t error_offset;
 };
 
 /*
@@ -365,7 +365,7 @@ struct pergidau_head {
     /* How many bytes the head has, the empty line after the fields among them. */
     size_t length;
     /* Where the bytes are refused: how many stand before the place. Else 0. */
-    size_t place;
+    size_t error_offset;
     /* The number before the point of the version, below 10. */
     uint8_t major;
     /* The number after the point of the version, below 10. */
@@ -401,7 +401,7 @@ struct pergidau_chunked_step {
     /* What is given out: PERGIDAU_CHUNKED_DATA or PERGIDAU_CHUNKED_TRAILERS. */
     size_t kind;
     /* Where it stands. Else nothing. */
-    struct pergidau_span place;
+    struct pergidau_span span;
     /* How many bytes were taken. Those after them are the first of the next call. */
     size_t taken;
     /*
@@ -431,7 +431,7 @@ struct pergidau_response_head {
     /* How many bytes the head has, the empty line after the fields among them. */
     size_t length;
     /* Where the bytes are refused: how many stand before the place. Else 0. */
-    size_t place;
+    size_t error_offset;
     /* The status code, below 1000. */
     uint16_t status;
     /* The number before the point of the version, below 10. */
@@ -447,7 +447,7 @@ struct pergidau_pair {
     /* The value. */
     struct pergidau_span value;
     /* Where the line is refused: how many bytes stand before the place. Else 0. */
-    size_t place;
+    size_t error_offset;
 };
 
 /* An entry of a document: a pair, or the head of a section. */
@@ -468,7 +468,7 @@ struct pergidau_document {
     /* How many bytes the keys, the values and the names have together. */
     size_t text;
     /* Where the document is refused: how many bytes stand before the place. Else 0. */
-    size_t place;
+    size_t error_offset;
 };
 
 /* How far a document is read. Zeros stand for its start. */
@@ -492,7 +492,7 @@ struct pergidau_ini_entry {
     /* The value of a pair, or one more line of it. Else nothing. */
     struct pergidau_span value;
     /* Where the line begins that is refused, or is no UTF-8. Else 0. */
-    size_t place;
+    size_t error_offset;
     /*
      * Why it is refused: a number of those from PERGIDAU_INI_ERROR_UNCLOSED_SECTION on. Else
      * 0.
@@ -508,7 +508,7 @@ struct pergidau_json_item {
      */
     size_t kind;
     /* Its bytes. */
-    struct pergidau_span place;
+    struct pergidau_span span;
 };
 
 /* The text of a string of JSON. */
@@ -531,7 +531,7 @@ struct pergidau_reply {
      * The bytes of a string or of an error, or those of the elements of an array, which are
      * replies, one after the other. Else nothing.
      */
-    struct pergidau_span place;
+    struct pergidau_span span;
     /* How many bytes the reply has. */
     size_t length;
 };
@@ -623,7 +623,7 @@ struct pergidau_toml_result {
     /* How many bytes their names and texts have together. */
     size_t text;
     /* Where the bytes are no document: how many stand before the place. Else 0. */
-    size_t place;
+    size_t error_offset;
     /*
      * Why they are none: a number of those from PERGIDAU_TOML_ERROR_NONE to
      * PERGIDAU_TOML_ERROR_NOT_AN_ARRAY_OF_TABLES.

@@ -34,7 +34,7 @@ static void read_formula(const uint8_t *bytes, size_t length)
     struct pergidau_number out;
     enum pergidau_code code = pergidau_calc_value(bytes, length, &out);
     HOLDS(code == PERGIDAU_DONE || code == PERGIDAU_INVALID || code == PERGIDAU_INVALID_UTF8);
-    HOLDS(out.place <= length);
+    HOLDS(out.error_offset <= length);
     HOLDS(code == PERGIDAU_DONE || out.value == 0);
 }
 
@@ -48,7 +48,7 @@ static void read_pair(const uint8_t *bytes, size_t length)
         HOLDS(out.value.length == 0 || !memchr(bytes + out.value.offset, '\n', out.value.length));
         HOLDS(length - out.value.offset - out.value.length <= 1);
     } else {
-        HOLDS(out.place <= length);
+        HOLDS(out.error_offset <= length);
     }
 }
 
@@ -78,17 +78,17 @@ static size_t walk(const uint8_t *bytes, size_t length, size_t max_depth)
     size_t count = 0;
     enum pergidau_code code;
     while ((code = pergidau_json_next(bytes, length, max_depth, &item)) == PERGIDAU_DONE) {
-        HOLDS(within(item.place, length) && item.place.length > 0);
+        HOLDS(within(item.span, length) && item.span.length > 0);
         HOLDS(item.kind <= PERGIDAU_JSON_OBJECT);
-        const uint8_t *value = bytes + item.place.offset;
+        const uint8_t *value = bytes + item.span.offset;
         count++;
         if (item.kind == PERGIDAU_JSON_ARRAY || item.kind == PERGIDAU_JSON_OBJECT) {
             HOLDS(max_depth > 0);
-            size_t inside = walk(value + 1, item.place.length - 1, max_depth - 1);
+            size_t inside = walk(value + 1, item.span.length - 1, max_depth - 1);
             HOLDS(item.kind == PERGIDAU_JSON_ARRAY || inside % 2 == 0);
         }
-        length -= item.place.offset + item.place.length;
-        bytes = value + item.place.length;
+        length -= item.span.offset + item.span.length;
+        bytes = value + item.span.length;
     }
     HOLDS(code == PERGIDAU_END);
     return count;
@@ -101,16 +101,16 @@ static void read_values(const uint8_t *bytes, size_t length)
     enum pergidau_code code = pergidau_json_next(bytes, length, max_depth, &item);
     HOLDS(code == PERGIDAU_DONE || code == PERGIDAU_INVALID || code == PERGIDAU_END);
     if (code == PERGIDAU_DONE) {
-        HOLDS(within(item.place, length));
-        size_t behind = length - item.place.offset;
-        HOLDS(pergidau_json_value(bytes + item.place.offset, behind, max_depth, &found)
+        HOLDS(within(item.span, length));
+        size_t behind = length - item.span.offset;
+        HOLDS(pergidau_json_value(bytes + item.span.offset, behind, max_depth, &found)
               == PERGIDAU_DONE);
-        HOLDS(found == item.place.length);
-        for (size_t i = 0; i < item.place.offset; i++) {
+        HOLDS(found == item.span.length);
+        for (size_t i = 0; i < item.span.offset; i++) {
             HOLDS(memchr(" \t\r\n,:", bytes[i], 6));
         }
     } else {
-        HOLDS(item.place.length == 0);
+        HOLDS(item.span.length == 0);
     }
     if (pergidau_json_check(bytes, length, max_depth) == PERGIDAU_DONE) {
         HOLDS(walk(bytes, length, max_depth) == 1);
@@ -157,9 +157,9 @@ static void read_document(const uint8_t *bytes, size_t length)
         HOLDS(sum == out.text);
         HOLDS(out.entries == 0 || entries[0].key.length == 0);
     } else {
-        HOLDS(code == PERGIDAU_INVALID && out.place <= length);
+        HOLDS(code == PERGIDAU_INVALID && out.error_offset <= length);
         /* What stands before the place is a document. */
-        HOLDS(pergidau_ini_document(bytes, out.place, NULL, 0, NULL, 0, &out)
+        HOLDS(pergidau_ini_document(bytes, out.error_offset, NULL, 0, NULL, 0, &out)
               != PERGIDAU_INVALID);
     }
 }
@@ -205,12 +205,12 @@ static void read_head(const uint8_t *bytes, size_t length)
         HOLDS(code == PERGIDAU_INVALID);
         code = pergidau_http_head_partial(bytes, length, fields, count, &cut);
         HOLDS(code == PERGIDAU_INVALID || code == PERGIDAU_INCOMPLETE);
-        HOLDS(out.place == (code == PERGIDAU_INVALID ? cut.place : length));
+        HOLDS(out.error_offset == (code == PERGIDAU_INVALID ? cut.error_offset : length));
         /* What is before the place can become a head, and with the byte there it cannot. */
-        HOLDS(pergidau_http_head_partial(bytes, out.place, fields, count, &cut)
+        HOLDS(pergidau_http_head_partial(bytes, out.error_offset, fields, count, &cut)
               == PERGIDAU_INCOMPLETE);
         HOLDS(code == PERGIDAU_INCOMPLETE
-              || pergidau_http_head_partial(bytes, out.place + 1, fields, count, &cut)
+              || pergidau_http_head_partial(bytes, out.error_offset + 1, fields, count, &cut)
                      == PERGIDAU_INVALID);
     }
 }
@@ -277,14 +277,14 @@ static void read_record(const uint8_t *bytes, size_t length)
         HOLDS(code == PERGIDAU_DONE || (code == PERGIDAU_INCOMPLETE && out.length == length));
         HOLDS(code == PERGIDAU_INCOMPLETE || cut.length == out.length);
     } else {
-        HOLDS(code == PERGIDAU_INVALID && out.place <= length);
-        HOLDS(may_go_on(bytes, out.place, line_feeds));
-        HOLDS(out.place == length || !may_go_on(bytes, out.place + 1, line_feeds));
+        HOLDS(code == PERGIDAU_INVALID && out.error_offset <= length);
+        HOLDS(may_go_on(bytes, out.error_offset, line_feeds));
+        HOLDS(out.error_offset == length || !may_go_on(bytes, out.error_offset + 1, line_feeds));
         code = pergidau_csv_record_partial(bytes, length, line_feeds, text, most, places, count,
                                              &cut);
         HOLDS(code == (may_go_on(bytes, length, line_feeds) ? PERGIDAU_INCOMPLETE
                                                             : PERGIDAU_INVALID));
-        HOLDS(cut.place == (code == PERGIDAU_INVALID ? out.place : 0));
+        HOLDS(cut.error_offset == (code == PERGIDAU_INVALID ? out.error_offset : 0));
     }
 }
 
@@ -300,11 +300,11 @@ static void read_reply(const uint8_t *bytes, size_t length)
         return;
     }
     HOLDS(piece == PERGIDAU_DONE && part.length == out.length && part.kind == out.kind);
-    HOLDS(out.length >= 3 && out.length <= length && within(out.place, out.length));
+    HOLDS(out.length >= 3 && out.length <= length && within(out.span, out.length));
     HOLDS(!memcmp(bytes + out.length - 2, "\r\n", 2));
     HOLDS((out.kind == PERGIDAU_RESP_ARRAY) == (bytes[0] == '*' && bytes[1] != '-'));
     /* Its elements are replies, one behind the other, and fill its place. */
-    size_t at = out.place.offset, end = at + out.place.length;
+    size_t at = out.span.offset, end = at + out.span.length;
     for (size_t i = 0; i < out.elements; i++) {
         HOLDS(pergidau_resp_reply(bytes + at, end - at, max_depth - 1, &part) == PERGIDAU_DONE);
         at += part.length;
@@ -350,12 +350,12 @@ static void read_chunked(const uint8_t *bytes, size_t length)
             const uint8_t *left = bytes + taken[turn];
             size_t count = have - taken[turn];
             codes[turn] = pergidau_http_chunked(&state, left, count, &step);
-            HOLDS(step.taken <= count && within(step.place, count));
+            HOLDS(step.taken <= count && within(step.span, count));
             if (codes[turn] == PERGIDAU_DONE) {
-                HOLDS(step.place.length > 0);
-                HOLDS(step.place.offset + step.place.length == step.taken);
-                memcpy(given[turn] + counts[turn], left + step.place.offset, step.place.length);
-                counts[turn] += step.place.length;
+                HOLDS(step.span.length > 0);
+                HOLDS(step.span.offset + step.span.length == step.taken);
+                memcpy(given[turn] + counts[turn], left + step.span.offset, step.span.length);
+                counts[turn] += step.span.length;
             }
             taken[turn] += step.taken;
             HOLDS(codes[turn] != PERGIDAU_INCOMPLETE || taken[turn] == have);

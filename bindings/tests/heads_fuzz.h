@@ -104,9 +104,9 @@ static void read_response(const uint8_t *bytes, size_t length)
     enum pergidau_code piece =
         pergidau_http_response_head_partial(bytes, length, fields, count, &cut);
     if (want.code != PERGIDAU_DONE) {
-        HOLDS(code == PERGIDAU_INVALID && out.place == want.at);
+        HOLDS(code == PERGIDAU_INVALID && out.error_offset == want.at);
         HOLDS(piece == want.code);
-        HOLDS(cut.place == (piece == PERGIDAU_INVALID ? want.at : 0));
+        HOLDS(cut.error_offset == (piece == PERGIDAU_INVALID ? want.at : 0));
         return;
     }
     HOLDS(piece == code && cut.fields == want.fields && out.fields == want.fields);
@@ -147,7 +147,7 @@ static void read_head_extent(const uint8_t *bytes, size_t length)
     enum pergidau_code whole =
         pergidau_http_head_partial(bytes, length, fields, MOST_FIELDS, &head);
     HOLDS(code == whole && state.passed <= have);
-    HOLDS(out == (code == PERGIDAU_DONE ? head.length : head.place));
+    HOLDS(out == (code == PERGIDAU_DONE ? head.length : head.error_offset));
 }
 
 static void read_record_extent(const uint8_t *bytes, size_t length)
@@ -166,7 +166,7 @@ static void read_record_extent(const uint8_t *bytes, size_t length)
         pergidau_csv_record_partial(bytes, length, line_feeds, NULL, 0, NULL, 0, &record);
     HOLDS(code == (whole == PERGIDAU_BUFFER_TOO_SMALL ? PERGIDAU_DONE : whole));
     HOLDS(out.fields == record.fields && out.text == record.text);
-    HOLDS(out.length == record.length && out.place == record.place);
+    HOLDS(out.length == record.length && out.error_offset == record.error_offset);
 }
 
 #endif

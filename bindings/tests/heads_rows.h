@@ -70,7 +70,7 @@ static void test_response(size_t i)
         same("the status code", row, out.status, responses[i].status);
         same("the length", row, (long long)out.length, (long long)(length - responses[i].rest));
         same("the fields", row, (long long)out.fields, (long long)count);
-        same("no place", row, (long long)out.place, 0);
+        same("no place", row, (long long)out.error_offset, 0);
         for (size_t k = 0; k < count; k++) {
             shown(row, text, fields[k].name, responses[i].fields[k][0]);
             shown(row, text, fields[k].value, responses[i].fields[k][1]);
@@ -85,7 +85,7 @@ static void test_response(size_t i)
         uint8_t *front = copied(row, end);
         same("a beginning", row, pergidau_http_response_head(front, end, fields, count, &out),
              PERGIDAU_INVALID);
-        same("its end", row, (long long)out.place, (long long)end);
+        same("its end", row, (long long)out.error_offset, (long long)end);
         same("a piece", row,
              pergidau_http_response_head_partial(front, end, fields, count, &out),
              PERGIDAU_INCOMPLETE);
@@ -110,11 +110,11 @@ static void test_responses(void)
         uint8_t *text = copied(row, length);
         same("no response", row, pergidau_http_response_head(text, length, fields, 4, &out),
              PERGIDAU_INVALID);
-        same("the place", row, (long long)out.place, (long long)place);
+        same("the place", row, (long long)out.error_offset, (long long)place);
         same("no response", row,
              pergidau_http_response_head_partial(text, length, fields, 4, &out),
              PERGIDAU_INVALID);
-        same("the place", row, (long long)out.place, (long long)place);
+        same("the place", row, (long long)out.error_offset, (long long)place);
         free(text);
     }
     const uint8_t *bytes = (const uint8_t *)"H";
@@ -212,7 +212,7 @@ static enum pergidau_code record_in_turn(const char *row, size_t length, uint32_
          have += length - have < step && have < length ? length - have : step) {
         uint8_t *bytes = copied(row, have);
         code = pergidau_csv_record_extent(&state, bytes, have, line_feeds, out);
-        same("no place", row, (long long)out->place,
+        same("no place", row, (long long)out->error_offset,
              code == PERGIDAU_INVALID ? (long long)state.passed : 0);
         free(bytes);
     }
@@ -249,7 +249,7 @@ static void test_record_extents(void)
         for (size_t step = 1; step <= length; step++) {
             same("no record", row, record_in_turn(row, length, line_feeds, step, &out),
                  begins < length ? PERGIDAU_INVALID : PERGIDAU_INCOMPLETE);
-            same("its place", row, (long long)out.place,
+            same("its place", row, (long long)out.error_offset,
                  begins < length ? (long long)begins : 0);
         }
         same("it begins", row, record_in_turn(row, begins, line_feeds, 1, &out),

@@ -79,7 +79,8 @@ static enum pergidau_code own_by_hand(const uint8_t *bytes, struct pergidau_span
         at++;
     }
     if (at == text.offset || (at == end && !(dialect & PERGIDAU_INI_DIALECT_VALUELESS))) {
-        out->error = at == end ? PERGIDAU_INI_ERROR_MISSING_DELIMITER : PERGIDAU_INI_ERROR_MISSING_KEY;
+        out->error = at == end ? PERGIDAU_INI_ERROR_MISSING_DELIMITER
+                               : PERGIDAU_INI_ERROR_MISSING_KEY;
         return PERGIDAU_INVALID;
     }
     out->kind = at < end ? PERGIDAU_INI_PAIR : PERGIDAU_INI_KEY;
@@ -103,7 +104,7 @@ static enum pergidau_code next_by_hand(const uint8_t *bytes, size_t length, size
         }
         size_t behind = end + (end < length), kept = start;
         if (!is_text(bytes + start, end - start)) {
-            out->place = start;
+            out->error_offset = start;
             return PERGIDAU_INVALID_UTF8;
         }
         for (; kept < end; kept++) {
@@ -134,7 +135,7 @@ static enum pergidau_code next_by_hand(const uint8_t *bytes, size_t length, size
         }
         enum pergidau_code code = own_by_hand(bytes, text, dialect, before, out);
         if (code == PERGIDAU_INVALID) {
-            out->place = start;
+            out->error_offset = start;
             return code;
         }
         if (out->kind != PERGIDAU_INI_SECTION) {
@@ -169,5 +170,5 @@ static void read_ini(const uint8_t *bytes, size_t length)
     struct pergidau_ini_state other = {below(length + 3), below(3), below(3), below(5)};
     code = pergidau_ini_next(&other, bytes, length, dialect, &out);
     HOLDS(code != PERGIDAU_DONE || (within(out.key, length) && within(out.value, length)));
-    HOLDS(out.place <= length);
+    HOLDS(out.error_offset <= length);
 }

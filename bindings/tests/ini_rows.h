@@ -90,12 +90,13 @@ static void test_lines_of_ini(void)
         while ((code = pergidau_ini_next(&state, bytes, length, lines_of_ini[i].dialect, &entry))
                == PERGIDAU_DONE) {
             end = put_entry(end, (const char *)bytes, &entry);
-            same("no place", text, (long long)(entry.place + entry.error), 0);
+            same("no place", text, (long long)(entry.error_offset + entry.error), 0);
         }
         same("the entries", text, strcmp(found, lines_of_ini[i].entries), 0);
         for (int again = 0; again < 2; again++) {
             same("the end", text, code, lines_of_ini[i].code);
-            same("the place", text, (long long)entry.place, (long long)lines_of_ini[i].place);
+            same("the place", text, (long long)entry.error_offset,
+                 (long long)lines_of_ini[i].place);
             same("the error", text, (long long)entry.error, (long long)lines_of_ini[i].error);
             same("no text", text, (long long)(entry.key.length + entry.value.length), 0);
             code = pergidau_ini_next(&state, bytes, length, lines_of_ini[i].dialect, &entry);

@@ -152,13 +152,13 @@ static size_t items(const uint8_t *bytes, size_t length, size_t max_depth)
     struct pergidau_json_item item;
     size_t count = 0;
     while (pergidau_json_next(bytes, length, max_depth, &item) == PERGIDAU_DONE) {
-        const uint8_t *value = bytes + item.place.offset;
+        const uint8_t *value = bytes + item.span.offset;
         count++;
         if (item.kind == PERGIDAU_JSON_ARRAY || item.kind == PERGIDAU_JSON_OBJECT) {
-            count += items(value + 1, item.place.length - 1, max_depth - 1);
+            count += items(value + 1, item.span.length - 1, max_depth - 1);
         }
-        length -= item.place.offset + item.place.length;
-        bytes = value + item.place.length;
+        length -= item.span.offset + item.span.length;
+        bytes = value + item.span.length;
     }
     return count;
 }
@@ -172,7 +172,7 @@ static void read_steps(const uint8_t *bytes, size_t length)
     enum pergidau_code code;
     const uint8_t *from = bytes;
     while ((code = pergidau_json_step(from, left, &step)) == PERGIDAU_DONE) {
-        HOLDS(within(step.place, left) && step.place.length > 0);
+        HOLDS(within(step.span, left) && step.span.length > 0);
         HOLDS(step.kind != PERGIDAU_JSON_ARRAY && step.kind != PERGIDAU_JSON_OBJECT);
         bool begins = step.kind == PERGIDAU_JSON_BEGIN_ARRAY || step.kind == PERGIDAU_JSON_BEGIN_OBJECT;
         bool ends = step.kind == PERGIDAU_JSON_END_ARRAY || step.kind == PERGIDAU_JSON_END_OBJECT;
@@ -180,11 +180,11 @@ static void read_steps(const uint8_t *bytes, size_t length)
         HOLDS(!is_text || !ends || open > 0);
         open += begins;
         open -= ends;
-        from += step.place.offset + step.place.length;
-        left -= step.place.offset + step.place.length;
+        from += step.span.offset + step.span.length;
+        left -= step.span.offset + step.span.length;
     }
     HOLDS(code == PERGIDAU_END || code == PERGIDAU_INVALID);
-    HOLDS(step.place.offset == 0 && step.place.length == 0);
+    HOLDS(step.span.offset == 0 && step.span.length == 0);
     HOLDS(!is_text || (code == PERGIDAU_END && open == 0 && count == items(bytes, length, max_depth)));
 }
 

@@ -23,14 +23,14 @@ static void walk_steps(const uint8_t *bytes, size_t length, char *into)
     while (pergidau_json_step(bytes, length, &item) == PERGIDAU_DONE) {
         bool told = item.kind == PERGIDAU_JSON_NUMBER || item.kind == PERGIDAU_JSON_STRING
             || item.kind == PERGIDAU_JSON_NAME;
-        into += sprintf(into, "%s%.*s ", marks[item.kind], told ? (int)item.place.length : 0,
-                        (const char *)bytes + item.place.offset);
-        bytes += item.place.offset + item.place.length;
-        length -= item.place.offset + item.place.length;
+        into += sprintf(into, "%s%.*s ", marks[item.kind], told ? (int)item.span.length : 0,
+                        (const char *)bytes + item.span.offset);
+        bytes += item.span.offset + item.span.length;
+        length -= item.span.offset + item.span.length;
     }
     same("the end of steps", (const char *)bytes, pergidau_json_step(bytes, length, &item),
          PERGIDAU_END);
-    same("what is told of the end", "a text", item.kind == 0 && item.place.length == 0, 1);
+    same("what is told of the end", "a text", item.kind == 0 && item.span.length == 0, 1);
 }
 
 static void test_steps(void)

@@ -72,7 +72,8 @@ static void test_formulas(void)
         same("calc_value", formulas[i].text, pergidau_calc_value(text, length, &out),
              formulas[i].code);
         same("the value", formulas[i].text, out.value, formulas[i].value);
-        same("the place", formulas[i].text, (long long)out.place, (long long)formulas[i].place);
+        same("the place", formulas[i].text, (long long)out.error_offset,
+             (long long)formulas[i].place);
         free(text);
     }
 }
@@ -106,7 +107,7 @@ static void test_pairs(void)
         same("the value", lines[i].line, (long long)out.value.length, (long long)lines[i].value);
         same("the value's place", lines[i].line, (long long)out.value.offset,
              done ? (long long)lines[i].key + 1 : 0);
-        same("the place", lines[i].line, (long long)out.place, (long long)lines[i].place);
+        same("the place", lines[i].line, (long long)out.error_offset, (long long)lines[i].place);
         free(line);
     }
 }
@@ -193,19 +194,19 @@ static char *walk(const uint8_t *bytes, size_t length, size_t max_depth, char *i
     static const char letters[] = "nftdsao";
     struct pergidau_json_item item;
     while (pergidau_json_next(bytes, length, max_depth, &item) == PERGIDAU_DONE) {
-        const uint8_t *value = bytes + item.place.offset;
+        const uint8_t *value = bytes + item.span.offset;
         *into++ = letters[item.kind];
         *into++ = ' ';
-        memcpy(into, value, item.place.length);
-        into += item.place.length;
+        memcpy(into, value, item.span.length);
+        into += item.span.length;
         if (item.kind == PERGIDAU_JSON_ARRAY || item.kind == PERGIDAU_JSON_OBJECT) {
             *into++ = '(';
-            into = walk(value + 1, item.place.length - 1, max_depth - 1, into);
+            into = walk(value + 1, item.span.length - 1, max_depth - 1, into);
         } else {
             *into++ = ',';
         }
-        length -= item.place.offset + item.place.length;
-        bytes = value + item.place.length;
+        length -= item.span.offset + item.span.length;
+        bytes = value + item.span.length;
     }
     same("the end", (const char *)bytes, pergidau_json_next(bytes, length, max_depth, &item),
          PERGIDAU_END);
@@ -259,9 +260,9 @@ static void test_walks(void)
         same("json_next", nexts[i].bytes,
              pergidau_json_next(bytes, length, nexts[i].max_depth, &item), nexts[i].code);
         same("the kind", nexts[i].bytes, (long long)item.kind, (long long)nexts[i].kind);
-        same("the place", nexts[i].bytes, (long long)item.place.offset,
+        same("the place", nexts[i].bytes, (long long)item.span.offset,
              (long long)nexts[i].offset);
-        same("the length", nexts[i].bytes, (long long)item.place.length,
+        same("the length", nexts[i].bytes, (long long)item.span.length,
              (long long)nexts[i].length);
         free(bytes);
     }
@@ -318,7 +319,7 @@ static void test_document(size_t i)
          documents[i].code);
     same("the entries", row, (long long)out.entries, (long long)count);
     same("the bytes", row, (long long)out.text, (long long)bytes);
-    same("the place", row, (long long)out.place, (long long)documents[i].place);
+    same("the place", row, (long long)out.error_offset, (long long)documents[i].place);
     for (size_t k = 0; k < count; k++) {
         shown(row, text, entries[k].key, documents[i].entries[k][0]);
         shown(row, text, entries[k].value, documents[i].entries[k][1]);
@@ -463,7 +464,7 @@ static void test_heads(void)
             uint8_t *front = copied(row, end);
             same("a beginning", row, pergidau_http_head(front, end, fields, count, &out),
                  PERGIDAU_INVALID);
-            same("its end", row, (long long)out.place, (long long)end);
+            same("its end", row, (long long)out.error_offset, (long long)end);
             same("a piece", row, pergidau_http_head_partial(front, end, fields, count, &out),
                  PERGIDAU_INCOMPLETE);
             free(front);
@@ -478,10 +479,10 @@ static void test_heads(void)
         size_t length = (size_t)snprintf(row, sizeof row, "%s%s", no_heads[i][0], no_heads[i][1]);
         uint8_t *text = copied(row, length);
         same("no head", row, pergidau_http_head(text, length, fields, 4, &out), PERGIDAU_INVALID);
-        same("the place", row, (long long)out.place, (long long)place);
+        same("the place", row, (long long)out.error_offset, (long long)place);
         same("no head", row, pergidau_http_head_partial(text, length, fields, 4, &out),
              PERGIDAU_INVALID);
-        same("the place", row, (long long)out.place, (long long)place);
+        same("the place", row, (long long)out.error_offset, (long long)place);
         free(text);
     }
 }
@@ -537,7 +538,7 @@ static void test_record(size_t i)
     same("the length", row, (long long)out.length, (long long)(length - records[i].rest));
     same("the fields", row, (long long)out.fields, (long long)count);
     same("the bytes", row, (long long)out.text, (long long)bytes);
-    same("no place", row, (long long)out.place, 0);
+    same("no place", row, (long long)out.error_offset, 0);
     for (size_t k = 0; k < count; k++) {
         shown(row, text, places[k], records[i].fields[k]);
         same("the place", row, (long long)places[k].offset, (long long)sum);
@@ -586,7 +587,7 @@ static void test_records(void)
              pergidau_csv_record(input, length, line_feeds, text, sizeof text, places, MOST_CSV,
                                  &out),
              PERGIDAU_INVALID);
-        same("the place", row, (long long)out.place, (long long)no_records[i].begins);
+        same("the place", row, (long long)out.error_offset, (long long)no_records[i].begins);
         free(input);
         for (size_t room = 0; room <= length; room++) {
             uint8_t *piece = copied(row, room);
@@ -594,7 +595,7 @@ static void test_records(void)
                  pergidau_csv_record_partial(piece, room, line_feeds, text, sizeof text, places,
                                                MOST_CSV, &out),
                  room > no_records[i].begins ? PERGIDAU_INVALID : PERGIDAU_INCOMPLETE);
-            same("the place in a piece", row, (long long)out.place,
+            same("the place in a piece", row, (long long)out.error_offset,
                  room > no_records[i].begins ? (long long)no_records[i].begins : 0);
             free(piece);
         }
@@ -649,7 +650,7 @@ static void test_replies(void)
                 same("the elements", row, (long long)out.elements, (long long)replies[i].elements);
                 same("the length", row, (long long)out.length,
                      (long long)(length - replies[i].rest));
-                shown(row, bytes, out.place, replies[i].text);
+                shown(row, bytes, out.span, replies[i].text);
             }
             free(bytes);
         }
@@ -799,14 +800,14 @@ static struct decoded decode(struct pergidau_chunked_state state, const char *ro
         uint8_t *bytes = copied(row + made.taken, have - made.taken);
         made.code = pergidau_http_chunked(&state, bytes, have - made.taken, &step);
         if (made.code == PERGIDAU_DONE && step.kind == PERGIDAU_CHUNKED_DATA) {
-            memcpy(made.content + made.data, bytes + step.place.offset, step.place.length);
-            made.data += step.place.length;
+            memcpy(made.content + made.data, bytes + step.span.offset, step.span.length);
+            made.data += step.span.length;
         } else if (made.code == PERGIDAU_DONE) {
             same("its kind", row, (long long)step.kind, PERGIDAU_CHUNKED_TRAILERS);
-            memcpy(made.trailers + made.fields, bytes + step.place.offset, step.place.length);
-            made.fields += step.place.length;
+            memcpy(made.trailers + made.fields, bytes + step.span.offset, step.span.length);
+            made.fields += step.span.length;
         } else {
-            same("nothing is given", row, (long long)(step.place.length + step.kind), 0);
+            same("nothing is given", row, (long long)(step.span.length + step.kind), 0);
         }
         made.taken += step.taken;
         made.error = step.error;

@@ -173,19 +173,20 @@ static void test_toml(void)
                 printf("%s is said as %s\n", text, said);
                 wrong = 1;
             }
-            same("the place", text, it.found.place == 0 && it.found.error == 0, 1);
+            same("the place", text, it.found.error_offset == 0 && it.found.error == 0, 1);
             test_toml_buffers(text, &it);
         }
     }
     for (size_t i = 0; i < sizeof refused_of_toml / sizeof *refused_of_toml; i++) {
         const char *text = refused_of_toml[i].text;
         same("no document", text, read_toml(text, 8, 0, 0, &it), PERGIDAU_INVALID);
-        same("the place", text, (long long)it.found.place, (long long)refused_of_toml[i].place);
+        same("the place", text, (long long)it.found.error_offset,
+             (long long)refused_of_toml[i].place);
         same("the error", text, (long long)it.found.error, (long long)refused_of_toml[i].error);
         same("the nodes", text, it.found.nodes == 0 && it.found.text == 0, 1);
     }
     same("no text", "a = '\\xe9'", read_toml("a = '\xe9'", 8, 0, 0, &it), PERGIDAU_INVALID_UTF8);
-    same("the place", "a = '\\xe9'", (long long)it.found.place, 5);
+    same("the place", "a = '\\xe9'", (long long)it.found.error_offset, 5);
     same("levels", "[[]]", read_toml("a = [[]]", 1, 64, 8, &it), PERGIDAU_INVALID);
     same("levels", "[[]]", read_toml("a = [[]]", 2, 64, 8, &it), PERGIDAU_DONE);
     same("levels", "512", read_toml("a = 1", 512, 64, 8, &it), PERGIDAU_DONE);

@@ -29,6 +29,9 @@ pub fn value(text: &str) -> Result<i64, Error> {
     let code = unsafe { exports::exported_calc_value(text.as_ptr(), text.len(), &mut out) };
     match code {
         exports::DONE => Ok(out.value),
-        code => Err(Error::of(code, Some(Position::of(text.as_bytes(), out.place)), NOTHING)),
+        code => {
+            let position = Some(Position::of(text.as_bytes(), out.error_offset));
+            Err(Error::of(code, position, NOTHING))
+        }
     }
 }

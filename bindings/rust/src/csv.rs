@@ -83,8 +83,9 @@ fn read<'i, 'b>(
             rest: &bytes[out.length..],
         }),
         code => {
-            let position = (code == exports::INVALID).then(|| Position::of(bytes, out.place));
-            Err(Error::of(code, position, RequiredSize { entries: out.fields, bytes: out.text }))
+            let at = || Position::of(bytes, out.error_offset);
+            let required = RequiredSize { entries: out.fields, bytes: out.text };
+            Err(Error::of(code, (code == exports::INVALID).then(at), required))
         }
     }
 }

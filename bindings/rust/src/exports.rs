@@ -274,7 +274,7 @@ pub struct Number {
     /// The value, or 0 where there is none.
     pub value: i64,
     /// Where it is refused: how many bytes stand before the place. Else 0.
-    pub place: usize,
+    pub error_offset: usize,
 }
 
 /// What a record has.
@@ -289,7 +289,7 @@ pub struct Record {
     pub length: usize,
     /// Where the bytes are refused: how many stand before the first with which no record goes on.
     /// Else 0.
-    pub place: usize,
+    pub error_offset: usize,
 }
 
 /// How far bytes were searched for the end of a record of comma separated values. The numbers are
@@ -331,7 +331,7 @@ pub struct Head {
     /// How many bytes the head has, the empty line after the fields among them.
     pub length: usize,
     /// Where the bytes are refused: how many stand before the place. Else 0.
-    pub place: usize,
+    pub error_offset: usize,
     /// The number before the point of the version, below 10.
     pub major: u8,
     /// The number after the point of the version, below 10.
@@ -369,7 +369,7 @@ pub struct ChunkedStep {
     /// What is given out: `CHUNKED_DATA` or `CHUNKED_TRAILERS`.
     pub kind: usize,
     /// Where it stands. Else nothing.
-    pub place: Span,
+    pub span: Span,
     /// How many bytes were taken. Those after them are the first of the next call.
     pub taken: usize,
     /// Why the byte after those that were taken is refused: a number of those from
@@ -399,7 +399,7 @@ pub struct ResponseHead {
     /// How many bytes the head has, the empty line after the fields among them.
     pub length: usize,
     /// Where the bytes are refused: how many stand before the place. Else 0.
-    pub place: usize,
+    pub error_offset: usize,
     /// The status code, below 1000.
     pub status: u16,
     /// The number before the point of the version, below 10.
@@ -417,7 +417,7 @@ pub struct Pair {
     /// The value.
     pub value: Span,
     /// Where the line is refused: how many bytes stand before the place. Else 0.
-    pub place: usize,
+    pub error_offset: usize,
 }
 
 /// An entry of a document: a pair, or the head of a section.
@@ -439,7 +439,7 @@ pub struct Document {
     /// How many bytes the keys, the values and the names have together.
     pub text: usize,
     /// Where the document is refused: how many bytes stand before the place. Else 0.
-    pub place: usize,
+    pub error_offset: usize,
 }
 
 /// How far a document is read. Zeros stand for its start.
@@ -467,7 +467,7 @@ pub struct IniEntry {
     /// The value of a pair, or one more line of it. Else nothing.
     pub value: Span,
     /// Where the line begins that is refused, or is no UTF-8. Else 0.
-    pub place: usize,
+    pub error_offset: usize,
     /// Why it is refused: a number of those from `INI_ERROR_UNCLOSED_SECTION` on. Else 0.
     pub error: usize,
 }
@@ -480,7 +480,7 @@ pub struct JsonItem {
     /// `JSON_OBJECT` are of `exported_json_step` alone; else a name is a string.
     pub kind: usize,
     /// Its bytes.
-    pub place: Span,
+    pub span: Span,
 }
 
 /// The text of a string of JSON.
@@ -505,7 +505,7 @@ pub struct Reply {
     pub elements: usize,
     /// The bytes of a string or of an error, or those of the elements of an array, which are
     /// replies, one after the other. Else nothing.
-    pub place: Span,
+    pub span: Span,
     /// How many bytes the reply has.
     pub length: usize,
 }
@@ -599,7 +599,7 @@ pub struct TomlResult {
     /// How many bytes their names and texts have together.
     pub text: usize,
     /// Where the bytes are no document: how many stand before the place. Else 0.
-    pub place: usize,
+    pub error_offset: usize,
     /// Why they are none: a number of those from `TOML_ERROR_NONE` to
     /// `TOML_ERROR_NOT_AN_ARRAY_OF_TABLES`.
     pub error: usize,
@@ -607,7 +607,7 @@ pub struct TomlResult {
 
 extern "C" {
     /// Stands in a library of this version and with these declarations alone.
-    #[link_name = "pergidau_0_0_0_declared_1ea91080"]
+    #[link_name = "pergidau_0_0_0_declared_ab70bb49"]
     static VERSION_LINKED: c_char;
 
     /// The version of the library that is linked.

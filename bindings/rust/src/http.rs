@@ -77,7 +77,7 @@ fn read<'i, 'f>(
         exports::DONE => Ok(Head { bytes, places, fields: &fields[..places.fields] }),
         code => {
             let required = RequiredSize { entries: places.fields, bytes: 0 };
-            Err(Error::of(code, Some(Position::of(bytes, places.place)), required))
+            Err(Error::of(code, Some(Position::of(bytes, places.error_offset)), required))
         }
     }
 }
@@ -272,8 +272,8 @@ impl Chunked {
         };
         *bytes = &all[step.taken..];
         match (code, step.kind) {
-            (exports::DONE, exports::CHUNKED_DATA) => Ok(Step::Data(at(all, step.place))),
-            (exports::DONE, exports::CHUNKED_TRAILERS) => Ok(Step::Trailers(at(all, step.place))),
+            (exports::DONE, exports::CHUNKED_DATA) => Ok(Step::Data(at(all, step.span))),
+            (exports::DONE, exports::CHUNKED_TRAILERS) => Ok(Step::Trailers(at(all, step.span))),
             (exports::END, _) => Ok(Step::End),
             (exports::INCOMPLETE, _) => Ok(Step::More),
             (exports::INVALID, _) => Err(ChunkedError::of(step.error)),

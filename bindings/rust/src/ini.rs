@@ -35,7 +35,7 @@ pub fn pair(line: &[u8]) -> Result<(&[u8], &[u8]), Error> {
     let code = unsafe { exports::exported_ini_pair(line.as_ptr(), line.len(), &mut out) };
     match code {
         exports::DONE => Ok((at(line, out.key), at(line, out.value))),
-        code => Err(Error::of(code, Some(Position::of(line, out.place)), NOTHING)),
+        code => Err(Error::of(code, Some(Position::of(line, out.error_offset)), NOTHING)),
     }
 }
 
@@ -131,7 +131,7 @@ pub fn document<'b>(
         exports::DONE => Ok(Document { text: &text[..out.text], entries: &entries[..out.entries] }),
         code => {
             let required = RequiredSize { entries: out.entries, bytes: out.text };
-            Err(Error::of(code, Some(Position::of(bytes, out.place)), required))
+            Err(Error::of(code, Some(Position::of(bytes, out.error_offset)), required))
         }
     }
 }

@@ -137,9 +137,9 @@ impl<'i> Inside<'i> {
             exports::JSON_OBJECT => Kind::Object,
             kind => unknown(kind),
         };
-        let (front, left) = self.left.split_at(out.place.offset + out.place.length);
+        let (front, left) = self.left.split_at(out.span.offset + out.span.length);
         self.left = left;
-        Some(Value { kind, text: &front[out.place.offset..], max_depth: self.max_depth })
+        Some(Value { kind, text: &front[out.span.offset..], max_depth: self.max_depth })
     }
 }
 

@@ -73,7 +73,7 @@ fn read(export: Export, bytes: &[u8], max_depth: usize) -> Result<(Reply<'_>, &[
     if code != exports::DONE {
         return Err(Error::of(code, None, NOTHING));
     }
-    let inside = at(bytes, out.place);
+    let inside = at(bytes, out.span);
     let reply = match out.kind {
         exports::RESP_SIMPLE => Reply::Simple(inside),
         exports::RESP_ERROR => Reply::Error(inside),

@@ -99,7 +99,7 @@ impl std::error::Error for Error {}
 impl Error {
     /// What a code other than that for done says, with what was written.
     fn of(code: u32, text: &str, out: &exports::TomlResult) -> Error {
-        let position = Position::of(text.as_bytes(), out.place);
+        let position = Position::of(text.as_bytes(), out.error_offset);
         let expected = match out.error {
             exports::TOML_ERROR_NONE => {
                 let required = RequiredSize { entries: out.nodes, bytes: out.text };

@@ -151,7 +151,7 @@ refused_by : (dialect : ℕ) (bytes : List ℕ) (said : List Said) (from new : R
     → NextPlaced (dialect_of dialect) bytes from answer new
     → Writes answer new.offset invalid out → SoFar dialect bytes said from
     → (reason : Refusal) × (out.error ≡ fault_number reason)
-    × IsRefused (dialect_of dialect) bytes (record { offset = out.place; why = reason })
+    × IsRefused (dialect_of dialect) bytes (record { offset = out.error_offset; why = reason })
 refused_by dialect bytes said from new (Err (stops.Refused reason)) out
     ((least, passes), less, stop) (code, (kind, key, value, place, fault)) here =
     let (lines, mark, reads) = passed dialect bytes said from new here passes in (
@@ -205,7 +205,7 @@ module _ (dialect : ℕ) (bytes : List ℕ) (outs : List IniEntry) (said : List 
 
   pub refuses : TellsEntry dialect state next bytes invalid out
       → (reason : Refusal) × (out.error ≡ fault_number reason)
-      × IsRefused (dialect_of dialect) bytes (record { offset = out.place; why = reason })
+      × IsRefused (dialect_of dialect) bytes (record { offset = out.error_offset; why = reason })
   refuses last = refused_by dialect bytes said last.from (reading_at next) last.answer out
       last.next last.writes (here last.from last.begins)
 

@@ -25,7 +25,7 @@ module _ (d : Dialect) (old new : RecordExtent) (bytes : List ℕ)
     (ends : code ≡ done → (size : RecordSize) × (answer ≡ Ok (Some size)) × Tells out size)
     (wants : code ≡ incomplete → answer ≡ Ok None)
     (never : code ≡ invalid
-    → (fault : RecordFault) × (answer ≡ Err fault) × (out.place ≡ fault.offset)) where
+    → (fault : RecordFault) × (answer ≡ Err fault) × (out.error_offset ≡ fault.offset)) where
   tells_of : IsOf d old bytes → TellsRecord d bytes code out after
   tells_of it =
       let Q : Result (Option RecordSize) RecordFault → Type 0 = λ a. IsTold d bytes a in

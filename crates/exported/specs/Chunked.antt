@@ -33,16 +33,16 @@ fault_number fault.TrailersTooLong = 6
 
 -- Nothing is given out.
 abbrev pub GivesNone : ChunkedStep → Type 0
-GivesNone out = (out.kind ≡ 0) × (out.place ≡ nowhere)
+GivesNone out = (out.kind ≡ 0) × (out.span ≡ nowhere)
 
 -- What is written where the decoder says this, and leaves the rest of the bytes: by the code, what
 -- is given out, as a place right before the rest, or why the next byte is refused.
 abbrev pub Writes : List ℕ → List ℕ → Result Step Fault → ℕ → ChunkedStep → Type 0
 Writes bytes rest (Ok (step.Data chunk)) code out =
-    (code ≡ done) × (out.kind ≡ data_kind) × StandsAt bytes out.place chunk.now rest
+    (code ≡ done) × (out.kind ≡ data_kind) × StandsAt bytes out.span chunk.now rest
     × (out.error ≡ 0)
 Writes bytes rest (Ok (step.Trailers fields)) code out =
-    (code ≡ done) × (out.kind ≡ trailers_kind) × StandsAt bytes out.place fields.now rest
+    (code ≡ done) × (out.kind ≡ trailers_kind) × StandsAt bytes out.span fields.now rest
     × (out.error ≡ 0)
 Writes bytes rest (Ok step.End) code out = (code ≡ end) × GivesNone out × (out.error ≡ 0)
 Writes bytes rest (Ok step.More) code out = (code ≡ incomplete) × GivesNone out × (out.error ≡ 0)

@@ -39,7 +39,7 @@ pub record TellsRecord (d : Dialect) (bytes : List ℕ) (code : ℕ) (out : Reco
     (state : CsvRecordState) : Type 0 where
   pub ends : code ≡ done → WantsRecord (IsForGood d) bytes out
   pub wants : code ≡ incomplete → NoneForGood d bytes × GoesOn d bytes
-  pub never : code ≡ invalid → BeginsNone d bytes × IsRefusedAt d bytes out.place
+  pub never : code ≡ invalid → BeginsNone d bytes × IsRefusedAt d bytes out.error_offset
   pub kept : (more : List ℕ) → IsOf d (record_extent_of state) (bytes ++ more)
 
 -- Calls that follow one another, and all ask for more.

@@ -99,7 +99,7 @@ fault_number why.NoDelimiter = 5
 
 -- No line is refused, and which number says what the entry is.
 abbrev pub IsOfKind : IniEntry → ℕ → Type 0
-IsOfKind out kind = (out.kind ≡ kind) × (out.place ≡ 0) × (out.error ≡ 0)
+IsOfKind out kind = (out.kind ≡ kind) × (out.error_offset ≡ 0) × (out.error ≡ 0)
 
 -- An entry, by what it is and the places of its texts: each begins where it does in the bytes, and
 -- has as many as the text.
@@ -117,7 +117,7 @@ ShowsEntry (entries.More value) at out = IsOfKind out 3
 -- No entry is told, and the line that is none begins there, for a reason of that number.
 abbrev pub ShowsNone : IniEntry → ℕ → ℕ → Type 0
 ShowsNone out place fault = (out.kind ≡ 0) × (out.key ≡ nowhere) × (out.value ≡ nowhere)
-    × (out.place ≡ place) × (out.error ≡ fault)
+    × (out.error_offset ≡ place) × (out.error ≡ fault)
 
 -- What is written where the reader of entries answers this, and the next line begins there.
 abbrev pub Writes : Result (Option Placed) Stop → ℕ → ℕ → IniEntry → Type 0

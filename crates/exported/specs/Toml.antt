@@ -64,7 +64,7 @@ pub record IsFaultOf (code level : ℕ) (bytes : List ℕ) (out : TomlResult) : 
   pub fault : Fault
   pub is_code : code_of fault ≡ code
   pub tells : Tells Global level bytes fault
-  pub place : out.place ≡ place_of fault
+  pub place : out.error_offset ≡ place_of fault
   pub number : out.error ≡ fault_of fault
 
 abbrev pub IsRefusedDocument : ℕ → List ℕ → TomlResult → Type 0

@@ -18,27 +18,36 @@ pub struct Number {
     /// The value, or 0 where there is none.
     pub value: i64,
     /// Where it is refused: how many bytes stand before the place. Else 0.
-    pub place: usize,
+    pub error_offset: usize,
 }
 
 /// No value.
-const NONE: Number = Number { value: 0, place: 0 };
+const NONE: Number = Number {
+    value: 0,
+    error_offset: 0,
+};
 
 /// Reads a text, and writes its value or the place of its refusal.
 fn read(alloc: Global, text: &str, out: &mut Number) -> u32
     ensures value { result ≡ done → IsValue text.now out.new.value }
-    ensures refused { result ≡ invalid → IsFormulaFault text.now (Refused out.new.place) }
+    ensures refused { result ≡ invalid → IsFormulaFault text.now (Refused out.new.error_offset) }
     ensures none { (result ≡ done → ⊥) → out.new.value ≡ pos 0 }
-    ensures nowhere { (result ≡ invalid → ⊥) → out.new.place ≡ 0 }
+    ensures nowhere { (result ≡ invalid → ⊥) → out.new.error_offset ≡ 0 }
     ensures codes { (result ≡ done) ⊎ ((result ≡ invalid) ⊎ (result ≡ no_memory)) }
 {
     match calc::value(alloc, text) {
         Ok(value) => {
-            *out = Number { value, place: 0 };
+            *out = Number {
+                value,
+                error_offset: 0,
+            };
             DONE
         }
         Err(Fault::Refused(place)) => {
-            *out = Number { value: 0, place };
+            *out = Number {
+                value: 0,
+                error_offset: place,
+            };
             INVALID
         }
         Err(Fault::NoMemory) => {
@@ -70,9 +79,9 @@ fn read(alloc: Global, text: &str, out: &mut Number) -> u32
 pub extern "C" fn exported_calc_value(alloc: Global, text: &[u8], out: &mut Number) -> u32
     ensures value { result ≡ done → IsUtf8 text.now × IsValue text.now out.new.value }
     ensures refused { result ≡ invalid
-        → IsUtf8 text.now × IsFormulaFault text.now (Refused out.new.place) }
+        → IsUtf8 text.now × IsFormulaFault text.now (Refused out.new.error_offset) }
     ensures none { (result ≡ done → ⊥) → out.new.value ≡ pos 0 }
-    ensures nowhere { (result ≡ invalid → ⊥) → out.new.place ≡ 0 }
+    ensures nowhere { (result ≡ invalid → ⊥) → out.new.error_offset ≡ 0 }
     ensures text { result ≡ invalid_utf8 → IsUtf8 text.now → ⊥ }
     ensures codes { (result ≡ done) ⊎ ((result ≡ invalid) ⊎ ((result ≡ invalid_utf8)
         ⊎ (result ≡ no_memory))) }

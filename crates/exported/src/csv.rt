@@ -29,18 +29,18 @@ pub struct Record {
     pub length: usize,
     /// Where the bytes are refused: how many stand before the first with which no record goes on.
     /// Else 0.
-    pub place: usize,
+    pub error_offset: usize,
 }
 
 /// A refusal at a place, or no record.
 pub(crate) fn none_at(place: usize) -> Record
-    ensures { result.place ≡ place }
+    ensures { result.error_offset ≡ place }
 {
     Record {
         fields: 0,
         text: 0,
         length: 0,
-        place,
+        error_offset: place,
     }
 }
 
@@ -66,7 +66,7 @@ fn write_record(
     out: &mut Record,
 ) -> u32
     requires { IsSized dialect bytes.now size }
-    ensures nowhere { out.new.place ≡ 0 }
+    ensures nowhere { out.new.error_offset ≡ 0 }
     ensures sized { (out.new.fields ≡ size.fields) × (out.new.text ≡ size.text)
         × (out.new.length ≡ size.length) }
     ensures record { result ≡ done
@@ -81,7 +81,7 @@ fn write_record(
         fields: size.fields,
         text: size.text,
         length: size.length,
-        place: 0,
+        error_offset: 0,
     };
     if write_fields(dialect, bytes, size, text, fields) {
         DONE
@@ -125,8 +125,8 @@ pub extern "C" fn exported_csv_record(
         × ((length fields.old < out.new.fields) ⊎ (length text.old < out.new.text)) }
     ensures kept { (result ≡ done → ⊥) → (fields.new ≡ fields.old) × (text.new ≡ text.old) }
     ensures refused { result ≡ invalid → NoRecord (dialect_of line_feeds) bytes.now
-        × IsRefusedAt (dialect_of line_feeds) bytes.now out.new.place }
-    ensures nowhere { (result ≡ invalid → ⊥) → out.new.place ≡ 0 }
+        × IsRefusedAt (dialect_of line_feeds) bytes.now out.new.error_offset }
+    ensures nowhere { (result ≡ invalid → ⊥) → out.new.error_offset ≡ 0 }
     ensures codes { (result ≡ done) ⊎ ((result ≡ buffer_too_small) ⊎ (result ≡ invalid)) }
 {
     *out = none_at(0);
@@ -172,9 +172,9 @@ pub extern "C" fn exported_csv_record_partial(
         × ((length fields.old < out.new.fields) ⊎ (length text.old < out.new.text)) }
     ensures kept { (result ≡ done → ⊥) → (fields.new ≡ fields.old) × (text.new ≡ text.old) }
     ensures refused { result ≡ invalid → BeginsNone (dialect_of line_feeds) bytes.now
-        × IsRefusedAt (dialect_of line_feeds) bytes.now out.new.place
-        × (out.new.place < length bytes.now) }
-    ensures nowhere { (result ≡ invalid → ⊥) → out.new.place ≡ 0 }
+        × IsRefusedAt (dialect_of line_feeds) bytes.now out.new.error_offset
+        × (out.new.error_offset < length bytes.now) }
+    ensures nowhere { (result ≡ invalid → ⊥) → out.new.error_offset ≡ 0 }
     ensures incomplete { result ≡ incomplete → NoneForGood (dialect_of line_feeds) bytes.now
         × GoesOn (dialect_of line_feeds) bytes.now }
     ensures codes { (result ≡ done) ⊎ ((result ≡ buffer_too_small) ⊎ ((result ≡ invalid)

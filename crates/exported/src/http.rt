@@ -31,7 +31,7 @@ pub struct Head {
     /// How many bytes the head has, the empty line after the fields among them.
     pub length: usize,
     /// Where the bytes are refused: how many stand before the place. Else 0.
-    pub place: usize,
+    pub error_offset: usize,
     /// The number before the point of the version, below 10.
     pub major: u8,
     /// The number after the point of the version, below 10.
@@ -41,7 +41,7 @@ pub struct Head {
 /// The head of nothing, with a number of fields and the place of a refusal.
 fn none(fields: usize, place: usize) -> Head
     ensures fields { result.fields ≡ fields }
-    ensures place { result.place ≡ place }
+    ensures place { result.error_offset ≡ place }
 {
     let nowhere = Span {
         offset: 0,
@@ -52,7 +52,7 @@ fn none(fields: usize, place: usize) -> Head
         target: nowhere,
         fields,
         length: 0,
-        place,
+        error_offset: place,
         major: 0,
         minor: 0,
     }
@@ -61,14 +61,14 @@ fn none(fields: usize, place: usize) -> Head
 /// A head that was found.
 fn head_of(found: places::Head) -> Head
     ensures places { places_of result ≡ found }
-    ensures place { result.place ≡ 0 }
+    ensures place { result.error_offset ≡ 0 }
 {
     Head {
         method: found.method,
         target: found.target,
         fields: found.fields,
         length: found.length,
-        place: 0,
+        error_offset: 0,
         major: found.major,
         minor: found.minor,
     }
@@ -98,8 +98,8 @@ pub extern "C" fn exported_http_head(bytes: &[u8], fields: &mut [Field], out: &m
         × (length fields.old < out.new.fields) }
     ensures refused { result ≡ invalid → (line : Request) (pairs : List Pair) (rest : List ℕ)
         → IsHead line pairs bytes.now rest → ⊥ }
-    ensures place { result ≡ invalid → IsNoHead bytes.now out.new.place }
-    ensures nowhere { (result ≡ invalid → ⊥) → out.new.place ≡ 0 }
+    ensures place { result ≡ invalid → IsNoHead bytes.now out.new.error_offset }
+    ensures nowhere { (result ≡ invalid → ⊥) → out.new.error_offset ≡ 0 }
     ensures codes { (result ≡ done) ⊎ ((result ≡ buffer_too_small) ⊎ (result ≡ invalid)) }
 {
     match read_head_into(bytes, fields) {
@@ -145,8 +145,8 @@ pub extern "C" fn exported_http_head_partial(
     ensures small { result ≡ buffer_too_small → IsWanted bytes.now out.new.fields
         × (length fields.old < out.new.fields) }
     ensures refused { result ≡ invalid → NoHead bytes.now }
-    ensures place { result ≡ invalid → IsRefused bytes.now out.new.place }
-    ensures nowhere { (result ≡ invalid → ⊥) → out.new.place ≡ 0 }
+    ensures place { result ≡ invalid → IsRefused bytes.now out.new.error_offset }
+    ensures nowhere { (result ≡ invalid → ⊥) → out.new.error_offset ≡ 0 }
     ensures incomplete { result ≡ incomplete → BeginsHead bytes.now
         × ((line : Request) (pairs : List Pair) (rest : List ℕ)
         → IsHead line pairs bytes.now rest → ⊥) }

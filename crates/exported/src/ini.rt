@@ -26,7 +26,7 @@ pub struct Pair {
     /// The value.
     pub value: Span,
     /// Where the line is refused: how many bytes stand before the place. Else 0.
-    pub place: usize,
+    pub error_offset: usize,
 }
 
 /// The key and the value of one line: a key of one or more ASCII letters or digits, `=`, a value of
@@ -40,8 +40,8 @@ pub struct Pair {
 #[unsafe(no_mangle)]
 pub extern "C" fn exported_ini_pair(bytes: &[u8], out: &mut Pair) -> u32
     ensures pair { result ≡ done → ShowsPair bytes.now out.new }
-    ensures refused { result ≡ invalid → IsRefusedPair bytes.now out.new.place }
-    ensures nowhere { (result ≡ invalid → ⊥) → out.new.place ≡ 0 }
+    ensures refused { result ≡ invalid → IsRefusedPair bytes.now out.new.error_offset }
+    ensures nowhere { (result ≡ invalid → ⊥) → out.new.error_offset ≡ 0 }
     ensures codes { (result ≡ done) ⊎ (result ≡ invalid) }
 {
     match ini::pair(bytes) {
@@ -55,7 +55,7 @@ pub extern "C" fn exported_ini_pair(bytes: &[u8], out: &mut Pair) -> u32
                     offset: key.len() + 1,
                     length: value.len(),
                 },
-                place: 0,
+                error_offset: 0,
             };
             DONE
         }
@@ -63,7 +63,7 @@ pub extern "C" fn exported_ini_pair(bytes: &[u8], out: &mut Pair) -> u32
             *out = Pair {
                 key: NOWHERE,
                 value: NOWHERE,
-                place,
+                error_offset: place,
             };
             INVALID
         }
@@ -90,14 +90,14 @@ pub struct Document {
     /// How many bytes the keys, the values and the names have together.
     pub text: usize,
     /// Where the document is refused: how many bytes stand before the place. Else 0.
-    pub place: usize,
+    pub error_offset: usize,
 }
 
 /// The document of nothing.
 const NONE: Document = Document {
     entries: 0,
     text: 0,
-    place: 0,
+    error_offset: 0,
 };
 
 /// Writes entries where there is room.
@@ -110,7 +110,7 @@ fn write_entries(
     requires { length (text_of (map pair_text found.now)) < 2 ^ 63 }
     ensures count { out.new.entries ≡ length found.now }
     ensures bytes { out.new.text ≡ length (text_of (map pair_text found.now)) }
-    ensures nowhere { out.new.place ≡ 0 }
+    ensures nowhere { out.new.error_offset ≡ 0 }
     ensures entries { result ≡ done
         → AreEntries (take out.new.text text.new) (take out.new.entries entries.new)
         (map pair_text found.now) }
@@ -123,7 +123,7 @@ fn write_entries(
     *out = Document {
         entries: count,
         text: total,
-        place: 0,
+        error_offset: 0,
     };
     if entries.len() < count || text.len() < total {
         return BUFFER_TOO_SMALL;
@@ -167,8 +167,8 @@ pub extern "C" fn exported_ini_document(
     ensures small { result ≡ buffer_too_small → WantsDocument bytes.now out.new
         × ((length entries.old < out.new.entries) ⊎ (length text.old < out.new.text)) }
     ensures kept { result ≡ buffer_too_small → (entries.new ≡ entries.old) × (text.new ≡ text.old) }
-    ensures refused { result ≡ invalid → IsRefusedDocument bytes.now out.new.place }
-    ensures nowhere { (result ≡ invalid → ⊥) → out.new.place ≡ 0 }
+    ensures refused { result ≡ invalid → IsRefusedDocument bytes.now out.new.error_offset }
+    ensures nowhere { (result ≡ invalid → ⊥) → out.new.error_offset ≡ 0 }
     ensures codes { (result ≡ done) ⊎ ((result ≡ buffer_too_small) ⊎ ((result ≡ invalid)
         ⊎ (result ≡ no_memory))) }
 {
@@ -179,7 +179,7 @@ pub extern "C" fn exported_ini_document(
             None => NO_MEMORY,
         },
         Err(Fault::Refused(place)) => {
-            out.place = place;
+            out.error_offset = place;
             INVALID
         }
         Err(Fault::NoMemory) => NO_MEMORY,

@@ -53,13 +53,13 @@ pub struct JsonItem {
     /// `JSON_OBJECT` are of `exported_json_step` alone; else a name is a string.
     pub kind: usize,
     /// Its bytes.
-    pub place: Span,
+    pub span: Span,
 }
 
 /// Nothing.
 pub(crate) const NO_ITEM: JsonItem = JsonItem {
     kind: JSON_NULL,
-    place: NOWHERE,
+    span: NOWHERE,
 };
 
 /// The number of what a value is.
@@ -194,7 +194,7 @@ pub extern "C" fn exported_json_next(bytes: &[u8], max_depth: usize, out: &mut J
             };
             *out = JsonItem {
                 kind: number_of(walk::kind_of(text)),
-                place,
+                span: place,
             };
             DONE
         }

@@ -58,7 +58,7 @@ pub struct Reply {
     pub elements: usize,
     /// The bytes of a string or of an error, or those of the elements of an array, which are
     /// replies, one after the other. Else nothing.
-    pub place: Span,
+    pub span: Span,
     /// How many bytes the reply has.
     pub length: usize,
 }
@@ -88,7 +88,7 @@ pub(crate) const NONE: Reply = Reply {
     kind: RESP_SIMPLE,
     number: 0,
     elements: 0,
-    place: NOWHERE,
+    span: NOWHERE,
     length: 0,
 };
 

@@ -61,7 +61,7 @@ pub struct TomlResult {
     /// How many bytes their names and texts have together.
     pub text: usize,
     /// Where the bytes are no document: how many stand before the place. Else 0.
-    pub place: usize,
+    pub error_offset: usize,
     /// Why they are none: a number of those from `TOML_ERROR_NONE` to
     /// `TOML_ERROR_NOT_AN_ARRAY_OF_TABLES`.
     pub error: usize,
@@ -71,7 +71,7 @@ pub struct TomlResult {
 const NONE: TomlResult = TomlResult {
     nodes: 0,
     text: 0,
-    place: 0,
+    error_offset: 0,
     error: TOML_ERROR_NONE,
 };
 
@@ -104,7 +104,7 @@ fn number_of_refusal(why: Refusal) -> usize
 /// Writes why bytes are no document, and where.
 fn write_fault(fault: Fault, out: &mut TomlResult) -> u32
     ensures code { result ≡ code_of fault }
-    ensures place { out.new.place ≡ place_of fault }
+    ensures place { out.new.error_offset ≡ place_of fault }
     ensures fault { out.new.error ≡ fault_of fault }
 {
     let (place, number, code) = match fault {
@@ -114,7 +114,7 @@ fn write_fault(fault: Fault, out: &mut TomlResult) -> u32
         Fault::OutOfMemory => (0, TOML_ERROR_NONE, NO_MEMORY),
     };
     *out = TomlResult {
-        place,
+        error_offset: place,
         error: number,
         ..NONE
     };
@@ -128,7 +128,7 @@ fn write_tree<'t>(
     nodes: &mut [TomlNode],
     out: &mut TomlResult,
 ) -> u32
-    ensures nowhere { (out.new.place ≡ 0) × (out.new.error ≡ 0) }
+    ensures nowhere { (out.new.error_offset ≡ 0) × (out.new.error ≡ 0) }
     ensures sized { WantsTree tree.now out.new }
     ensures tree { result ≡ done → ShowsTree tree.now (take out.new.text text.new)
         (take out.new.nodes nodes.new) }

@@ -76,7 +76,7 @@ impl Extent {
                 Ok(Some(Size { length: out.length, required }))
             }
             exports::INCOMPLETE => Ok(None),
-            code => Err(Error::of(code, Some(Position::of(bytes, out.place)), NOTHING)),
+            code => Err(Error::of(code, Some(Position::of(bytes, out.error_offset)), NOTHING)),
         }
     }
 }

@@ -60,7 +60,7 @@ fn read<'i, 'f>(
         exports::DONE => Ok(ResponseHead { bytes, places, fields: &fields[..places.fields] }),
         code => {
             let required = RequiredSize { entries: places.fields, bytes: 0 };
-            Err(Error::of(code, Some(Position::of(bytes, places.place)), required))
+            Err(Error::of(code, Some(Position::of(bytes, places.error_offset)), required))
         }
     }
 }

@@ -295,7 +295,7 @@ impl<'i> Iterator for Entries<'i> {
             (exports::DONE, exports::INI_MORE) => Some(Ok(Entry::More(at(out.value)))),
             (exports::INVALID, _) => {
                 self.is_over = true;
-                let position = Position::of(bytes, out.place);
+                let position = Position::of(bytes, out.error_offset);
                 Some(Err(LineError { position, reason: Reason::of(out.error) }))
             }
             (code, _) => {

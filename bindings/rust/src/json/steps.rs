@@ -48,8 +48,8 @@ impl<'i> Iterator for Steps<'i> {
             exports::END => return None,
             code => unknown(code as usize),
         }
-        let (front, left) = self.left.split_at(out.place.offset + out.place.length);
-        let text = &front[out.place.offset..];
+        let (front, left) = self.left.split_at(out.span.offset + out.span.length);
+        let text = &front[out.span.offset..];
         let value = |kind| Value { kind, text, max_depth: 0 };
         let step = match out.kind {
             exports::JSON_NULL => Step::Value(value(Kind::Null)),

@@ -113,7 +113,7 @@ pub extern "C" fn exported_csv_record_extent(
 ) -> u32
     ensures told { IsOf (dialect_of line_feeds) (record_extent_of state.old) bytes.now
         → TellsRecord (dialect_of line_feeds) bytes.now result out.new state.new }
-    ensures nowhere { (result ≡ invalid → ⊥) → out.new.place ≡ 0 }
+    ensures nowhere { (result ≡ invalid → ⊥) → out.new.error_offset ≡ 0 }
     ensures codes { (result ≡ done) ⊎ ((result ≡ incomplete) ⊎ (result ≡ invalid)) }
 {
     let dialect = dialect(line_feeds);
@@ -126,7 +126,7 @@ pub extern "C" fn exported_csv_record_extent(
                 fields: size.fields,
                 text: size.text,
                 length: size.length,
-                place: 0,
+                error_offset: 0,
             };
             DONE
         }

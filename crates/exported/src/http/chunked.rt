@@ -50,7 +50,7 @@ pub struct ChunkedStep {
     /// What is given out: `CHUNKED_DATA` or `CHUNKED_TRAILERS`.
     pub kind: usize,
     /// Where it stands. Else nothing.
-    pub place: Span,
+    pub span: Span,
     /// How many bytes were taken. Those after them are the first of the next call.
     pub taken: usize,
     /// Why the byte after those that were taken is refused: a number of those from
@@ -101,7 +101,7 @@ fn step_of(bytes: &[u8], rest: &[u8], said: Result<Step<'_>, Fault>) -> (u32, Ch
 {
     let nothing = ChunkedStep {
         kind: 0,
-        place: NOWHERE,
+        span: NOWHERE,
         taken: taken_of(bytes, rest),
         error: 0,
     };
@@ -112,7 +112,7 @@ fn step_of(bytes: &[u8], rest: &[u8], said: Result<Step<'_>, Fault>) -> (u32, Ch
                 DONE,
                 ChunkedStep {
                     kind: CHUNKED_DATA,
-                    place,
+                    span: place,
                     ..nothing
                 },
             )
@@ -123,7 +123,7 @@ fn step_of(bytes: &[u8], rest: &[u8], said: Result<Step<'_>, Fault>) -> (u32, Ch
                 DONE,
                 ChunkedStep {
                     kind: CHUNKED_TRAILERS,
-                    place,
+                    span: place,
                     ..nothing
                 },
             )

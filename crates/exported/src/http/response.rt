@@ -24,7 +24,7 @@ pub struct ResponseHead {
     /// How many bytes the head has, the empty line after the fields among them.
     pub length: usize,
     /// Where the bytes are refused: how many stand before the place. Else 0.
-    pub place: usize,
+    pub error_offset: usize,
     /// The status code, below 1000.
     pub status: u16,
     /// The number before the point of the version, below 10.
@@ -36,7 +36,7 @@ pub struct ResponseHead {
 /// The head of nothing, with a number of fields and the place of a refusal.
 fn none(fields: usize, place: usize) -> ResponseHead
     ensures fields { result.fields ≡ fields }
-    ensures place { result.place ≡ place }
+    ensures place { result.error_offset ≡ place }
 {
     let nowhere = Span {
         offset: 0,
@@ -46,7 +46,7 @@ fn none(fields: usize, place: usize) -> ResponseHead
         reason: nowhere,
         fields,
         length: 0,
-        place,
+        error_offset: place,
         status: 0,
         major: 0,
         minor: 0,
@@ -56,13 +56,13 @@ fn none(fields: usize, place: usize) -> ResponseHead
 /// A head that was found.
 fn head_of(found: places::ResponseHead) -> ResponseHead
     ensures places { response_of result ≡ found }
-    ensures place { result.place ≡ 0 }
+    ensures place { result.error_offset ≡ 0 }
 {
     ResponseHead {
         reason: found.reason,
         fields: found.fields,
         length: found.length,
-        place: 0,
+        error_offset: 0,
         status: found.status,
         major: found.major,
         minor: found.minor,
@@ -97,8 +97,8 @@ pub extern "C" fn exported_http_response_head(
     ensures small { result ≡ buffer_too_small → IsResponseWanted bytes.now out.new.fields
         × (length fields.old < out.new.fields) }
     ensures refused { result ≡ invalid → NoResponseRead bytes.now }
-    ensures place { result ≡ invalid → IsNoResponse bytes.now out.new.place }
-    ensures nowhere { (result ≡ invalid → ⊥) → out.new.place ≡ 0 }
+    ensures place { result ≡ invalid → IsNoResponse bytes.now out.new.error_offset }
+    ensures nowhere { (result ≡ invalid → ⊥) → out.new.error_offset ≡ 0 }
     ensures codes { (result ≡ done) ⊎ ((result ≡ buffer_too_small) ⊎ (result ≡ invalid)) }
 {
     match read_response_head_into(bytes, fields) {
@@ -144,8 +144,8 @@ pub extern "C" fn exported_http_response_head_partial(
     ensures small { result ≡ buffer_too_small → IsResponseWanted bytes.now out.new.fields
         × (length fields.old < out.new.fields) }
     ensures refused { result ≡ invalid → NoResponseHead bytes.now }
-    ensures place { result ≡ invalid → IsResponseRefused bytes.now out.new.place }
-    ensures nowhere { (result ≡ invalid → ⊥) → out.new.place ≡ 0 }
+    ensures place { result ≡ invalid → IsResponseRefused bytes.now out.new.error_offset }
+    ensures nowhere { (result ≡ invalid → ⊥) → out.new.error_offset ≡ 0 }
     ensures incomplete { result ≡ incomplete
         → BeginsResponseHead bytes.now × NoResponseRead bytes.now }
     ensures codes { (result ≡ done) ⊎ ((result ≡ buffer_too_small) ⊎ ((result ≡ invalid)

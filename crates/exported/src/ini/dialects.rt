@@ -117,7 +117,7 @@ pub struct IniEntry {
     /// The value of a pair, or one more line of it. Else nothing.
     pub value: Span,
     /// Where the line begins that is refused, or is no UTF-8. Else 0.
-    pub place: usize,
+    pub error_offset: usize,
     /// Why it is refused: a number of those from `INI_ERROR_UNCLOSED_SECTION` on. Else 0.
     pub error: usize,
 }
@@ -127,7 +127,7 @@ const NO_ENTRY: IniEntry = IniEntry {
     kind: INI_SECTION,
     key: NOWHERE,
     value: NOWHERE,
-    place: 0,
+    error_offset: 0,
     error: 0,
 };
 
@@ -309,14 +309,14 @@ fn told_of(found: Result<Option<Placed<'_>>, Stop>, offset: usize) -> (u32, IniE
         Err(Stop::NoText) => (
             INVALID_UTF8,
             IniEntry {
-                place: offset,
+                error_offset: offset,
                 ..NO_ENTRY
             },
         ),
         Err(Stop::Refused(why)) => (
             INVALID,
             IniEntry {
-                place: offset,
+                error_offset: offset,
                 error: fault_number(why),
                 ..NO_ENTRY
             },
@@ -387,7 +387,7 @@ pub fn entries_in_turn_are_of_the_document()
         → EntriesInTurn dialect bytes zeros outs said state
         → TellsEntry dialect state next bytes invalid out
         → (why : Refusal) × (out.error ≡ fault_number why)
-        × IsRefused (dialect_of dialect) bytes (record { offset = out.place; why = why }) }
+        × IsRefused (dialect_of dialect) bytes (record { offset = out.error_offset; why = why }) }
     ensures text { (dialect : ℕ) (bytes : List ℕ) (outs : List IniEntry) (said : List Said)
         (state next : IniState) (out : IniEntry)
         → EntriesInTurn dialect bytes zeros outs said state

@@ -80,7 +80,7 @@ pub extern "C" fn exported_json_step(bytes: &[u8], out: &mut JsonItem) -> u32
             };
             *out = JsonItem {
                 kind: number_of_step(step),
-                place,
+                span: place,
             };
             DONE
         }
