@@ -83,9 +83,9 @@ fn read<'i, 'b>(
             rest: &bytes[out.length..],
         }),
         code => {
-            let at = || Position::of(bytes, out.error_offset);
+            let position = || Position::of(bytes, out.error_offset);
             let required = RequiredSize { entries: out.fields, bytes: out.text };
-            Err(Error::of(code, (code == exports::INVALID).then(at), required))
+            Err(Error::of(code, (code == exports::INVALID).then(position), required))
         }
     }
 }
