@@ -43,11 +43,11 @@ COST = [
 KINDS = {
     "JSON_": ("json_kind", "The kinds of JSON values: the values of `kind` of a JSON item."),
     "RESP_": ("resp_kind", "The kinds of Redis replies: the values of `kind` of a reply."),
-    "TOML_FAULT_": ("toml_fault", "The errors of TOML documents: the values of `fault` of a document."),
+    "TOML_ERROR_": ("toml_error", "The errors of TOML documents: the values of `error` of a document."),
     "TOML_": ("toml_kind", "The kinds of TOML nodes: the values of `kind` of a value."),
-    "CHUNKED_FAULT_": ("chunked_fault", "The errors of chunked bodies: the values of `fault` of a step."),
+    "CHUNKED_ERROR_": ("chunked_error", "The errors of chunked bodies: the values of `error` of a step."),
     "CHUNKED_": ("chunked_kind", "The parts of chunked bodies: the values of `kind` of a step."),
-    "INI_FAULT_": ("ini_fault", "The errors of INI lines: the values of `fault` of an INI entry."),
+    "INI_ERROR_": ("ini_error", "The errors of INI lines: the values of `error` of an INI entry."),
     "INI_DIALECT_": ("ini_dialect", "The dialects of INI: flags, whose sum is a dialect, and three dialects."),
     "INI_": ("ini_kind", "The kinds of INI lines: the values of `kind` of an INI entry."),
 }

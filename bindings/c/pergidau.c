@@ -18,7 +18,7 @@ uint32_t exported_csv_record(
     struct pergidau_span *fields,
     size_t fields_length,
     struct pergidau_record *out);
-uint32_t exported_csv_record_in_pieces(
+uint32_t exported_csv_record_partial(
     const uint8_t *bytes,
     size_t bytes_length,
     uint32_t line_feeds,
@@ -28,7 +28,7 @@ uint32_t exported_csv_record_in_pieces(
     size_t fields_length,
     struct pergidau_record *out);
 uint32_t exported_csv_record_extent(
-    struct pergidau_csv_record_extent *state,
+    struct pergidau_csv_record_state *state,
     const uint8_t *bytes,
     size_t bytes_length,
     uint32_t line_feeds,
@@ -39,7 +39,7 @@ uint32_t exported_http_head(
     struct pergidau_field *fields,
     size_t fields_length,
     struct pergidau_head *out);
-uint32_t exported_http_head_in_pieces(
+uint32_t exported_http_head_partial(
     const uint8_t *bytes,
     size_t bytes_length,
     struct pergidau_field *fields,
@@ -51,7 +51,7 @@ uint32_t exported_http_chunked(
     size_t bytes_length,
     struct pergidau_chunked_step *out);
 uint32_t exported_http_head_extent(
-    struct pergidau_http_head_extent *state,
+    struct pergidau_http_head_state *state,
     const uint8_t *bytes,
     size_t bytes_length,
     size_t *out);
@@ -61,7 +61,7 @@ uint32_t exported_http_response_head(
     struct pergidau_field *fields,
     size_t fields_length,
     struct pergidau_response_head *out);
-uint32_t exported_http_response_head_in_pieces(
+uint32_t exported_http_response_head_partial(
     const uint8_t *bytes,
     size_t bytes_length,
     struct pergidau_field *fields,
@@ -88,16 +88,16 @@ uint32_t exported_ini_next(
 uint32_t exported_json_check(
     const uint8_t *text,
     size_t text_length,
-    size_t levels);
+    size_t max_depth);
 uint32_t exported_json_value(
     const uint8_t *bytes,
     size_t bytes_length,
-    size_t levels,
+    size_t max_depth,
     size_t *out);
 uint32_t exported_json_next(
     const uint8_t *bytes,
     size_t bytes_length,
-    size_t levels,
+    size_t max_depth,
     struct pergidau_json_item *out);
 uint32_t exported_json_integer(
     const uint8_t *bytes,
@@ -120,15 +120,15 @@ uint32_t exported_json_string(
 uint32_t exported_resp_reply(
     const uint8_t *bytes,
     size_t bytes_length,
-    size_t levels,
+    size_t max_depth,
     struct pergidau_reply *out);
-uint32_t exported_resp_reply_in_pieces(
+uint32_t exported_resp_reply_partial(
     const uint8_t *bytes,
     size_t bytes_length,
-    size_t levels,
+    size_t max_depth,
     struct pergidau_reply *out);
 uint32_t exported_resp_extent(
-    struct pergidau_resp_extent *state,
+    struct pergidau_resp_reply_state *state,
     const uint8_t *bytes,
     size_t bytes_length,
     size_t *out);
@@ -140,14 +140,14 @@ uint32_t exported_text_position(
 uint32_t exported_toml_document(
     const uint8_t *bytes,
     size_t bytes_length,
-    size_t levels,
+    size_t max_depth,
     uint8_t *text,
     size_t text_length,
     struct pergidau_toml_node *nodes,
     size_t nodes_length,
-    struct pergidau_toml_document *out);
+    struct pergidau_toml_result *out);
 
-const char pergidau_0_0_0_declared_a22c8061 = 0;
+const char pergidau_0_0_0_declared_ab70bb49 = 0;
 
 const char *pergidau_version(void)
 {
@@ -168,17 +168,17 @@ const char *pergidau_message(enum pergidau_code code)
     switch (code) {
     case PERGIDAU_DONE:
         return "success";
-    case PERGIDAU_REFUSED:
+    case PERGIDAU_INVALID:
         return "invalid input";
     case PERGIDAU_INCOMPLETE:
         return "incomplete input: more bytes are needed";
     case PERGIDAU_NO_MEMORY:
         return "memory allocation failed";
-    case PERGIDAU_NO_TEXT:
+    case PERGIDAU_INVALID_UTF8:
         return "input is not valid UTF-8";
-    case PERGIDAU_TOO_SMALL:
+    case PERGIDAU_BUFFER_TOO_SMALL:
         return "buffer too small";
-    case PERGIDAU_TOO_DEEP:
+    case PERGIDAU_MAX_DEPTH_TOO_LARGE:
         return "depth limit too large: at most 512 levels are supported";
     case PERGIDAU_NULL:
         return "null pointer";
@@ -186,7 +186,7 @@ const char *pergidau_message(enum pergidau_code code)
         return "length too large: at most PTRDIFF_MAX bytes are supported";
     case PERGIDAU_END:
         return "no more items";
-    case PERGIDAU_NO_INTEGER:
+    case PERGIDAU_NOT_AN_INTEGER:
         return "number is not an integer or out of range";
     }
     return "unknown result code";
@@ -259,7 +259,7 @@ enum pergidau_code pergidau_csv_record(
     return (enum pergidau_code)exported_csv_record(bytes, bytes_length, line_feeds, text, text_length, fields, fields_length, out);
 }
 
-enum pergidau_code pergidau_csv_record_in_pieces(
+enum pergidau_code pergidau_csv_record_partial(
     const uint8_t *bytes,
     size_t bytes_length,
     uint32_t line_feeds,
@@ -302,11 +302,11 @@ enum pergidau_code pergidau_csv_record_in_pieces(
     if (fields == NULL) {
         fields = &no_fields;
     }
-    return (enum pergidau_code)exported_csv_record_in_pieces(bytes, bytes_length, line_feeds, text, text_length, fields, fields_length, out);
+    return (enum pergidau_code)exported_csv_record_partial(bytes, bytes_length, line_feeds, text, text_length, fields, fields_length, out);
 }
 
 enum pergidau_code pergidau_csv_record_extent(
-    struct pergidau_csv_record_extent *state,
+    struct pergidau_csv_record_state *state,
     const uint8_t *bytes,
     size_t bytes_length,
     uint32_t line_feeds,
@@ -364,7 +364,7 @@ enum pergidau_code pergidau_http_head(
     return (enum pergidau_code)exported_http_head(bytes, bytes_length, fields, fields_length, out);
 }
 
-enum pergidau_code pergidau_http_head_in_pieces(
+enum pergidau_code pergidau_http_head_partial(
     const uint8_t *bytes,
     size_t bytes_length,
     struct pergidau_field *fields,
@@ -394,7 +394,7 @@ enum pergidau_code pergidau_http_head_in_pieces(
     if (fields == NULL) {
         fields = &no_fields;
     }
-    return (enum pergidau_code)exported_http_head_in_pieces(bytes, bytes_length, fields, fields_length, out);
+    return (enum pergidau_code)exported_http_head_partial(bytes, bytes_length, fields, fields_length, out);
 }
 
 enum pergidau_code pergidau_http_chunked(
@@ -423,7 +423,7 @@ enum pergidau_code pergidau_http_chunked(
 }
 
 enum pergidau_code pergidau_http_head_extent(
-    struct pergidau_http_head_extent *state,
+    struct pergidau_http_head_state *state,
     const uint8_t *bytes,
     size_t bytes_length,
     size_t *out)
@@ -480,7 +480,7 @@ enum pergidau_code pergidau_http_response_head(
     return (enum pergidau_code)exported_http_response_head(bytes, bytes_length, fields, fields_length, out);
 }
 
-enum pergidau_code pergidau_http_response_head_in_pieces(
+enum pergidau_code pergidau_http_response_head_partial(
     const uint8_t *bytes,
     size_t bytes_length,
     struct pergidau_field *fields,
@@ -510,7 +510,7 @@ enum pergidau_code pergidau_http_response_head_in_pieces(
     if (fields == NULL) {
         fields = &no_fields;
     }
-    return (enum pergidau_code)exported_http_response_head_in_pieces(bytes, bytes_length, fields, fields_length, out);
+    return (enum pergidau_code)exported_http_response_head_partial(bytes, bytes_length, fields, fields_length, out);
 }
 
 enum pergidau_code pergidau_ini_pair(
@@ -608,7 +608,7 @@ enum pergidau_code pergidau_ini_next(
 enum pergidau_code pergidau_json_check(
     const uint8_t *text,
     size_t text_length,
-    size_t levels)
+    size_t max_depth)
 {
     const uint8_t no_text = {0};
     if (text_length > PTRDIFF_MAX / sizeof(uint8_t)) {
@@ -620,13 +620,13 @@ enum pergidau_code pergidau_json_check(
     if (text == NULL) {
         text = &no_text;
     }
-    return (enum pergidau_code)exported_json_check(text, text_length, levels);
+    return (enum pergidau_code)exported_json_check(text, text_length, max_depth);
 }
 
 enum pergidau_code pergidau_json_value(
     const uint8_t *bytes,
     size_t bytes_length,
-    size_t levels,
+    size_t max_depth,
     size_t *out)
 {
     const uint8_t no_bytes = {0};
@@ -642,13 +642,13 @@ enum pergidau_code pergidau_json_value(
     if (bytes == NULL) {
         bytes = &no_bytes;
     }
-    return (enum pergidau_code)exported_json_value(bytes, bytes_length, levels, out);
+    return (enum pergidau_code)exported_json_value(bytes, bytes_length, max_depth, out);
 }
 
 enum pergidau_code pergidau_json_next(
     const uint8_t *bytes,
     size_t bytes_length,
-    size_t levels,
+    size_t max_depth,
     struct pergidau_json_item *out)
 {
     const uint8_t no_bytes = {0};
@@ -664,7 +664,7 @@ enum pergidau_code pergidau_json_next(
     if (bytes == NULL) {
         bytes = &no_bytes;
     }
-    return (enum pergidau_code)exported_json_next(bytes, bytes_length, levels, out);
+    return (enum pergidau_code)exported_json_next(bytes, bytes_length, max_depth, out);
 }
 
 enum pergidau_code pergidau_json_integer(
@@ -766,7 +766,7 @@ enum pergidau_code pergidau_json_string(
 enum pergidau_code pergidau_resp_reply(
     const uint8_t *bytes,
     size_t bytes_length,
-    size_t levels,
+    size_t max_depth,
     struct pergidau_reply *out)
 {
     const uint8_t no_bytes = {0};
@@ -782,13 +782,13 @@ enum pergidau_code pergidau_resp_reply(
     if (bytes == NULL) {
         bytes = &no_bytes;
     }
-    return (enum pergidau_code)exported_resp_reply(bytes, bytes_length, levels, out);
+    return (enum pergidau_code)exported_resp_reply(bytes, bytes_length, max_depth, out);
 }
 
-enum pergidau_code pergidau_resp_reply_in_pieces(
+enum pergidau_code pergidau_resp_reply_partial(
     const uint8_t *bytes,
     size_t bytes_length,
-    size_t levels,
+    size_t max_depth,
     struct pergidau_reply *out)
 {
     const uint8_t no_bytes = {0};
@@ -804,11 +804,11 @@ enum pergidau_code pergidau_resp_reply_in_pieces(
     if (bytes == NULL) {
         bytes = &no_bytes;
     }
-    return (enum pergidau_code)exported_resp_reply_in_pieces(bytes, bytes_length, levels, out);
+    return (enum pergidau_code)exported_resp_reply_partial(bytes, bytes_length, max_depth, out);
 }
 
 enum pergidau_code pergidau_resp_extent(
-    struct pergidau_resp_extent *state,
+    struct pergidau_resp_reply_state *state,
     const uint8_t *bytes,
     size_t bytes_length,
     size_t *out)
@@ -857,12 +857,12 @@ enum pergidau_code pergidau_text_position(
 enum pergidau_code pergidau_toml_document(
     const uint8_t *bytes,
     size_t bytes_length,
-    size_t levels,
+    size_t max_depth,
     uint8_t *text,
     size_t text_length,
     struct pergidau_toml_node *nodes,
     size_t nodes_length,
-    struct pergidau_toml_document *out)
+    struct pergidau_toml_result *out)
 {
     const uint8_t no_bytes = {0};
     uint8_t no_text = {0};
@@ -897,5 +897,5 @@ enum pergidau_code pergidau_toml_document(
     if (nodes == NULL) {
         nodes = &no_nodes;
     }
-    return (enum pergidau_code)exported_toml_document(bytes, bytes_length, levels, text, text_length, nodes, nodes_length, out);
+    return (enum pergidau_code)exported_toml_document(bytes, bytes_length, max_depth, text, text_length, nodes, nodes_length, out);
 }

@@ -39,10 +39,10 @@ extern "C" {
  * that includes this header refers to it, so that it links with no other library. For a file
  * that is not linked with the library, define PERGIDAU_NO_LINK_CHECK before the header.
  */
-extern const char pergidau_0_0_0_declared_a22c8061;
+extern const char pergidau_0_0_0_declared_ab70bb49;
 #if defined(__GNUC__) && !defined(PERGIDAU_NO_LINK_CHECK)
 __attribute__((__used__, __unused__)) static const char *const pergidau_linked =
-    &pergidau_0_0_0_declared_a22c8061;
+    &pergidau_0_0_0_declared_ab70bb49;
 #endif
 
 /* Returns the version of the linked library, in the form of PERGIDAU_VERSION. */
@@ -59,23 +59,23 @@ enum pergidau_code {
     /* Success. The result is written. */
     PERGIDAU_DONE = 0,
     /* Invalid input. If the function documents it, the offset of the error is written. */
-    PERGIDAU_REFUSED = 1,
+    PERGIDAU_INVALID = 1,
     /* Incomplete input: more bytes are needed. */
     PERGIDAU_INCOMPLETE = 2,
     /* Memory allocation failed. */
     PERGIDAU_NO_MEMORY = 3,
     /* Input is not valid UTF-8. */
-    PERGIDAU_NO_TEXT = 4,
+    PERGIDAU_INVALID_UTF8 = 4,
     /*
      * Buffer too small. The required sizes are written, and the buffer is unchanged unless the
      * function documents otherwise.
      */
-    PERGIDAU_TOO_SMALL = 5,
+    PERGIDAU_BUFFER_TOO_SMALL = 5,
     /*
      * Depth limit too large: at most 512 levels are supported. That number is
-     * PERGIDAU_MOST_LEVELS.
+     * PERGIDAU_MAX_DEPTH.
      */
-    PERGIDAU_TOO_DEEP = 6,
+    PERGIDAU_MAX_DEPTH_TOO_LARGE = 6,
     /* Null pointer. Memory would be read or written through it. */
     PERGIDAU_NULL = 7,
     /* Length too large: at most PTRDIFF_MAX bytes are supported. */
@@ -83,7 +83,7 @@ enum pergidau_code {
     /* No more items. Each function documents the end that it reports. */
     PERGIDAU_END = 9,
     /* Number is not an integer or out of range. The function determines the range. */
-    PERGIDAU_NO_INTEGER = 10,
+    PERGIDAU_NOT_AN_INTEGER = 10,
 };
 
 /* Returns the message for a code, in English, without a full stop. Do not free it. */
@@ -93,7 +93,7 @@ const char *pergidau_message(enum pergidau_code code);
  * The largest supported depth limit for nested arrays and objects. Each level takes some
  * stack.
  */
-#define PERGIDAU_MOST_LEVELS 512
+#define PERGIDAU_MAX_DEPTH 512
 
 /* The kinds of JSON values: the values of kind of a JSON item. */
 enum pergidau_json_kind {
@@ -141,33 +141,33 @@ enum pergidau_resp_kind {
     PERGIDAU_RESP_NULL_ARRAY = 6,
 };
 
-/* The errors of TOML documents: the values of fault of a document. */
-enum pergidau_toml_fault {
+/* The errors of TOML documents: the values of error of a document. */
+enum pergidau_toml_error {
     /* No error. */
-    PERGIDAU_TOML_FAULT_NONE = 0,
+    PERGIDAU_TOML_ERROR_NONE = 0,
     /* A key or a table is expected. */
-    PERGIDAU_TOML_FAULT_KEY = 1,
+    PERGIDAU_TOML_ERROR_KEY = 1,
     /* The equals sign after a key is expected. */
-    PERGIDAU_TOML_FAULT_EQUALS_SIGN = 2,
+    PERGIDAU_TOML_ERROR_EQUALS_SIGN = 2,
     /* A value is expected, nested no deeper than the depth limit. */
-    PERGIDAU_TOML_FAULT_VALUE = 3,
+    PERGIDAU_TOML_ERROR_VALUE = 3,
     /* The name of a table is expected. */
-    PERGIDAU_TOML_FAULT_TABLE_NAME = 4,
+    PERGIDAU_TOML_ERROR_TABLE_NAME = 4,
     /* A bracket after the name of a table is expected. */
-    PERGIDAU_TOML_FAULT_CLOSING_BRACKET = 5,
+    PERGIDAU_TOML_ERROR_CLOSING_BRACKET = 5,
     /* The end of the line is expected. */
-    PERGIDAU_TOML_FAULT_LINE_END = 6,
+    PERGIDAU_TOML_ERROR_LINE_END = 6,
     /* The line defines what is defined already. */
-    PERGIDAU_TOML_FAULT_DEFINED = 7,
+    PERGIDAU_TOML_ERROR_DEFINED = 7,
     /* The line takes a value for a table. */
-    PERGIDAU_TOML_FAULT_NO_TABLE = 8,
+    PERGIDAU_TOML_ERROR_NOT_A_TABLE = 8,
     /*
      * The line adds to a table that is closed: an inline table, or by dotted keys one of a
      * header.
      */
-    PERGIDAU_TOML_FAULT_CLOSED = 9,
+    PERGIDAU_TOML_ERROR_CLOSED = 9,
     /* The line adds a table to a key that is not an array of tables. */
-    PERGIDAU_TOML_FAULT_NO_TABLES = 10,
+    PERGIDAU_TOML_ERROR_NOT_AN_ARRAY_OF_TABLES = 10,
 };
 
 /* The kinds of TOML nodes: the values of kind of a value. */
@@ -194,28 +194,28 @@ enum pergidau_toml_kind {
     PERGIDAU_TOML_LOCAL_TIME = 9,
 };
 
-/* The errors of chunked bodies: the values of fault of a step. */
-enum pergidau_chunked_fault {
+/* The errors of chunked bodies: the values of error of a step. */
+enum pergidau_chunked_error {
     /* A size line does not start with a hexadecimal digit. */
-    PERGIDAU_CHUNKED_FAULT_SIZE = 0,
+    PERGIDAU_CHUNKED_ERROR_SIZE = 0,
     /*
      * The byte is invalid in a size line: it can continue neither an extension nor a line
      * ending.
      */
-    PERGIDAU_CHUNKED_FAULT_SIZE_LINE = 1,
+    PERGIDAU_CHUNKED_ERROR_SIZE_LINE = 1,
     /* With this digit the size is 2^64 or more. */
-    PERGIDAU_CHUNKED_FAULT_SIZE_TOO_LARGE = 2,
+    PERGIDAU_CHUNKED_ERROR_SIZE_TOO_LARGE = 2,
     /* There are more bytes than the limit allows before the next data, or before the end. */
-    PERGIDAU_CHUNKED_FAULT_SIZE_LINE_TOO_LONG = 3,
+    PERGIDAU_CHUNKED_ERROR_SIZE_LINE_TOO_LONG = 3,
     /* The data of a chunk is not followed by a carriage return and a line feed. */
-    PERGIDAU_CHUNKED_FAULT_DATA_END = 4,
+    PERGIDAU_CHUNKED_ERROR_DATA_END = 4,
     /*
      * The byte can continue neither a field line nor the line ending after the trailer
      * section.
      */
-    PERGIDAU_CHUNKED_FAULT_TRAILERS = 5,
+    PERGIDAU_CHUNKED_ERROR_TRAILERS = 5,
     /* The trailer section would have more bytes than the limit lets. */
-    PERGIDAU_CHUNKED_FAULT_TRAILERS_TOO_LONG = 6,
+    PERGIDAU_CHUNKED_ERROR_TRAILERS_TOO_LONG = 6,
 };
 
 /* The parts of chunked bodies: the values of kind of a step. */
@@ -229,20 +229,20 @@ enum pergidau_chunked_kind {
     PERGIDAU_CHUNKED_TRAILERS = 1,
 };
 
-/* The errors of INI lines: the values of fault of an INI entry. */
-enum pergidau_ini_fault {
+/* The errors of INI lines: the values of error of an INI entry. */
+enum pergidau_ini_error {
     /* The line starts with [ and has no ]. */
-    PERGIDAU_INI_FAULT_OPEN_SECTION = 0,
+    PERGIDAU_INI_ERROR_UNCLOSED_SECTION = 0,
     /* There is nothing between [ and ]. */
-    PERGIDAU_INI_FAULT_EMPTY_SECTION = 1,
+    PERGIDAU_INI_ERROR_EMPTY_SECTION = 1,
     /* There is text after the ]. */
-    PERGIDAU_INI_FAULT_TEXT_BEHIND_SECTION = 2,
+    PERGIDAU_INI_ERROR_TRAILING_TEXT = 2,
     /* There is no section before the pair. */
-    PERGIDAU_INI_FAULT_NO_SECTION = 3,
+    PERGIDAU_INI_ERROR_MISSING_SECTION = 3,
     /* There is no key before the delimiter. */
-    PERGIDAU_INI_FAULT_NO_KEY = 4,
+    PERGIDAU_INI_ERROR_MISSING_KEY = 4,
     /* There is no delimiter. */
-    PERGIDAU_INI_FAULT_NO_DELIMITER = 5,
+    PERGIDAU_INI_ERROR_MISSING_DELIMITER = 5,
 };
 
 /* The dialects of INI: flags, whose sum is a dialect, and three dialects. */
@@ -315,7 +315,7 @@ struct pergidau_number {
     /* The value, or 0 where there is none. */
     int64_t value;
     /* The offset of the error in bytes; 0 otherwise. */
-    size_t place;
+    size_t error_offset;
 };
 
 /* The sizes of a record, or the offset of an error. */
@@ -327,7 +327,7 @@ struct pergidau_record {
     /* The length of the record in the input in bytes, including its line ending. */
     size_t length;
     /* The offset of the first invalid byte; 0 otherwise. */
-    size_t place;
+    size_t error_offset;
 };
 
 /*
@@ -335,7 +335,7 @@ struct pergidau_record {
  * of this library may interpret its fields. All zeros is the initial state; start from it for
  * each record.
  */
-struct pergidau_csv_record_extent {
+struct pergidau_csv_record_state {
     /* How many bytes were passed. */
     size_t passed;
     /* How many bytes the fields have that were passed, as they are meant. */
@@ -365,7 +365,7 @@ struct pergidau_head {
     /* The length of the head in bytes, including the empty line after the fields. */
     size_t length;
     /* The offset of the error in bytes; 0 otherwise. */
-    size_t place;
+    size_t error_offset;
     /* The number before the point of the version, below 10. */
     uint8_t major;
     /* The number after the point of the version, below 10. */
@@ -404,14 +404,14 @@ struct pergidau_chunked_step {
     /* The kind of the output: PERGIDAU_CHUNKED_DATA or PERGIDAU_CHUNKED_TRAILERS. */
     size_t kind;
     /* The span of the output in the input; zeros if there is no output. */
-    struct pergidau_span place;
+    struct pergidau_span span;
     /* How many bytes were taken. Those after them are the first of the next call. */
     size_t taken;
     /*
-     * The error of the byte after the consumed bytes: PERGIDAU_CHUNKED_FAULT_SIZE or one of
+     * The error of the byte after the consumed bytes: PERGIDAU_CHUNKED_ERROR_SIZE or one of
      * the constants after it; 0 otherwise.
      */
-    size_t fault;
+    size_t error;
 };
 
 /*
@@ -419,7 +419,7 @@ struct pergidau_chunked_step {
  * library may interpret its fields. All zeros is the initial state; start from it for each
  * head.
  */
-struct pergidau_http_head_extent {
+struct pergidau_http_head_state {
     /* How many bytes were passed. */
     size_t passed;
     /* The part of the head that is expected next; 0 at its start. */
@@ -435,7 +435,7 @@ struct pergidau_response_head {
     /* The length of the head in bytes, including the empty line after the fields. */
     size_t length;
     /* The offset of the error in bytes; 0 otherwise. */
-    size_t place;
+    size_t error_offset;
     /* The status code, below 1000. */
     uint16_t status;
     /* The number before the point of the version, below 10. */
@@ -451,7 +451,7 @@ struct pergidau_pair {
     /* The value. */
     struct pergidau_span value;
     /* The offset of the error in bytes; 0 otherwise. */
-    size_t place;
+    size_t error_offset;
 };
 
 /* An entry of a document: a pair, or the head of a section. */
@@ -469,7 +469,7 @@ struct pergidau_document {
     /* How many bytes the keys, the values and the names have together. */
     size_t text;
     /* The offset of the error in bytes; 0 otherwise. */
-    size_t place;
+    size_t error_offset;
 };
 
 /* How far a document is read. Zeros stand for its start. */
@@ -496,12 +496,12 @@ struct pergidau_ini_entry {
     /* The value of a pair, or a further line of it; zeros otherwise. */
     struct pergidau_span value;
     /* The offset of the line that is invalid or not UTF-8; 0 otherwise. */
-    size_t place;
+    size_t error_offset;
     /*
-     * The reason why the line is invalid: PERGIDAU_INI_FAULT_OPEN_SECTION or one of the
+     * The reason why the line is invalid: PERGIDAU_INI_ERROR_UNCLOSED_SECTION or one of the
      * constants after it; 0 otherwise.
      */
-    size_t fault;
+    size_t error;
 };
 
 /* A value, a name in an object, or a bracket. Only pergidau_json_step returns brackets. */
@@ -513,7 +513,7 @@ struct pergidau_json_item {
      */
     size_t kind;
     /* Its bytes. */
-    struct pergidau_span place;
+    struct pergidau_span span;
 };
 
 /* The text of a string of JSON. */
@@ -539,7 +539,7 @@ struct pergidau_reply {
      * The bytes of a string or of an error, or those of the elements of an array, which are
      * consecutive replies; zeros otherwise.
      */
-    struct pergidau_span place;
+    struct pergidau_span span;
     /* How many bytes the reply has. */
     size_t length;
 };
@@ -549,7 +549,7 @@ struct pergidau_reply {
  * functions of this library may interpret its fields. All zeros is the initial state; start
  * from it for each reply.
  */
-struct pergidau_resp_extent {
+struct pergidau_resp_reply_state {
     /*
      * The part that is expected next: 0 in the initial state, 1 for a line, 2 for the bytes of
      * a string.
@@ -631,18 +631,18 @@ struct pergidau_toml_node {
 };
 
 /* The sizes of a document, or an error. */
-struct pergidau_toml_document {
+struct pergidau_toml_result {
     /* How many nodes there are. */
     size_t nodes;
     /* How many bytes their names and texts have together. */
     size_t text;
     /* The offset of the error in bytes; 0 otherwise. */
-    size_t place;
+    size_t error_offset;
     /*
-     * The error: one of the constants from PERGIDAU_TOML_FAULT_NONE to
-     * PERGIDAU_TOML_FAULT_NO_TABLES.
+     * The error: one of the constants from PERGIDAU_TOML_ERROR_NONE to
+     * PERGIDAU_TOML_ERROR_NOT_AN_ARRAY_OF_TABLES.
      */
-    size_t fault;
+    size_t error;
 };
 
 /*
@@ -660,13 +660,13 @@ struct pergidau_toml_document {
  *
  * # Errors
  *
- * PERGIDAU_REFUSED: the text is not a formula, a number or a result does not fit a signed
+ * PERGIDAU_INVALID: the text is not a formula, a number or a result does not fit a signed
  * 64-bit integer, a divisor is 0, an exponent is negative, or the operand of a factorial is
  * negative. % also fails if the quotient does not fit, as in -2 ^ 63 % -1. The offset of the
  * error is written. It is the start or the end of the text, or lies between two of its
  * characters. It is tested, but not proved, that the formula was parsed up to there.
  *
- * PERGIDAU_NO_TEXT, PERGIDAU_NO_MEMORY.
+ * PERGIDAU_INVALID_UTF8, PERGIDAU_NO_MEMORY.
  *
  * # Safety
  *
@@ -697,12 +697,12 @@ enum pergidau_code pergidau_calc_value(
  *
  * # Errors
  *
- * PERGIDAU_REFUSED: bytes does not start with a record. The first offset at which no record
+ * PERGIDAU_INVALID: bytes does not start with a record. The first offset at which no record
  * can continue is written: the bytes before it are a prefix of a record, and together with the
  * byte there they are not.
  *
- * PERGIDAU_TOO_SMALL: the record has more fields or more bytes than the buffers. The required
- * numbers of both are written.
+ * PERGIDAU_BUFFER_TOO_SMALL: the record has more fields or more bytes than the buffers. The
+ * required numbers of both are written.
  *
  * After an error the buffers are unchanged.
  *
@@ -739,10 +739,10 @@ enum pergidau_code pergidau_csv_record(
  *
  * # Errors
  *
- * PERGIDAU_REFUSED: bytes does not start with a record, regardless of what follows. This is
+ * PERGIDAU_INVALID: bytes does not start with a record, regardless of what follows. This is
  * returned as soon as the first invalid byte is there, and its offset is written: 1 for x".
  *
- * PERGIDAU_TOO_SMALL: as for complete input.
+ * PERGIDAU_BUFFER_TOO_SMALL: as for complete input.
  *
  * # Safety
  *
@@ -751,7 +751,7 @@ enum pergidau_code pergidau_csv_record(
  * entries, and out for writes of one record. None of these may overlap. The call needs 16 KiB
  * of stack.
  */
-enum pergidau_code pergidau_csv_record_in_pieces(
+enum pergidau_code pergidau_csv_record_partial(
     const uint8_t *bytes,
     size_t bytes_length,
     uint32_t line_feeds,
@@ -787,7 +787,7 @@ enum pergidau_code pergidau_csv_record_in_pieces(
  *
  * # Errors
  *
- * PERGIDAU_REFUSED: bytes does not start with a record, regardless of what follows. This is
+ * PERGIDAU_INVALID: bytes does not start with a record, regardless of what follows. This is
  * returned as soon as the first invalid byte is there, and its offset is written.
  *
  * # Safety
@@ -797,7 +797,7 @@ enum pergidau_code pergidau_csv_record_in_pieces(
  * None of these may overlap. The call needs 16 KiB of stack.
  */
 enum pergidau_code pergidau_csv_record_extent(
-    struct pergidau_csv_record_extent *state,
+    struct pergidau_csv_record_state *state,
     const uint8_t *bytes,
     size_t bytes_length,
     uint32_t line_feeds,
@@ -816,11 +816,11 @@ enum pergidau_code pergidau_csv_record_extent(
  *
  * # Errors
  *
- * PERGIDAU_REFUSED: bytes does not start with a head. The first offset at which no head can
+ * PERGIDAU_INVALID: bytes does not start with a head. The first offset at which no head can
  * continue is written; it is the end of bytes if they end within a head.
  *
- * PERGIDAU_TOO_SMALL: the head has more fields than the buffer has entries. The number of
- * fields is written.
+ * PERGIDAU_BUFFER_TOO_SMALL: the head has more fields than the buffer has entries. The number
+ * of fields is written.
  *
  * After an error the contents of the buffer are unspecified, because the fields are written
  * during parsing.
@@ -849,11 +849,11 @@ enum pergidau_code pergidau_http_head(
  *
  * # Errors
  *
- * PERGIDAU_REFUSED: bytes does not start with a head, regardless of what follows. The offset
+ * PERGIDAU_INVALID: bytes does not start with a head, regardless of what follows. The offset
  * of the first invalid byte is written: the bytes before it are a prefix of a head, and
  * together with the byte there they are not.
  *
- * PERGIDAU_TOO_SMALL: as for complete input.
+ * PERGIDAU_BUFFER_TOO_SMALL: as for complete input.
  *
  * # Safety
  *
@@ -861,7 +861,7 @@ enum pergidau_code pergidau_http_head(
  * fields must be valid for writes of fields_length entries, and out for writes of one head.
  * None of these may overlap. The call needs 16 KiB of stack.
  */
-enum pergidau_code pergidau_http_head_in_pieces(
+enum pergidau_code pergidau_http_head_partial(
     const uint8_t *bytes,
     size_t bytes_length,
     struct pergidau_field *fields,
@@ -896,7 +896,7 @@ enum pergidau_code pergidau_http_head_in_pieces(
  *
  * # Errors
  *
- * PERGIDAU_REFUSED: no body can continue with the byte after the consumed ones, or only one of
+ * PERGIDAU_INVALID: no body can continue with the byte after the consumed ones, or only one of
  * 2^64 bytes or more, or a limit is exceeded.
  *
  * # Safety
@@ -932,7 +932,7 @@ enum pergidau_code pergidau_http_chunked(
  *
  * # Errors
  *
- * PERGIDAU_REFUSED: bytes does not start with a head, regardless of what follows. The first
+ * PERGIDAU_INVALID: bytes does not start with a head, regardless of what follows. The first
  * offset at which no head can continue is written.
  *
  * # Safety
@@ -942,7 +942,7 @@ enum pergidau_code pergidau_http_chunked(
  * None of these may overlap. The call needs 16 KiB of stack.
  */
 enum pergidau_code pergidau_http_head_extent(
-    struct pergidau_http_head_extent *state,
+    struct pergidau_http_head_state *state,
     const uint8_t *bytes,
     size_t bytes_length,
     size_t *out);
@@ -961,11 +961,11 @@ enum pergidau_code pergidau_http_head_extent(
  *
  * # Errors
  *
- * PERGIDAU_REFUSED: bytes does not start with a head. The first offset at which no head can
+ * PERGIDAU_INVALID: bytes does not start with a head. The first offset at which no head can
  * continue is written; it is the end of bytes if they end within a head.
  *
- * PERGIDAU_TOO_SMALL: the head has more fields than the buffer has entries. The number of
- * fields is written.
+ * PERGIDAU_BUFFER_TOO_SMALL: the head has more fields than the buffer has entries. The number
+ * of fields is written.
  *
  * After an error the contents of the buffer are unspecified, because the fields are written
  * during parsing.
@@ -994,11 +994,11 @@ enum pergidau_code pergidau_http_response_head(
  *
  * # Errors
  *
- * PERGIDAU_REFUSED: bytes does not start with a head, regardless of what follows. The offset
+ * PERGIDAU_INVALID: bytes does not start with a head, regardless of what follows. The offset
  * of the first invalid byte is written: the bytes before it are a prefix of a head, and
  * together with the byte there they are not.
  *
- * PERGIDAU_TOO_SMALL: as for complete input.
+ * PERGIDAU_BUFFER_TOO_SMALL: as for complete input.
  *
  * # Safety
  *
@@ -1006,7 +1006,7 @@ enum pergidau_code pergidau_http_response_head(
  * fields must be valid for writes of fields_length entries, and out for writes of one head.
  * None of these may overlap. The call needs 16 KiB of stack.
  */
-enum pergidau_code pergidau_http_response_head_in_pieces(
+enum pergidau_code pergidau_http_response_head_partial(
     const uint8_t *bytes,
     size_t bytes_length,
     struct pergidau_field *fields,
@@ -1022,7 +1022,7 @@ enum pergidau_code pergidau_http_response_head_in_pieces(
  *
  * # Errors
  *
- * PERGIDAU_REFUSED: bytes is not such a line. The length of its longest prefix that is a
+ * PERGIDAU_INVALID: bytes is not such a line. The length of its longest prefix that is a
  * prefix of such a line is written.
  *
  * # Safety
@@ -1049,17 +1049,17 @@ enum pergidau_code pergidau_ini_pair(
  * section, and then its pairs.
  *
  * A call holds up to 100 bytes of memory for each byte of the document, even if it then
- * returns PERGIDAU_REFUSED or PERGIDAU_TOO_SMALL.
+ * returns PERGIDAU_INVALID or PERGIDAU_BUFFER_TOO_SMALL.
  *
  * # Errors
  *
- * PERGIDAU_REFUSED: bytes is not a document. The length of the longest prefix that consists of
+ * PERGIDAU_INVALID: bytes is not a document. The length of the longest prefix that consists of
  * such parts is written; each part is determined in the context of all bytes. A pair extends
  * to the end of its line: for [a], a line feed, and x= before a byte that is not UTF-8, the
  * length is 4.
  *
- * PERGIDAU_TOO_SMALL: the document needs more entries or more bytes than the buffers have. The
- * required numbers of both are written, and the buffers are unchanged.
+ * PERGIDAU_BUFFER_TOO_SMALL: the document needs more entries or more bytes than the buffers
+ * have. The required numbers of both are written, and the buffers are unchanged.
  *
  * PERGIDAU_NO_MEMORY.
  *
@@ -1110,10 +1110,10 @@ enum pergidau_code pergidau_ini_document(
  *
  * # Errors
  *
- * PERGIDAU_REFUSED: the next line is invalid in the dialect. Its offset and the reason are
+ * PERGIDAU_INVALID: the next line is invalid in the dialect. Its offset and the reason are
  * written.
  *
- * PERGIDAU_NO_TEXT: the next line is not UTF-8. Its offset is written.
+ * PERGIDAU_INVALID_UTF8: the next line is not UTF-8. Its offset is written.
  *
  * # Safety
  *
@@ -1130,7 +1130,7 @@ enum pergidau_code pergidau_ini_next(
 
 /*
  * Checks that a text is a JSON text (RFC 8259): a value, with optional whitespace around it,
- * whose arrays and objects are nested at most levels deep.
+ * whose arrays and objects are nested at most max_depth deep.
  *
  * A text with an unpaired surrogate escape such as \ud800 is rejected, because it denotes no
  * character, although the grammar of the standard allows it.
@@ -1139,11 +1139,11 @@ enum pergidau_code pergidau_ini_next(
  *
  * # Errors
  *
- * PERGIDAU_REFUSED: the text is not a JSON text.
+ * PERGIDAU_INVALID: the text is not a JSON text.
  *
- * PERGIDAU_NO_TEXT: the text is not UTF-8.
+ * PERGIDAU_INVALID_UTF8: the text is not UTF-8.
  *
- * PERGIDAU_TOO_DEEP: levels is above 512.
+ * PERGIDAU_MAX_DEPTH_TOO_LARGE: max_depth is above 512.
  *
  * # Safety
  *
@@ -1153,11 +1153,11 @@ enum pergidau_code pergidau_ini_next(
 enum pergidau_code pergidau_json_check(
     const uint8_t *text,
     size_t text_length,
-    size_t levels);
+    size_t max_depth);
 
 /*
  * Finds the longest JSON value (RFC 8259) at the start of bytes whose arrays and objects are
- * nested at most levels deep.
+ * nested at most max_depth deep.
  *
  * Whitespace before the value is not skipped. Bytes of 128 and above are not checked: the
  * value is JSON if it is UTF-8. Values are those of pergidau_json_check.
@@ -1166,9 +1166,9 @@ enum pergidau_code pergidau_json_check(
  *
  * # Errors
  *
- * PERGIDAU_REFUSED: bytes does not start with a value. 0 is written.
+ * PERGIDAU_INVALID: bytes does not start with a value. 0 is written.
  *
- * PERGIDAU_TOO_DEEP: levels is above 512. 0 is written.
+ * PERGIDAU_MAX_DEPTH_TOO_LARGE: max_depth is above 512. 0 is written.
  *
  * # Safety
  *
@@ -1179,13 +1179,13 @@ enum pergidau_code pergidau_json_check(
 enum pergidau_code pergidau_json_value(
     const uint8_t *bytes,
     size_t bytes_length,
-    size_t levels,
+    size_t max_depth,
     size_t *out);
 
 /*
  * Finds the next JSON value (RFC 8259) of a walk through a text that was checked. It is the
  * longest value after whitespace, at most one comma or colon, and whitespace, whose arrays and
- * objects are nested at most levels deep.
+ * objects are nested at most max_depth deep.
  *
  * At the start of the text this is the value of the text. To walk through an array, start
  * after its first byte, and call the function for each element with the bytes after the span
@@ -1204,9 +1204,9 @@ enum pergidau_code pergidau_json_value(
  *
  * # Errors
  *
- * PERGIDAU_REFUSED: there is neither a value nor an end. Zeros are written.
+ * PERGIDAU_INVALID: there is neither a value nor an end. Zeros are written.
  *
- * PERGIDAU_TOO_DEEP: levels is above 512. Zeros are written.
+ * PERGIDAU_MAX_DEPTH_TOO_LARGE: max_depth is above 512. Zeros are written.
  *
  * # Safety
  *
@@ -1217,7 +1217,7 @@ enum pergidau_code pergidau_json_value(
 enum pergidau_code pergidau_json_next(
     const uint8_t *bytes,
     size_t bytes_length,
-    size_t levels,
+    size_t max_depth,
     struct pergidau_json_item *out);
 
 /*
@@ -1228,10 +1228,10 @@ enum pergidau_code pergidau_json_next(
  *
  * # Errors
  *
- * PERGIDAU_NO_INTEGER: the number has a point or an exponent, like 1.0 and 1e2, or does not
- * fit. 0 is written.
+ * PERGIDAU_NOT_AN_INTEGER: the number has a point or an exponent, like 1.0 and 1e2, or does
+ * not fit. 0 is written.
  *
- * PERGIDAU_REFUSED: bytes does not start with a number. 0 is written.
+ * PERGIDAU_INVALID: bytes does not start with a number. 0 is written.
  *
  * # Safety
  *
@@ -1251,10 +1251,10 @@ enum pergidau_code pergidau_json_integer(
  *
  * # Errors
  *
- * PERGIDAU_NO_INTEGER: the number has a minus sign, even -0, a point or an exponent, or does
- * not fit. 0 is written.
+ * PERGIDAU_NOT_AN_INTEGER: the number has a minus sign, even -0, a point or an exponent, or
+ * does not fit. 0 is written.
  *
- * PERGIDAU_REFUSED: bytes does not start with a number. 0 is written.
+ * PERGIDAU_INVALID: bytes does not start with a number. 0 is written.
  *
  * # Safety
  *
@@ -1285,7 +1285,7 @@ enum pergidau_code pergidau_json_natural(
  *
  * # Errors
  *
- * PERGIDAU_REFUSED: there is neither a step nor the end. Zeros are written.
+ * PERGIDAU_INVALID: there is neither a step nor the end. Zeros are written.
  *
  * # Safety
  *
@@ -1314,11 +1314,11 @@ enum pergidau_code pergidau_json_step(
  *
  * # Errors
  *
- * PERGIDAU_TOO_SMALL: the buffer has fewer bytes than the text. Both lengths are written. A
- * string has at least as many bytes as its text, so a buffer as long as the string is always
- * large enough.
+ * PERGIDAU_BUFFER_TOO_SMALL: the buffer has fewer bytes than the text. Both lengths are
+ * written. A string has at least as many bytes as its text, so a buffer as long as the string
+ * is always large enough.
  *
- * PERGIDAU_REFUSED: bytes does not start with a string. A string with an unpaired surrogate
+ * PERGIDAU_INVALID: bytes does not start with a string. A string with an unpaired surrogate
  * escape is also rejected. Zeros are written into out.
  *
  * After an error the contents of the buffer are unspecified.
@@ -1338,7 +1338,7 @@ enum pergidau_code pergidau_json_string(
 
 /*
  * Parses the Redis reply (RESP2, the second version of the protocol) at the start of bytes,
- * whose arrays are nested at most levels deep.
+ * whose arrays are nested at most max_depth deep.
  *
  * To parse the elements of an array, call the function with the bytes in its span, and then
  * with those after each element. An integer may have a sign and leading zeros, a size leading
@@ -1351,9 +1351,9 @@ enum pergidau_code pergidau_json_string(
  *
  * # Errors
  *
- * PERGIDAU_REFUSED: bytes does not start with a reply.
+ * PERGIDAU_INVALID: bytes does not start with a reply.
  *
- * PERGIDAU_TOO_DEEP: levels is above 512.
+ * PERGIDAU_MAX_DEPTH_TOO_LARGE: max_depth is above 512.
  *
  * PERGIDAU_NO_MEMORY.
  *
@@ -1368,7 +1368,7 @@ enum pergidau_code pergidau_json_string(
 enum pergidau_code pergidau_resp_reply(
     const uint8_t *bytes,
     size_t bytes_length,
-    size_t levels,
+    size_t max_depth,
     struct pergidau_reply *out);
 
 /*
@@ -1384,10 +1384,10 @@ enum pergidau_code pergidau_resp_reply(
  *
  * # Errors
  *
- * PERGIDAU_REFUSED: bytes does not start with a reply, regardless of what follows. Zeros are
+ * PERGIDAU_INVALID: bytes does not start with a reply, regardless of what follows. Zeros are
  * written.
  *
- * PERGIDAU_TOO_DEEP, PERGIDAU_NO_MEMORY: as for complete input.
+ * PERGIDAU_MAX_DEPTH_TOO_LARGE, PERGIDAU_NO_MEMORY: as for complete input.
  *
  * # Safety
  *
@@ -1395,10 +1395,10 @@ enum pergidau_code pergidau_resp_reply(
  * and out must be valid for writes of one reply. They must not overlap. The call needs 512 KiB
  * of stack.
  */
-enum pergidau_code pergidau_resp_reply_in_pieces(
+enum pergidau_code pergidau_resp_reply_partial(
     const uint8_t *bytes,
     size_t bytes_length,
-    size_t levels,
+    size_t max_depth,
     struct pergidau_reply *out);
 
 /*
@@ -1423,7 +1423,7 @@ enum pergidau_code pergidau_resp_reply_in_pieces(
  *
  * # Errors
  *
- * PERGIDAU_REFUSED: bytes does not start with a reply, regardless of what follows. 0 is
+ * PERGIDAU_INVALID: bytes does not start with a reply, regardless of what follows. 0 is
  * written. An invalid line is rejected at its end.
  *
  * # Safety
@@ -1433,7 +1433,7 @@ enum pergidau_code pergidau_resp_reply_in_pieces(
  * None of these may overlap. The call needs 16 KiB of stack.
  */
 enum pergidau_code pergidau_resp_extent(
-    struct pergidau_resp_extent *state,
+    struct pergidau_resp_reply_state *state,
     const uint8_t *bytes,
     size_t bytes_length,
     size_t *out);
@@ -1459,7 +1459,7 @@ enum pergidau_code pergidau_text_position(
 
 /*
  * Parses a document of TOML 1.0 (toml.io/en/v1.0.0) whose values have arrays and inline tables
- * nested at most levels deep.
+ * nested at most max_depth deep.
  *
  * Where the standard leaves a choice, this follows most parsers: integers have 64 bits, and
  * floats are returned as text.
@@ -1474,18 +1474,18 @@ enum pergidau_code pergidau_text_position(
  *
  * # Errors
  *
- * PERGIDAU_REFUSED: bytes is not a document. The reason and the offset are written. For the
+ * PERGIDAU_INVALID: bytes is not a document. The reason and the offset are written. For the
  * first line that is not valid TOML, this is the first offset at which no document can
  * continue; for a line that the standard forbids because of earlier lines, the start of that
  * line.
  *
- * PERGIDAU_NO_TEXT: bytes is not UTF-8. The length of the longest prefix that is UTF-8 is
+ * PERGIDAU_INVALID_UTF8: bytes is not UTF-8. The length of the longest prefix that is UTF-8 is
  * written.
  *
- * PERGIDAU_TOO_SMALL: the document needs more nodes or more bytes than the buffers have. The
- * required numbers of both are written.
+ * PERGIDAU_BUFFER_TOO_SMALL: the document needs more nodes or more bytes than the buffers
+ * have. The required numbers of both are written.
  *
- * PERGIDAU_TOO_DEEP: levels is above 512.
+ * PERGIDAU_MAX_DEPTH_TOO_LARGE: max_depth is above 512.
  *
  * PERGIDAU_NO_MEMORY.
  *
@@ -1501,12 +1501,12 @@ enum pergidau_code pergidau_text_position(
 enum pergidau_code pergidau_toml_document(
     const uint8_t *bytes,
     size_t bytes_length,
-    size_t levels,
+    size_t max_depth,
     uint8_t *text,
     size_t text_length,
     struct pergidau_toml_node *nodes,
     size_t nodes_length,
-    struct pergidau_toml_document *out);
+    struct pergidau_toml_result *out);
 
 #ifdef __cplusplus
 }

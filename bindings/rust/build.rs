@@ -31,11 +31,11 @@ fn links(folder: &Path, name: &str) -> bool {
 
 /// The folder that `pkg-config` names, if the version is that of this crate.
 fn installed(name: &str) -> Result<PathBuf, String> {
-    let found = asked(&["--modversion", name]).ok_or("pkg-config knows none")?;
+    let found = asked(&["--modversion", name]).ok_or("pkg-config finds none")?;
     if found != VERSION {
-        return Err(format!("pkg-config knows the version {found}"));
+        return Err(format!("pkg-config finds version {found}"));
     }
-    asked(&["--variable=libdir", name]).map(PathBuf::from).ok_or("pkg-config names none".into())
+    asked(&["--variable=libdir", name]).map(PathBuf::from).ok_or("pkg-config reports no folder".into())
 }
 
 fn main() {
@@ -60,18 +60,18 @@ fn main() {
         return;
     }
     let build = if is_unproved { "bindings/build --unproved" } else { "bindings/build" };
-    eprintln!("There is no lib{name}.a or lib{name}.so of the version {VERSION}:");
+    eprintln!("no lib{name}.a or lib{name}.so of version {VERSION} found:");
     match (asked_for, installed) {
-        (Ok(folder), _) => eprintln!("- PERGIDAU_LIB names {}", folder.display()),
-        (_, Ok(folder)) => eprintln!("- pkg-config names {}", folder.display()),
+        (Ok(folder), _) => eprintln!("- PERGIDAU_LIB is {}", folder.display()),
+        (_, Ok(folder)) => eprintln!("- pkg-config reports {}", folder.display()),
         (_, Err(why)) => eprintln!("- PERGIDAU_LIB is not set, and {why}"),
     }
-    eprintln!("Build it in a clone of Pergidau, which needs Rattle's rt, a C compiler and ar:");
+    eprintln!("Build it in a clone of Pergidau (requires Rattle's rt, a C compiler and ar):");
     eprintln!("    {build}");
-    eprintln!("and set PERGIDAU_LIB to its folder bindings/out, or install it, and set PKG_CONFIG_PATH:");
+    eprintln!("then set PERGIDAU_LIB to its folder bindings/out, or install it and set PKG_CONFIG_PATH:");
     eprintln!("    make -C bindings install PREFIX=/usr/local");
     if !is_unproved {
-        eprintln!("To try it in half a minute, with no proof: bindings/build --unproved, and set");
+        eprintln!("To try it without proofs (half a minute), run bindings/build --unproved, and set");
         eprintln!("PERGIDAU_UNPROVED=1 here.");
     }
     std::process::exit(1);

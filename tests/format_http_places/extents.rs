@@ -114,5 +114,5 @@ fn advance_of_many_pieces(rt: HostRuntime) {
 #[test]
 fn refused_is_shown(rt: HostRuntime) {
     let shown = format!(in rt.alloc(); "{}", Refused { place: 20 });
-    assert!(rt; matches!(shown, Ok(text) if text.as_str() == "no head goes on at byte 20"));
+    assert!(rt; matches!(shown, Ok(text) if text.as_str() == "invalid byte at offset 20"));
 }

@@ -59,7 +59,7 @@ fn faults_are_shown(rt: HostRuntime) {
             assert_eq!(rt; fault.position(text), Some(position));
             match format!(in rt.alloc(); "{fault}") {
                 Ok(shown) => {
-                    let wanted = "no key before the delimiter in the line at byte 11";
+                    let wanted = "missing key before the delimiter in the line at offset 11";
                     assert_eq!(rt; shown.as_str(), wanted);
                 }
                 Err(_) => assert!(rt; false),

@@ -84,12 +84,12 @@ fn build_names_the_first_line(rt: HostRuntime) {
 fn faults_say_the_line_and_why(rt: HostRuntime) {
     let rows = [
         (Fault::OutOfMemory, "out of memory"),
-        (Fault::Refused { line: 0, why: Refusal::Defined }, "line 1: it is defined already"),
-        (Fault::Refused { line: 8, why: Refusal::NoTable }, "line 9: it takes a value for a table"),
-        (Fault::Refused { line: 1, why: Refusal::Closed }, "line 2: it adds to a table that is closed"),
+        (Fault::Refused { line: 0, why: Refusal::Defined }, "line 1: key is already defined"),
+        (Fault::Refused { line: 8, why: Refusal::NoTable }, "line 9: key is not a table"),
+        (Fault::Refused { line: 1, why: Refusal::Closed }, "line 2: table cannot be extended"),
         (
             Fault::Refused { line: 2, why: Refusal::NoTables },
-            "line 3: it adds a table to what is no array of tables",
+            "line 3: key is not an array of tables",
         ),
     ];
     for (fault, wanted) in rows {

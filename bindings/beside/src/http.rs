@@ -26,7 +26,7 @@ pub fn heads_in_pieces(text: &Text) -> Outcome {
     let (mut out, mut fields) = (Outcome::default(), [Field::default(); FIELDS]);
     let (bytes, mut begin, mut end) = (text.bytes(), 0, 0);
     while begin < bytes.len() {
-        match http::head_in_pieces(&bytes[begin..end], &mut fields) {
+        match http::head_partial(&bytes[begin..end], &mut fields) {
             Ok(head) => {
                 let parts = head.fields().map(|(name, value)| (name.len(), value.len()));
                 out.add(length(head.target(), parts));

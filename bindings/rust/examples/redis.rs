@@ -104,7 +104,7 @@ fn serve(client: &mut (impl Read + Write), values: &mut Values) -> io::Result<Ne
         held.extend_from_slice(&piece[..count]);
         let (mut left, mut next) = (&held[..], Next::Read);
         while !left.is_empty() && next == Next::Read {
-            match resp::reply_in_pieces(left, 1) {
+            match resp::reply_partial(left, 1) {
                 Ok((request, behind)) => {
                     next = match words(request) {
                         Some(words) => answer(&words, values, &mut out),

@@ -4,9 +4,9 @@
 //! use pergidau::calc;
 //!
 //! assert_eq!(calc::value("2 + 3 * 4"), Ok(14));
-//! assert_eq!(calc::value("1 / 0").unwrap_err().to_string(), "refused at line 1, column 6");
+//! assert_eq!(calc::value("1 / 0").unwrap_err().to_string(), "invalid input at line 1, column 6");
 //! ```
-use crate::{exports, Error, Place, NOTHING};
+use crate::{exports, Error, Position, NOTHING};
 
 /// Evaluates a formula of integers.
 ///
@@ -37,6 +37,9 @@ pub fn value(text: &str) -> Result<i64, Error> {
     let code = unsafe { exports::exported_calc_value(text.as_ptr(), text.len(), &mut out) };
     match code {
         exports::DONE => Ok(out.value),
-        code => Err(Error::of(code, Some(Place::of(text.as_bytes(), out.place)), NOTHING)),
+        code => {
+            let position = Some(Position::of(text.as_bytes(), out.error_offset));
+            Err(Error::of(code, position, NOTHING))
+        }
     }
 }

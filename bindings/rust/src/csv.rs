@@ -11,7 +11,7 @@ mod extent;
 
 pub use self::extent::{Extent, Size};
 
-use crate::{at, exports, Error, Place, Span, Wanted};
+use crate::{at, exports, Error, Position, RequiredSize, Span};
 
 /// A line ending.
 #[derive(Clone, Copy, Debug, Default, PartialEq, Eq)]
@@ -83,8 +83,9 @@ fn read<'i, 'b>(
             rest: &bytes[out.length..],
         }),
         code => {
-            let refused = (code == exports::REFUSED).then(|| Place::of(bytes, out.place));
-            Err(Error::of(code, refused, Wanted { entries: out.fields, bytes: out.text }))
+            let position = || Position::of(bytes, out.error_offset);
+            let required = RequiredSize { entries: out.fields, bytes: out.text };
+            Err(Error::of(code, (code == exports::INVALID).then(position), required))
         }
     }
 }
@@ -97,8 +98,8 @@ fn read<'i, 'b>(
 ///
 /// # Errors
 ///
-/// - [`Error::TooSmall`] if a buffer is too small; it holds the required sizes.
-/// - [`Error::Refused`] if `bytes` does not start with a record; it holds the position of the first
+/// - [`Error::BufferTooSmall`] if a buffer is too small; it holds the required sizes.
+/// - [`Error::Invalid`] if `bytes` does not start with a record; it holds the position of the first
 ///   invalid byte.
 ///
 /// ```
@@ -109,8 +110,8 @@ fn read<'i, 'b>(
 /// let record = csv::record(b"a,\"b \"\"c\"\"\"\nd", LineEnd::Lf, &mut text, &mut fields)?;
 /// assert_eq!(record.fields().collect::<Vec<_>>(), [&b"a"[..], b"b \"c\""]);
 /// assert_eq!(record.rest(), b"d");
-/// let refused = csv::record(b"a,b\"c", LineEnd::Lf, &mut text, &mut fields).unwrap_err();
-/// assert_eq!(refused.to_string(), "refused at line 1, column 4");
+/// let error = csv::record(b"a,b\"c", LineEnd::Lf, &mut text, &mut fields).unwrap_err();
+/// assert_eq!(error.to_string(), "invalid input at line 1, column 4");
 /// # Ok::<(), pergidau::Error>(())
 /// ```
 pub fn record<'i, 'b>(
@@ -133,24 +134,24 @@ pub fn record<'i, 'b>(
 ///
 /// - [`Error::Incomplete`] if `bytes` contains no record with its line ending, and at most three
 ///   more bytes can complete one.
-/// - [`Error::Refused`] if `bytes` does not start with a record, regardless of what follows.
+/// - [`Error::Invalid`] if `bytes` does not start with a record, regardless of what follows.
 ///
 /// ```
 /// use pergidau::csv::{self, LineEnd};
 /// use pergidau::Error;
 ///
-/// let record = csv::record_in_pieces(b"a,b", LineEnd::CrLf, &mut [], &mut []);
+/// let record = csv::record_partial(b"a,b", LineEnd::CrLf, &mut [], &mut []);
 /// assert_eq!(record.unwrap_err(), Error::Incomplete);
-/// let never = csv::record_in_pieces(b"x\"y", LineEnd::CrLf, &mut [], &mut []);
-/// assert_eq!(never.unwrap_err().to_string(), "refused at line 1, column 2");
+/// let never = csv::record_partial(b"x\"y", LineEnd::CrLf, &mut [], &mut []);
+/// assert_eq!(never.unwrap_err().to_string(), "invalid input at line 1, column 2");
 /// ```
-pub fn record_in_pieces<'i, 'b>(
+pub fn record_partial<'i, 'b>(
     bytes: &'i [u8],
     end: LineEnd,
     text: &'b mut [u8],
     fields: &'b mut [Span],
 ) -> Result<Record<'i, 'b>, Error> {
-    read(exports::exported_csv_record_in_pieces, bytes, end, text, fields)
+    read(exports::exported_csv_record_partial, bytes, end, text, fields)
 }
 
 /// An iterator over the records of a document. Each record owns its fields. After an error the
@@ -176,16 +177,17 @@ impl Iterator for Records<'_> {
                     self.left = record.rest();
                     return Some(Ok(record.fields().map(<[u8]>::to_vec).collect()));
                 }
-                Err(Error::TooSmall(wanted)) => {
-                    self.text.resize(wanted.bytes.max(self.text.len()), 0);
-                    self.fields.resize(wanted.entries.max(self.fields.len()), Span::default());
+                Err(Error::BufferTooSmall(required)) => {
+                    self.text.resize(required.bytes.max(self.text.len()), 0);
+                    self.fields.resize(required.entries.max(self.fields.len()), Span::default());
                 }
                 Err(error) => {
                     let before = self.document.len() - self.left.len();
                     self.left = &[];
                     return Some(Err(match error {
-                        Error::Refused(Some(place)) => {
-                            Error::Refused(Some(Place::of(self.document, before + place.offset)))
+                        Error::Invalid(Some(position)) => {
+                            let offset = before + position.offset;
+                            Error::Invalid(Some(Position::of(self.document, offset)))
                         }
                         error => error,
                     }));
@@ -204,8 +206,8 @@ impl Iterator for Records<'_> {
 ///
 /// let records: Result<Vec<_>, _> = csv::records(b"a,b\n\"c\nd\",\n", LineEnd::Lf).collect();
 /// assert_eq!(records?, [[b"a".to_vec(), b"b".to_vec()], [b"c\nd".to_vec(), Vec::new()]]);
-/// let refused = csv::records(b"a\nb\"\n", LineEnd::Lf).last();
-/// assert_eq!(refused.unwrap().unwrap_err().to_string(), "refused at line 2, column 2");
+/// let error = csv::records(b"a\nb\"\n", LineEnd::Lf).last();
+/// assert_eq!(error.unwrap().unwrap_err().to_string(), "invalid input at line 2, column 2");
 /// # Ok::<(), pergidau::Error>(())
 /// ```
 #[cfg(feature = "std")]

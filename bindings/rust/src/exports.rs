@@ -7,7 +7,7 @@ use core::ffi::{c_char, c_int};
 pub const DONE: u32 = 0;
 
 /// Invalid input. If the function documents it, the offset of the error is written.
-pub const REFUSED: u32 = 1;
+pub const INVALID: u32 = 1;
 
 /// Incomplete input: more bytes are needed.
 pub const INCOMPLETE: u32 = 2;
@@ -16,20 +16,20 @@ pub const INCOMPLETE: u32 = 2;
 pub const NO_MEMORY: u32 = 3;
 
 /// Input is not valid UTF-8.
-pub const NO_TEXT: u32 = 4;
+pub const INVALID_UTF8: u32 = 4;
 
 /// Buffer too small. The required sizes are written, and the buffer is unchanged unless the
 /// function documents otherwise.
-pub const TOO_SMALL: u32 = 5;
+pub const BUFFER_TOO_SMALL: u32 = 5;
 
-/// Depth limit too large: at most 512 levels are supported. That number is `MOST_LEVELS`.
-pub const TOO_DEEP: u32 = 6;
+/// Depth limit too large: at most 512 levels are supported. That number is `MAX_DEPTH`.
+pub const MAX_DEPTH_TOO_LARGE: u32 = 6;
 
 /// No more items. Each function documents the end that it reports.
 pub const END: u32 = 9;
 
 /// Number is not an integer or out of range. The function determines the range.
-pub const NO_INTEGER: u32 = 10;
+pub const NOT_AN_INTEGER: u32 = 10;
 
 /// Data of a chunk, one byte or more.
 pub const CHUNKED_DATA: usize = 0;
@@ -39,25 +39,25 @@ pub const CHUNKED_DATA: usize = 0;
 pub const CHUNKED_TRAILERS: usize = 1;
 
 /// A size line does not start with a hexadecimal digit.
-pub const CHUNKED_FAULT_SIZE: usize = 0;
+pub const CHUNKED_ERROR_SIZE: usize = 0;
 
 /// The byte is invalid in a size line: it can continue neither an extension nor a line ending.
-pub const CHUNKED_FAULT_SIZE_LINE: usize = 1;
+pub const CHUNKED_ERROR_SIZE_LINE: usize = 1;
 
 /// With this digit the size is 2^64 or more.
-pub const CHUNKED_FAULT_SIZE_TOO_LARGE: usize = 2;
+pub const CHUNKED_ERROR_SIZE_TOO_LARGE: usize = 2;
 
 /// There are more bytes than the limit allows before the next data, or before the end.
-pub const CHUNKED_FAULT_SIZE_LINE_TOO_LONG: usize = 3;
+pub const CHUNKED_ERROR_SIZE_LINE_TOO_LONG: usize = 3;
 
 /// The data of a chunk is not followed by a carriage return and a line feed.
-pub const CHUNKED_FAULT_DATA_END: usize = 4;
+pub const CHUNKED_ERROR_DATA_END: usize = 4;
 
 /// The byte can continue neither a field line nor the line ending after the trailer section.
-pub const CHUNKED_FAULT_TRAILERS: usize = 5;
+pub const CHUNKED_ERROR_TRAILERS: usize = 5;
 
 /// The trailer section would have more bytes than the limit lets.
-pub const CHUNKED_FAULT_TRAILERS_TOO_LONG: usize = 6;
+pub const CHUNKED_ERROR_TRAILERS_TOO_LONG: usize = 6;
 
 /// The name of a section, which begins there.
 pub const INI_SECTION: usize = 0;
@@ -73,22 +73,22 @@ pub const INI_KEY: usize = 2;
 pub const INI_MORE: usize = 3;
 
 /// The line starts with `[` and has no `]`.
-pub const INI_FAULT_OPEN_SECTION: usize = 0;
+pub const INI_ERROR_UNCLOSED_SECTION: usize = 0;
 
 /// There is nothing between `[` and `]`.
-pub const INI_FAULT_EMPTY_SECTION: usize = 1;
+pub const INI_ERROR_EMPTY_SECTION: usize = 1;
 
 /// There is text after the `]`.
-pub const INI_FAULT_TEXT_BEHIND_SECTION: usize = 2;
+pub const INI_ERROR_TRAILING_TEXT: usize = 2;
 
 /// There is no section before the pair.
-pub const INI_FAULT_NO_SECTION: usize = 3;
+pub const INI_ERROR_MISSING_SECTION: usize = 3;
 
 /// There is no key before the delimiter.
-pub const INI_FAULT_NO_KEY: usize = 4;
+pub const INI_ERROR_MISSING_KEY: usize = 4;
 
 /// There is no delimiter.
-pub const INI_FAULT_NO_DELIMITER: usize = 5;
+pub const INI_ERROR_MISSING_DELIMITER: usize = 5;
 
 /// `=` ends a key. Where neither this is set nor the next, both end one.
 pub const INI_DIALECT_EQUALS: usize = 1;
@@ -134,7 +134,7 @@ pub const INI_DIALECT_DESKTOP: usize = 5;
 pub const INI_DIALECT_LENIENT: usize = 831;
 
 /// The largest supported depth limit for nested arrays and objects. Each level takes some stack.
-pub const MOST_LEVELS: usize = 512;
+pub const MAX_DEPTH: usize = 512;
 
 /// The word null.
 pub const JSON_NULL: usize = 0;
@@ -224,37 +224,37 @@ pub const TOML_LOCAL_DATE: usize = 8;
 pub const TOML_LOCAL_TIME: usize = 9;
 
 /// No error.
-pub const TOML_FAULT_NONE: usize = 0;
+pub const TOML_ERROR_NONE: usize = 0;
 
 /// A key or a table is expected.
-pub const TOML_FAULT_KEY: usize = 1;
+pub const TOML_ERROR_KEY: usize = 1;
 
 /// The equals sign after a key is expected.
-pub const TOML_FAULT_EQUALS_SIGN: usize = 2;
+pub const TOML_ERROR_EQUALS_SIGN: usize = 2;
 
 /// A value is expected, nested no deeper than the depth limit.
-pub const TOML_FAULT_VALUE: usize = 3;
+pub const TOML_ERROR_VALUE: usize = 3;
 
 /// The name of a table is expected.
-pub const TOML_FAULT_TABLE_NAME: usize = 4;
+pub const TOML_ERROR_TABLE_NAME: usize = 4;
 
 /// A bracket after the name of a table is expected.
-pub const TOML_FAULT_CLOSING_BRACKET: usize = 5;
+pub const TOML_ERROR_CLOSING_BRACKET: usize = 5;
 
 /// The end of the line is expected.
-pub const TOML_FAULT_LINE_END: usize = 6;
+pub const TOML_ERROR_LINE_END: usize = 6;
 
 /// The line defines what is defined already.
-pub const TOML_FAULT_DEFINED: usize = 7;
+pub const TOML_ERROR_DEFINED: usize = 7;
 
 /// The line takes a value for a table.
-pub const TOML_FAULT_NO_TABLE: usize = 8;
+pub const TOML_ERROR_NOT_A_TABLE: usize = 8;
 
 /// The line adds to a table that is closed: an inline table, or by dotted keys one of a header.
-pub const TOML_FAULT_CLOSED: usize = 9;
+pub const TOML_ERROR_CLOSED: usize = 9;
 
 /// The line adds a table to a key that is not an array of tables.
-pub const TOML_FAULT_NO_TABLES: usize = 10;
+pub const TOML_ERROR_NOT_AN_ARRAY_OF_TABLES: usize = 10;
 
 /// A span of the caller's bytes: an offset and a length.
 #[repr(C)]
@@ -273,7 +273,7 @@ pub struct Number {
     /// The value, or 0 where there is none.
     pub value: i64,
     /// The offset of the error in bytes; 0 otherwise.
-    pub place: usize,
+    pub error_offset: usize,
 }
 
 /// The sizes of a record, or the offset of an error.
@@ -287,7 +287,7 @@ pub struct Record {
     /// The length of the record in the input in bytes, including its line ending.
     pub length: usize,
     /// The offset of the first invalid byte; 0 otherwise.
-    pub place: usize,
+    pub error_offset: usize,
 }
 
 /// The state of a search for the end of a record of comma-separated values. Only the functions of
@@ -295,7 +295,7 @@ pub struct Record {
 /// record.
 #[repr(C)]
 #[derive(Clone, Copy, Debug, Default, PartialEq, Eq)]
-pub struct CsvRecordExtent {
+pub struct CsvRecordState {
     /// How many bytes were passed.
     pub passed: usize,
     /// How many bytes the fields have that were passed, as they are meant.
@@ -329,7 +329,7 @@ pub struct Head {
     /// The length of the head in bytes, including the empty line after the fields.
     pub length: usize,
     /// The offset of the error in bytes; 0 otherwise.
-    pub place: usize,
+    pub error_offset: usize,
     /// The number before the point of the version, below 10.
     pub major: u8,
     /// The number after the point of the version, below 10.
@@ -368,19 +368,19 @@ pub struct ChunkedStep {
     /// The kind of the output: `CHUNKED_DATA` or `CHUNKED_TRAILERS`.
     pub kind: usize,
     /// The span of the output in the input; zeros if there is no output.
-    pub place: Span,
+    pub span: Span,
     /// How many bytes were taken. Those after them are the first of the next call.
     pub taken: usize,
-    /// The error of the byte after the consumed bytes: `CHUNKED_FAULT_SIZE` or one of the constants
+    /// The error of the byte after the consumed bytes: `CHUNKED_ERROR_SIZE` or one of the constants
     /// after it; 0 otherwise.
-    pub fault: usize,
+    pub error: usize,
 }
 
 /// The state of a search for the end of the head of a request. Only the functions of this library
 /// may interpret its fields. All zeros is the initial state; start from it for each head.
 #[repr(C)]
 #[derive(Clone, Copy, Debug, Default, PartialEq, Eq)]
-pub struct HttpHeadExtent {
+pub struct HttpHeadState {
     /// How many bytes were passed.
     pub passed: usize,
     /// The part of the head that is expected next; 0 at its start.
@@ -398,7 +398,7 @@ pub struct ResponseHead {
     /// The length of the head in bytes, including the empty line after the fields.
     pub length: usize,
     /// The offset of the error in bytes; 0 otherwise.
-    pub place: usize,
+    pub error_offset: usize,
     /// The status code, below 1000.
     pub status: u16,
     /// The number before the point of the version, below 10.
@@ -416,7 +416,7 @@ pub struct Pair {
     /// The value.
     pub value: Span,
     /// The offset of the error in bytes; 0 otherwise.
-    pub place: usize,
+    pub error_offset: usize,
 }
 
 /// An entry of a document: a pair, or the head of a section.
@@ -438,7 +438,7 @@ pub struct Document {
     /// How many bytes the keys, the values and the names have together.
     pub text: usize,
     /// The offset of the error in bytes; 0 otherwise.
-    pub place: usize,
+    pub error_offset: usize,
 }
 
 /// How far a document is read. Zeros stand for its start.
@@ -466,10 +466,10 @@ pub struct IniEntry {
     /// The value of a pair, or a further line of it; zeros otherwise.
     pub value: Span,
     /// The offset of the line that is invalid or not UTF-8; 0 otherwise.
-    pub place: usize,
-    /// The reason why the line is invalid: `INI_FAULT_OPEN_SECTION` or one of the constants after
-    /// it; 0 otherwise.
-    pub fault: usize,
+    pub error_offset: usize,
+    /// The reason why the line is invalid: `INI_ERROR_UNCLOSED_SECTION` or one of the constants
+    /// after it; 0 otherwise.
+    pub error: usize,
 }
 
 /// A value, a name in an object, or a bracket. Only `exported_json_step` returns brackets.
@@ -481,7 +481,7 @@ pub struct JsonItem {
     /// as a string.
     pub kind: usize,
     /// Its bytes.
-    pub place: Span,
+    pub span: Span,
 }
 
 /// The text of a string of JSON.
@@ -506,7 +506,7 @@ pub struct Reply {
     pub elements: usize,
     /// The bytes of a string or of an error, or those of the elements of an array, which are
     /// consecutive replies; zeros otherwise.
-    pub place: Span,
+    pub span: Span,
     /// How many bytes the reply has.
     pub length: usize,
 }
@@ -516,7 +516,7 @@ pub struct Reply {
 /// reply.
 #[repr(C)]
 #[derive(Clone, Copy, Debug, Default, PartialEq, Eq)]
-pub struct RespExtent {
+pub struct RespReplyState {
     /// The part that is expected next: 0 in the initial state, 1 for a line, 2 for the bytes of a
     /// string.
     pub due: usize,
@@ -596,20 +596,21 @@ pub struct TomlNode {
 /// The sizes of a document, or an error.
 #[repr(C)]
 #[derive(Clone, Copy, Debug, Default, PartialEq, Eq)]
-pub struct TomlDocument {
+pub struct TomlResult {
     /// How many nodes there are.
     pub nodes: usize,
     /// How many bytes their names and texts have together.
     pub text: usize,
     /// The offset of the error in bytes; 0 otherwise.
-    pub place: usize,
-    /// The error: one of the constants from `TOML_FAULT_NONE` to `TOML_FAULT_NO_TABLES`.
-    pub fault: usize,
+    pub error_offset: usize,
+    /// The error: one of the constants from `TOML_ERROR_NONE` to
+    /// `TOML_ERROR_NOT_AN_ARRAY_OF_TABLES`.
+    pub error: usize,
 }
 
 extern "C" {
     /// A symbol that only a library of this version and with these declarations has.
-    #[link_name = "pergidau_0_0_0_declared_a22c8061"]
+    #[link_name = "pergidau_0_0_0_declared_ab70bb49"]
     static VERSION_LINKED: c_char;
 
     /// Returns the version of the linked library.
@@ -632,13 +633,13 @@ extern "C" {
     ///
     /// # Errors
     ///
-    /// `REFUSED`: the text is not a formula, a number or a result does not fit a signed 64-bit integer,
+    /// `INVALID`: the text is not a formula, a number or a result does not fit a signed 64-bit integer,
     /// a divisor is 0, an exponent is negative, or the operand of a factorial is negative. `%` also
     /// fails if the quotient does not fit, as in `-2 ^ 63 % -1`. The offset of the error is written. It
     /// is the start or the end of the text, or lies between two of its characters. It is tested, but
     /// not proved, that the formula was parsed up to there.
     ///
-    /// `NO_TEXT`, `NO_MEMORY`.
+    /// `INVALID_UTF8`, `NO_MEMORY`.
     ///
     /// # Safety
     ///
@@ -668,12 +669,12 @@ extern "C" {
     ///
     /// # Errors
     ///
-    /// `REFUSED`: `bytes` does not start with a record. The first offset at which no record can
+    /// `INVALID`: `bytes` does not start with a record. The first offset at which no record can
     /// continue is written: the bytes before it are a prefix of a record, and together with the byte
     /// there they are not.
     ///
-    /// `TOO_SMALL`: the record has more fields or more bytes than the buffers. The required numbers of
-    /// both are written.
+    /// `BUFFER_TOO_SMALL`: the record has more fields or more bytes than the buffers. The required
+    /// numbers of both are written.
     ///
     /// After an error the buffers are unchanged.
     ///
@@ -708,10 +709,10 @@ extern "C" {
     ///
     /// # Errors
     ///
-    /// `REFUSED`: `bytes` does not start with a record, regardless of what follows. This is returned as
+    /// `INVALID`: `bytes` does not start with a record, regardless of what follows. This is returned as
     /// soon as the first invalid byte is there, and its offset is written: 1 for `x"`.
     ///
-    /// `TOO_SMALL`: as for complete input.
+    /// `BUFFER_TOO_SMALL`: as for complete input.
     ///
     /// # Safety
     ///
@@ -719,7 +720,7 @@ extern "C" {
     /// `text` must be valid for writes of `text_length` bytes, `fields` for writes of `fields_length`
     /// entries, and `out` for writes of one record. None of these may overlap. The call needs 16 KiB of
     /// stack.
-    pub fn exported_csv_record_in_pieces(
+    pub fn exported_csv_record_partial(
         bytes: *const u8,
         bytes_length: usize,
         line_feeds: u32,
@@ -754,7 +755,7 @@ extern "C" {
     ///
     /// # Errors
     ///
-    /// `REFUSED`: `bytes` does not start with a record, regardless of what follows. This is returned as
+    /// `INVALID`: `bytes` does not start with a record, regardless of what follows. This is returned as
     /// soon as the first invalid byte is there, and its offset is written.
     ///
     /// # Safety
@@ -763,7 +764,7 @@ extern "C" {
     /// `bytes` must be valid for reads of `bytes_length` bytes, which must not change during the call.
     /// None of these may overlap. The call needs 16 KiB of stack.
     pub fn exported_csv_record_extent(
-        state: *mut CsvRecordExtent,
+        state: *mut CsvRecordState,
         bytes: *const u8,
         bytes_length: usize,
         line_feeds: u32,
@@ -780,11 +781,11 @@ extern "C" {
     ///
     /// # Errors
     ///
-    /// `REFUSED`: `bytes` does not start with a head. The first offset at which no head can continue is
+    /// `INVALID`: `bytes` does not start with a head. The first offset at which no head can continue is
     /// written; it is the end of `bytes` if they end within a head.
     ///
-    /// `TOO_SMALL`: the head has more fields than the buffer has entries. The number of fields is
-    /// written.
+    /// `BUFFER_TOO_SMALL`: the head has more fields than the buffer has entries. The number of fields
+    /// is written.
     ///
     /// After an error the contents of the buffer are unspecified, because the fields are written during
     /// parsing.
@@ -812,18 +813,18 @@ extern "C" {
     ///
     /// # Errors
     ///
-    /// `REFUSED`: `bytes` does not start with a head, regardless of what follows. The offset of the
+    /// `INVALID`: `bytes` does not start with a head, regardless of what follows. The offset of the
     /// first invalid byte is written: the bytes before it are a prefix of a head, and together with the
     /// byte there they are not.
     ///
-    /// `TOO_SMALL`: as for complete input.
+    /// `BUFFER_TOO_SMALL`: as for complete input.
     ///
     /// # Safety
     ///
     /// `bytes` must be valid for reads of `bytes_length` bytes, which must not change during the call.
     /// `fields` must be valid for writes of `fields_length` entries, and `out` for writes of one head.
     /// None of these may overlap. The call needs 16 KiB of stack.
-    pub fn exported_http_head_in_pieces(
+    pub fn exported_http_head_partial(
         bytes: *const u8,
         bytes_length: usize,
         fields: *mut Field,
@@ -857,7 +858,7 @@ extern "C" {
     ///
     /// # Errors
     ///
-    /// `REFUSED`: no body can continue with the byte after the consumed ones, or only one of 2^64 bytes
+    /// `INVALID`: no body can continue with the byte after the consumed ones, or only one of 2^64 bytes
     /// or more, or a limit is exceeded.
     ///
     /// # Safety
@@ -890,7 +891,7 @@ extern "C" {
     ///
     /// # Errors
     ///
-    /// `REFUSED`: `bytes` does not start with a head, regardless of what follows. The first offset at
+    /// `INVALID`: `bytes` does not start with a head, regardless of what follows. The first offset at
     /// which no head can continue is written.
     ///
     /// # Safety
@@ -899,7 +900,7 @@ extern "C" {
     /// `bytes` must be valid for reads of `bytes_length` bytes, which must not change during the call.
     /// None of these may overlap. The call needs 16 KiB of stack.
     pub fn exported_http_head_extent(
-        state: *mut HttpHeadExtent,
+        state: *mut HttpHeadState,
         bytes: *const u8,
         bytes_length: usize,
         out: *mut usize,
@@ -917,11 +918,11 @@ extern "C" {
     ///
     /// # Errors
     ///
-    /// `REFUSED`: `bytes` does not start with a head. The first offset at which no head can continue is
+    /// `INVALID`: `bytes` does not start with a head. The first offset at which no head can continue is
     /// written; it is the end of `bytes` if they end within a head.
     ///
-    /// `TOO_SMALL`: the head has more fields than the buffer has entries. The number of fields is
-    /// written.
+    /// `BUFFER_TOO_SMALL`: the head has more fields than the buffer has entries. The number of fields
+    /// is written.
     ///
     /// After an error the contents of the buffer are unspecified, because the fields are written during
     /// parsing.
@@ -949,18 +950,18 @@ extern "C" {
     ///
     /// # Errors
     ///
-    /// `REFUSED`: `bytes` does not start with a head, regardless of what follows. The offset of the
+    /// `INVALID`: `bytes` does not start with a head, regardless of what follows. The offset of the
     /// first invalid byte is written: the bytes before it are a prefix of a head, and together with the
     /// byte there they are not.
     ///
-    /// `TOO_SMALL`: as for complete input.
+    /// `BUFFER_TOO_SMALL`: as for complete input.
     ///
     /// # Safety
     ///
     /// `bytes` must be valid for reads of `bytes_length` bytes, which must not change during the call.
     /// `fields` must be valid for writes of `fields_length` entries, and `out` for writes of one head.
     /// None of these may overlap. The call needs 16 KiB of stack.
-    pub fn exported_http_response_head_in_pieces(
+    pub fn exported_http_response_head_partial(
         bytes: *const u8,
         bytes_length: usize,
         fields: *mut Field,
@@ -976,7 +977,7 @@ extern "C" {
     ///
     /// # Errors
     ///
-    /// `REFUSED`: `bytes` is not such a line. The length of its longest prefix that is a prefix of such
+    /// `INVALID`: `bytes` is not such a line. The length of its longest prefix that is a prefix of such
     /// a line is written.
     ///
     /// # Safety
@@ -1002,16 +1003,16 @@ extern "C" {
     /// and then its pairs.
     ///
     /// A call holds up to 100 bytes of memory for each byte of the document, even if it then returns
-    /// `REFUSED` or `TOO_SMALL`.
+    /// `INVALID` or `BUFFER_TOO_SMALL`.
     ///
     /// # Errors
     ///
-    /// `REFUSED`: `bytes` is not a document. The length of the longest prefix that consists of such
+    /// `INVALID`: `bytes` is not a document. The length of the longest prefix that consists of such
     /// parts is written; each part is determined in the context of all bytes. A pair extends to the end
     /// of its line: for `[a]`, a line feed, and `x=` before a byte that is not UTF-8, the length is 4.
     ///
-    /// `TOO_SMALL`: the document needs more entries or more bytes than the buffers have. The required
-    /// numbers of both are written, and the buffers are unchanged.
+    /// `BUFFER_TOO_SMALL`: the document needs more entries or more bytes than the buffers have. The
+    /// required numbers of both are written, and the buffers are unchanged.
     ///
     /// `NO_MEMORY`.
     ///
@@ -1059,9 +1060,9 @@ extern "C" {
     ///
     /// # Errors
     ///
-    /// `REFUSED`: the next line is invalid in the dialect. Its offset and the reason are written.
+    /// `INVALID`: the next line is invalid in the dialect. Its offset and the reason are written.
     ///
-    /// `NO_TEXT`: the next line is not UTF-8. Its offset is written.
+    /// `INVALID_UTF8`: the next line is not UTF-8. Its offset is written.
     ///
     /// # Safety
     ///
@@ -1077,7 +1078,7 @@ extern "C" {
     ) -> u32;
 
     /// Checks that a text is a JSON text (RFC 8259): a value, with optional whitespace around it, whose
-    /// arrays and objects are nested at most `levels` deep.
+    /// arrays and objects are nested at most `max_depth` deep.
     ///
     /// A text with an unpaired surrogate escape such as `\ud800` is rejected, because it denotes no
     /// character, although the grammar of the standard allows it.
@@ -1086,11 +1087,11 @@ extern "C" {
     ///
     /// # Errors
     ///
-    /// `REFUSED`: the text is not a JSON text.
+    /// `INVALID`: the text is not a JSON text.
     ///
-    /// `NO_TEXT`: the text is not UTF-8.
+    /// `INVALID_UTF8`: the text is not UTF-8.
     ///
-    /// `TOO_DEEP`: `levels` is above 512.
+    /// `MAX_DEPTH_TOO_LARGE`: `max_depth` is above 512.
     ///
     /// # Safety
     ///
@@ -1099,11 +1100,11 @@ extern "C" {
     pub fn exported_json_check(
         text: *const u8,
         text_length: usize,
-        levels: usize,
+        max_depth: usize,
     ) -> u32;
 
     /// Finds the longest JSON value (RFC 8259) at the start of `bytes` whose arrays and objects are
-    /// nested at most `levels` deep.
+    /// nested at most `max_depth` deep.
     ///
     /// Whitespace before the value is not skipped. Bytes of 128 and above are not checked: the value is
     /// JSON if it is UTF-8. Values are those of `exported_json_check`.
@@ -1112,9 +1113,9 @@ extern "C" {
     ///
     /// # Errors
     ///
-    /// `REFUSED`: `bytes` does not start with a value. 0 is written.
+    /// `INVALID`: `bytes` does not start with a value. 0 is written.
     ///
-    /// `TOO_DEEP`: `levels` is above 512. 0 is written.
+    /// `MAX_DEPTH_TOO_LARGE`: `max_depth` is above 512. 0 is written.
     ///
     /// # Safety
     ///
@@ -1124,13 +1125,13 @@ extern "C" {
     pub fn exported_json_value(
         bytes: *const u8,
         bytes_length: usize,
-        levels: usize,
+        max_depth: usize,
         out: *mut usize,
     ) -> u32;
 
     /// Finds the next JSON value (RFC 8259) of a walk through a text that was checked. It is the
     /// longest value after whitespace, at most one comma or colon, and whitespace, whose arrays and
-    /// objects are nested at most `levels` deep.
+    /// objects are nested at most `max_depth` deep.
     ///
     /// At the start of the text this is the value of the text. To walk through an array, start after
     /// its first byte, and call the function for each element with the bytes after the span of the
@@ -1148,9 +1149,9 @@ extern "C" {
     ///
     /// # Errors
     ///
-    /// `REFUSED`: there is neither a value nor an end. Zeros are written.
+    /// `INVALID`: there is neither a value nor an end. Zeros are written.
     ///
-    /// `TOO_DEEP`: `levels` is above 512. Zeros are written.
+    /// `MAX_DEPTH_TOO_LARGE`: `max_depth` is above 512. Zeros are written.
     ///
     /// # Safety
     ///
@@ -1160,7 +1161,7 @@ extern "C" {
     pub fn exported_json_next(
         bytes: *const u8,
         bytes_length: usize,
-        levels: usize,
+        max_depth: usize,
         out: *mut JsonItem,
     ) -> u32;
 
@@ -1171,10 +1172,10 @@ extern "C" {
     ///
     /// # Errors
     ///
-    /// `NO_INTEGER`: the number has a point or an exponent, like `1.0` and `1e2`, or does not fit. 0 is
-    /// written.
+    /// `NOT_AN_INTEGER`: the number has a point or an exponent, like `1.0` and `1e2`, or does not fit.
+    /// 0 is written.
     ///
-    /// `REFUSED`: `bytes` does not start with a number. 0 is written.
+    /// `INVALID`: `bytes` does not start with a number. 0 is written.
     ///
     /// # Safety
     ///
@@ -1193,10 +1194,10 @@ extern "C" {
     ///
     /// # Errors
     ///
-    /// `NO_INTEGER`: the number has a minus sign, even `-0`, a point or an exponent, or does not fit. 0
-    /// is written.
+    /// `NOT_AN_INTEGER`: the number has a minus sign, even `-0`, a point or an exponent, or does not
+    /// fit. 0 is written.
     ///
-    /// `REFUSED`: `bytes` does not start with a number. 0 is written.
+    /// `INVALID`: `bytes` does not start with a number. 0 is written.
     ///
     /// # Safety
     ///
@@ -1224,7 +1225,7 @@ extern "C" {
     ///
     /// # Errors
     ///
-    /// `REFUSED`: there is neither a step nor the end. Zeros are written.
+    /// `INVALID`: there is neither a step nor the end. Zeros are written.
     ///
     /// # Safety
     ///
@@ -1252,10 +1253,11 @@ extern "C" {
     ///
     /// # Errors
     ///
-    /// `TOO_SMALL`: the buffer has fewer bytes than the text. Both lengths are written. A string has at
-    /// least as many bytes as its text, so a buffer as long as the string is always large enough.
+    /// `BUFFER_TOO_SMALL`: the buffer has fewer bytes than the text. Both lengths are written. A string
+    /// has at least as many bytes as its text, so a buffer as long as the string is always large
+    /// enough.
     ///
-    /// `REFUSED`: `bytes` does not start with a string. A string with an unpaired surrogate escape is
+    /// `INVALID`: `bytes` does not start with a string. A string with an unpaired surrogate escape is
     /// also rejected. Zeros are written into `out`.
     ///
     /// After an error the contents of the buffer are unspecified.
@@ -1274,7 +1276,7 @@ extern "C" {
     ) -> u32;
 
     /// Parses the Redis reply (RESP2, the second version of the protocol) at the start of `bytes`,
-    /// whose arrays are nested at most `levels` deep.
+    /// whose arrays are nested at most `max_depth` deep.
     ///
     /// To parse the elements of an array, call the function with the bytes in its span, and then with
     /// those after each element. An integer may have a sign and leading zeros, a size leading zeros.
@@ -1287,9 +1289,9 @@ extern "C" {
     ///
     /// # Errors
     ///
-    /// `REFUSED`: `bytes` does not start with a reply.
+    /// `INVALID`: `bytes` does not start with a reply.
     ///
-    /// `TOO_DEEP`: `levels` is above 512.
+    /// `MAX_DEPTH_TOO_LARGE`: `max_depth` is above 512.
     ///
     /// `NO_MEMORY`.
     ///
@@ -1303,7 +1305,7 @@ extern "C" {
     pub fn exported_resp_reply(
         bytes: *const u8,
         bytes_length: usize,
-        levels: usize,
+        max_depth: usize,
         out: *mut Reply,
     ) -> u32;
 
@@ -1318,19 +1320,19 @@ extern "C" {
     ///
     /// # Errors
     ///
-    /// `REFUSED`: `bytes` does not start with a reply, regardless of what follows. Zeros are written.
+    /// `INVALID`: `bytes` does not start with a reply, regardless of what follows. Zeros are written.
     ///
-    /// `TOO_DEEP`, `NO_MEMORY`: as for complete input.
+    /// `MAX_DEPTH_TOO_LARGE`, `NO_MEMORY`: as for complete input.
     ///
     /// # Safety
     ///
     /// `bytes` must be valid for reads of `bytes_length` bytes, which must not change during the call,
     /// and `out` must be valid for writes of one reply. They must not overlap. The call needs 512 KiB
     /// of stack.
-    pub fn exported_resp_reply_in_pieces(
+    pub fn exported_resp_reply_partial(
         bytes: *const u8,
         bytes_length: usize,
-        levels: usize,
+        max_depth: usize,
         out: *mut Reply,
     ) -> u32;
 
@@ -1355,7 +1357,7 @@ extern "C" {
     ///
     /// # Errors
     ///
-    /// `REFUSED`: `bytes` does not start with a reply, regardless of what follows. 0 is written. An
+    /// `INVALID`: `bytes` does not start with a reply, regardless of what follows. 0 is written. An
     /// invalid line is rejected at its end.
     ///
     /// # Safety
@@ -1364,7 +1366,7 @@ extern "C" {
     /// `bytes` must be valid for reads of `bytes_length` bytes, which must not change during the call.
     /// None of these may overlap. The call needs 16 KiB of stack.
     pub fn exported_resp_extent(
-        state: *mut RespExtent,
+        state: *mut RespReplyState,
         bytes: *const u8,
         bytes_length: usize,
         out: *mut usize,
@@ -1389,7 +1391,7 @@ extern "C" {
     ) -> u32;
 
     /// Parses a document of TOML 1.0 (toml.io/en/v1.0.0) whose values have arrays and inline tables
-    /// nested at most `levels` deep.
+    /// nested at most `max_depth` deep.
     ///
     /// Where the standard leaves a choice, this follows most parsers: integers have 64 bits, and floats
     /// are returned as text.
@@ -1404,16 +1406,16 @@ extern "C" {
     ///
     /// # Errors
     ///
-    /// `REFUSED`: `bytes` is not a document. The reason and the offset are written. For the first line
+    /// `INVALID`: `bytes` is not a document. The reason and the offset are written. For the first line
     /// that is not valid TOML, this is the first offset at which no document can continue; for a line
     /// that the standard forbids because of earlier lines, the start of that line.
     ///
-    /// `NO_TEXT`: `bytes` is not UTF-8. The length of the longest prefix that is UTF-8 is written.
+    /// `INVALID_UTF8`: `bytes` is not UTF-8. The length of the longest prefix that is UTF-8 is written.
     ///
-    /// `TOO_SMALL`: the document needs more nodes or more bytes than the buffers have. The required
-    /// numbers of both are written.
+    /// `BUFFER_TOO_SMALL`: the document needs more nodes or more bytes than the buffers have. The
+    /// required numbers of both are written.
     ///
-    /// `TOO_DEEP`: `levels` is above 512.
+    /// `MAX_DEPTH_TOO_LARGE`: `max_depth` is above 512.
     ///
     /// `NO_MEMORY`.
     ///
@@ -1428,12 +1430,12 @@ extern "C" {
     pub fn exported_toml_document(
         bytes: *const u8,
         bytes_length: usize,
-        levels: usize,
+        max_depth: usize,
         text: *mut u8,
         text_length: usize,
         nodes: *mut TomlNode,
         nodes_length: usize,
-        out: *mut TomlDocument,
+        out: *mut TomlResult,
     ) -> u32;
 }
 

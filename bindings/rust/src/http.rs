@@ -16,11 +16,11 @@ mod extent;
 mod response;
 
 pub use self::extent::HeadExtent;
-pub use self::response::{response_head, response_head_in_pieces, ResponseHead};
+pub use self::response::{response_head, response_head_partial, ResponseHead};
 pub use crate::exports::Field;
 
 use crate::exports;
-use crate::{at, Error, Place, Wanted};
+use crate::{at, Error, Position, RequiredSize};
 use core::fmt;
 
 /// The head of a request: its parts, as slices of the bytes that were read.
@@ -78,8 +78,8 @@ fn read<'i, 'f>(
     match code {
         exports::DONE => Ok(Head { bytes, places, fields: &fields[..places.fields] }),
         code => {
-            let wanted = Wanted { entries: places.fields, bytes: 0 };
-            Err(Error::of(code, Some(Place::of(bytes, places.place)), wanted))
+            let required = RequiredSize { entries: places.fields, bytes: 0 };
+            Err(Error::of(code, Some(Position::of(bytes, places.error_offset)), required))
         }
     }
 }
@@ -91,9 +91,9 @@ fn read<'i, 'f>(
 ///
 /// # Errors
 ///
-/// - [`Error::TooSmall`] if the head has more fields than `fields` has entries; it holds the number
-///   of fields.
-/// - [`Error::Refused`] if `bytes` does not start with a head; it holds the position of the first
+/// - [`Error::BufferTooSmall`] if the head has more fields than `fields` has entries; it holds the
+///   number of fields.
+/// - [`Error::Invalid`] if `bytes` does not start with a head; it holds the position of the first
 ///   invalid byte, or the end of the input.
 ///
 /// After an error the contents of `fields` are unspecified.
@@ -117,18 +117,18 @@ pub fn head<'i, 'f>(bytes: &'i [u8], fields: &'f mut [Field]) -> Result<Head<'i,
 /// # Errors
 ///
 /// - [`Error::Incomplete`] if `bytes` does not start with a head, but more bytes can complete one.
-/// - [`Error::Refused`] if `bytes` does not start with a head, regardless of what follows; it holds
+/// - [`Error::Invalid`] if `bytes` does not start with a head, regardless of what follows; it holds
 ///   the position of the first invalid byte.
 ///
 /// ```
-/// let head = pergidau::http::head_in_pieces(b"GET / HTT", &mut []);
+/// let head = pergidau::http::head_partial(b"GET / HTT", &mut []);
 /// assert_eq!(head.unwrap_err(), pergidau::Error::Incomplete);
 /// ```
-pub fn head_in_pieces<'i, 'f>(
+pub fn head_partial<'i, 'f>(
     bytes: &'i [u8],
     fields: &'f mut [Field],
 ) -> Result<Head<'i, 'f>, Error> {
-    read(exports::exported_http_head_in_pieces, bytes, fields)
+    read(exports::exported_http_head_partial, bytes, fields)
 }
 
 /// A part of a chunked body.
@@ -148,7 +148,7 @@ pub enum Step<'i> {
 /// The reason why a byte of a chunked body is invalid.
 #[derive(Clone, Copy, Debug, PartialEq, Eq)]
 #[non_exhaustive]
-pub enum Fault {
+pub enum ChunkedError {
     /// A size line does not start with a hexadecimal digit.
     Size,
     /// The byte is invalid in a size line.
@@ -167,36 +167,36 @@ pub enum Fault {
     Unknown(usize),
 }
 
-impl fmt::Display for Fault {
+impl fmt::Display for ChunkedError {
     fn fmt(&self, f: &mut fmt::Formatter<'_>) -> fmt::Result {
         match self {
-            Fault::Size => f.write_str("the size of a chunk is due"),
-            Fault::SizeLine => f.write_str("no size line goes on so"),
-            Fault::SizeTooLarge => f.write_str("the size of a chunk is too large"),
-            Fault::SizeLineTooLong => f.write_str("a size line is too long"),
-            Fault::DataEnd => f.write_str("a line end is due after the data of a chunk"),
-            Fault::Trailers => f.write_str("no trailer section goes on so"),
-            Fault::TrailersTooLong => f.write_str("the trailer section is too long"),
-            Fault::Unknown(number) => write!(f, "the library answered the unknown number {number}"),
+            ChunkedError::Size => f.write_str("expected a chunk size"),
+            ChunkedError::SizeLine => f.write_str("invalid byte in chunk size line"),
+            ChunkedError::SizeTooLarge => f.write_str("chunk size too large"),
+            ChunkedError::SizeLineTooLong => f.write_str("chunk size line too long"),
+            ChunkedError::DataEnd => f.write_str("expected CRLF after chunk data"),
+            ChunkedError::Trailers => f.write_str("invalid byte in trailer section"),
+            ChunkedError::TrailersTooLong => f.write_str("trailer section too long"),
+            ChunkedError::Unknown(number) => write!(f, "unknown number {number} from the library"),
         }
     }
 }
 
 #[cfg(feature = "std")]
-impl std::error::Error for Fault {}
+impl std::error::Error for ChunkedError {}
 
-impl Fault {
+impl ChunkedError {
     /// Converts a number of the library to an error.
-    fn of(number: usize) -> Fault {
+    fn of(number: usize) -> ChunkedError {
         match number {
-            exports::CHUNKED_FAULT_SIZE => Fault::Size,
-            exports::CHUNKED_FAULT_SIZE_LINE => Fault::SizeLine,
-            exports::CHUNKED_FAULT_SIZE_TOO_LARGE => Fault::SizeTooLarge,
-            exports::CHUNKED_FAULT_SIZE_LINE_TOO_LONG => Fault::SizeLineTooLong,
-            exports::CHUNKED_FAULT_DATA_END => Fault::DataEnd,
-            exports::CHUNKED_FAULT_TRAILERS => Fault::Trailers,
-            exports::CHUNKED_FAULT_TRAILERS_TOO_LONG => Fault::TrailersTooLong,
-            number => Fault::Unknown(number),
+            exports::CHUNKED_ERROR_SIZE => ChunkedError::Size,
+            exports::CHUNKED_ERROR_SIZE_LINE => ChunkedError::SizeLine,
+            exports::CHUNKED_ERROR_SIZE_TOO_LARGE => ChunkedError::SizeTooLarge,
+            exports::CHUNKED_ERROR_SIZE_LINE_TOO_LONG => ChunkedError::SizeLineTooLong,
+            exports::CHUNKED_ERROR_DATA_END => ChunkedError::DataEnd,
+            exports::CHUNKED_ERROR_TRAILERS => ChunkedError::Trailers,
+            exports::CHUNKED_ERROR_TRAILERS_TOO_LONG => ChunkedError::TrailersTooLong,
+            number => ChunkedError::Unknown(number),
         }
     }
 }
@@ -229,7 +229,7 @@ const TRAILERS: usize = 8192;
 ///     }
 /// }
 /// assert_eq!(content, b"Wiki");
-/// # Ok::<(), pergidau::http::Fault>(())
+/// # Ok::<(), pergidau::http::ChunkedError>(())
 /// ```
 #[derive(Clone, Copy, Debug, PartialEq, Eq)]
 pub struct Chunked {
@@ -259,10 +259,10 @@ impl Chunked {
     /// `trailers` bytes in the trailer section.
     ///
     /// ```
-    /// use pergidau::http::{Chunked, Fault};
+    /// use pergidau::http::{Chunked, ChunkedError};
     ///
     /// let mut body = Chunked::with_limits(3, 0);
-    /// assert_eq!(body.advance(&mut &b"0;ab"[..]), Err(Fault::SizeLineTooLong));
+    /// assert_eq!(body.advance(&mut &b"0;ab"[..]), Err(ChunkedError::SizeLineTooLong));
     /// ```
     pub fn with_limits(size_line: usize, trailers: usize) -> Chunked {
         let state = exports::ChunkedState {
@@ -287,7 +287,7 @@ impl Chunked {
     ///
     /// Fails at the first byte that no body can continue with, or that exceeds a limit. `bytes`
     /// then starts with that byte, and further calls give the same error.
-    pub fn advance<'i>(&mut self, bytes: &mut &'i [u8]) -> Result<Step<'i>, Fault> {
+    pub fn advance<'i>(&mut self, bytes: &mut &'i [u8]) -> Result<Step<'i>, ChunkedError> {
         let all: &'i [u8] = bytes;
         let mut step = exports::ChunkedStep::default();
         // SAFETY: the pointers are those of live borrows, and the bytes are only read. The call takes up
@@ -297,13 +297,13 @@ impl Chunked {
         };
         *bytes = &all[step.taken..];
         match (code, step.kind) {
-            (exports::DONE, exports::CHUNKED_DATA) => Ok(Step::Data(at(all, step.place))),
-            (exports::DONE, exports::CHUNKED_TRAILERS) => Ok(Step::Trailers(at(all, step.place))),
+            (exports::DONE, exports::CHUNKED_DATA) => Ok(Step::Data(at(all, step.span))),
+            (exports::DONE, exports::CHUNKED_TRAILERS) => Ok(Step::Trailers(at(all, step.span))),
             (exports::END, _) => Ok(Step::End),
             (exports::INCOMPLETE, _) => Ok(Step::More),
-            (exports::REFUSED, _) => Err(Fault::of(step.fault)),
-            (exports::DONE, kind) => Err(Fault::Unknown(kind)),
-            (code, _) => Err(Fault::Unknown(code as usize)),
+            (exports::INVALID, _) => Err(ChunkedError::of(step.error)),
+            (exports::DONE, kind) => Err(ChunkedError::Unknown(kind)),
+            (code, _) => Err(ChunkedError::Unknown(code as usize)),
         }
     }
 }

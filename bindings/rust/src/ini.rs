@@ -17,7 +17,7 @@ pub mod dialects;
 
 pub use crate::exports::Entry;
 
-use crate::{at, exports, Error, Place, Wanted, NOTHING};
+use crate::{at, exports, Error, Position, RequiredSize, NOTHING};
 
 /// Parses a line of the form `key=value`. The key consists of ASCII letters or digits, the value of
 /// any bytes except line feeds. The line may end with one line feed.
@@ -35,7 +35,7 @@ pub fn pair(line: &[u8]) -> Result<(&[u8], &[u8]), Error> {
     let code = unsafe { exports::exported_ini_pair(line.as_ptr(), line.len(), &mut out) };
     match code {
         exports::DONE => Ok((at(line, out.key), at(line, out.value))),
-        code => Err(Error::of(code, Some(Place::of(line, out.place)), NOTHING)),
+        code => Err(Error::of(code, Some(Position::of(line, out.error_offset)), NOTHING)),
     }
 }
 
@@ -118,8 +118,8 @@ impl<'b> Section<'b> {
 /// let section = document.sections().next().unwrap();
 /// assert_eq!(section.name(), b"a");
 /// assert_eq!(section.pairs().collect::<Vec<_>>(), [(&b"x"[..], &b"1"[..]), (b"y", b"2")]);
-/// let refused = ini::document(b"[a]\nx\n", &mut text, &mut entries).unwrap_err();
-/// assert_eq!(refused.to_string(), "refused at line 2, column 1");
+/// let error = ini::document(b"[a]\nx\n", &mut text, &mut entries).unwrap_err();
+/// assert_eq!(error.to_string(), "invalid input at line 2, column 1");
 /// # Ok::<(), pergidau::Error>(())
 /// ```
 pub fn document<'b>(
@@ -140,8 +140,8 @@ pub fn document<'b>(
     match code {
         exports::DONE => Ok(Document { text: &text[..out.text], entries: &entries[..out.entries] }),
         code => {
-            let wanted = Wanted { entries: out.entries, bytes: out.text };
-            Err(Error::of(code, Some(Place::of(bytes, out.place)), wanted))
+            let required = RequiredSize { entries: out.entries, bytes: out.text };
+            Err(Error::of(code, Some(Position::of(bytes, out.error_offset)), required))
         }
     }
 }

@@ -53,7 +53,7 @@ pub enum Kind {
 pub struct Value<'i> {
     kind: Kind,
     text: &'i str,
-    levels: usize,
+    max_depth: usize,
 }
 
 impl PartialEq for Value<'_> {
@@ -99,20 +99,20 @@ impl<'i> Value<'i> {
 /// seem to end here.
 #[cold]
 fn unknown(number: usize) -> ! {
-    panic!("the library answered the unknown number {number}")
+    panic!("unknown number {number} from the library")
 }
 
 /// The text after an opening bracket or after a value, and the depth limit for values in it.
 #[derive(Clone, Copy, Debug)]
 struct Inside<'i> {
     left: &'i str,
-    levels: usize,
+    max_depth: usize,
 }
 
 impl<'i> Inside<'i> {
     fn of(value: &Value<'i>, kind: Kind) -> Inside<'i> {
         let left = if value.kind == kind { &value.text[1..] } else { "" };
-        Inside { left, levels: value.levels.saturating_sub(1) }
+        Inside { left, max_depth: value.max_depth.saturating_sub(1) }
     }
 
     /// The next value. It is part of a text that was checked, so where there is none it is the end.
@@ -120,10 +120,10 @@ impl<'i> Inside<'i> {
         let mut out = JsonItem::default();
         let bytes = self.left.as_bytes();
         // SAFETY: the pointers are those of live borrows, and the bytes are only read. The call takes up to
-        // 57 KiB of stack at `MOST_LEVELS` (measured); where there is less, the thread's guard page ends
+        // 57 KiB of stack at `MAX_DEPTH` (measured); where there is less, the thread's guard page ends
         // the program.
         let code = unsafe {
-            exports::exported_json_next(bytes.as_ptr(), bytes.len(), self.levels, &mut out)
+            exports::exported_json_next(bytes.as_ptr(), bytes.len(), self.max_depth, &mut out)
         };
         match code {
             exports::DONE => {}
@@ -140,9 +140,9 @@ impl<'i> Inside<'i> {
             exports::JSON_OBJECT => Kind::Object,
             kind => unknown(kind),
         };
-        let (front, left) = self.left.split_at(out.place.offset + out.place.length);
+        let (front, left) = self.left.split_at(out.span.offset + out.span.length);
         self.left = left;
-        Some(Value { kind, text: &front[out.place.offset..], levels: self.levels })
+        Some(Value { kind, text: &front[out.span.offset..], max_depth: self.max_depth })
     }
 }
 
@@ -171,7 +171,7 @@ impl<'i> Iterator for Members<'i> {
     }
 }
 
-/// Parses a JSON text (RFC 8259) whose arrays and objects are nested at most `levels` deep. The
+/// Parses a JSON text (RFC 8259) whose arrays and objects are nested at most `max_depth` deep. The
 /// whole text is checked first, as by [`check`].
 ///
 /// ```
@@ -183,25 +183,25 @@ impl<'i> Iterator for Members<'i> {
 /// assert_eq!(value.members().last().unwrap().1.kind(), pergidau::json::Kind::String);
 /// # Ok::<(), pergidau::Error>(())
 /// ```
-pub fn parse(text: &str, levels: usize) -> Result<Value<'_>, Error> {
-    check(text.as_bytes(), levels)?;
-    Inside { left: text, levels }.next().ok_or(Error::Refused(None))
+pub fn parse(text: &str, max_depth: usize) -> Result<Value<'_>, Error> {
+    check(text.as_bytes(), max_depth)?;
+    Inside { left: text, max_depth }.next().ok_or(Error::Invalid(None))
 }
 
 /// Checks that `text` is a JSON text (RFC 8259) whose arrays and objects are nested at most
-/// `levels` deep. The error has no position.
+/// `max_depth` deep. The error has no position.
 ///
 /// ```
 /// use pergidau::{json, Error};
 ///
 /// assert_eq!(json::check(b" {\"a\": [1, 2.5e3, true]}\n", 2), Ok(()));
-/// assert_eq!(json::check(b"[1, 2,]", 2), Err(Error::Refused(None)));
+/// assert_eq!(json::check(b"[1, 2,]", 2), Err(Error::Invalid(None)));
 /// ```
-pub fn check(text: &[u8], levels: usize) -> Result<(), Error> {
+pub fn check(text: &[u8], max_depth: usize) -> Result<(), Error> {
     // SAFETY: the pointer is that of a live borrow, and the bytes are only read. The call takes up to
-    // 57 KiB of stack at `MOST_LEVELS` (measured); where there is less, the thread's guard page ends
+    // 57 KiB of stack at `MAX_DEPTH` (measured); where there is less, the thread's guard page ends
     // the program.
-    match unsafe { exports::exported_json_check(text.as_ptr(), text.len(), levels) } {
+    match unsafe { exports::exported_json_check(text.as_ptr(), text.len(), max_depth) } {
         exports::DONE => Ok(()),
         code => Err(Error::of(code, None, NOTHING)),
     }
@@ -215,13 +215,13 @@ pub fn check(text: &[u8], levels: usize) -> Result<(), Error> {
 ///
 /// assert_eq!(json::longest(b"[1, {}] , 2", 2), Ok((&b"[1, {}]"[..], &b" , 2"[..])));
 /// ```
-pub fn longest(bytes: &[u8], levels: usize) -> Result<(&[u8], &[u8]), Error> {
+pub fn longest(bytes: &[u8], max_depth: usize) -> Result<(&[u8], &[u8]), Error> {
     let mut length = 0;
     // SAFETY: the pointers are those of live borrows, and the bytes are only read. The call takes up to
-    // 57 KiB of stack at `MOST_LEVELS` (measured); where there is less, the thread's guard page ends
+    // 57 KiB of stack at `MAX_DEPTH` (measured); where there is less, the thread's guard page ends
     // the program.
     let code = unsafe {
-        exports::exported_json_value(bytes.as_ptr(), bytes.len(), levels, &mut length)
+        exports::exported_json_value(bytes.as_ptr(), bytes.len(), max_depth, &mut length)
     };
     match code {
         exports::DONE => Ok(bytes.split_at(length)),

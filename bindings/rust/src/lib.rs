@@ -22,8 +22,8 @@
 //!
 //! assert_eq!(calc::value("2 + 3 * 4"), Ok(14));
 //! assert_eq!(ini::pair(b"key=value\n"), Ok((&b"key"[..], &b"value"[..])));
-//! let refused = calc::value("1 +\n 2 / 0").unwrap_err();
-//! assert_eq!(refused.to_string(), "refused at line 2, column 7");
+//! let error = calc::value("1 +\n 2 / 0").unwrap_err();
+//! assert_eq!(error.to_string(), "invalid input at line 2, column 7");
 //! ```
 //!
 //! # The library
@@ -47,8 +47,8 @@ pub mod json;
 pub mod resp;
 pub mod toml;
 
-pub use crate::error::{Error, Place, Wanted};
-pub use crate::exports::{Span, MOST_LEVELS};
+pub use crate::error::{Error, Position, RequiredSize};
+pub use crate::exports::{Span, MAX_DEPTH};
 
 /// The examples of the page of this crate are run as those of its documentation.
 #[cfg(doctest)]
@@ -56,9 +56,9 @@ pub use crate::exports::{Span, MOST_LEVELS};
 pub struct Page;
 
 /// No required size.
-const NOTHING: Wanted = Wanted { entries: 0, bytes: 0 };
+const NOTHING: RequiredSize = RequiredSize { entries: 0, bytes: 0 };
 
-/// Returns the slice of `bytes` at `place`.
+/// Returns the slice of `bytes` at `error_offset`.
 fn at(bytes: &[u8], place: Span) -> &[u8] {
     &bytes[place.offset..][..place.length]
 }

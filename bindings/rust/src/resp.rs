@@ -8,7 +8,7 @@
 //! assert_eq!(resp::reply(rest, 0)?, (Reply::Integer(7), &b""[..]));
 //! # Ok::<(), pergidau::Error>(())
 //! ```
-use crate::exports::{self, MOST_LEVELS};
+use crate::exports::{self, MAX_DEPTH};
 use crate::{at, Error, NOTHING};
 
 /// A reply of Redis: its strings are slices of the bytes that were read.
@@ -43,7 +43,7 @@ impl<'i> Iterator for Elements<'i> {
 
     fn next(&mut self) -> Option<Self::Item> {
         self.count = self.count.checked_sub(1)?;
-        match reply(self.left, MOST_LEVELS) {
+        match reply(self.left, MAX_DEPTH) {
             Ok((reply, rest)) => {
                 self.left = rest;
                 Some(Ok(reply))
@@ -64,16 +64,16 @@ impl ExactSizeIterator for Elements<'_> {}
 
 type Export = unsafe extern "C" fn(*const u8, usize, usize, *mut exports::Reply) -> u32;
 
-fn read(export: Export, bytes: &[u8], levels: usize) -> Result<(Reply<'_>, &[u8]), Error> {
+fn read(export: Export, bytes: &[u8], max_depth: usize) -> Result<(Reply<'_>, &[u8]), Error> {
     let mut out = exports::Reply::default();
     // SAFETY: the pointers are those of live borrows, and the bytes are only read. The call takes up to
-    // 107 KiB of stack at `MOST_LEVELS` (measured); where there is less, the thread's guard page ends
+    // 107 KiB of stack at `MAX_DEPTH` (measured); where there is less, the thread's guard page ends
     // the program.
-    let code = unsafe { export(bytes.as_ptr(), bytes.len(), levels, &mut out) };
+    let code = unsafe { export(bytes.as_ptr(), bytes.len(), max_depth, &mut out) };
     if code != exports::DONE {
         return Err(Error::of(code, None, NOTHING));
     }
-    let inside = at(bytes, out.place);
+    let inside = at(bytes, out.span);
     let reply = match out.kind {
         exports::RESP_SIMPLE => Reply::Simple(inside),
         exports::RESP_ERROR => Reply::Error(inside),
@@ -87,8 +87,8 @@ fn read(export: Export, bytes: &[u8], levels: usize) -> Result<(Reply<'_>, &[u8]
     Ok((reply, &bytes[out.length..]))
 }
 
-/// Parses the Redis reply (RESP2) at the start of `bytes`, whose arrays are nested at most `levels`
-/// deep. Returns the reply and the rest of the input.
+/// Parses the Redis reply (RESP2) at the start of `bytes`, whose arrays are nested at most
+/// `max_depth` deep. Returns the reply and the rest of the input.
 ///
 /// A call holds up to 32 bytes of memory for each byte of the reply, and 2 KiB for each level of
 /// arrays that has started (measured).
@@ -103,8 +103,8 @@ fn read(export: Export, bytes: &[u8], levels: usize) -> Result<(Reply<'_>, &[u8]
 /// assert_eq!(rest, b"+");
 /// # Ok::<(), pergidau::Error>(())
 /// ```
-pub fn reply(bytes: &[u8], levels: usize) -> Result<(Reply<'_>, &[u8]), Error> {
-    read(exports::exported_resp_reply, bytes, levels)
+pub fn reply(bytes: &[u8], max_depth: usize) -> Result<(Reply<'_>, &[u8]), Error> {
+    read(exports::exported_resp_reply, bytes, max_depth)
 }
 
 /// Like [`reply`], for partial input.
@@ -115,23 +115,23 @@ pub fn reply(bytes: &[u8], levels: usize) -> Result<(Reply<'_>, &[u8]), Error> {
 /// # Errors
 ///
 /// - [`Error::Incomplete`] if more bytes may be needed.
-/// - [`Error::Refused`] if `bytes` does not start with a reply, regardless of what follows.
+/// - [`Error::Invalid`] if `bytes` does not start with a reply, regardless of what follows.
 ///
 /// ```
 /// use pergidau::{resp, Error};
 ///
-/// assert_eq!(resp::reply_in_pieces(b"$6\r\nfoo", 0), Err(Error::Incomplete));
-/// assert_eq!(resp::reply_in_pieces(b"$x\r\n", 0), Err(Error::Refused(None)));
+/// assert_eq!(resp::reply_partial(b"$6\r\nfoo", 0), Err(Error::Incomplete));
+/// assert_eq!(resp::reply_partial(b"$x\r\n", 0), Err(Error::Invalid(None)));
 /// ```
-pub fn reply_in_pieces(bytes: &[u8], levels: usize) -> Result<(Reply<'_>, &[u8]), Error> {
-    read(exports::exported_resp_reply_in_pieces, bytes, levels)
+pub fn reply_partial(bytes: &[u8], max_depth: usize) -> Result<(Reply<'_>, &[u8]), Error> {
+    read(exports::exported_resp_reply_partial, bytes, max_depth)
 }
 
 /// The state of a search for the end of a reply in input that arrives in chunks.
 ///
 /// No call looks again at bytes that an earlier call scanned. So all calls for a reply take time
-/// linear in its length, for any number of chunks, whereas [`reply_in_pieces`] parses from the
-/// first byte each time.
+/// linear in its length, for any number of chunks, whereas [`reply_partial`] parses from the first
+/// byte each time.
 ///
 /// ```
 /// use pergidau::resp::{self, Extent, Reply};
@@ -151,7 +151,7 @@ pub fn reply_in_pieces(bytes: &[u8], levels: usize) -> Result<(Reply<'_>, &[u8])
 /// ```
 #[derive(Clone, Debug, Default, PartialEq, Eq)]
 pub struct Extent {
-    state: exports::RespExtent,
+    state: exports::RespReplyState,
 }
 
 impl Extent {
@@ -169,7 +169,7 @@ impl Extent {
     ///
     /// # Errors
     ///
-    /// [`Error::Refused`] if `bytes` does not start with a reply, regardless of what follows.
+    /// [`Error::Invalid`] if `bytes` does not start with a reply, regardless of what follows.
     pub fn advance(&mut self, bytes: &[u8]) -> Result<Option<usize>, Error> {
         let mut length = 0;
         // SAFETY: the pointers are those of live borrows, and the bytes are only read. The call takes up
@@ -195,7 +195,7 @@ mod tests {
         let mut elements = Elements { left: b":1\r\nx:2\r\n", count: 3 };
         assert_eq!(elements.next(), Some(Ok(Reply::Integer(1))));
         assert_eq!(elements.len(), 2);
-        assert_eq!(elements.next(), Some(Err(Error::Refused(None))));
+        assert_eq!(elements.next(), Some(Err(Error::Invalid(None))));
         assert_eq!(elements.len(), 0);
         assert_eq!(elements.next(), None);
     }

@@ -14,7 +14,7 @@
 //! ```
 pub use crate::exports::TomlNode as Node;
 
-use crate::{exports, Place, Span, Wanted};
+use crate::{exports, Position, RequiredSize, Span};
 use core::{fmt, str};
 
 /// The reason why a text is not a document, and its position.
@@ -22,9 +22,9 @@ use core::{fmt, str};
 #[non_exhaustive]
 pub enum Error {
     /// A syntax error: the text at the position is not as expected.
-    Unexpected(Place, Expected),
+    Unexpected(Position, Expected),
     /// The standard forbids the line that starts at the position, because of earlier lines.
-    Refused(Place, Refusal),
+    Invalid(Position, Reason),
     /// An error that is not specific to TOML.
     Other(crate::Error),
 }
@@ -48,22 +48,22 @@ pub enum Expected {
 
 /// The reason why the standard forbids a line.
 #[derive(Clone, Copy, Debug, PartialEq, Eq)]
-pub enum Refusal {
+pub enum Reason {
     /// Its key is already defined.
     Defined,
     /// It takes a value for a table.
-    NoTable,
+    NotATable,
     /// It adds to a table that is closed: an inline table, or by dotted keys one of a header.
     Closed,
     /// It adds a table to a key that is not an array of tables.
-    NoTables,
+    NotAnArrayOfTables,
 }
 
 impl fmt::Display for Error {
     fn fmt(&self, f: &mut fmt::Formatter<'_>) -> fmt::Result {
         match self {
-            Error::Unexpected(place, expected) => write!(f, "{place}: expected {expected}"),
-            Error::Refused(place, why) => write!(f, "{place}: {why}"),
+            Error::Unexpected(position, expected) => write!(f, "{position}: expected {expected}"),
+            Error::Invalid(position, reason) => write!(f, "{position}: {reason}"),
             Error::Other(error) => error.fmt(f),
         }
     }
@@ -82,13 +82,13 @@ impl fmt::Display for Expected {
     }
 }
 
-impl fmt::Display for Refusal {
+impl fmt::Display for Reason {
     fn fmt(&self, f: &mut fmt::Formatter<'_>) -> fmt::Result {
         f.write_str(match self {
-            Refusal::Defined => "it is defined already",
-            Refusal::NoTable => "it takes a value for a table",
-            Refusal::Closed => "it adds to a table that is closed",
-            Refusal::NoTables => "it adds a table to what is no array of tables",
+            Reason::Defined => "key is already defined",
+            Reason::NotATable => "key is not a table",
+            Reason::Closed => "table cannot be extended",
+            Reason::NotAnArrayOfTables => "key is not an array of tables",
         })
     }
 }
@@ -98,26 +98,28 @@ impl std::error::Error for Error {}
 
 impl Error {
     /// Converts a code other than `DONE`, with the fields that were written.
-    fn of(code: u32, text: &str, out: &exports::TomlDocument) -> Error {
-        let place = Place::of(text.as_bytes(), out.place);
-        let expected = match out.fault {
-            exports::TOML_FAULT_NONE => {
-                let wanted = Wanted { entries: out.nodes, bytes: out.text };
-                return Error::Other(crate::Error::of(code, Some(place), wanted));
+    fn of(code: u32, text: &str, out: &exports::TomlResult) -> Error {
+        let position = Position::of(text.as_bytes(), out.error_offset);
+        let expected = match out.error {
+            exports::TOML_ERROR_NONE => {
+                let required = RequiredSize { entries: out.nodes, bytes: out.text };
+                return Error::Other(crate::Error::of(code, Some(position), required));
             }
-            exports::TOML_FAULT_KEY => Expected::Key,
-            exports::TOML_FAULT_EQUALS_SIGN => Expected::EqualsSign,
-            exports::TOML_FAULT_VALUE => Expected::Value,
-            exports::TOML_FAULT_TABLE_NAME => Expected::TableName,
-            exports::TOML_FAULT_CLOSING_BRACKET => Expected::ClosingBracket,
-            exports::TOML_FAULT_LINE_END => Expected::LineEnd,
-            exports::TOML_FAULT_DEFINED => return Error::Refused(place, Refusal::Defined),
-            exports::TOML_FAULT_NO_TABLE => return Error::Refused(place, Refusal::NoTable),
-            exports::TOML_FAULT_CLOSED => return Error::Refused(place, Refusal::Closed),
-            exports::TOML_FAULT_NO_TABLES => return Error::Refused(place, Refusal::NoTables),
+            exports::TOML_ERROR_KEY => Expected::Key,
+            exports::TOML_ERROR_EQUALS_SIGN => Expected::EqualsSign,
+            exports::TOML_ERROR_VALUE => Expected::Value,
+            exports::TOML_ERROR_TABLE_NAME => Expected::TableName,
+            exports::TOML_ERROR_CLOSING_BRACKET => Expected::ClosingBracket,
+            exports::TOML_ERROR_LINE_END => Expected::LineEnd,
+            exports::TOML_ERROR_DEFINED => return Error::Invalid(position, Reason::Defined),
+            exports::TOML_ERROR_NOT_A_TABLE => return Error::Invalid(position, Reason::NotATable),
+            exports::TOML_ERROR_CLOSED => return Error::Invalid(position, Reason::Closed),
+            exports::TOML_ERROR_NOT_AN_ARRAY_OF_TABLES => {
+                return Error::Invalid(position, Reason::NotAnArrayOfTables);
+            }
             _ => return Error::Other(crate::Error::Unknown(code)),
         };
-        Error::Unexpected(place, expected)
+        Error::Unexpected(position, expected)
     }
 }
 
@@ -342,17 +344,18 @@ impl<'b> Iterator for Children<'b> {
     }
 }
 
-/// Parses a TOML document whose values have arrays and inline tables nested at most `levels` deep.
+/// Parses a TOML document whose values have arrays and inline tables nested at most `max_depth`
+/// deep.
 ///
 /// The nodes are written into `nodes`, and the bytes of their names and texts into `text`.
 ///
 /// # Errors
 ///
-/// - [`Error::Unexpected`] or [`Error::Refused`] if `source` is not a document.
-/// - [`Error::Other`] with [`crate::Error::TooSmall`] if a buffer is too small; it holds the
+/// - [`Error::Unexpected`] or [`Error::Invalid`] if `source` is not a document.
+/// - [`Error::Other`] with [`crate::Error::BufferTooSmall`] if a buffer is too small; it holds the
 ///   required sizes.
-/// - [`Error::Other`] with [`crate::Error::TooDeep`] if `levels` is above
-///   [`MOST_LEVELS`](crate::MOST_LEVELS).
+/// - [`Error::Other`] with [`crate::Error::MaxDepthTooLarge`] if `max_depth` is above
+///   [`MAX_DEPTH`](crate::MAX_DEPTH).
 ///
 /// # Memory
 ///
@@ -362,25 +365,25 @@ impl<'b> Iterator for Children<'b> {
 /// use pergidau::toml::{self, Node};
 ///
 /// let (mut text, mut nodes) = ([0; 64], [Node::default(); 8]);
-/// let refused = toml::parse("[a]\nb 2\n", 0, &mut text, &mut nodes).unwrap_err();
-/// assert_eq!(refused.to_string(), "line 2, column 3: expected `=`");
-/// let refused = toml::parse("a = 1\na = 2\n", 0, &mut text, &mut nodes).unwrap_err();
-/// assert_eq!(refused.to_string(), "line 2, column 1: it is defined already");
+/// let error = toml::parse("[a]\nb 2\n", 0, &mut text, &mut nodes).unwrap_err();
+/// assert_eq!(error.to_string(), "line 2, column 3: expected `=`");
+/// let error = toml::parse("a = 1\na = 2\n", 0, &mut text, &mut nodes).unwrap_err();
+/// assert_eq!(error.to_string(), "line 2, column 1: key is already defined");
 /// ```
 pub fn parse<'b>(
     source: &str,
-    levels: usize,
+    max_depth: usize,
     text: &'b mut [u8],
     nodes: &'b mut [Node],
 ) -> Result<Document<'b>, Error> {
-    let mut out = exports::TomlDocument::default();
+    let mut out = exports::TomlResult::default();
     let (bytes, room) = (text.as_mut_ptr(), text.len());
     let (places, count) = (nodes.as_mut_ptr(), nodes.len());
     // SAFETY: the pointers are those of live borrows, and the text is only read. The call takes up to
     // 510 KiB of stack (measured); where there is less, the thread's guard page ends the program.
     let code = unsafe {
         exports::exported_toml_document(
-            source.as_ptr(), source.len(), levels, bytes, room, places, count, &mut out,
+            source.as_ptr(), source.len(), max_depth, bytes, room, places, count, &mut out,
         )
     };
     match (code, str::from_utf8(&text[..out.text.min(text.len())])) {

@@ -17,7 +17,7 @@ use Rattle.format_ini.specs.declared.places.Reading.{Reading}
 use Rattle.format_ini.specs.declared.places.Stop.{Stop}
 use Rattle.format_ini.specs.declared.places.Stop.TheVariants as stops
 use Rattle.exported.proofs.DialectTexts.{line_text, mark_text, rest_text}
-use Rattle.exported.specs.Code.{done, end, no_text, refused}
+use Rattle.exported.specs.Code.{done, end, invalid, invalid_utf8}
 use Rattle.exported.specs.Dialects.{EntriesInTurn, IsFrom, TellsEntry, Writes, dialect_of}
 use Rattle.exported.specs.Dialects.{fault_number, reading_at, said_by, zeros}
 use Rattle.exported.specs.declared.ini.dialects.IniEntry.{IniEntry}
@@ -145,9 +145,9 @@ over_by dialect bytes said from new (Err (stops.Refused reason)) out next (code,
 refused_by : (dialect : ℕ) (bytes : List ℕ) (said : List Said) (from new : Reading)
     (answer : Result (Option Placed) Stop) (out : IniEntry)
     → NextPlaced (dialect_of dialect) bytes from answer new
-    → Writes answer new.offset refused out → SoFar dialect bytes said from
-    → (reason : Refusal) × (out.fault ≡ fault_number reason)
-    × IsRefused (dialect_of dialect) bytes (record { offset = out.place; why = reason })
+    → Writes answer new.offset invalid out → SoFar dialect bytes said from
+    → (reason : Refusal) × (out.error ≡ fault_number reason)
+    × IsRefused (dialect_of dialect) bytes (record { offset = out.error_offset; why = reason })
 refused_by dialect bytes said from new (Err (stops.Refused reason)) out
     ((least, passes), less, stop) (code, (kind, key, value, place, fault)) here =
     let (lines, mark, reads) = passed dialect bytes said from new here passes in (
@@ -173,7 +173,7 @@ refused_by dialect bytes said from new (Err stops.NoText) out next (code, none) 
 no_text_by : (dialect : ℕ) (bytes : List ℕ) (said : List Said) (from new : Reading)
     (answer : Result (Option Placed) Stop) (out : IniEntry)
     → NextPlaced (dialect_of dialect) bytes from answer new
-    → Writes answer new.offset no_text out → SoFar dialect bytes said from → IsUtf8 bytes → ⊥
+    → Writes answer new.offset invalid_utf8 out → SoFar dialect bytes said from → IsUtf8 bytes → ⊥
 no_text_by dialect bytes said from new (Err stops.NoText) out
     ((least, passes), less, (line, behind, first, bad)) writes here is =
     let (lines, mark, (every, are, says)) = passed dialect bytes said from new here passes in
@@ -198,12 +198,12 @@ module _ (dialect : ℕ) (bytes : List ℕ) (outs : List IniEntry) (said : List 
   whole last = over_by dialect bytes said last.from (reading_at next) last.answer out last.next
       last.writes (here last.from last.begins)
 
-  pub refuses : TellsEntry dialect state next bytes refused out
-      → (reason : Refusal) × (out.fault ≡ fault_number reason)
-      × IsRefused (dialect_of dialect) bytes (record { offset = out.place; why = reason })
+  pub refuses : TellsEntry dialect state next bytes invalid out
+      → (reason : Refusal) × (out.error ≡ fault_number reason)
+      × IsRefused (dialect_of dialect) bytes (record { offset = out.error_offset; why = reason })
   refuses last = refused_by dialect bytes said last.from (reading_at next) last.answer out
       last.next last.writes (here last.from last.begins)
 
-  pub no_texts : TellsEntry dialect state next bytes no_text out → IsUtf8 bytes → ⊥
+  pub no_texts : TellsEntry dialect state next bytes invalid_utf8 out → IsUtf8 bytes → ⊥
   no_texts last = no_text_by dialect bytes said last.from (reading_at next) last.answer out
       last.next last.writes (here last.from last.begins)

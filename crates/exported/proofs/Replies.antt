@@ -155,7 +155,7 @@ module _ (level : ℕ) (input rest : List ℕ) (reply : Found) (it : Reply) wher
       shown_made (Reply-F.Error text) (made.Error text) same (error_is text)
 
   pub integer_shown : (number : ℤ) → reply ≡ made.Integer number → Tells it 2 number 0
-      → it.place ≡ nowhere → IsShown level input rest reply it
+      → it.span ≡ nowhere → IsShown level input rest reply it
   integer_shown number same told none =
       shown_made (Reply-F.Integer number) (made.Integer number) same (integer_is number)
       (told, none)
@@ -165,7 +165,7 @@ module _ (level : ℕ) (input rest : List ℕ) (reply : Found) (it : Reply) wher
   bulk_shown text same =
       shown_made (Reply-F.Bulk text) (made.Bulk text) same (bulk_is text)
 
-  pub null_bulk_shown : reply ≡ made.NullBulk → Tells it 4 (pos 0) 0 → it.place ≡ nowhere
+  pub null_bulk_shown : reply ≡ made.NullBulk → Tells it 4 (pos 0) 0 → it.span ≡ nowhere
       → IsShown level input rest reply it
   null_bulk_shown same told none =
       shown_made Reply-F.NullBulk made.NullBulk same null_bulk_is (told, none)
@@ -176,7 +176,7 @@ module _ (level : ℕ) (input rest : List ℕ) (reply : Found) (it : Reply) wher
   array_shown list same told are =
       shown_made (Reply-F.Array list) (made.Array list) same (array_is list) (told, are)
 
-  pub null_array_shown : reply ≡ made.NullArray → Tells it 6 (pos 0) 0 → it.place ≡ nowhere
+  pub null_array_shown : reply ≡ made.NullArray → Tells it 6 (pos 0) 0 → it.span ≡ nowhere
       → IsShown level input rest reply it
   null_array_shown same told none =
       shown_made Reply-F.NullArray made.NullArray same null_array_is (told, none)

@@ -10,7 +10,7 @@ use Rattle.format_http_chunked.specs.declared.decoder.Step.TheVariants as step
 use Rattle.format_http_chunked.specs.declared.places.Framing.TheVariants as framing
 use Rattle.format_http_chunked.specs.declared.places.Place.TheVariants as place
 use Rattle.format_http_chunked.specs.declared.state.ChunkedState.{ChunkedState}
-use Rattle.exported.specs.Code.{done, end, incomplete, refused}
+use Rattle.exported.specs.Code.{done, end, incomplete, invalid}
 use Rattle.exported.specs.Span.{StandsAt, nowhere}
 use Rattle.exported.specs.declared.http.chunked.ChunkedStep.{ChunkedStep}
 
@@ -33,21 +33,21 @@ fault_number fault.TrailersTooLong = 6
 
 -- Nothing is given out.
 abbrev pub GivesNone : ChunkedStep → Type 0
-GivesNone out = (out.kind ≡ 0) × (out.place ≡ nowhere)
+GivesNone out = (out.kind ≡ 0) × (out.span ≡ nowhere)
 
 -- `Writes bytes rest said code out`: `code` and `out` report the result `said` of the decoder,
 -- after which `rest` remains. The span of data or trailers ends directly before `rest`.
 abbrev pub Writes : List ℕ → List ℕ → Result Step Fault → ℕ → ChunkedStep → Type 0
 Writes bytes rest (Ok (step.Data chunk)) code out =
-    (code ≡ done) × (out.kind ≡ data_kind) × StandsAt bytes out.place chunk.now rest
-    × (out.fault ≡ 0)
+    (code ≡ done) × (out.kind ≡ data_kind) × StandsAt bytes out.span chunk.now rest
+    × (out.error ≡ 0)
 Writes bytes rest (Ok (step.Trailers fields)) code out =
-    (code ≡ done) × (out.kind ≡ trailers_kind) × StandsAt bytes out.place fields.now rest
-    × (out.fault ≡ 0)
-Writes bytes rest (Ok step.End) code out = (code ≡ end) × GivesNone out × (out.fault ≡ 0)
-Writes bytes rest (Ok step.More) code out = (code ≡ incomplete) × GivesNone out × (out.fault ≡ 0)
+    (code ≡ done) × (out.kind ≡ trailers_kind) × StandsAt bytes out.span fields.now rest
+    × (out.error ≡ 0)
+Writes bytes rest (Ok step.End) code out = (code ≡ end) × GivesNone out × (out.error ≡ 0)
+Writes bytes rest (Ok step.More) code out = (code ≡ incomplete) × GivesNone out × (out.error ≡ 0)
 Writes bytes rest (Err why) code out =
-    (code ≡ refused) × GivesNone out × (out.fault ≡ fault_number why)
+    (code ≡ invalid) × GivesNone out × (out.error ≡ fault_number why)
 
 -- `TellsStep old new bytes code out`: a call on `bytes` returns `code` and `out`, the result of the
 -- decoder that `old` represents. It consumes `out.taken` bytes, and `new` represents the decoder

@@ -19,7 +19,7 @@ use Rattle.format_ini.specs.declared.places.Placed.{Placed}
 use Rattle.format_ini.specs.declared.places.Reading.{Reading}
 use Rattle.format_ini.specs.declared.places.Stop.{Stop}
 use Rattle.format_ini.specs.declared.places.Stop.TheVariants as stops
-use Rattle.exported.specs.Code.{done, end, no_text, refused}
+use Rattle.exported.specs.Code.{done, end, invalid, invalid_utf8}
 use Rattle.exported.specs.Span.{nowhere, span_of}
 use Rattle.exported.specs.declared.ini.dialects.IniEntry.{IniEntry}
 use Rattle.exported.specs.declared.ini.dialects.IniState.{IniState}
@@ -100,7 +100,7 @@ fault_number why.NoDelimiter = 5
 
 -- `IsOfKind out kind`: `out` has this kind, and no error.
 abbrev pub IsOfKind : IniEntry → ℕ → Type 0
-IsOfKind out kind = (out.kind ≡ kind) × (out.place ≡ 0) × (out.fault ≡ 0)
+IsOfKind out kind = (out.kind ≡ kind) × (out.error_offset ≡ 0) × (out.error ≡ 0)
 
 -- An entry, by what it is and the places of its texts: each begins where it does in the bytes, and
 -- has as many as the text.
@@ -119,16 +119,16 @@ ShowsEntry (entries.More value) at out = IsOfKind out 3
 -- is the number of the reason.
 abbrev pub ShowsNone : IniEntry → ℕ → ℕ → Type 0
 ShowsNone out place fault = (out.kind ≡ 0) × (out.key ≡ nowhere) × (out.value ≡ nowhere)
-    × (out.place ≡ place) × (out.fault ≡ fault)
+    × (out.error_offset ≡ place) × (out.error ≡ fault)
 
 -- `Writes answer offset code out`: `code` and `out` report the result `answer` of the parser of
 -- entries; the next line starts at `offset`.
 abbrev pub Writes : Result (Option Placed) Stop → ℕ → ℕ → IniEntry → Type 0
 Writes (Ok (Some it)) offset code out = (code ≡ done) × ShowsEntry it.entry it.at out
 Writes (Ok None) offset code out = (code ≡ end) × ShowsNone out 0 0
-Writes (Err stops.NoText) offset code out = (code ≡ no_text) × ShowsNone out offset 0
+Writes (Err stops.NoText) offset code out = (code ≡ invalid_utf8) × ShowsNone out offset 0
 Writes (Err (stops.Refused reason)) offset code out =
-    (code ≡ refused) × ShowsNone out offset (fault_number reason)
+    (code ≡ invalid) × ShowsNone out offset (fault_number reason)
 
 -- `TellsEntry dialect old new bytes code out`: a call returns the result of the parser of entries
 -- that resumes at the position of `old`, and `new` represents its position afterwards.

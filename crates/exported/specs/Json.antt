@@ -18,7 +18,7 @@ number_of kinds.Object = 6
 
 -- nothing
 abbrev pub no_item : JsonItem
-no_item = record { kind = number_of kinds.Null; place = nowhere }
+no_item = record { kind = number_of kinds.Null; span = nowhere }
 
 -- `ShowsItem level input it`: after an optional separator, `input` has a value with the kind and
 -- the span in `it`, the longest one there, followed by the rest.
@@ -29,4 +29,4 @@ pub record ShowsItem (level : ℕ) (input : List ℕ) (it : JsonItem) : Type 0 w
   pub is_next : IsNext level text input rest
   pub is_kind : IsOfKind level kind text
   pub is_number : it.kind ≡ number_of kind
-  pub place : StandsAt input it.place text rest
+  pub place : StandsAt input it.span text rest

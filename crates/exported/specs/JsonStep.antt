@@ -27,4 +27,4 @@ pub record ShowsStep (input : List ℕ) (it : JsonItem) : Type 0 where
   pub step : Step
   pub is_next : IsNextStep step text input rest
   pub is_number : it.kind ≡ number_of_step step
-  pub place : StandsAt input it.place text rest
+  pub place : StandsAt input it.span text rest

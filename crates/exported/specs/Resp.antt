@@ -38,7 +38,7 @@ NoReplyForGood level input =
 
 -- the reply of nothing
 abbrev pub no_reply : Reply
-no_reply = record { kind = 0; number = pos 0; elements = 0; place = nowhere; length = 0 }
+no_reply = record { kind = 0; number = pos 0; elements = 0; span = nowhere; length = 0 }
 
 -- `AreElements level input rest elements it`: the span of the array in `it` holds the encodings of
 -- `elements`. It follows the first line of the array, and is followed by `rest`.
@@ -49,7 +49,7 @@ pub record AreElements (level : ℕ) (input rest : List ℕ) (elements : List Fo
   pub bytes : List ℕ
   pub are : EachText (ReplyText Resp2 inner) elements bytes
   pub behind_line : IsBehindFeed input (bytes ++ rest)
-  pub stand : StandsAt input it.place bytes rest
+  pub stand : StandsAt input it.span bytes rest
 
 -- `Tells it kind number elements`: `it` has this kind, this number, and this number of elements.
 pub record Tells (it : Reply) (kind : ℕ) (number : ℤ) (elements : ℕ) : Type 0 where
@@ -61,7 +61,7 @@ pub record Tells (it : Reply) (kind : ℕ) (number : ℤ) (elements : ℕ) : Typ
 -- `rest`, and neither a number nor elements.
 abbrev pub TellsText : ℕ → List ℕ → List ℕ → List ℕ → Reply → Type 0
 TellsText kind input rest text it =
-    Tells it kind (pos 0) 0 × StandsAt input it.place text (line_end ++ rest)
+    Tells it kind (pos 0) 0 × StandsAt input it.span text (line_end ++ rest)
 
 -- `IsShownBy level input rest opened it`: `it` describes a RESP2 reply of `input` that is followed
 -- by `rest`, by the kind of the reply.
@@ -69,12 +69,12 @@ abbrev pub IsShownBy : ℕ → List ℕ → List ℕ → Opened Global → Reply
 IsShownBy level input rest (Reply-F.Simple text) it = TellsText 0 input rest text.now it
 IsShownBy level input rest (Reply-F.Error text) it = TellsText 1 input rest text.now it
 IsShownBy level input rest (Reply-F.Integer number) it =
-    Tells it 2 number 0 × (it.place ≡ nowhere)
+    Tells it 2 number 0 × (it.span ≡ nowhere)
 IsShownBy level input rest (Reply-F.Bulk text) it = TellsText 3 input rest text.now it
-IsShownBy level input rest Reply-F.NullBulk it = Tells it 4 (pos 0) 0 × (it.place ≡ nowhere)
+IsShownBy level input rest Reply-F.NullBulk it = Tells it 4 (pos 0) 0 × (it.span ≡ nowhere)
 IsShownBy level input rest (Reply-F.Array list) it =
     Tells it 5 (pos 0) (length list.items) × AreElements level input rest list.items it
-IsShownBy level input rest Reply-F.NullArray it = Tells it 6 (pos 0) 0 × (it.place ≡ nowhere)
+IsShownBy level input rest Reply-F.NullArray it = Tells it 6 (pos 0) 0 × (it.span ≡ nowhere)
 IsShownBy level input rest kind it = ⊥
 
 abbrev pub IsShown : ℕ → List ℕ → List ℕ → Found → Reply → Type 0

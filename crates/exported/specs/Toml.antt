@@ -3,8 +3,8 @@ use Rattle.std.specs.Prelude.{◌≡◌, ℕ, List, [], Option, Ok}
 use Rattle.std.specs.Str.{IsUtf8, chars}
 use Rattle.std.specs.declared.alloc.Global.{Global}
 use Rattle.std.specs.declared.vec.Vec.{Vec}
-use Rattle.exported.specs.Code.{no_memory, no_text, refused}
-use Rattle.exported.specs.declared.toml.TomlDocument.{TomlDocument}
+use Rattle.exported.specs.Code.{invalid, invalid_utf8, no_memory}
+use Rattle.exported.specs.declared.toml.TomlResult.{TomlResult}
 use Rattle.format_toml.specs.Toml.{DocumentText}
 use Rattle.format_toml.specs.declared.expected.Expected.{Expected}
 use Rattle.format_toml.specs.declared.expected.Expected.TheVariants as lacks
@@ -53,25 +53,25 @@ place_of faults.OutOfMemory = 0
 
 -- the code that reports an error
 abbrev pub code_of : Fault → ℕ
-code_of (faults.Unexpected at expected) = refused
-code_of (faults.Refused at why) = refused
-code_of (faults.NotUtf8 at) = no_text
+code_of (faults.Unexpected at expected) = invalid
+code_of (faults.Refused at why) = invalid
+code_of (faults.NotUtf8 at) = invalid_utf8
 code_of faults.OutOfMemory = no_memory
 
 -- `IsFaultOf code level bytes out`: `out` has the offset and the number of an error of `bytes`, and
 -- `code` reports it.
-pub record IsFaultOf (code level : ℕ) (bytes : List ℕ) (out : TomlDocument) : Type 0 where
+pub record IsFaultOf (code level : ℕ) (bytes : List ℕ) (out : TomlResult) : Type 0 where
   pub fault : Fault
   pub is_code : code_of fault ≡ code
   pub tells : Tells Global level bytes fault
-  pub place : out.place ≡ place_of fault
-  pub number : out.fault ≡ fault_of fault
+  pub place : out.error_offset ≡ place_of fault
+  pub number : out.error ≡ fault_of fault
 
-abbrev pub IsRefusedDocument : ℕ → List ℕ → TomlDocument → Type 0
-IsRefusedDocument level bytes out = IsFaultOf refused level bytes out
+abbrev pub IsRefusedDocument : ℕ → List ℕ → TomlResult → Type 0
+IsRefusedDocument level bytes out = IsFaultOf invalid level bytes out
 
-abbrev pub IsNoText : ℕ → List ℕ → TomlDocument → Type 0
-IsNoText level bytes out = IsFaultOf no_text level bytes out
+abbrev pub IsNoText : ℕ → List ℕ → TomlResult → Type 0
+IsNoText level bytes out = IsFaultOf invalid_utf8 level bytes out
 
 -- ---- documents
 
@@ -81,7 +81,7 @@ ShowsTree tree text nodes = (given : Given Global) → HoldsTree tree.slots.item
     → AreNodesOf given text nodes
 
 -- `WantsTree tree found`: `tree` needs the sizes in `found`.
-abbrev pub WantsTree : Tree Global → TomlDocument → Type 0
+abbrev pub WantsTree : Tree Global → TomlResult → Type 0
 WantsTree tree found = IsSizeOf tree (record { nodes = found.nodes; text = found.text })
 
 -- `ShowsDocument level bytes text nodes`: `bytes` is UTF-8, its lines are TOML, the standard allows
@@ -96,6 +96,6 @@ pub record ShowsDocument (level : ℕ) (bytes text : List ℕ) (nodes : List Tom
 
 -- `WantsDocument level bytes found`: `bytes` is UTF-8, and a document that needs the sizes in
 -- `found`.
-abbrev pub WantsDocument : ℕ → List ℕ → TomlDocument → Type 0
+abbrev pub WantsDocument : ℕ → List ℕ → TomlResult → Type 0
 WantsDocument level bytes found = IsUtf8 bytes
     × ((tree : Tree Global) × IsDocument Global level bytes tree × WantsTree tree found)

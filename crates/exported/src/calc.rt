@@ -4,9 +4,9 @@ ghost use Rattle.std.specs.Prelude.{◌≡◌, ◌⊎◌, pos};
 ghost use Rattle.std.specs.Str.{IsUtf8};
 ghost use Rattle.format_calculator.specs.Calculator.{IsFormulaFault, IsValue};
 ghost use Rattle.format_calculator.specs.declared.fault.Fault.TheVariants.{Refused};
-ghost use Rattle.exported.specs.Code.{done, no_memory, no_text, refused};
+ghost use Rattle.exported.specs.Code.{done, invalid, invalid_utf8, no_memory};
 
-use crate::code::{DONE, NO_MEMORY, NO_TEXT, REFUSED};
+use crate::code::{DONE, INVALID, INVALID_UTF8, NO_MEMORY};
 use format_calculator::calc;
 use format_calculator::fault::Fault;
 use std::alloc::Global;
@@ -18,28 +18,37 @@ pub struct Number {
     /// The value, or 0 where there is none.
     pub value: i64,
     /// The offset of the error in bytes; 0 otherwise.
-    pub place: usize,
+    pub error_offset: usize,
 }
 
 /// No value.
-const NONE: Number = Number { value: 0, place: 0 };
+const NONE: Number = Number {
+    value: 0,
+    error_offset: 0,
+};
 
 /// Parses `text`, and writes its value or the offset of the error.
 fn read(alloc: Global, text: &str, out: &mut Number) -> u32
     ensures value { result ≡ done → IsValue text.now out.new.value }
-    ensures refused { result ≡ refused → IsFormulaFault text.now (Refused out.new.place) }
+    ensures refused { result ≡ invalid → IsFormulaFault text.now (Refused out.new.error_offset) }
     ensures none { (result ≡ done → ⊥) → out.new.value ≡ pos 0 }
-    ensures nowhere { (result ≡ refused → ⊥) → out.new.place ≡ 0 }
-    ensures codes { (result ≡ done) ⊎ ((result ≡ refused) ⊎ (result ≡ no_memory)) }
+    ensures nowhere { (result ≡ invalid → ⊥) → out.new.error_offset ≡ 0 }
+    ensures codes { (result ≡ done) ⊎ ((result ≡ invalid) ⊎ (result ≡ no_memory)) }
 {
     match calc::value(alloc, text) {
         Ok(value) => {
-            *out = Number { value, place: 0 };
+            *out = Number {
+                value,
+                error_offset: 0,
+            };
             DONE
         }
         Err(Fault::Refused(place)) => {
-            *out = Number { value: 0, place };
-            REFUSED
+            *out = Number {
+                value: 0,
+                error_offset: place,
+            };
+            INVALID
         }
         Err(Fault::NoMemory) => {
             *out = NONE;
@@ -62,13 +71,13 @@ fn read(alloc: Global, text: &str, out: &mut Number) -> u32
 ///
 /// # Errors
 ///
-/// `REFUSED`: the text is not a formula, a number or a result does not fit a signed 64-bit integer,
+/// `INVALID`: the text is not a formula, a number or a result does not fit a signed 64-bit integer,
 /// a divisor is 0, an exponent is negative, or the operand of a factorial is negative. `%` also
 /// fails if the quotient does not fit, as in `-2 ^ 63 % -1`. The offset of the error is written. It
 /// is the start or the end of the text, or lies between two of its characters. It is tested, but
 /// not proved, that the formula was parsed up to there.
 ///
-/// `NO_TEXT`, `NO_MEMORY`.
+/// `INVALID_UTF8`, `NO_MEMORY`.
 ///
 /// # Safety
 ///
@@ -78,19 +87,19 @@ fn read(alloc: Global, text: &str, out: &mut Number) -> u32
 #[unsafe(no_mangle)]
 pub extern "C" fn exported_calc_value(alloc: Global, text: &[u8], out: &mut Number) -> u32
     ensures value { result ≡ done → IsUtf8 text.now × IsValue text.now out.new.value }
-    ensures refused { result ≡ refused
-        → IsUtf8 text.now × IsFormulaFault text.now (Refused out.new.place) }
+    ensures refused { result ≡ invalid
+        → IsUtf8 text.now × IsFormulaFault text.now (Refused out.new.error_offset) }
     ensures none { (result ≡ done → ⊥) → out.new.value ≡ pos 0 }
-    ensures nowhere { (result ≡ refused → ⊥) → out.new.place ≡ 0 }
-    ensures text { result ≡ no_text → IsUtf8 text.now → ⊥ }
-    ensures codes { (result ≡ done) ⊎ ((result ≡ refused) ⊎ ((result ≡ no_text)
+    ensures nowhere { (result ≡ invalid → ⊥) → out.new.error_offset ≡ 0 }
+    ensures text { result ≡ invalid_utf8 → IsUtf8 text.now → ⊥ }
+    ensures codes { (result ≡ done) ⊎ ((result ≡ invalid) ⊎ ((result ≡ invalid_utf8)
         ⊎ (result ≡ no_memory))) }
 {
     match str::from_utf8(text) {
         Ok(chars) => read(alloc, chars, out),
         Err(_) => {
             *out = NONE;
-            NO_TEXT
+            INVALID_UTF8
         }
     }
 }

@@ -4,7 +4,7 @@
 pub const DONE: u32 = 0;
 
 /// Invalid input. If the function documents it, the offset of the error is written.
-pub const REFUSED: u32 = 1;
+pub const INVALID: u32 = 1;
 
 /// Incomplete input: more bytes are needed.
 pub const INCOMPLETE: u32 = 2;
@@ -13,14 +13,14 @@ pub const INCOMPLETE: u32 = 2;
 pub const NO_MEMORY: u32 = 3;
 
 /// Input is not valid UTF-8.
-pub const NO_TEXT: u32 = 4;
+pub const INVALID_UTF8: u32 = 4;
 
 /// Buffer too small. The required sizes are written, and the buffer is unchanged unless the
 /// function documents otherwise.
-pub const TOO_SMALL: u32 = 5;
+pub const BUFFER_TOO_SMALL: u32 = 5;
 
-/// Depth limit too large: at most 512 levels are supported. That number is `MOST_LEVELS`.
-pub const TOO_DEEP: u32 = 6;
+/// Depth limit too large: at most 512 levels are supported. That number is `MAX_DEPTH`.
+pub const MAX_DEPTH_TOO_LARGE: u32 = 6;
 
 /// Null pointer. Memory would be read or written through it.
 pub const NULL: u32 = 7;
@@ -32,4 +32,4 @@ pub const TOO_LONG: u32 = 8;
 pub const END: u32 = 9;
 
 /// Number is not an integer or out of range. The function determines the range.
-pub const NO_INTEGER: u32 = 10;
+pub const NOT_AN_INTEGER: u32 = 10;

@@ -5,14 +5,14 @@ ghost use Rattle.format_csv_records.specs.Buffers.{IsForGood, IsSized, NoneForGo
 ghost use Rattle.format_csv_records.specs.Buffers.{ShowsFields};
 ghost use Rattle.format_csv_records.specs.Dialects.{IsRecord};
 ghost use Rattle.format_csv_records.specs.Early.{BeginsNone, GoesOn};
-ghost use Rattle.exported.specs.Code.{done, incomplete, refused, too_small};
+ghost use Rattle.exported.specs.Code.{buffer_too_small, done, incomplete, invalid};
 ghost use Rattle.exported.specs.Csv.{IsRefusedAt, NoRecord, ShowsRecord, WantsRecord};
 ghost use Rattle.exported.specs.Csv.{dialect_of};
 ghost use Rattle.exported.specs.Span.{span_of};
 
 pub mod extent;
 
-use crate::code::{DONE, INCOMPLETE, REFUSED, TOO_SMALL};
+use crate::code::{BUFFER_TOO_SMALL, DONE, INCOMPLETE, INVALID};
 use crate::span::Span;
 use format_csv_records::buffers::{RecordSize, record_size, write_fields};
 use format_csv_records::dialect::{Dialect, LineEnds};
@@ -28,18 +28,18 @@ pub struct Record {
     /// The length of the record in the input in bytes, including its line ending.
     pub length: usize,
     /// The offset of the first invalid byte; 0 otherwise.
-    pub place: usize,
+    pub error_offset: usize,
 }
 
 /// Returns a record without fields, with the offset of an error.
 pub(crate) fn none_at(place: usize) -> Record
-    ensures { result.place ≡ place }
+    ensures { result.error_offset ≡ place }
 {
     Record {
         fields: 0,
         text: 0,
         length: 0,
-        place,
+        error_offset: place,
     }
 }
 
@@ -65,27 +65,27 @@ fn write_record(
     out: &mut Record,
 ) -> u32
     requires { IsSized dialect bytes.now size }
-    ensures nowhere { out.new.place ≡ 0 }
+    ensures nowhere { out.new.error_offset ≡ 0 }
     ensures sized { (out.new.fields ≡ size.fields) × (out.new.text ≡ size.text)
         × (out.new.length ≡ size.length) }
     ensures record { result ≡ done
         → ShowsFields span_of dialect bytes.now size (take out.new.text text.new)
         (take out.new.fields fields.new) }
-    ensures small { result ≡ too_small
+    ensures small { result ≡ buffer_too_small
         → (length fields.old < out.new.fields) ⊎ (length text.old < out.new.text) }
-    ensures kept { result ≡ too_small → (fields.new ≡ fields.old) × (text.new ≡ text.old) }
-    ensures codes { (result ≡ done) ⊎ (result ≡ too_small) }
+    ensures kept { result ≡ buffer_too_small → (fields.new ≡ fields.old) × (text.new ≡ text.old) }
+    ensures codes { (result ≡ done) ⊎ (result ≡ buffer_too_small) }
 {
     *out = Record {
         fields: size.fields,
         text: size.text,
         length: size.length,
-        place: 0,
+        error_offset: 0,
     };
     if write_fields(dialect, bytes, size, text, fields) {
         DONE
     } else {
-        TOO_SMALL
+        BUFFER_TOO_SMALL
     }
 }
 
@@ -106,12 +106,12 @@ fn write_record(
 ///
 /// # Errors
 ///
-/// `REFUSED`: `bytes` does not start with a record. The first offset at which no record can
+/// `INVALID`: `bytes` does not start with a record. The first offset at which no record can
 /// continue is written: the bytes before it are a prefix of a record, and together with the byte
 /// there they are not.
 ///
-/// `TOO_SMALL`: the record has more fields or more bytes than the buffers. The required numbers of
-/// both are written.
+/// `BUFFER_TOO_SMALL`: the record has more fields or more bytes than the buffers. The required
+/// numbers of both are written.
 ///
 /// After an error the buffers are unchanged.
 ///
@@ -132,23 +132,23 @@ pub extern "C" fn exported_csv_record(
     ensures record { result ≡ done
         → ShowsRecord (IsRecord (dialect_of line_feeds)) bytes.now out.new
         (take out.new.text text.new) (take out.new.fields fields.new) }
-    ensures small { result ≡ too_small
+    ensures small { result ≡ buffer_too_small
         → WantsRecord (IsRecord (dialect_of line_feeds)) bytes.now out.new
         × ((length fields.old < out.new.fields) ⊎ (length text.old < out.new.text)) }
     ensures kept { (result ≡ done → ⊥) → (fields.new ≡ fields.old) × (text.new ≡ text.old) }
-    ensures refused { result ≡ refused → NoRecord (dialect_of line_feeds) bytes.now
-        × IsRefusedAt (dialect_of line_feeds) bytes.now out.new.place }
-    ensures nowhere { (result ≡ refused → ⊥) → out.new.place ≡ 0 }
-    ensures codes { (result ≡ done) ⊎ ((result ≡ too_small) ⊎ (result ≡ refused)) }
+    ensures refused { result ≡ invalid → NoRecord (dialect_of line_feeds) bytes.now
+        × IsRefusedAt (dialect_of line_feeds) bytes.now out.new.error_offset }
+    ensures nowhere { (result ≡ invalid → ⊥) → out.new.error_offset ≡ 0 }
+    ensures codes { (result ≡ done) ⊎ ((result ≡ buffer_too_small) ⊎ (result ≡ invalid)) }
 {
     *out = none_at(0);
     let dialect = dialect(line_feeds);
     match record_size(dialect, bytes) {
         Ok(Some(size)) => write_record(dialect, bytes, size, text, fields, out),
-        Ok(None) => REFUSED,
+        Ok(None) => INVALID,
         Err(fault) => {
             *out = none_at(fault.offset);
-            REFUSED
+            INVALID
         }
     }
 }
@@ -167,10 +167,10 @@ pub extern "C" fn exported_csv_record(
 ///
 /// # Errors
 ///
-/// `REFUSED`: `bytes` does not start with a record, regardless of what follows. This is returned as
+/// `INVALID`: `bytes` does not start with a record, regardless of what follows. This is returned as
 /// soon as the first invalid byte is there, and its offset is written: 1 for `x"`.
 ///
-/// `TOO_SMALL`: as for complete input.
+/// `BUFFER_TOO_SMALL`: as for complete input.
 ///
 /// # Safety
 ///
@@ -179,7 +179,7 @@ pub extern "C" fn exported_csv_record(
 /// entries, and `out` for writes of one record. None of these may overlap. The call needs 16 KiB of
 /// stack.
 #[unsafe(no_mangle)]
-pub extern "C" fn exported_csv_record_in_pieces(
+pub extern "C" fn exported_csv_record_partial(
     bytes: &[u8],
     line_feeds: u32,
     text: &mut [u8],
@@ -189,17 +189,17 @@ pub extern "C" fn exported_csv_record_in_pieces(
     ensures record { result ≡ done
         → ShowsRecord (IsForGood (dialect_of line_feeds)) bytes.now out.new
         (take out.new.text text.new) (take out.new.fields fields.new) }
-    ensures small { result ≡ too_small
+    ensures small { result ≡ buffer_too_small
         → WantsRecord (IsForGood (dialect_of line_feeds)) bytes.now out.new
         × ((length fields.old < out.new.fields) ⊎ (length text.old < out.new.text)) }
     ensures kept { (result ≡ done → ⊥) → (fields.new ≡ fields.old) × (text.new ≡ text.old) }
-    ensures refused { result ≡ refused → BeginsNone (dialect_of line_feeds) bytes.now
-        × IsRefusedAt (dialect_of line_feeds) bytes.now out.new.place
-        × (out.new.place < length bytes.now) }
-    ensures nowhere { (result ≡ refused → ⊥) → out.new.place ≡ 0 }
+    ensures refused { result ≡ invalid → BeginsNone (dialect_of line_feeds) bytes.now
+        × IsRefusedAt (dialect_of line_feeds) bytes.now out.new.error_offset
+        × (out.new.error_offset < length bytes.now) }
+    ensures nowhere { (result ≡ invalid → ⊥) → out.new.error_offset ≡ 0 }
     ensures incomplete { result ≡ incomplete → NoneForGood (dialect_of line_feeds) bytes.now
         × GoesOn (dialect_of line_feeds) bytes.now }
-    ensures codes { (result ≡ done) ⊎ ((result ≡ too_small) ⊎ ((result ≡ refused)
+    ensures codes { (result ≡ done) ⊎ ((result ≡ buffer_too_small) ⊎ ((result ≡ invalid)
         ⊎ (result ≡ incomplete))) }
 {
     *out = none_at(0);
@@ -218,7 +218,7 @@ pub extern "C" fn exported_csv_record_in_pieces(
                 return INCOMPLETE;
             }
             *out = none_at(fault.offset);
-            REFUSED
+            INVALID
         }
     }
 }

@@ -6,14 +6,14 @@ ghost use Rattle.format_http.specs.Heads.Head.{IsHead, Pair, Request};
 ghost use Rattle.format_http.specs.Heads.Head.{BeginsHead, NoHead};
 ghost use Rattle.format_http_places.specs.Places.{IsWanted, ShowsHead};
 ghost use Rattle.format_http_places.specs.Refusals.{IsRefused};
-ghost use Rattle.exported.specs.Code.{done, incomplete, refused, too_small};
+ghost use Rattle.exported.specs.Code.{buffer_too_small, done, incomplete, invalid};
 ghost use Rattle.exported.specs.Http.{IsNoHead, places_of};
 
 pub mod chunked;
 pub mod extent;
 pub mod response;
 
-use crate::code::{DONE, INCOMPLETE, REFUSED, TOO_SMALL};
+use crate::code::{BUFFER_TOO_SMALL, DONE, INCOMPLETE, INVALID};
 use format_http_places::places;
 pub use format_http_places::places::{Field, Span};
 use format_http_places::read::{HeadError, read_head_into};
@@ -31,7 +31,7 @@ pub struct Head {
     /// The length of the head in bytes, including the empty line after the fields.
     pub length: usize,
     /// The offset of the error in bytes; 0 otherwise.
-    pub place: usize,
+    pub error_offset: usize,
     /// The number before the point of the version, below 10.
     pub major: u8,
     /// The number after the point of the version, below 10.
@@ -41,7 +41,7 @@ pub struct Head {
 /// Returns an empty head with a number of fields and the offset of an error.
 fn none(fields: usize, place: usize) -> Head
     ensures fields { result.fields ≡ fields }
-    ensures place { result.place ≡ place }
+    ensures place { result.error_offset ≡ place }
 {
     let nowhere = Span {
         offset: 0,
@@ -52,7 +52,7 @@ fn none(fields: usize, place: usize) -> Head
         target: nowhere,
         fields,
         length: 0,
-        place,
+        error_offset: place,
         major: 0,
         minor: 0,
     }
@@ -61,14 +61,14 @@ fn none(fields: usize, place: usize) -> Head
 /// A head that was found.
 fn head_of(found: places::Head) -> Head
     ensures places { places_of result ≡ found }
-    ensures place { result.place ≡ 0 }
+    ensures place { result.error_offset ≡ 0 }
 {
     Head {
         method: found.method,
         target: found.target,
         fields: found.fields,
         length: found.length,
-        place: 0,
+        error_offset: 0,
         major: found.major,
         minor: found.minor,
     }
@@ -84,11 +84,11 @@ fn head_of(found: places::Head) -> Head
 ///
 /// # Errors
 ///
-/// `REFUSED`: `bytes` does not start with a head. The first offset at which no head can continue is
+/// `INVALID`: `bytes` does not start with a head. The first offset at which no head can continue is
 /// written; it is the end of `bytes` if they end within a head.
 ///
-/// `TOO_SMALL`: the head has more fields than the buffer has entries. The number of fields is
-/// written.
+/// `BUFFER_TOO_SMALL`: the head has more fields than the buffer has entries. The number of fields
+/// is written.
 ///
 /// After an error the contents of the buffer are unspecified, because the fields are written during
 /// parsing.
@@ -102,13 +102,13 @@ fn head_of(found: places::Head) -> Head
 pub extern "C" fn exported_http_head(bytes: &[u8], fields: &mut [Field], out: &mut Head) -> u32
     ensures head { result ≡ done
         → ShowsHead bytes.now (places_of out.new) (take out.new.fields fields.new) }
-    ensures small { result ≡ too_small → IsWanted bytes.now out.new.fields
+    ensures small { result ≡ buffer_too_small → IsWanted bytes.now out.new.fields
         × (length fields.old < out.new.fields) }
-    ensures refused { result ≡ refused → (line : Request) (pairs : List Pair) (rest : List ℕ)
+    ensures refused { result ≡ invalid → (line : Request) (pairs : List Pair) (rest : List ℕ)
         → IsHead line pairs bytes.now rest → ⊥ }
-    ensures place { result ≡ refused → IsNoHead bytes.now out.new.place }
-    ensures nowhere { (result ≡ refused → ⊥) → out.new.place ≡ 0 }
-    ensures codes { (result ≡ done) ⊎ ((result ≡ too_small) ⊎ (result ≡ refused)) }
+    ensures place { result ≡ invalid → IsNoHead bytes.now out.new.error_offset }
+    ensures nowhere { (result ≡ invalid → ⊥) → out.new.error_offset ≡ 0 }
+    ensures codes { (result ≡ done) ⊎ ((result ≡ buffer_too_small) ⊎ (result ≡ invalid)) }
 {
     match read_head_into(bytes, fields) {
         Ok(found) => {
@@ -117,15 +117,15 @@ pub extern "C" fn exported_http_head(bytes: &[u8], fields: &mut [Field], out: &m
         }
         Err(HeadError::TooManyFields(count)) => {
             *out = none(count, 0);
-            TOO_SMALL
+            BUFFER_TOO_SMALL
         }
         Err(HeadError::Incomplete) => {
             *out = none(0, bytes.len());
-            REFUSED
+            INVALID
         }
         Err(HeadError::Refused(place)) => {
             *out = none(0, place);
-            REFUSED
+            INVALID
         }
     }
 }
@@ -140,11 +140,11 @@ pub extern "C" fn exported_http_head(bytes: &[u8], fields: &mut [Field], out: &m
 ///
 /// # Errors
 ///
-/// `REFUSED`: `bytes` does not start with a head, regardless of what follows. The offset of the
+/// `INVALID`: `bytes` does not start with a head, regardless of what follows. The offset of the
 /// first invalid byte is written: the bytes before it are a prefix of a head, and together with the
 /// byte there they are not.
 ///
-/// `TOO_SMALL`: as for complete input.
+/// `BUFFER_TOO_SMALL`: as for complete input.
 ///
 /// # Safety
 ///
@@ -152,22 +152,22 @@ pub extern "C" fn exported_http_head(bytes: &[u8], fields: &mut [Field], out: &m
 /// `fields` must be valid for writes of `fields_length` entries, and `out` for writes of one head.
 /// None of these may overlap. The call needs 16 KiB of stack.
 #[unsafe(no_mangle)]
-pub extern "C" fn exported_http_head_in_pieces(
+pub extern "C" fn exported_http_head_partial(
     bytes: &[u8],
     fields: &mut [Field],
     out: &mut Head,
 ) -> u32
     ensures head { result ≡ done
         → ShowsHead bytes.now (places_of out.new) (take out.new.fields fields.new) }
-    ensures small { result ≡ too_small → IsWanted bytes.now out.new.fields
+    ensures small { result ≡ buffer_too_small → IsWanted bytes.now out.new.fields
         × (length fields.old < out.new.fields) }
-    ensures refused { result ≡ refused → NoHead bytes.now }
-    ensures place { result ≡ refused → IsRefused bytes.now out.new.place }
-    ensures nowhere { (result ≡ refused → ⊥) → out.new.place ≡ 0 }
+    ensures refused { result ≡ invalid → NoHead bytes.now }
+    ensures place { result ≡ invalid → IsRefused bytes.now out.new.error_offset }
+    ensures nowhere { (result ≡ invalid → ⊥) → out.new.error_offset ≡ 0 }
     ensures incomplete { result ≡ incomplete → BeginsHead bytes.now
         × ((line : Request) (pairs : List Pair) (rest : List ℕ)
         → IsHead line pairs bytes.now rest → ⊥) }
-    ensures codes { (result ≡ done) ⊎ ((result ≡ too_small) ⊎ ((result ≡ refused)
+    ensures codes { (result ≡ done) ⊎ ((result ≡ buffer_too_small) ⊎ ((result ≡ invalid)
         ⊎ (result ≡ incomplete))) }
 {
     match read_head_into(bytes, fields) {
@@ -177,7 +177,7 @@ pub extern "C" fn exported_http_head_in_pieces(
         }
         Err(HeadError::TooManyFields(count)) => {
             *out = none(count, 0);
-            TOO_SMALL
+            BUFFER_TOO_SMALL
         }
         Err(HeadError::Incomplete) => {
             *out = none(0, 0);
@@ -185,7 +185,7 @@ pub extern "C" fn exported_http_head_in_pieces(
         }
         Err(HeadError::Refused(place)) => {
             *out = none(0, place);
-            REFUSED
+            INVALID
         }
     }
 }

@@ -4,13 +4,13 @@ ghost use Rattle.std.specs.Prelude.{◌≡◌, ◌⊎◌, ◌<◌, ◌^◌, leng
 ghost use Rattle.readers.specs.Document.{IsRefusedDocument};
 ghost use Rattle.readers.specs.Pair.{IsRefusedPair};
 ghost use Rattle.readers.specs.Sections.{pair_text};
-ghost use Rattle.exported.specs.Code.{done, no_memory, refused, too_small};
+ghost use Rattle.exported.specs.Code.{buffer_too_small, done, invalid, no_memory};
 ghost use Rattle.exported.specs.Ini.{AreEntries, ShowsDocument, ShowsPair, WantsDocument, text_of};
 
 pub mod dialects;
 pub mod entries;
 
-use crate::code::{DONE, NO_MEMORY, REFUSED, TOO_SMALL};
+use crate::code::{BUFFER_TOO_SMALL, DONE, INVALID, NO_MEMORY};
 use crate::ini::entries::{bytes_of, copy_entries, entries_of, place_entries};
 use crate::span::{NOWHERE, Span};
 use readers::fault::Fault;
@@ -26,7 +26,7 @@ pub struct Pair {
     /// The value.
     pub value: Span,
     /// The offset of the error in bytes; 0 otherwise.
-    pub place: usize,
+    pub error_offset: usize,
 }
 
 /// Parses a line of the form `key=value`. The key consists of one or more ASCII letters or digits.
@@ -37,7 +37,7 @@ pub struct Pair {
 ///
 /// # Errors
 ///
-/// `REFUSED`: `bytes` is not such a line. The length of its longest prefix that is a prefix of such
+/// `INVALID`: `bytes` is not such a line. The length of its longest prefix that is a prefix of such
 /// a line is written.
 ///
 /// # Safety
@@ -48,9 +48,9 @@ pub struct Pair {
 #[unsafe(no_mangle)]
 pub extern "C" fn exported_ini_pair(bytes: &[u8], out: &mut Pair) -> u32
     ensures pair { result ≡ done → ShowsPair bytes.now out.new }
-    ensures refused { result ≡ refused → IsRefusedPair bytes.now out.new.place }
-    ensures nowhere { (result ≡ refused → ⊥) → out.new.place ≡ 0 }
-    ensures codes { (result ≡ done) ⊎ (result ≡ refused) }
+    ensures refused { result ≡ invalid → IsRefusedPair bytes.now out.new.error_offset }
+    ensures nowhere { (result ≡ invalid → ⊥) → out.new.error_offset ≡ 0 }
+    ensures codes { (result ≡ done) ⊎ (result ≡ invalid) }
 {
     match ini::pair(bytes) {
         Ok((key, value)) => {
@@ -63,7 +63,7 @@ pub extern "C" fn exported_ini_pair(bytes: &[u8], out: &mut Pair) -> u32
                     offset: key.len() + 1,
                     length: value.len(),
                 },
-                place: 0,
+                error_offset: 0,
             };
             DONE
         }
@@ -71,9 +71,9 @@ pub extern "C" fn exported_ini_pair(bytes: &[u8], out: &mut Pair) -> u32
             *out = Pair {
                 key: NOWHERE,
                 value: NOWHERE,
-                place,
+                error_offset: place,
             };
-            REFUSED
+            INVALID
         }
         Err(Fault::NoMemory) => unreachable!(),
     }
@@ -98,14 +98,14 @@ pub struct Document {
     /// How many bytes the keys, the values and the names have together.
     pub text: usize,
     /// The offset of the error in bytes; 0 otherwise.
-    pub place: usize,
+    pub error_offset: usize,
 }
 
 /// The document of nothing.
 const NONE: Document = Document {
     entries: 0,
     text: 0,
-    place: 0,
+    error_offset: 0,
 };
 
 /// Writes entries where there is room.
@@ -118,23 +118,23 @@ fn write_entries(
     requires { length (text_of (map pair_text found.now)) < 2 ^ 63 }
     ensures count { out.new.entries ≡ length found.now }
     ensures bytes { out.new.text ≡ length (text_of (map pair_text found.now)) }
-    ensures nowhere { out.new.place ≡ 0 }
+    ensures nowhere { out.new.error_offset ≡ 0 }
     ensures entries { result ≡ done
         → AreEntries (take out.new.text text.new) (take out.new.entries entries.new)
         (map pair_text found.now) }
-    ensures small { result ≡ too_small
+    ensures small { result ≡ buffer_too_small
         → (length entries.old < out.new.entries) ⊎ (length text.old < out.new.text) }
-    ensures kept { result ≡ too_small → (entries.new ≡ entries.old) × (text.new ≡ text.old) }
-    ensures codes { (result ≡ done) ⊎ (result ≡ too_small) }
+    ensures kept { result ≡ buffer_too_small → (entries.new ≡ entries.old) × (text.new ≡ text.old) }
+    ensures codes { (result ≡ done) ⊎ (result ≡ buffer_too_small) }
 {
     let (count, total) = (found.len(), bytes_of(found));
     *out = Document {
         entries: count,
         text: total,
-        place: 0,
+        error_offset: 0,
     };
     if entries.len() < count || text.len() < total {
-        return TOO_SMALL;
+        return BUFFER_TOO_SMALL;
     }
     copy_entries(found, &mut text[..total]);
     place_entries(found, &mut entries[..count]);
@@ -153,16 +153,16 @@ fn write_entries(
 /// and then its pairs.
 ///
 /// A call holds up to 100 bytes of memory for each byte of the document, even if it then returns
-/// `REFUSED` or `TOO_SMALL`.
+/// `INVALID` or `BUFFER_TOO_SMALL`.
 ///
 /// # Errors
 ///
-/// `REFUSED`: `bytes` is not a document. The length of the longest prefix that consists of such
+/// `INVALID`: `bytes` is not a document. The length of the longest prefix that consists of such
 /// parts is written; each part is determined in the context of all bytes. A pair extends to the end
 /// of its line: for `[a]`, a line feed, and `x=` before a byte that is not UTF-8, the length is 4.
 ///
-/// `TOO_SMALL`: the document needs more entries or more bytes than the buffers have. The required
-/// numbers of both are written, and the buffers are unchanged.
+/// `BUFFER_TOO_SMALL`: the document needs more entries or more bytes than the buffers have. The
+/// required numbers of both are written, and the buffers are unchanged.
 ///
 /// `NO_MEMORY`.
 ///
@@ -182,12 +182,12 @@ pub extern "C" fn exported_ini_document(
 ) -> u32
     ensures document { result ≡ done → ShowsDocument bytes.now out.new
         (take out.new.text text.new) (take out.new.entries entries.new) }
-    ensures small { result ≡ too_small → WantsDocument bytes.now out.new
+    ensures small { result ≡ buffer_too_small → WantsDocument bytes.now out.new
         × ((length entries.old < out.new.entries) ⊎ (length text.old < out.new.text)) }
-    ensures kept { result ≡ too_small → (entries.new ≡ entries.old) × (text.new ≡ text.old) }
-    ensures refused { result ≡ refused → IsRefusedDocument bytes.now out.new.place }
-    ensures nowhere { (result ≡ refused → ⊥) → out.new.place ≡ 0 }
-    ensures codes { (result ≡ done) ⊎ ((result ≡ too_small) ⊎ ((result ≡ refused)
+    ensures kept { result ≡ buffer_too_small → (entries.new ≡ entries.old) × (text.new ≡ text.old) }
+    ensures refused { result ≡ invalid → IsRefusedDocument bytes.now out.new.error_offset }
+    ensures nowhere { (result ≡ invalid → ⊥) → out.new.error_offset ≡ 0 }
+    ensures codes { (result ≡ done) ⊎ ((result ≡ buffer_too_small) ⊎ ((result ≡ invalid)
         ⊎ (result ≡ no_memory))) }
 {
     *out = NONE;
@@ -197,8 +197,8 @@ pub extern "C" fn exported_ini_document(
             None => NO_MEMORY,
         },
         Err(Fault::Refused(place)) => {
-            out.place = place;
-            REFUSED
+            out.error_offset = place;
+            INVALID
         }
         Err(Fault::NoMemory) => NO_MEMORY,
     }

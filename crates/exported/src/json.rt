@@ -7,20 +7,21 @@ ghost use Rattle.format_json_extents.specs.Standard.{IsTextByStandard, IsValueBy
 ghost use Rattle.format_json_extents.specs.Texts.{IsLongest, NoneStands, Then};
 ghost use Rattle.format_json_extents.specs.Value.{IsText, IsValue};
 ghost use Rattle.format_json_extents.specs.Walk.{EndsItems, IsLead};
-ghost use Rattle.exported.specs.Code.{done, end, most_levels, no_text, refused, too_deep};
+ghost use Rattle.exported.specs.Code.{done, end, invalid, invalid_utf8, max_depth_too_large};
+ghost use Rattle.exported.specs.Code.{supported_depth};
 ghost use Rattle.exported.specs.Json.{ShowsItem, no_item, number_of};
 
 pub mod integer;
 pub mod step;
 pub mod string;
 
-use crate::code::{DONE, END, NO_TEXT, REFUSED, TOO_DEEP};
+use crate::code::{DONE, END, INVALID, INVALID_UTF8, MAX_DEPTH_TOO_LARGE};
 use crate::span::{NOWHERE, Span};
 use format_json_extents::walk::Kind;
 use format_json_extents::{value, walk};
 
 /// The largest supported depth limit for nested arrays and objects. Each level takes some stack.
-pub const MOST_LEVELS: usize = 512;
+pub const MAX_DEPTH: usize = 512;
 
 /// The word null.
 pub const JSON_NULL: usize = 0;
@@ -52,13 +53,13 @@ pub struct JsonItem {
     /// as a string.
     pub kind: usize,
     /// Its bytes.
-    pub place: Span,
+    pub span: Span,
 }
 
 /// Nothing.
 pub(crate) const NO_ITEM: JsonItem = JsonItem {
     kind: JSON_NULL,
-    place: NOWHERE,
+    span: NOWHERE,
 };
 
 /// Returns the number of a type of values.
@@ -77,7 +78,7 @@ fn number_of(kind: Kind) -> usize
 }
 
 /// Checks that a text is a JSON text (RFC 8259): a value, with optional whitespace around it, whose
-/// arrays and objects are nested at most `levels` deep.
+/// arrays and objects are nested at most `max_depth` deep.
 ///
 /// A text with an unpaired surrogate escape such as `\ud800` is rejected, because it denotes no
 /// character, although the grammar of the standard allows it.
@@ -86,42 +87,42 @@ fn number_of(kind: Kind) -> usize
 ///
 /// # Errors
 ///
-/// `REFUSED`: the text is not a JSON text.
+/// `INVALID`: the text is not a JSON text.
 ///
-/// `NO_TEXT`: the text is not UTF-8.
+/// `INVALID_UTF8`: the text is not UTF-8.
 ///
-/// `TOO_DEEP`: `levels` is above 512.
+/// `MAX_DEPTH_TOO_LARGE`: `max_depth` is above 512.
 ///
 /// # Safety
 ///
 /// `text` must be valid for reads of `text_length` bytes, which must not change during the call.
 /// The call needs 512 KiB of stack.
 #[unsafe(no_mangle)]
-pub extern "C" fn exported_json_check(text: &[u8], levels: usize) -> u32
-    ensures is { result ≡ done → IsUtf8 text.now × IsText levels text.now }
-    ensures refused { result ≡ refused → IsUtf8 text.now × (IsText levels text.now → ⊥) }
-    ensures standard { levels ≤ most_levels
-        → (result ≡ done) ↔ IsTextByStandard levels text.now }
-    ensures text { result ≡ no_text → IsUtf8 text.now → ⊥ }
-    ensures deep { (result ≡ too_deep) ↔ (most_levels < levels) }
-    ensures codes { (result ≡ done) ⊎ ((result ≡ refused) ⊎ ((result ≡ no_text)
-        ⊎ (result ≡ too_deep))) }
+pub extern "C" fn exported_json_check(text: &[u8], max_depth: usize) -> u32
+    ensures is { result ≡ done → IsUtf8 text.now × IsText max_depth text.now }
+    ensures refused { result ≡ invalid → IsUtf8 text.now × (IsText max_depth text.now → ⊥) }
+    ensures standard { max_depth ≤ supported_depth
+        → (result ≡ done) ↔ IsTextByStandard max_depth text.now }
+    ensures text { result ≡ invalid_utf8 → IsUtf8 text.now → ⊥ }
+    ensures deep { (result ≡ max_depth_too_large) ↔ (supported_depth < max_depth) }
+    ensures codes { (result ≡ done) ⊎ ((result ≡ invalid) ⊎ ((result ≡ invalid_utf8)
+        ⊎ (result ≡ max_depth_too_large))) }
 {
-    if levels > MOST_LEVELS {
-        return TOO_DEEP;
+    if max_depth > MAX_DEPTH {
+        return MAX_DEPTH_TOO_LARGE;
     }
     if str::from_utf8(text).is_err() {
-        return NO_TEXT;
+        return INVALID_UTF8;
     }
-    if value::is_text(levels, text) {
+    if value::is_text(max_depth, text) {
         DONE
     } else {
-        REFUSED
+        INVALID
     }
 }
 
 /// Finds the longest JSON value (RFC 8259) at the start of `bytes` whose arrays and objects are
-/// nested at most `levels` deep.
+/// nested at most `max_depth` deep.
 ///
 /// Whitespace before the value is not skipped. Bytes of 128 and above are not checked: the value is
 /// JSON if it is UTF-8. Values are those of `exported_json_check`.
@@ -130,9 +131,9 @@ pub extern "C" fn exported_json_check(text: &[u8], levels: usize) -> u32
 ///
 /// # Errors
 ///
-/// `REFUSED`: `bytes` does not start with a value. 0 is written.
+/// `INVALID`: `bytes` does not start with a value. 0 is written.
 ///
-/// `TOO_DEEP`: `levels` is above 512. 0 is written.
+/// `MAX_DEPTH_TOO_LARGE`: `max_depth` is above 512. 0 is written.
 ///
 /// # Safety
 ///
@@ -140,36 +141,36 @@ pub extern "C" fn exported_json_check(text: &[u8], levels: usize) -> u32
 /// and `out` must be valid for writes of one length. They must not overlap. The call needs 512 KiB
 /// of stack.
 #[unsafe(no_mangle)]
-pub extern "C" fn exported_json_value(bytes: &[u8], levels: usize, out: &mut usize) -> u32
-    ensures found { result ≡ done → IsLongest (IsValue levels) (take out.new bytes.now) bytes.now
+pub extern "C" fn exported_json_value(bytes: &[u8], max_depth: usize, out: &mut usize) -> u32
+    ensures found { result ≡ done → IsLongest (IsValue max_depth) (take out.new bytes.now) bytes.now
         (drop out.new bytes.now) × (out.new ≤ length bytes.now) }
-    ensures refused { result ≡ refused → NoneStands (IsValue levels) bytes.now }
+    ensures refused { result ≡ invalid → NoneStands (IsValue max_depth) bytes.now }
     ensures standard { result ≡ done → IsUtf8 (take out.new bytes.now)
-        → IsValueByStandard levels (take out.new bytes.now) }
-    ensures longest { levels ≤ most_levels → (value rest : List ℕ)
-        → IsValueByStandard levels value → bytes.now ≡ value ++ rest
+        → IsValueByStandard max_depth (take out.new bytes.now) }
+    ensures longest { max_depth ≤ supported_depth → (value rest : List ℕ)
+        → IsValueByStandard max_depth value → bytes.now ≡ value ++ rest
         → (result ≡ done) × (length value ≤ out.new) }
     ensures none { (result ≡ done → ⊥) → out.new ≡ 0 }
-    ensures deep { (result ≡ too_deep) ↔ (most_levels < levels) }
-    ensures codes { (result ≡ done) ⊎ ((result ≡ refused) ⊎ (result ≡ too_deep)) }
+    ensures deep { (result ≡ max_depth_too_large) ↔ (supported_depth < max_depth) }
+    ensures codes { (result ≡ done) ⊎ ((result ≡ invalid) ⊎ (result ≡ max_depth_too_large)) }
 {
     *out = 0;
-    if levels > MOST_LEVELS {
-        return TOO_DEEP;
+    if max_depth > MAX_DEPTH {
+        return MAX_DEPTH_TOO_LARGE;
     }
     let mut left = bytes;
-    match value::read_value(levels, &mut left) {
+    match value::read_value(max_depth, &mut left) {
         Some(found) => {
             *out = found.len();
             DONE
         }
-        None => REFUSED,
+        None => INVALID,
     }
 }
 
 /// Finds the next JSON value (RFC 8259) of a walk through a text that was checked. It is the
 /// longest value after whitespace, at most one comma or colon, and whitespace, whose arrays and
-/// objects are nested at most `levels` deep.
+/// objects are nested at most `max_depth` deep.
 ///
 /// At the start of the text this is the value of the text. To walk through an array, start after
 /// its first byte, and call the function for each element with the bytes after the span of the
@@ -187,9 +188,9 @@ pub extern "C" fn exported_json_value(bytes: &[u8], levels: usize, out: &mut usi
 ///
 /// # Errors
 ///
-/// `REFUSED`: there is neither a value nor an end. Zeros are written.
+/// `INVALID`: there is neither a value nor an end. Zeros are written.
 ///
-/// `TOO_DEEP`: `levels` is above 512. Zeros are written.
+/// `MAX_DEPTH_TOO_LARGE`: `max_depth` is above 512. Zeros are written.
 ///
 /// # Safety
 ///
@@ -197,25 +198,25 @@ pub extern "C" fn exported_json_value(bytes: &[u8], levels: usize, out: &mut usi
 /// and `out` must be valid for writes of one item. They must not overlap. The call needs 512 KiB of
 /// stack.
 #[unsafe(no_mangle)]
-pub extern "C" fn exported_json_next(bytes: &[u8], levels: usize, out: &mut JsonItem) -> u32
-    ensures item { result ≡ done → ShowsItem levels bytes.now out.new }
+pub extern "C" fn exported_json_next(bytes: &[u8], max_depth: usize, out: &mut JsonItem) -> u32
+    ensures item { result ≡ done → ShowsItem max_depth bytes.now out.new }
     ensures end { result ≡ end → EndsItems bytes.now }
-    ensures refused { result ≡ refused → NoneStands (Then IsLead (IsValue levels)) bytes.now
+    ensures refused { result ≡ invalid → NoneStands (Then IsLead (IsValue max_depth)) bytes.now
         × (EndsItems bytes.now → ⊥) }
     ensures none { (result ≡ done → ⊥) → out.new ≡ no_item }
-    ensures deep { (result ≡ too_deep) ↔ (most_levels < levels) }
-    ensures codes { (result ≡ done) ⊎ ((result ≡ end) ⊎ ((result ≡ refused)
-        ⊎ (result ≡ too_deep))) }
+    ensures deep { (result ≡ max_depth_too_large) ↔ (supported_depth < max_depth) }
+    ensures codes { (result ≡ done) ⊎ ((result ≡ end) ⊎ ((result ≡ invalid)
+        ⊎ (result ≡ max_depth_too_large))) }
 {
     *out = NO_ITEM;
-    if levels > MOST_LEVELS {
-        return TOO_DEEP;
+    if max_depth > MAX_DEPTH {
+        return MAX_DEPTH_TOO_LARGE;
     }
     if walk::is_end(bytes) {
         return END;
     }
     let mut left = bytes;
-    match walk::read_next(levels, &mut left) {
+    match walk::read_next(max_depth, &mut left) {
         Some(text) => {
             let place = Span {
                 offset: bytes.len() - left.len() - text.len(),
@@ -223,10 +224,10 @@ pub extern "C" fn exported_json_next(bytes: &[u8], levels: usize, out: &mut Json
             };
             *out = JsonItem {
                 kind: number_of(walk::kind_of(text)),
-                place,
+                span: place,
             };
             DONE
         }
-        None => REFUSED,
+        None => INVALID,
     }
 }

@@ -4,7 +4,8 @@ ghost use Rattle.std.specs.Prelude.{◌≡◌, ◌<◌, ◌⊎◌, ◌↔◌, Li
 ghost use Rattle.winnow.specs.InTurn.{First};
 ghost use Rattle.format_resp.specs.Extents.{IsOf};
 ghost use Rattle.format_resp.specs.Resp.{ReplyText};
-ghost use Rattle.exported.specs.Code.{done, incomplete, most_levels, no_memory, refused, too_deep};
+ghost use Rattle.exported.specs.Code.{done, incomplete, invalid, max_depth_too_large, no_memory};
+ghost use Rattle.exported.specs.Code.{supported_depth};
 ghost use Rattle.exported.specs.Extent.{TellsEnd, extent_of};
 ghost use Rattle.exported.specs.Resp.{IsReply, IsReplyForGood, NoReply, NoReplyForGood, ShowsReply};
 ghost use Rattle.exported.specs.Resp.{no_reply};
@@ -12,11 +13,11 @@ ghost use Rattle.exported.specs.Resp.{no_reply};
 pub mod extent;
 pub mod places;
 
-use crate::code::{DONE, INCOMPLETE, NO_MEMORY, REFUSED, TOO_DEEP};
-use crate::json::MOST_LEVELS;
+use crate::code::{DONE, INCOMPLETE, INVALID, MAX_DEPTH_TOO_LARGE, NO_MEMORY};
+use crate::json::MAX_DEPTH;
 use crate::resp::extent::{extent_at, state_at};
 use crate::resp::places::reply_at;
-use crate::span::{MOST_IN_PIECES, NOWHERE, Span};
+use crate::span::{MAX_PARTIAL, NOWHERE, Span};
 use format_resp::extent::Refused;
 use format_resp::read::read_reply;
 use format_resp::reply::Protocol;
@@ -57,7 +58,7 @@ pub struct Reply {
     pub elements: usize,
     /// The bytes of a string or of an error, or those of the elements of an array, which are
     /// consecutive replies; zeros otherwise.
-    pub place: Span,
+    pub span: Span,
     /// How many bytes the reply has.
     pub length: usize,
 }
@@ -67,7 +68,7 @@ pub struct Reply {
 /// reply.
 #[repr(C)]
 #[derive(Clone, Copy, Drop)]
-pub struct RespExtent {
+pub struct RespReplyState {
     /// The part that is expected next: 0 in the initial state, 1 for a line, 2 for the bytes of a
     /// string.
     pub due: usize,
@@ -88,12 +89,12 @@ pub(crate) const NONE: Reply = Reply {
     kind: RESP_SIMPLE,
     number: 0,
     elements: 0,
-    place: NOWHERE,
+    span: NOWHERE,
     length: 0,
 };
 
 /// Parses the Redis reply (RESP2, the second version of the protocol) at the start of `bytes`,
-/// whose arrays are nested at most `levels` deep.
+/// whose arrays are nested at most `max_depth` deep.
 ///
 /// To parse the elements of an array, call the function with the bytes in its span, and then with
 /// those after each element. An integer may have a sign and leading zeros, a size leading zeros.
@@ -106,9 +107,9 @@ pub(crate) const NONE: Reply = Reply {
 ///
 /// # Errors
 ///
-/// `REFUSED`: `bytes` does not start with a reply.
+/// `INVALID`: `bytes` does not start with a reply.
 ///
-/// `TOO_DEEP`: `levels` is above 512.
+/// `MAX_DEPTH_TOO_LARGE`: `max_depth` is above 512.
 ///
 /// `NO_MEMORY`.
 ///
@@ -123,32 +124,32 @@ pub(crate) const NONE: Reply = Reply {
 pub extern "C" fn exported_resp_reply(
     alloc: Global,
     bytes: &[u8],
-    levels: usize,
+    max_depth: usize,
     out: &mut Reply,
 ) -> u32
-    ensures reply { result ≡ done → ShowsReply (IsReply levels) levels bytes.now out.new }
-    ensures refused { result ≡ refused → NoReply levels bytes.now }
-    ensures deep { (result ≡ too_deep) ↔ (most_levels < levels) }
+    ensures reply { result ≡ done → ShowsReply (IsReply max_depth) max_depth bytes.now out.new }
+    ensures refused { result ≡ invalid → NoReply max_depth bytes.now }
+    ensures deep { (result ≡ max_depth_too_large) ↔ (supported_depth < max_depth) }
     ensures none { (result ≡ done → ⊥) → out.new ≡ no_reply }
-    ensures codes { (result ≡ done) ⊎ ((result ≡ refused) ⊎ ((result ≡ too_deep)
+    ensures codes { (result ≡ done) ⊎ ((result ≡ invalid) ⊎ ((result ≡ max_depth_too_large)
         ⊎ (result ≡ no_memory))) }
 {
     *out = NONE;
-    if levels > MOST_LEVELS {
-        return TOO_DEEP;
+    if max_depth > MAX_DEPTH {
+        return MAX_DEPTH_TOO_LARGE;
     }
     let mut whole = Partial::new(bytes);
     whole.complete();
-    match read_reply(alloc, Protocol::Resp2, levels, &mut whole) {
+    match read_reply(alloc, Protocol::Resp2, max_depth, &mut whole) {
         Ok(found) => {
-            *out = reply_at(bytes, levels, &found, whole.into_inner().len());
+            *out = reply_at(bytes, max_depth, &found, whole.into_inner().len());
             DONE
         }
         Err(error) => {
             if ParserError::<Partial<&[u8]>>::is_memory(&error) {
                 NO_MEMORY
             } else {
-                REFUSED
+                INVALID
             }
         }
     }
@@ -165,9 +166,9 @@ pub extern "C" fn exported_resp_reply(
 ///
 /// # Errors
 ///
-/// `REFUSED`: `bytes` does not start with a reply, regardless of what follows. Zeros are written.
+/// `INVALID`: `bytes` does not start with a reply, regardless of what follows. Zeros are written.
 ///
-/// `TOO_DEEP`, `NO_MEMORY`: as for complete input.
+/// `MAX_DEPTH_TOO_LARGE`, `NO_MEMORY`: as for complete input.
 ///
 /// # Safety
 ///
@@ -175,30 +176,31 @@ pub extern "C" fn exported_resp_reply(
 /// and `out` must be valid for writes of one reply. They must not overlap. The call needs 512 KiB
 /// of stack.
 #[unsafe(no_mangle)]
-pub extern "C" fn exported_resp_reply_in_pieces(
+pub extern "C" fn exported_resp_reply_partial(
     alloc: Global,
     bytes: &[u8],
-    levels: usize,
+    max_depth: usize,
     out: &mut Reply,
 ) -> u32
-    ensures reply { result ≡ done → ShowsReply (IsReplyForGood levels) levels bytes.now out.new }
-    ensures refused { result ≡ refused → NoReplyForGood levels bytes.now }
-    ensures deep { (result ≡ too_deep) ↔ (most_levels < levels) }
+    ensures reply { result ≡ done
+        → ShowsReply (IsReplyForGood max_depth) max_depth bytes.now out.new }
+    ensures refused { result ≡ invalid → NoReplyForGood max_depth bytes.now }
+    ensures deep { (result ≡ max_depth_too_large) ↔ (supported_depth < max_depth) }
     ensures none { (result ≡ done → ⊥) → out.new ≡ no_reply }
-    ensures codes { (result ≡ done) ⊎ ((result ≡ refused) ⊎ ((result ≡ too_deep)
+    ensures codes { (result ≡ done) ⊎ ((result ≡ invalid) ⊎ ((result ≡ max_depth_too_large)
         ⊎ ((result ≡ incomplete) ⊎ (result ≡ no_memory)))) }
 {
     *out = NONE;
-    if levels > MOST_LEVELS {
-        return TOO_DEEP;
+    if max_depth > MAX_DEPTH {
+        return MAX_DEPTH_TOO_LARGE;
     }
-    if bytes.len() > MOST_IN_PIECES {
-        return REFUSED;
+    if bytes.len() > MAX_PARTIAL {
+        return INVALID;
     }
     let mut pieces = Partial::new(bytes);
-    match read_reply(alloc, Protocol::Resp2, levels, &mut pieces) {
+    match read_reply(alloc, Protocol::Resp2, max_depth, &mut pieces) {
         Ok(found) => {
-            *out = reply_at(bytes, levels, &found, pieces.into_inner().len());
+            *out = reply_at(bytes, max_depth, &found, pieces.into_inner().len());
             DONE
         }
         Err(error) => {
@@ -207,7 +209,7 @@ pub extern "C" fn exported_resp_reply_in_pieces(
             } else if ParserError::<Partial<&[u8]>>::is_incomplete(&error) {
                 INCOMPLETE
             } else {
-                REFUSED
+                INVALID
             }
         }
     }
@@ -234,7 +236,7 @@ pub extern "C" fn exported_resp_reply_in_pieces(
 ///
 /// # Errors
 ///
-/// `REFUSED`: `bytes` does not start with a reply, regardless of what follows. 0 is written. An
+/// `INVALID`: `bytes` does not start with a reply, regardless of what follows. 0 is written. An
 /// invalid line is rejected at its end.
 ///
 /// # Safety
@@ -243,11 +245,15 @@ pub extern "C" fn exported_resp_reply_in_pieces(
 /// `bytes` must be valid for reads of `bytes_length` bytes, which must not change during the call.
 /// None of these may overlap. The call needs 16 KiB of stack.
 #[unsafe(no_mangle)]
-pub extern "C" fn exported_resp_extent(state: &mut RespExtent, bytes: &[u8], out: &mut usize) -> u32
+pub extern "C" fn exported_resp_extent(
+    state: &mut RespReplyState,
+    bytes: &[u8],
+    out: &mut usize,
+) -> u32
     ensures told { IsOf (extent_of state.old) bytes.now
         → TellsEnd bytes.now result out.new state.new }
     ensures none { (result ≡ done → ⊥) → out.new ≡ 0 }
-    ensures codes { (result ≡ done) ⊎ ((result ≡ incomplete) ⊎ (result ≡ refused)) }
+    ensures codes { (result ≡ done) ⊎ ((result ≡ incomplete) ⊎ (result ≡ invalid)) }
 {
     *out = 0;
     let mut extent = extent_at(*state);
@@ -259,6 +265,6 @@ pub extern "C" fn exported_resp_extent(state: &mut RespExtent, bytes: &[u8], out
             DONE
         }
         Ok(None) => INCOMPLETE,
-        Err(Refused) => REFUSED,
+        Err(Refused) => INVALID,
     }
 }

@@ -45,4 +45,4 @@ pub fn first_of(input: &[u8], rest: &[u8], count: usize) -> Span
 }
 
 /// The maximum length of partial input: 64 bits can count its bits.
-pub(crate) const MOST_IN_PIECES: usize = 2305843009213693951;
+pub(crate) const MAX_PARTIAL: usize = 2305843009213693951;

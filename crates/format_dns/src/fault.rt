@@ -57,7 +57,7 @@ pub enum Section {
 ///
 /// let fault = MessageFault { section: Section::Answer, entry: 2, why: Fault::Ends(40) };
 /// let said = format!(in alloc; "{fault}");
-/// let told = "entry 2 of the answer section: the message or the data end within what begins";
+/// let told = "entry 2 of the answer section: incomplete element at offset 40";
 /// assert!(rt; matches!(said, Ok(said) if said.as_str().starts_with(told)));
 /// ```
 #[derive(Clone, Copy, Debug, PartialEq, Eq)]

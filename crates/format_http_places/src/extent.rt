@@ -33,7 +33,7 @@ pub struct Refused {
 
 impl Display for Refused {
     fn fmt<W: fmt::Write>(&self, f: &mut Formatter<W>) -> fmt::Result {
-        write!(f, "no head goes on at byte {}", self.place)
+        write!(f, "invalid byte at offset {}", self.place)
     }
 }
 

@@ -37,9 +37,9 @@ pub enum HeadError {
 impl Display for HeadError {
     fn fmt<W: fmt::Write>(&self, f: &mut Formatter<W>) -> fmt::Result {
         match *self {
-            HeadError::Refused(place) => write!(f, "no head goes on at byte {place}"),
-            HeadError::Incomplete => f.write_str("the bytes end within a head"),
-            HeadError::TooManyFields(count) => write!(f, "there are {count} fields, too many"),
+            HeadError::Refused(place) => write!(f, "invalid byte at offset {place}"),
+            HeadError::Incomplete => f.write_str("incomplete input: more bytes are needed"),
+            HeadError::TooManyFields(count) => write!(f, "too many fields: {count}"),
         }
     }
 }

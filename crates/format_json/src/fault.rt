@@ -110,10 +110,10 @@ impl Display for Fault {
         match *self {
             Fault::Unexpected { at, expected } => write!(f, "{at}: expected {expected}"),
             Fault::End { at, expected } => {
-                write!(f, "{at}: unexpected end, expected {expected}")
+                write!(f, "{at}: unexpected end of input, expected {expected}")
             }
-            Fault::TooDeep { at, level } => write!(f, "{at}: nested too deep for level {level}"),
-            Fault::NotUtf8 { at } => write!(f, "{at}: no UTF-8"),
+            Fault::TooDeep { at, level } => write!(f, "{at}: nested deeper than {level} levels"),
+            Fault::NotUtf8 { at } => write!(f, "{at}: invalid UTF-8"),
             Fault::NoMemory => f.write_str("out of memory"),
         }
     }
@@ -156,7 +156,7 @@ impl WriteFault {
 impl Display for WriteFault {
     fn fmt<W: fmt::Write>(&self, f: &mut Formatter<W>) -> fmt::Result {
         f.write_str(match *self {
-            WriteFault::NotANumber => "a number in the value is none of JSON",
+            WriteFault::NotANumber => "invalid JSON number in the value",
             WriteFault::TooDeep => "nested too deep",
             WriteFault::NoMemory => "out of memory",
         })

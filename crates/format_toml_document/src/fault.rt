@@ -129,7 +129,7 @@ impl Fault {
         match *self {
             Fault::Unexpected { expected, .. } => write!(f, "expected {expected}"),
             Fault::Refused { why, .. } => write!(f, "{why}"),
-            Fault::NotUtf8 { .. } => f.write_str("no UTF-8"),
+            Fault::NotUtf8 { .. } => f.write_str("invalid UTF-8"),
             Fault::OutOfMemory => f.write_str("out of memory"),
         }
     }

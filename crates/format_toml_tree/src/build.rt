@@ -23,7 +23,7 @@ use std::fmt::{Display, Formatter};
 ///
 /// let fault = Fault::Refused { line: 2, why: Refusal::NoTable };
 /// let said = format!(in alloc; "{fault}");
-/// let wanted = "line 3: it takes a value for a table";
+/// let wanted = "line 3: key is not a table";
 /// assert!(rt; matches!(said, Ok(said) if said.as_str() == wanted));
 /// ```
 #[derive(Debug, Clone, Copy, PartialEq, Eq, Drop)]

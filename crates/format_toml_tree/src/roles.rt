@@ -16,7 +16,7 @@ use std::fmt::{Display, Formatter};
 /// use format_toml_tree::roles::Refusal;
 ///
 /// let said = format!(in alloc; "{}", Refusal::Defined);
-/// assert!(rt; matches!(said, Ok(said) if said.as_str() == "it is defined already"));
+/// assert!(rt; matches!(said, Ok(said) if said.as_str() == "key is already defined"));
 /// ```
 #[derive(Debug, Clone, Copy, PartialEq, Eq, Drop)]
 pub enum Refusal {
@@ -33,10 +33,10 @@ pub enum Refusal {
 impl Display for Refusal {
     fn fmt<W: fmt::Write>(&self, f: &mut Formatter<W>) -> fmt::Result {
         f.write_str(match *self {
-            Refusal::Defined => "it is defined already",
-            Refusal::NoTable => "it takes a value for a table",
-            Refusal::Closed => "it adds to a table that is closed",
-            Refusal::NoTables => "it adds a table to what is no array of tables",
+            Refusal::Defined => "key is already defined",
+            Refusal::NoTable => "key is not a table",
+            Refusal::Closed => "table cannot be extended",
+            Refusal::NoTables => "key is not an array of tables",
         })
     }
 }

@@ -1,6 +1,6 @@
 //! Where records end.
 use super::LineEnd;
-use crate::{exports, Error, Place, Wanted, NOTHING};
+use crate::{exports, Error, Position, RequiredSize, NOTHING};
 
 /// How much the record has that an [`Extent`] found.
 #[derive(Clone, Copy, Debug, PartialEq, Eq)]
@@ -9,14 +9,14 @@ pub struct Size {
     pub length: usize,
     /// The buffer sizes that [`record`](crate::csv::record) needs for the fields: entries and
     /// bytes.
-    pub wanted: Wanted,
+    pub required: RequiredSize,
 }
 
 /// The state of a search for the end of a record in input that arrives in chunks.
 ///
 /// No call looks again at bytes that an earlier call scanned. So all calls for a record take time
 /// linear in its length, for any number of chunks, whereas
-/// [`record_in_pieces`](crate::csv::record_in_pieces) parses from the first byte each time.
+/// [`record_partial`](crate::csv::record_partial) parses from the first byte each time.
 ///
 /// ```
 /// use pergidau::csv::{self, Extent, LineEnd};
@@ -38,14 +38,14 @@ pub struct Size {
 /// ```
 #[derive(Clone, Debug, Default, PartialEq, Eq)]
 pub struct Extent {
-    state: exports::CsvRecordExtent,
+    state: exports::CsvRecordState,
     end: LineEnd,
 }
 
 impl Extent {
     /// Returns the initial state for a record with line endings `end`.
     pub fn new(end: LineEnd) -> Extent {
-        Extent { state: exports::CsvRecordExtent::default(), end }
+        Extent { state: exports::CsvRecordState::default(), end }
     }
 
     /// Returns the size of the record at the start of `bytes`, if its line ending is there. The
@@ -59,7 +59,7 @@ impl Extent {
     ///
     /// # Errors
     ///
-    /// [`Error::Refused`] if `bytes` does not start with a record, regardless of what follows; it
+    /// [`Error::Invalid`] if `bytes` does not start with a record, regardless of what follows; it
     /// holds the position of the first invalid byte.
     pub fn advance(&mut self, bytes: &[u8]) -> Result<Option<Size>, Error> {
         let mut out = exports::Record::default();
@@ -78,11 +78,11 @@ impl Extent {
         };
         match code {
             exports::DONE => {
-                let wanted = Wanted { entries: out.fields, bytes: out.text };
-                Ok(Some(Size { length: out.length, wanted }))
+                let required = RequiredSize { entries: out.fields, bytes: out.text };
+                Ok(Some(Size { length: out.length, required }))
             }
             exports::INCOMPLETE => Ok(None),
-            code => Err(Error::of(code, Some(Place::of(bytes, out.place)), NOTHING)),
+            code => Err(Error::of(code, Some(Position::of(bytes, out.error_offset)), NOTHING)),
         }
     }
 }

@@ -1,11 +1,11 @@
 //! Where heads of requests end.
-use crate::{exports, Error, Place, NOTHING};
+use crate::{exports, Error, Position, NOTHING};
 
 /// The state of a search for the end of the head of a request in input that arrives in chunks.
 ///
 /// No call looks again at bytes that an earlier call scanned. So all calls for a head take time
 /// linear in its length, for any number of chunks, whereas
-/// [`head_in_pieces`](crate::http::head_in_pieces) parses from the first byte each time.
+/// [`head_partial`](crate::http::head_partial) parses from the first byte each time.
 ///
 /// ```
 /// use pergidau::http::{self, Field, HeadExtent};
@@ -25,7 +25,7 @@ use crate::{exports, Error, Place, NOTHING};
 /// ```
 #[derive(Clone, Debug, Default, PartialEq, Eq)]
 pub struct HeadExtent {
-    state: exports::HttpHeadExtent,
+    state: exports::HttpHeadState,
 }
 
 impl HeadExtent {
@@ -41,7 +41,7 @@ impl HeadExtent {
     ///
     /// # Errors
     ///
-    /// [`Error::Refused`] if `bytes` does not start with a head, regardless of what follows; it
+    /// [`Error::Invalid`] if `bytes` does not start with a head, regardless of what follows; it
     /// holds the position of the first invalid byte.
     pub fn advance(&mut self, bytes: &[u8]) -> Result<Option<usize>, Error> {
         let mut out = 0;
@@ -53,7 +53,7 @@ impl HeadExtent {
         match code {
             exports::DONE => Ok(Some(out)),
             exports::INCOMPLETE => Ok(None),
-            code => Err(Error::of(code, Some(Place::of(bytes, out)), NOTHING)),
+            code => Err(Error::of(code, Some(Position::of(bytes, out)), NOTHING)),
         }
     }
 }

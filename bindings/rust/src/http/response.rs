@@ -1,7 +1,7 @@
 //! Heads of responses.
 use super::Field;
 use crate::exports;
-use crate::{at, Error, Place, Wanted};
+use crate::{at, Error, Position, RequiredSize};
 
 /// The head of a response: its numbers, and its parts as slices of the bytes that were read.
 #[derive(Clone, Copy, Debug)]
@@ -60,8 +60,8 @@ fn read<'i, 'f>(
     match code {
         exports::DONE => Ok(ResponseHead { bytes, places, fields: &fields[..places.fields] }),
         code => {
-            let wanted = Wanted { entries: places.fields, bytes: 0 };
-            Err(Error::of(code, Some(Place::of(bytes, places.place)), wanted))
+            let required = RequiredSize { entries: places.fields, bytes: 0 };
+            Err(Error::of(code, Some(Position::of(bytes, places.error_offset)), required))
         }
     }
 }
@@ -72,9 +72,9 @@ fn read<'i, 'f>(
 ///
 /// # Errors
 ///
-/// - [`Error::TooSmall`] if the head has more fields than `fields` has entries; it holds the number
-///   of fields.
-/// - [`Error::Refused`] if `bytes` does not start with a head; it holds the position of the first
+/// - [`Error::BufferTooSmall`] if the head has more fields than `fields` has entries; it holds the
+///   number of fields.
+/// - [`Error::Invalid`] if `bytes` does not start with a head; it holds the position of the first
 ///   invalid byte, or the end of the input.
 ///
 /// After an error the contents of `fields` are unspecified.
@@ -100,16 +100,16 @@ pub fn response_head<'i, 'f>(
 /// # Errors
 ///
 /// - [`Error::Incomplete`] if `bytes` does not start with a head, but more bytes can complete one.
-/// - [`Error::Refused`] if `bytes` does not start with a head, regardless of what follows; it holds
+/// - [`Error::Invalid`] if `bytes` does not start with a head, regardless of what follows; it holds
 ///   the position of the first invalid byte.
 ///
 /// ```
-/// let head = pergidau::http::response_head_in_pieces(b"HTTP/1.1 20", &mut []);
+/// let head = pergidau::http::response_head_partial(b"HTTP/1.1 20", &mut []);
 /// assert_eq!(head.unwrap_err(), pergidau::Error::Incomplete);
 /// ```
-pub fn response_head_in_pieces<'i, 'f>(
+pub fn response_head_partial<'i, 'f>(
     bytes: &'i [u8],
     fields: &'f mut [Field],
 ) -> Result<ResponseHead<'i, 'f>, Error> {
-    read(exports::exported_http_response_head_in_pieces, bytes, fields)
+    read(exports::exported_http_response_head_partial, bytes, fields)
 }

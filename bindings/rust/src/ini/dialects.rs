@@ -10,11 +10,11 @@
 //! assert_eq!(found.next(), Some(Ok(Entry::Pair { key: "hosts", value: Some("a") })));
 //! assert_eq!(found.next(), Some(Ok(Entry::More("b"))));
 //! assert_eq!(found.next(), None);
-//! let refused = entries("[server]\nport\n", Dialect::PYTHON).last().unwrap().unwrap_err();
-//! assert_eq!(refused.to_string(), "no delimiter after the key, at line 2, column 1");
+//! let error = entries("[server]\nport\n", Dialect::PYTHON).last().unwrap().unwrap_err();
+//! assert_eq!(error.to_string(), "missing delimiter after the key at line 2, column 1");
 //! ```
 use crate::exports::{self, IniEntry, IniState};
-use crate::{Place, Span};
+use crate::{Position, Span};
 use core::fmt;
 
 /// The delimiter that ends a key: the first one in its line.
@@ -174,48 +174,48 @@ pub enum Entry<'i> {
 /// Why a line is none of the dialect.
 #[derive(Clone, Copy, Debug, PartialEq, Eq)]
 #[non_exhaustive]
-pub enum Refusal {
+pub enum Reason {
     /// The line starts with `[` and has no `]`.
-    OpenSection,
+    UnclosedSection,
     /// There is nothing between `[` and `]`.
     EmptySection,
     /// There is text after the `]`.
-    TextBehindSection,
+    TrailingText,
     /// There is no section before the pair.
-    NoSection,
+    MissingSection,
     /// There is no key before the delimiter.
-    NoKey,
+    MissingKey,
     /// There is no delimiter.
-    NoDelimiter,
+    MissingDelimiter,
     /// The library said what this crate does not know: it is another one.
     Unknown(usize),
 }
 
-impl Refusal {
+impl Reason {
     /// The reason of this number.
-    fn of(number: usize) -> Refusal {
+    fn of(number: usize) -> Reason {
         match number {
-            exports::INI_FAULT_OPEN_SECTION => Refusal::OpenSection,
-            exports::INI_FAULT_EMPTY_SECTION => Refusal::EmptySection,
-            exports::INI_FAULT_TEXT_BEHIND_SECTION => Refusal::TextBehindSection,
-            exports::INI_FAULT_NO_SECTION => Refusal::NoSection,
-            exports::INI_FAULT_NO_KEY => Refusal::NoKey,
-            exports::INI_FAULT_NO_DELIMITER => Refusal::NoDelimiter,
-            number => Refusal::Unknown(number),
+            exports::INI_ERROR_UNCLOSED_SECTION => Reason::UnclosedSection,
+            exports::INI_ERROR_EMPTY_SECTION => Reason::EmptySection,
+            exports::INI_ERROR_TRAILING_TEXT => Reason::TrailingText,
+            exports::INI_ERROR_MISSING_SECTION => Reason::MissingSection,
+            exports::INI_ERROR_MISSING_KEY => Reason::MissingKey,
+            exports::INI_ERROR_MISSING_DELIMITER => Reason::MissingDelimiter,
+            number => Reason::Unknown(number),
         }
     }
 }
 
-impl fmt::Display for Refusal {
+impl fmt::Display for Reason {
     fn fmt(&self, f: &mut fmt::Formatter<'_>) -> fmt::Result {
         f.write_str(match self {
-            Refusal::OpenSection => "no `]` after `[`",
-            Refusal::EmptySection => "a section without a name",
-            Refusal::TextBehindSection => "text after a section",
-            Refusal::NoSection => "a pair before the first section",
-            Refusal::NoKey => "no key before the delimiter",
-            Refusal::NoDelimiter => "no delimiter after the key",
-            Refusal::Unknown(_) => "a line for a reason that is not known",
+            Reason::UnclosedSection => "unclosed section header",
+            Reason::EmptySection => "empty section name",
+            Reason::TrailingText => "unexpected text after a section header",
+            Reason::MissingSection => "pair before the first section header",
+            Reason::MissingKey => "missing key before the delimiter",
+            Reason::MissingDelimiter => "missing delimiter after the key",
+            Reason::Unknown(_) => "invalid line for an unknown reason",
         })
     }
 }
@@ -224,14 +224,14 @@ impl fmt::Display for Refusal {
 #[derive(Clone, Copy, Debug, PartialEq, Eq)]
 pub struct LineError {
     /// Where the line begins.
-    pub place: Place,
+    pub position: Position,
     /// Why it is none.
-    pub why: Refusal,
+    pub reason: Reason,
 }
 
 impl fmt::Display for LineError {
     fn fmt(&self, f: &mut fmt::Formatter<'_>) -> fmt::Result {
-        write!(f, "{}, at {}", self.why, self.place)
+        write!(f, "{} at {}", self.reason, self.position)
     }
 }
 
@@ -253,14 +253,14 @@ pub struct Entries<'i> {
 /// reason. Nothing is allocated. All calls for a document take time linear in its length.
 ///
 /// ```
-/// use pergidau::ini::dialects::{entries, Dialect, Entry, Refusal};
+/// use pergidau::ini::dialects::{entries, Dialect, Entry, Reason};
 ///
 /// let text = "[Desktop Entry]\n# a comment\nExec=run --now\n=x\n";
 /// let mut found = entries(text, Dialect::DESKTOP);
 /// assert_eq!(found.next(), Some(Ok(Entry::Section("Desktop Entry"))));
 /// assert_eq!(found.next(), Some(Ok(Entry::Pair { key: "Exec", value: Some("run --now") })));
-/// let refused = found.next().unwrap().unwrap_err();
-/// assert_eq!((refused.place.line, refused.why), (4, Refusal::NoKey));
+/// let error = found.next().unwrap().unwrap_err();
+/// assert_eq!((error.position.line, error.reason), (4, Reason::MissingKey));
 /// assert_eq!(found.next(), None);
 /// ```
 pub fn entries(text: &str, dialect: Dialect) -> Entries<'_> {
@@ -294,10 +294,10 @@ impl<'i> Iterator for Entries<'i> {
                 Some(Ok(Entry::Pair { key: at(out.key), value: None }))
             }
             (exports::DONE, exports::INI_MORE) => Some(Ok(Entry::More(at(out.value)))),
-            (exports::REFUSED, _) => {
+            (exports::INVALID, _) => {
                 self.is_over = true;
-                let place = Place::of(bytes, out.place);
-                Some(Err(LineError { place, why: Refusal::of(out.fault) }))
+                let position = Position::of(bytes, out.error_offset);
+                Some(Err(LineError { position, reason: Reason::of(out.error) }))
             }
             (code, _) => {
                 debug_assert_eq!(code, exports::END);

@@ -1,7 +1,7 @@
 //! Conversions of JSON numbers and strings.
 use super::{unknown, Kind, Value};
 use crate::exports::{self, JsonText};
-use crate::{Error, Wanted};
+use crate::{Error, RequiredSize};
 
 impl<'i> Value<'i> {
     /// Returns the integer that a number is written as; `-0` gives 0. Returns `None` if the number
@@ -51,7 +51,7 @@ impl<'i> Value<'i> {
     /// written; otherwise it is decoded into `buffer`.
     ///
     /// A buffer as long as the string is always large enough. If a shorter one is too small,
-    /// [`Error::TooSmall`] holds the required number of bytes.
+    /// [`Error::BufferTooSmall`] holds the required number of bytes.
     ///
     /// ```
     /// let value = pergidau::json::parse("\"r\\u006fle\"", 0)?;
@@ -69,7 +69,7 @@ impl<'i> Value<'i> {
             return Ok(self.text.get(1..self.text.len() - 1));
         }
         let (text, _) = unescape(self.text.as_bytes(), buffer)?;
-        core::str::from_utf8(text).map(Some).map_err(|_| Error::NotText)
+        core::str::from_utf8(text).map(Some).map_err(|_| Error::InvalidUtf8)
     }
 }
 
@@ -77,7 +77,7 @@ impl<'i> Value<'i> {
 fn fits(code: u32) -> bool {
     match code {
         exports::DONE => true,
-        exports::NO_INTEGER => false,
+        exports::NOT_AN_INTEGER => false,
         code => unknown(code as usize),
     }
 }
@@ -88,8 +88,8 @@ fn fits(code: u32) -> bool {
 ///
 /// # Errors
 ///
-/// - [`Error::TooSmall`] if the buffer is too small; it holds the required number of bytes.
-/// - [`Error::Refused`] if `bytes` does not start with a string.
+/// - [`Error::BufferTooSmall`] if the buffer is too small; it holds the required number of bytes.
+/// - [`Error::Invalid`] if `bytes` does not start with a string.
 ///
 /// After an error the contents of `buffer` are unspecified.
 ///
@@ -118,6 +118,6 @@ pub fn unescape<'i, 'b>(
     };
     match code {
         exports::DONE => Ok((&buffer[..out.text], &bytes[out.length..])),
-        code => Err(Error::of(code, None, Wanted { entries: 0, bytes: out.text })),
+        code => Err(Error::of(code, None, RequiredSize { entries: 0, bytes: out.text })),
     }
 }

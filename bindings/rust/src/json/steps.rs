@@ -48,9 +48,9 @@ impl<'i> Iterator for Steps<'i> {
             exports::END => return None,
             code => unknown(code as usize),
         }
-        let (front, left) = self.left.split_at(out.place.offset + out.place.length);
-        let text = &front[out.place.offset..];
-        let value = |kind| Value { kind, text, levels: 0 };
+        let (front, left) = self.left.split_at(out.span.offset + out.span.length);
+        let text = &front[out.span.offset..];
+        let value = |kind| Value { kind, text, max_depth: 0 };
         let step = match out.kind {
             exports::JSON_NULL => Step::Value(value(Kind::Null)),
             exports::JSON_FALSE => Step::Value(value(Kind::False)),
@@ -69,8 +69,8 @@ impl<'i> Iterator for Steps<'i> {
     }
 }
 
-/// Returns the steps of a JSON text (RFC 8259) whose arrays and objects are nested at most `levels`
-/// deep. The whole text is checked first, as by [`check`].
+/// Returns the steps of a JSON text (RFC 8259) whose arrays and objects are nested at most
+/// `max_depth` deep. The whole text is checked first, as by [`check`].
 ///
 /// ```
 /// use pergidau::json::{self, Step};
@@ -80,7 +80,7 @@ impl<'i> Iterator for Steps<'i> {
 /// assert_eq!(numbers.count(), 2);
 /// # Ok::<(), pergidau::Error>(())
 /// ```
-pub fn steps(text: &str, levels: usize) -> Result<Steps<'_>, Error> {
-    check(text.as_bytes(), levels)?;
+pub fn steps(text: &str, max_depth: usize) -> Result<Steps<'_>, Error> {
+    check(text.as_bytes(), max_depth)?;
     Ok(Steps::of(text))
 }

@@ -183,10 +183,10 @@ impl Display for Part {
 impl Display for LineError {
     fn fmt<W: fmt::Write>(&self, f: &mut fmt::Formatter<W>) -> fmt::Result {
         match self {
-            LineError::Other => f.write_str("no line"),
+            LineError::Other => f.write_str("invalid line"),
             LineError::Expected(part) => write!(f, "expected {part}"),
             LineError::UnknownLevel(letter) => {
-                write!(f, "`{}` is no level", char::from(*letter))
+                write!(f, "`{}` is not a level", char::from(*letter))
             }
             LineError::NoMemory => f.write_str("out of memory"),
         }

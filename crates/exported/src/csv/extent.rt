@@ -2,14 +2,14 @@
 
 ghost use Rattle.std.specs.Prelude.{◌≡◌, ◌⊎◌, ◌++◌, [], List, ℕ};
 ghost use Rattle.format_csv_records.specs.Extents.{IsOf};
-ghost use Rattle.exported.specs.Code.{done, incomplete, refused};
+ghost use Rattle.exported.specs.Code.{done, incomplete, invalid};
 ghost use Rattle.exported.specs.Csv.{dialect_of};
 ghost use Rattle.exported.specs.CsvExtent.{RecordCalls, TellsRecord, nothing, place_at};
 ghost use Rattle.exported.specs.CsvExtent.{record_extent_of};
 ghost use Rattle.exported.specs.Turns.{all_of};
-ghost use Rattle.exported.specs.declared.csv.extent.CsvRecordExtent.{CsvRecordExtent};
+ghost use Rattle.exported.specs.declared.csv.extent.CsvRecordState.{CsvRecordState};
 
-use crate::code::{DONE, INCOMPLETE, REFUSED};
+use crate::code::{DONE, INCOMPLETE, INVALID};
 use crate::csv::{Record, dialect, none_at};
 use format_csv_records::extent::{RecordExtent, RecordPlace};
 
@@ -18,7 +18,7 @@ use format_csv_records::extent::{RecordExtent, RecordPlace};
 /// record.
 #[repr(C)]
 #[derive(Clone, Copy, Drop)]
-pub struct CsvRecordExtent {
+pub struct CsvRecordState {
     /// How many bytes were passed.
     pub passed: usize,
     /// How many bytes the fields have that were passed, as they are meant.
@@ -58,7 +58,7 @@ fn number_of(place: RecordPlace) -> usize
 }
 
 /// Returns the extent that `state` represents.
-fn extent_at(state: CsvRecordExtent) -> RecordExtent
+fn extent_at(state: CsvRecordState) -> RecordExtent
     ensures { result ≡ record_extent_of state }
 {
     RecordExtent {
@@ -70,10 +70,10 @@ fn extent_at(state: CsvRecordExtent) -> RecordExtent
 }
 
 /// Returns the corresponding state.
-fn state_at(extent: RecordExtent) -> CsvRecordExtent
+fn state_at(extent: RecordExtent) -> CsvRecordState
     ensures { record_extent_of result ≡ extent }
 {
-    CsvRecordExtent {
+    CsvRecordState {
         passed: extent.passed,
         text: extent.text,
         fields: extent.fields,
@@ -105,7 +105,7 @@ fn state_at(extent: RecordExtent) -> CsvRecordExtent
 ///
 /// # Errors
 ///
-/// `REFUSED`: `bytes` does not start with a record, regardless of what follows. This is returned as
+/// `INVALID`: `bytes` does not start with a record, regardless of what follows. This is returned as
 /// soon as the first invalid byte is there, and its offset is written.
 ///
 /// # Safety
@@ -115,15 +115,15 @@ fn state_at(extent: RecordExtent) -> CsvRecordExtent
 /// None of these may overlap. The call needs 16 KiB of stack.
 #[unsafe(no_mangle)]
 pub extern "C" fn exported_csv_record_extent(
-    state: &mut CsvRecordExtent,
+    state: &mut CsvRecordState,
     bytes: &[u8],
     line_feeds: u32,
     out: &mut Record,
 ) -> u32
     ensures told { IsOf (dialect_of line_feeds) (record_extent_of state.old) bytes.now
         → TellsRecord (dialect_of line_feeds) bytes.now result out.new state.new }
-    ensures nowhere { (result ≡ refused → ⊥) → out.new.place ≡ 0 }
-    ensures codes { (result ≡ done) ⊎ ((result ≡ incomplete) ⊎ (result ≡ refused)) }
+    ensures nowhere { (result ≡ invalid → ⊥) → out.new.error_offset ≡ 0 }
+    ensures codes { (result ≡ done) ⊎ ((result ≡ incomplete) ⊎ (result ≡ invalid)) }
 {
     let dialect = dialect(line_feeds);
     let mut extent = extent_at(*state);
@@ -135,7 +135,7 @@ pub extern "C" fn exported_csv_record_extent(
                 fields: size.fields,
                 text: size.text,
                 length: size.length,
-                place: 0,
+                error_offset: 0,
             };
             DONE
         }
@@ -145,7 +145,7 @@ pub extern "C" fn exported_csv_record_extent(
         }
         Err(fault) => {
             *out = none_at(fault.offset);
-            REFUSED
+            INVALID
         }
     }
 }
@@ -156,7 +156,7 @@ pub extern "C" fn exported_csv_record_extent(
 /// `INCOMPLETE`, the last state is a state of these bytes, regardless of what follows. So the next
 /// call returns the result that a call with zeros returns for all of its bytes.
 pub fn calls_in_turn_are_of_their_bytes()
-    ensures { (line_feeds : ℕ) (pieces : List (List ℕ)) (state : CsvRecordExtent)
+    ensures { (line_feeds : ℕ) (pieces : List (List ℕ)) (state : CsvRecordState)
         → RecordCalls (dialect_of line_feeds) nothing [] pieces state
         → (more : List ℕ)
         → IsOf (dialect_of line_feeds) (record_extent_of state) (all_of pieces ++ more) }

@@ -7,10 +7,10 @@ ghost use Rattle.format_http_chunked.specs.State.{decoder_of};
 ghost use Rattle.exported.specs.Chunked.{Call, CallsInTurn, IsFirst, TellsStep, Writes};
 ghost use Rattle.exported.specs.Chunked.{fault_number};
 ghost use Rattle.exported.specs.Span.{StandsAt};
-ghost use Rattle.exported.specs.Code.{done, end, incomplete, refused};
+ghost use Rattle.exported.specs.Code.{done, end, incomplete, invalid};
 ghost use Rattle.format_http_chunked.specs.declared.state.ChunkedState.{ChunkedState};
 
-use crate::code::{DONE, END, INCOMPLETE, REFUSED};
+use crate::code::{DONE, END, INCOMPLETE, INVALID};
 use crate::span::{NOWHERE, Span};
 use format_http_chunked::decoder::{Decoder, Fault, Step};
 pub use format_http_chunked::state::ChunkedState;
@@ -23,25 +23,25 @@ pub const CHUNKED_DATA: usize = 0;
 pub const CHUNKED_TRAILERS: usize = 1;
 
 /// A size line does not start with a hexadecimal digit.
-pub const CHUNKED_FAULT_SIZE: usize = 0;
+pub const CHUNKED_ERROR_SIZE: usize = 0;
 
 /// The byte is invalid in a size line: it can continue neither an extension nor a line ending.
-pub const CHUNKED_FAULT_SIZE_LINE: usize = 1;
+pub const CHUNKED_ERROR_SIZE_LINE: usize = 1;
 
 /// With this digit the size is 2^64 or more.
-pub const CHUNKED_FAULT_SIZE_TOO_LARGE: usize = 2;
+pub const CHUNKED_ERROR_SIZE_TOO_LARGE: usize = 2;
 
 /// There are more bytes than the limit allows before the next data, or before the end.
-pub const CHUNKED_FAULT_SIZE_LINE_TOO_LONG: usize = 3;
+pub const CHUNKED_ERROR_SIZE_LINE_TOO_LONG: usize = 3;
 
 /// The data of a chunk is not followed by a carriage return and a line feed.
-pub const CHUNKED_FAULT_DATA_END: usize = 4;
+pub const CHUNKED_ERROR_DATA_END: usize = 4;
 
 /// The byte can continue neither a field line nor the line ending after the trailer section.
-pub const CHUNKED_FAULT_TRAILERS: usize = 5;
+pub const CHUNKED_ERROR_TRAILERS: usize = 5;
 
 /// The trailer section would have more bytes than the limit lets.
-pub const CHUNKED_FAULT_TRAILERS_TOO_LONG: usize = 6;
+pub const CHUNKED_ERROR_TRAILERS_TOO_LONG: usize = 6;
 
 /// The result of a call for a chunked body.
 #[repr(C)]
@@ -50,12 +50,12 @@ pub struct ChunkedStep {
     /// The kind of the output: `CHUNKED_DATA` or `CHUNKED_TRAILERS`.
     pub kind: usize,
     /// The span of the output in the input; zeros if there is no output.
-    pub place: Span,
+    pub span: Span,
     /// How many bytes were taken. Those after them are the first of the next call.
     pub taken: usize,
-    /// The error of the byte after the consumed bytes: `CHUNKED_FAULT_SIZE` or one of the constants
+    /// The error of the byte after the consumed bytes: `CHUNKED_ERROR_SIZE` or one of the constants
     /// after it; 0 otherwise.
-    pub fault: usize,
+    pub error: usize,
 }
 
 /// Returns the number of an error.
@@ -63,13 +63,13 @@ fn number_of(fault: Fault) -> usize
     ensures { result ≡ fault_number fault }
 {
     match fault {
-        Fault::Size => CHUNKED_FAULT_SIZE,
-        Fault::SizeLine => CHUNKED_FAULT_SIZE_LINE,
-        Fault::SizeTooLarge => CHUNKED_FAULT_SIZE_TOO_LARGE,
-        Fault::SizeLineTooLong => CHUNKED_FAULT_SIZE_LINE_TOO_LONG,
-        Fault::DataEnd => CHUNKED_FAULT_DATA_END,
-        Fault::Trailers => CHUNKED_FAULT_TRAILERS,
-        Fault::TrailersTooLong => CHUNKED_FAULT_TRAILERS_TOO_LONG,
+        Fault::Size => CHUNKED_ERROR_SIZE,
+        Fault::SizeLine => CHUNKED_ERROR_SIZE_LINE,
+        Fault::SizeTooLarge => CHUNKED_ERROR_SIZE_TOO_LARGE,
+        Fault::SizeLineTooLong => CHUNKED_ERROR_SIZE_LINE_TOO_LONG,
+        Fault::DataEnd => CHUNKED_ERROR_DATA_END,
+        Fault::Trailers => CHUNKED_ERROR_TRAILERS,
+        Fault::TrailersTooLong => CHUNKED_ERROR_TRAILERS_TOO_LONG,
     }
 }
 
@@ -101,9 +101,9 @@ fn step_of(bytes: &[u8], rest: &[u8], said: Result<Step<'_>, Fault>) -> (u32, Ch
 {
     let nothing = ChunkedStep {
         kind: 0,
-        place: NOWHERE,
+        span: NOWHERE,
         taken: taken_of(bytes, rest),
-        fault: 0,
+        error: 0,
     };
     match said {
         Ok(Step::Data(data)) => {
@@ -112,7 +112,7 @@ fn step_of(bytes: &[u8], rest: &[u8], said: Result<Step<'_>, Fault>) -> (u32, Ch
                 DONE,
                 ChunkedStep {
                     kind: CHUNKED_DATA,
-                    place,
+                    span: place,
                     ..nothing
                 },
             )
@@ -123,7 +123,7 @@ fn step_of(bytes: &[u8], rest: &[u8], said: Result<Step<'_>, Fault>) -> (u32, Ch
                 DONE,
                 ChunkedStep {
                     kind: CHUNKED_TRAILERS,
-                    place,
+                    span: place,
                     ..nothing
                 },
             )
@@ -131,9 +131,9 @@ fn step_of(bytes: &[u8], rest: &[u8], said: Result<Step<'_>, Fault>) -> (u32, Ch
         Ok(Step::End) => (END, nothing),
         Ok(Step::More) => (INCOMPLETE, nothing),
         Err(fault) => (
-            REFUSED,
+            INVALID,
             ChunkedStep {
-                fault: number_of(fault),
+                error: number_of(fault),
                 ..nothing
             },
         ),
@@ -166,7 +166,7 @@ fn step_of(bytes: &[u8], rest: &[u8], said: Result<Step<'_>, Fault>) -> (u32, Ch
 ///
 /// # Errors
 ///
-/// `REFUSED`: no body can continue with the byte after the consumed ones, or only one of 2^64 bytes
+/// `INVALID`: no body can continue with the byte after the consumed ones, or only one of 2^64 bytes
 /// or more, or a limit is exceeded.
 ///
 /// # Safety
@@ -182,7 +182,7 @@ pub extern "C" fn exported_http_chunked(
 ) -> u32
     ensures told { TellsStep state.old state.new bytes.now result out.new }
     ensures codes { (result ≡ done) ⊎ ((result ≡ end) ⊎ ((result ≡ incomplete)
-        ⊎ (result ≡ refused))) }
+        ⊎ (result ≡ invalid))) }
 {
     let mut decoder = Decoder::of_state(*state);
     let mut rest = bytes;

@@ -2,20 +2,20 @@
 
 ghost use Rattle.std.specs.Prelude.{◌≡◌, ◌⊎◌, ◌++◌, [], List, ℕ};
 ghost use Rattle.format_http_places.specs.Extents.{IsOf};
-ghost use Rattle.exported.specs.Code.{done, incomplete, refused};
+ghost use Rattle.exported.specs.Code.{done, incomplete, invalid};
 ghost use Rattle.exported.specs.HttpExtent.{HeadCalls, TellsHead, head_extent_of, nothing};
 ghost use Rattle.exported.specs.HttpExtent.{place_at};
 ghost use Rattle.exported.specs.Turns.{all_of};
-ghost use Rattle.exported.specs.declared.http.extent.HttpHeadExtent.{HttpHeadExtent};
+ghost use Rattle.exported.specs.declared.http.extent.HttpHeadState.{HttpHeadState};
 
-use crate::code::{DONE, INCOMPLETE, REFUSED};
+use crate::code::{DONE, INCOMPLETE, INVALID};
 use format_http_places::extent::{HeadExtent, HeadPlace};
 
 /// The state of a search for the end of the head of a request. Only the functions of this library
 /// may interpret its fields. All zeros is the initial state; start from it for each head.
 #[repr(C)]
 #[derive(Clone, Copy, Drop)]
-pub struct HttpHeadExtent {
+pub struct HttpHeadState {
     /// How many bytes were passed.
     pub passed: usize,
     /// The part of the head that is expected next; 0 at its start.
@@ -77,7 +77,7 @@ fn number_of(place: HeadPlace) -> usize
 }
 
 /// Returns the extent that `state` represents.
-fn extent_at(state: HttpHeadExtent) -> HeadExtent
+fn extent_at(state: HttpHeadState) -> HeadExtent
     ensures { result ≡ head_extent_of state }
 {
     HeadExtent {
@@ -87,10 +87,10 @@ fn extent_at(state: HttpHeadExtent) -> HeadExtent
 }
 
 /// Returns the corresponding state.
-fn state_at(extent: HeadExtent) -> HttpHeadExtent
+fn state_at(extent: HeadExtent) -> HttpHeadState
     ensures { head_extent_of result ≡ extent }
 {
-    HttpHeadExtent {
+    HttpHeadState {
         passed: extent.passed,
         place: number_of(extent.place),
     }
@@ -114,7 +114,7 @@ fn state_at(extent: HeadExtent) -> HttpHeadExtent
 ///
 /// # Errors
 ///
-/// `REFUSED`: `bytes` does not start with a head, regardless of what follows. The first offset at
+/// `INVALID`: `bytes` does not start with a head, regardless of what follows. The first offset at
 /// which no head can continue is written.
 ///
 /// # Safety
@@ -124,14 +124,14 @@ fn state_at(extent: HeadExtent) -> HttpHeadExtent
 /// None of these may overlap. The call needs 16 KiB of stack.
 #[unsafe(no_mangle)]
 pub extern "C" fn exported_http_head_extent(
-    state: &mut HttpHeadExtent,
+    state: &mut HttpHeadState,
     bytes: &[u8],
     out: &mut usize,
 ) -> u32
     ensures told { IsOf (head_extent_of state.old) bytes.now
         → TellsHead bytes.now result out.new state.new }
     ensures none { result ≡ incomplete → out.new ≡ 0 }
-    ensures codes { (result ≡ done) ⊎ ((result ≡ incomplete) ⊎ (result ≡ refused)) }
+    ensures codes { (result ≡ done) ⊎ ((result ≡ incomplete) ⊎ (result ≡ invalid)) }
 {
     let mut extent = extent_at(*state);
     let answer = extent.advance(bytes);
@@ -147,7 +147,7 @@ pub extern "C" fn exported_http_head_extent(
         }
         Err(refused) => {
             *out = refused.place;
-            REFUSED
+            INVALID
         }
     }
 }
@@ -158,7 +158,7 @@ pub extern "C" fn exported_http_head_extent(
 /// state of these bytes, regardless of what follows. So the next call returns the result that a
 /// call with zeros returns for all of its bytes.
 pub fn calls_in_turn_are_of_their_bytes()
-    ensures { (pieces : List (List ℕ)) (state : HttpHeadExtent)
+    ensures { (pieces : List (List ℕ)) (state : HttpHeadState)
         → HeadCalls nothing [] pieces state
         → (more : List ℕ) → IsOf (head_extent_of state) (all_of pieces ++ more) }
 {}

@@ -4,10 +4,10 @@ ghost use Rattle.std.specs.Prelude.{◌≡◌, ◌⊎◌, ◌<◌, length, take}
 ghost use Rattle.format_http.specs.Responses.Head.{BeginsResponseHead, NoResponseHead};
 ghost use Rattle.format_http_places.specs.Responses.{IsResponseRefused, IsResponseWanted};
 ghost use Rattle.format_http_places.specs.Responses.{NoResponseRead, ShowsResponse};
-ghost use Rattle.exported.specs.Code.{done, incomplete, refused, too_small};
+ghost use Rattle.exported.specs.Code.{buffer_too_small, done, incomplete, invalid};
 ghost use Rattle.exported.specs.Http.{IsNoResponse, response_of};
 
-use crate::code::{DONE, INCOMPLETE, REFUSED, TOO_SMALL};
+use crate::code::{BUFFER_TOO_SMALL, DONE, INCOMPLETE, INVALID};
 use format_http_places::places;
 pub use format_http_places::places::{Field, Span};
 use format_http_places::read::HeadError;
@@ -24,7 +24,7 @@ pub struct ResponseHead {
     /// The length of the head in bytes, including the empty line after the fields.
     pub length: usize,
     /// The offset of the error in bytes; 0 otherwise.
-    pub place: usize,
+    pub error_offset: usize,
     /// The status code, below 1000.
     pub status: u16,
     /// The number before the point of the version, below 10.
@@ -36,7 +36,7 @@ pub struct ResponseHead {
 /// Returns an empty head with a number of fields and the offset of an error.
 fn none(fields: usize, place: usize) -> ResponseHead
     ensures fields { result.fields ≡ fields }
-    ensures place { result.place ≡ place }
+    ensures place { result.error_offset ≡ place }
 {
     let nowhere = Span {
         offset: 0,
@@ -46,7 +46,7 @@ fn none(fields: usize, place: usize) -> ResponseHead
         reason: nowhere,
         fields,
         length: 0,
-        place,
+        error_offset: place,
         status: 0,
         major: 0,
         minor: 0,
@@ -56,13 +56,13 @@ fn none(fields: usize, place: usize) -> ResponseHead
 /// A head that was found.
 fn head_of(found: places::ResponseHead) -> ResponseHead
     ensures places { response_of result ≡ found }
-    ensures place { result.place ≡ 0 }
+    ensures place { result.error_offset ≡ 0 }
 {
     ResponseHead {
         reason: found.reason,
         fields: found.fields,
         length: found.length,
-        place: 0,
+        error_offset: 0,
         status: found.status,
         major: found.major,
         minor: found.minor,
@@ -81,11 +81,11 @@ fn head_of(found: places::ResponseHead) -> ResponseHead
 ///
 /// # Errors
 ///
-/// `REFUSED`: `bytes` does not start with a head. The first offset at which no head can continue is
+/// `INVALID`: `bytes` does not start with a head. The first offset at which no head can continue is
 /// written; it is the end of `bytes` if they end within a head.
 ///
-/// `TOO_SMALL`: the head has more fields than the buffer has entries. The number of fields is
-/// written.
+/// `BUFFER_TOO_SMALL`: the head has more fields than the buffer has entries. The number of fields
+/// is written.
 ///
 /// After an error the contents of the buffer are unspecified, because the fields are written during
 /// parsing.
@@ -103,12 +103,12 @@ pub extern "C" fn exported_http_response_head(
 ) -> u32
     ensures head { result ≡ done
         → ShowsResponse bytes.now (response_of out.new) (take out.new.fields fields.new) }
-    ensures small { result ≡ too_small → IsResponseWanted bytes.now out.new.fields
+    ensures small { result ≡ buffer_too_small → IsResponseWanted bytes.now out.new.fields
         × (length fields.old < out.new.fields) }
-    ensures refused { result ≡ refused → NoResponseRead bytes.now }
-    ensures place { result ≡ refused → IsNoResponse bytes.now out.new.place }
-    ensures nowhere { (result ≡ refused → ⊥) → out.new.place ≡ 0 }
-    ensures codes { (result ≡ done) ⊎ ((result ≡ too_small) ⊎ (result ≡ refused)) }
+    ensures refused { result ≡ invalid → NoResponseRead bytes.now }
+    ensures place { result ≡ invalid → IsNoResponse bytes.now out.new.error_offset }
+    ensures nowhere { (result ≡ invalid → ⊥) → out.new.error_offset ≡ 0 }
+    ensures codes { (result ≡ done) ⊎ ((result ≡ buffer_too_small) ⊎ (result ≡ invalid)) }
 {
     match read_response_head_into(bytes, fields) {
         Ok(found) => {
@@ -117,15 +117,15 @@ pub extern "C" fn exported_http_response_head(
         }
         Err(HeadError::TooManyFields(count)) => {
             *out = none(count, 0);
-            TOO_SMALL
+            BUFFER_TOO_SMALL
         }
         Err(HeadError::Incomplete) => {
             *out = none(0, bytes.len());
-            REFUSED
+            INVALID
         }
         Err(HeadError::Refused(place)) => {
             *out = none(0, place);
-            REFUSED
+            INVALID
         }
     }
 }
@@ -140,11 +140,11 @@ pub extern "C" fn exported_http_response_head(
 ///
 /// # Errors
 ///
-/// `REFUSED`: `bytes` does not start with a head, regardless of what follows. The offset of the
+/// `INVALID`: `bytes` does not start with a head, regardless of what follows. The offset of the
 /// first invalid byte is written: the bytes before it are a prefix of a head, and together with the
 /// byte there they are not.
 ///
-/// `TOO_SMALL`: as for complete input.
+/// `BUFFER_TOO_SMALL`: as for complete input.
 ///
 /// # Safety
 ///
@@ -152,21 +152,21 @@ pub extern "C" fn exported_http_response_head(
 /// `fields` must be valid for writes of `fields_length` entries, and `out` for writes of one head.
 /// None of these may overlap. The call needs 16 KiB of stack.
 #[unsafe(no_mangle)]
-pub extern "C" fn exported_http_response_head_in_pieces(
+pub extern "C" fn exported_http_response_head_partial(
     bytes: &[u8],
     fields: &mut [Field],
     out: &mut ResponseHead,
 ) -> u32
     ensures head { result ≡ done
         → ShowsResponse bytes.now (response_of out.new) (take out.new.fields fields.new) }
-    ensures small { result ≡ too_small → IsResponseWanted bytes.now out.new.fields
+    ensures small { result ≡ buffer_too_small → IsResponseWanted bytes.now out.new.fields
         × (length fields.old < out.new.fields) }
-    ensures refused { result ≡ refused → NoResponseHead bytes.now }
-    ensures place { result ≡ refused → IsResponseRefused bytes.now out.new.place }
-    ensures nowhere { (result ≡ refused → ⊥) → out.new.place ≡ 0 }
+    ensures refused { result ≡ invalid → NoResponseHead bytes.now }
+    ensures place { result ≡ invalid → IsResponseRefused bytes.now out.new.error_offset }
+    ensures nowhere { (result ≡ invalid → ⊥) → out.new.error_offset ≡ 0 }
     ensures incomplete { result ≡ incomplete
         → BeginsResponseHead bytes.now × NoResponseRead bytes.now }
-    ensures codes { (result ≡ done) ⊎ ((result ≡ too_small) ⊎ ((result ≡ refused)
+    ensures codes { (result ≡ done) ⊎ ((result ≡ buffer_too_small) ⊎ ((result ≡ invalid)
         ⊎ (result ≡ incomplete))) }
 {
     match read_response_head_into(bytes, fields) {
@@ -176,7 +176,7 @@ pub extern "C" fn exported_http_response_head_in_pieces(
         }
         Err(HeadError::TooManyFields(count)) => {
             *out = none(count, 0);
-            TOO_SMALL
+            BUFFER_TOO_SMALL
         }
         Err(HeadError::Incomplete) => {
             *out = none(0, 0);
@@ -184,7 +184,7 @@ pub extern "C" fn exported_http_response_head_in_pieces(
         }
         Err(HeadError::Refused(place)) => {
             *out = none(0, place);
-            REFUSED
+            INVALID
         }
     }
 }

@@ -5,14 +5,14 @@ ghost use Rattle.std.specs.Str.{IsUtf8};
 ghost use Rattle.format_ini.specs.Documents.{IsDocument, IsRefused};
 ghost use Rattle.format_ini.specs.Lines.{Said};
 ghost use Rattle.format_ini.specs.declared.lines.Refusal.{Refusal};
-ghost use Rattle.exported.specs.Code.{done, end, no_text, refused};
+ghost use Rattle.exported.specs.Code.{done, end, invalid, invalid_utf8};
 ghost use Rattle.exported.specs.Dialects.{EntriesInTurn, IsFrom, ShowsEntry, TellsEntry, Writes};
 ghost use Rattle.exported.specs.Dialects.{continued_of, delimiters_of, dialect_of, fault_number};
 ghost use Rattle.exported.specs.Dialects.{has, is_set, marks_of, reading_at, zeros};
 ghost use Rattle.exported.specs.declared.ini.dialects.IniEntry.{IniEntry};
 ghost use Rattle.exported.specs.declared.ini.dialects.IniState.{IniState};
 
-use crate::code::{DONE, END, NO_TEXT, REFUSED};
+use crate::code::{DONE, END, INVALID, INVALID_UTF8};
 use crate::span::{NOWHERE, Span};
 use format_ini::dialect::{Continued, Delimiters, Dialect, Marks};
 use format_ini::lines::{Entry, Places, Refusal, State};
@@ -32,22 +32,22 @@ pub const INI_KEY: usize = 2;
 pub const INI_MORE: usize = 3;
 
 /// The line starts with `[` and has no `]`.
-pub const INI_FAULT_OPEN_SECTION: usize = 0;
+pub const INI_ERROR_UNCLOSED_SECTION: usize = 0;
 
 /// There is nothing between `[` and `]`.
-pub const INI_FAULT_EMPTY_SECTION: usize = 1;
+pub const INI_ERROR_EMPTY_SECTION: usize = 1;
 
 /// There is text after the `]`.
-pub const INI_FAULT_TEXT_BEHIND_SECTION: usize = 2;
+pub const INI_ERROR_TRAILING_TEXT: usize = 2;
 
 /// There is no section before the pair.
-pub const INI_FAULT_NO_SECTION: usize = 3;
+pub const INI_ERROR_MISSING_SECTION: usize = 3;
 
 /// There is no key before the delimiter.
-pub const INI_FAULT_NO_KEY: usize = 4;
+pub const INI_ERROR_MISSING_KEY: usize = 4;
 
 /// There is no delimiter.
-pub const INI_FAULT_NO_DELIMITER: usize = 5;
+pub const INI_ERROR_MISSING_DELIMITER: usize = 5;
 
 /// `=` ends a key. Where neither this is set nor the next, both end one.
 pub const INI_DIALECT_EQUALS: usize = 1;
@@ -117,10 +117,10 @@ pub struct IniEntry {
     /// The value of a pair, or a further line of it; zeros otherwise.
     pub value: Span,
     /// The offset of the line that is invalid or not UTF-8; 0 otherwise.
-    pub place: usize,
-    /// The reason why the line is invalid: `INI_FAULT_OPEN_SECTION` or one of the constants after
-    /// it; 0 otherwise.
-    pub fault: usize,
+    pub error_offset: usize,
+    /// The reason why the line is invalid: `INI_ERROR_UNCLOSED_SECTION` or one of the constants
+    /// after it; 0 otherwise.
+    pub error: usize,
 }
 
 /// Nothing.
@@ -128,8 +128,8 @@ const NO_ENTRY: IniEntry = IniEntry {
     kind: INI_SECTION,
     key: NOWHERE,
     value: NOWHERE,
-    place: 0,
-    fault: 0,
+    error_offset: 0,
+    error: 0,
 };
 
 /// Whether a flag is set.
@@ -247,12 +247,12 @@ fn fault_number(why: Refusal) -> usize
     ensures { result ≡ fault_number why }
 {
     match why {
-        Refusal::OpenSection => INI_FAULT_OPEN_SECTION,
-        Refusal::EmptySection => INI_FAULT_EMPTY_SECTION,
-        Refusal::TextBehindSection => INI_FAULT_TEXT_BEHIND_SECTION,
-        Refusal::NoSection => INI_FAULT_NO_SECTION,
-        Refusal::NoKey => INI_FAULT_NO_KEY,
-        Refusal::NoDelimiter => INI_FAULT_NO_DELIMITER,
+        Refusal::OpenSection => INI_ERROR_UNCLOSED_SECTION,
+        Refusal::EmptySection => INI_ERROR_EMPTY_SECTION,
+        Refusal::TextBehindSection => INI_ERROR_TRAILING_TEXT,
+        Refusal::NoSection => INI_ERROR_MISSING_SECTION,
+        Refusal::NoKey => INI_ERROR_MISSING_KEY,
+        Refusal::NoDelimiter => INI_ERROR_MISSING_DELIMITER,
     }
 }
 
@@ -301,24 +301,24 @@ fn entry_of(entry: Entry<'_>, at: Places) -> IniEntry
 /// Returns the code and the output for a result; the next line with content starts at `offset`.
 fn told_of(found: Result<Option<Placed<'_>>, Stop>, offset: usize) -> (u32, IniEntry)
     ensures writes { Writes found.entry offset result.0 result.1 }
-    ensures codes { (result.0 ≡ done) ⊎ ((result.0 ≡ end) ⊎ ((result.0 ≡ refused)
-        ⊎ (result.0 ≡ no_text))) }
+    ensures codes { (result.0 ≡ done) ⊎ ((result.0 ≡ end) ⊎ ((result.0 ≡ invalid)
+        ⊎ (result.0 ≡ invalid_utf8))) }
 {
     match found {
         Ok(Some(placed)) => (DONE, entry_of(placed.entry, placed.at)),
         Ok(None) => (END, NO_ENTRY),
         Err(Stop::NoText) => (
-            NO_TEXT,
+            INVALID_UTF8,
             IniEntry {
-                place: offset,
+                error_offset: offset,
                 ..NO_ENTRY
             },
         ),
         Err(Stop::Refused(why)) => (
-            REFUSED,
+            INVALID,
             IniEntry {
-                place: offset,
-                fault: fault_number(why),
+                error_offset: offset,
+                error: fault_number(why),
                 ..NO_ENTRY
             },
         ),
@@ -353,9 +353,9 @@ fn told_of(found: Result<Option<Placed<'_>>, Stop>, offset: usize) -> (u32, IniE
 ///
 /// # Errors
 ///
-/// `REFUSED`: the next line is invalid in the dialect. Its offset and the reason are written.
+/// `INVALID`: the next line is invalid in the dialect. Its offset and the reason are written.
 ///
-/// `NO_TEXT`: the next line is not UTF-8. Its offset is written.
+/// `INVALID_UTF8`: the next line is not UTF-8. Its offset is written.
 ///
 /// # Safety
 ///
@@ -370,8 +370,8 @@ pub extern "C" fn exported_ini_next(
     out: &mut IniEntry,
 ) -> u32
     ensures told { TellsEntry dialect state.old state.new bytes.now result out.new }
-    ensures codes { (result ≡ done) ⊎ ((result ≡ end) ⊎ ((result ≡ refused)
-        ⊎ (result ≡ no_text))) }
+    ensures codes { (result ≡ done) ⊎ ((result ≡ end) ⊎ ((result ≡ invalid)
+        ⊎ (result ≡ invalid_utf8))) }
 {
     let mut reading = reading_of(*state, bytes);
     let found = next_placed(dialect_of(dialect), bytes, &mut reading);
@@ -384,8 +384,8 @@ pub extern "C" fn exported_ini_next(
 /// States that successive calls of `exported_ini_next` parse the document, as `read_document` of
 /// `format_ini` does. The first call starts with zeros. If the last call returns `END`, the entries
 /// of the calls before it are all entries of the document, once and in order. If it returns
-/// `REFUSED`, the document is invalid at that line, for that reason. If it returns `NO_TEXT`, the
-/// bytes are not UTF-8.
+/// `INVALID`, the document is invalid at that line, for that reason. If it returns `INVALID_UTF8`,
+/// the bytes are not UTF-8.
 pub fn entries_in_turn_are_of_the_document()
     ensures whole { (dialect : ℕ) (bytes : List ℕ) (outs : List IniEntry) (said : List Said)
         (state next : IniState) (out : IniEntry)
@@ -395,11 +395,11 @@ pub fn entries_in_turn_are_of_the_document()
     ensures refuses { (dialect : ℕ) (bytes : List ℕ) (outs : List IniEntry) (said : List Said)
         (state next : IniState) (out : IniEntry)
         → EntriesInTurn dialect bytes zeros outs said state
-        → TellsEntry dialect state next bytes refused out
-        → (why : Refusal) × (out.fault ≡ fault_number why)
-        × IsRefused (dialect_of dialect) bytes (record { offset = out.place; why = why }) }
+        → TellsEntry dialect state next bytes invalid out
+        → (why : Refusal) × (out.error ≡ fault_number why)
+        × IsRefused (dialect_of dialect) bytes (record { offset = out.error_offset; why = why }) }
     ensures text { (dialect : ℕ) (bytes : List ℕ) (outs : List IniEntry) (said : List Said)
         (state next : IniState) (out : IniEntry)
         → EntriesInTurn dialect bytes zeros outs said state
-        → TellsEntry dialect state next bytes no_text out → IsUtf8 bytes → ⊥ }
+        → TellsEntry dialect state next bytes invalid_utf8 out → IsUtf8 bytes → ⊥ }
 {}

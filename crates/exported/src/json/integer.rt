@@ -3,11 +3,11 @@
 ghost use Rattle.std.specs.Prelude.{◌≡◌, ◌⊎◌, pos};
 ghost use Rattle.format_json_extents.specs.Number.{IsNumber};
 ghost use Rattle.format_json_extents.specs.Texts.{NoneStands};
-ghost use Rattle.exported.specs.Code.{done, no_integer, refused};
+ghost use Rattle.exported.specs.Code.{done, invalid, not_an_integer};
 ghost use Rattle.exported.specs.JsonInteger.{ShowsInteger, ShowsNatural, ShowsNoInteger};
 ghost use Rattle.exported.specs.JsonInteger.{ShowsNoNatural};
 
-use crate::code::{DONE, NO_INTEGER, REFUSED};
+use crate::code::{DONE, INVALID, NOT_AN_INTEGER};
 use format_json_extents::{integer, number};
 
 /// Converts the longest JSON number (RFC 8259) at the start of `bytes` to a signed 64-bit integer.
@@ -17,10 +17,10 @@ use format_json_extents::{integer, number};
 ///
 /// # Errors
 ///
-/// `NO_INTEGER`: the number has a point or an exponent, like `1.0` and `1e2`, or does not fit. 0 is
-/// written.
+/// `NOT_AN_INTEGER`: the number has a point or an exponent, like `1.0` and `1e2`, or does not fit.
+/// 0 is written.
 ///
-/// `REFUSED`: `bytes` does not start with a number. 0 is written.
+/// `INVALID`: `bytes` does not start with a number. 0 is written.
 ///
 /// # Safety
 ///
@@ -30,10 +30,10 @@ use format_json_extents::{integer, number};
 #[unsafe(no_mangle)]
 pub extern "C" fn exported_json_integer(bytes: &[u8], out: &mut i64) -> u32
     ensures integer { result ≡ done → ShowsInteger bytes.now out.new }
-    ensures other { result ≡ no_integer → ShowsNoInteger bytes.now }
-    ensures refused { result ≡ refused → NoneStands IsNumber bytes.now }
+    ensures other { result ≡ not_an_integer → ShowsNoInteger bytes.now }
+    ensures refused { result ≡ invalid → NoneStands IsNumber bytes.now }
     ensures none { (result ≡ done → ⊥) → out.new ≡ pos 0 }
-    ensures codes { (result ≡ done) ⊎ ((result ≡ no_integer) ⊎ (result ≡ refused)) }
+    ensures codes { (result ≡ done) ⊎ ((result ≡ not_an_integer) ⊎ (result ≡ invalid)) }
 {
     *out = 0;
     let mut left = bytes;
@@ -43,9 +43,9 @@ pub extern "C" fn exported_json_integer(bytes: &[u8], out: &mut i64) -> u32
                 *out = found;
                 DONE
             }
-            None => NO_INTEGER,
+            None => NOT_AN_INTEGER,
         },
-        None => REFUSED,
+        None => INVALID,
     }
 }
 
@@ -55,10 +55,10 @@ pub extern "C" fn exported_json_integer(bytes: &[u8], out: &mut i64) -> u32
 ///
 /// # Errors
 ///
-/// `NO_INTEGER`: the number has a minus sign, even `-0`, a point or an exponent, or does not fit. 0
-/// is written.
+/// `NOT_AN_INTEGER`: the number has a minus sign, even `-0`, a point or an exponent, or does not
+/// fit. 0 is written.
 ///
-/// `REFUSED`: `bytes` does not start with a number. 0 is written.
+/// `INVALID`: `bytes` does not start with a number. 0 is written.
 ///
 /// # Safety
 ///
@@ -68,10 +68,10 @@ pub extern "C" fn exported_json_integer(bytes: &[u8], out: &mut i64) -> u32
 #[unsafe(no_mangle)]
 pub extern "C" fn exported_json_natural(bytes: &[u8], out: &mut u64) -> u32
     ensures integer { result ≡ done → ShowsNatural bytes.now out.new }
-    ensures other { result ≡ no_integer → ShowsNoNatural bytes.now }
-    ensures refused { result ≡ refused → NoneStands IsNumber bytes.now }
+    ensures other { result ≡ not_an_integer → ShowsNoNatural bytes.now }
+    ensures refused { result ≡ invalid → NoneStands IsNumber bytes.now }
     ensures none { (result ≡ done → ⊥) → out.new ≡ 0 }
-    ensures codes { (result ≡ done) ⊎ ((result ≡ no_integer) ⊎ (result ≡ refused)) }
+    ensures codes { (result ≡ done) ⊎ ((result ≡ not_an_integer) ⊎ (result ≡ invalid)) }
 {
     *out = 0;
     let mut left = bytes;
@@ -81,8 +81,8 @@ pub extern "C" fn exported_json_natural(bytes: &[u8], out: &mut u64) -> u32
                 *out = found;
                 DONE
             }
-            None => NO_INTEGER,
+            None => NOT_AN_INTEGER,
         },
-        None => REFUSED,
+        None => INVALID,
     }
 }

@@ -5,11 +5,11 @@ ghost use Rattle.format_json_extents.specs.Steps.{IsToken};
 ghost use Rattle.format_json_extents.specs.Texts.{NoneStands, Then};
 ghost use Rattle.format_json_extents.specs.Value.{IsGap};
 ghost use Rattle.format_json_extents.specs.Walk.{IsLead};
-ghost use Rattle.exported.specs.Code.{done, end, refused};
+ghost use Rattle.exported.specs.Code.{done, end, invalid};
 ghost use Rattle.exported.specs.Json.{no_item};
 ghost use Rattle.exported.specs.JsonStep.{ShowsStep, number_of_step};
 
-use crate::code::{DONE, END, REFUSED};
+use crate::code::{DONE, END, INVALID};
 use crate::json::{JSON_FALSE, JSON_NULL, JSON_NUMBER, JSON_STRING, JSON_TRUE, JsonItem, NO_ITEM};
 use crate::span::Span;
 use format_json_extents::steps;
@@ -63,7 +63,7 @@ fn number_of_step(step: Step) -> usize
 ///
 /// # Errors
 ///
-/// `REFUSED`: there is neither a step nor the end. Zeros are written.
+/// `INVALID`: there is neither a step nor the end. Zeros are written.
 ///
 /// # Safety
 ///
@@ -74,10 +74,10 @@ fn number_of_step(step: Step) -> usize
 pub extern "C" fn exported_json_step(bytes: &[u8], out: &mut JsonItem) -> u32
     ensures step { result ≡ done → ShowsStep bytes.now out.new }
     ensures end { result ≡ end → IsGap bytes.now }
-    ensures refused { result ≡ refused → NoneStands (Then IsLead IsToken) bytes.now
+    ensures refused { result ≡ invalid → NoneStands (Then IsLead IsToken) bytes.now
         × (IsGap bytes.now → ⊥) }
     ensures none { (result ≡ done → ⊥) → out.new ≡ no_item }
-    ensures codes { (result ≡ done) ⊎ ((result ≡ end) ⊎ (result ≡ refused)) }
+    ensures codes { (result ≡ done) ⊎ ((result ≡ end) ⊎ (result ≡ invalid)) }
 {
     *out = NO_ITEM;
     let mut left = bytes;
@@ -89,10 +89,10 @@ pub extern "C" fn exported_json_step(bytes: &[u8], out: &mut JsonItem) -> u32
             };
             *out = JsonItem {
                 kind: number_of_step(step),
-                place,
+                span: place,
             };
             DONE
         }
-        None => { if steps::is_over(bytes) { END } else { REFUSED } }
+        None => { if steps::is_over(bytes) { END } else { INVALID } }
     }
 }

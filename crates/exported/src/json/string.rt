@@ -3,10 +3,10 @@
 ghost use Rattle.std.specs.Prelude.{◌≡◌, ◌<◌, ◌⊎◌, length};
 ghost use Rattle.format_json_extents.specs.Strings.{IsString};
 ghost use Rattle.format_json_extents.specs.Texts.{NoneStands};
-ghost use Rattle.exported.specs.Code.{done, refused, too_small};
+ghost use Rattle.exported.specs.Code.{buffer_too_small, done, invalid};
 ghost use Rattle.exported.specs.JsonString.{IsWritten, ShowsText, no_text};
 
-use crate::code::{DONE, REFUSED, TOO_SMALL};
+use crate::code::{BUFFER_TOO_SMALL, DONE, INVALID};
 use format_json_extents::unescape;
 
 /// The text of a string of JSON.
@@ -37,10 +37,11 @@ const NO_TEXT_FOUND: JsonText = JsonText { text: 0, length: 0 };
 ///
 /// # Errors
 ///
-/// `TOO_SMALL`: the buffer has fewer bytes than the text. Both lengths are written. A string has at
-/// least as many bytes as its text, so a buffer as long as the string is always large enough.
+/// `BUFFER_TOO_SMALL`: the buffer has fewer bytes than the text. Both lengths are written. A string
+/// has at least as many bytes as its text, so a buffer as long as the string is always large
+/// enough.
 ///
-/// `REFUSED`: `bytes` does not start with a string. A string with an unpaired surrogate escape is
+/// `INVALID`: `bytes` does not start with a string. A string with an unpaired surrogate escape is
 /// also rejected. Zeros are written into `out`.
 ///
 /// After an error the contents of the buffer are unspecified.
@@ -53,11 +54,11 @@ const NO_TEXT_FOUND: JsonText = JsonText { text: 0, length: 0 };
 #[unsafe(no_mangle)]
 pub extern "C" fn exported_json_string(bytes: &[u8], buffer: &mut [u8], out: &mut JsonText) -> u32
     ensures text { result ≡ done → IsWritten bytes.now out.new buffer.old buffer.new }
-    ensures small { result ≡ too_small
+    ensures small { result ≡ buffer_too_small
         → ShowsText bytes.now out.new × (length buffer.old < out.new.text) }
-    ensures refused { result ≡ refused → NoneStands IsString bytes.now }
-    ensures none { result ≡ refused → out.new ≡ no_text }
-    ensures codes { (result ≡ done) ⊎ ((result ≡ too_small) ⊎ (result ≡ refused)) }
+    ensures refused { result ≡ invalid → NoneStands IsString bytes.now }
+    ensures none { result ≡ invalid → out.new ≡ no_text }
+    ensures codes { (result ≡ done) ⊎ ((result ≡ buffer_too_small) ⊎ (result ≡ invalid)) }
 {
     *out = NO_TEXT_FOUND;
     let mut left = bytes;
@@ -70,9 +71,9 @@ pub extern "C" fn exported_json_string(bytes: &[u8], buffer: &mut [u8], out: &mu
             if text <= buffer.len() {
                 DONE
             } else {
-                TOO_SMALL
+                BUFFER_TOO_SMALL
             }
         }
-        None => REFUSED,
+        None => INVALID,
     }
 }

@@ -48,7 +48,7 @@ pub fn reply_at(
             };
             Reply {
                 kind: RESP_SIMPLE,
-                place,
+                span: place,
                 length,
                 ..NONE
             }
@@ -60,7 +60,7 @@ pub fn reply_at(
             };
             Reply {
                 kind: RESP_ERROR,
-                place,
+                span: place,
                 length,
                 ..NONE
             }
@@ -75,7 +75,7 @@ pub fn reply_at(
             let place = first_of(bytes, behind_feed(bytes), text.len());
             Reply {
                 kind: RESP_BULK,
-                place,
+                span: place,
                 length,
                 ..NONE
             }
@@ -90,7 +90,7 @@ pub fn reply_at(
             Reply {
                 kind: RESP_ARRAY,
                 elements: elements.len(),
-                place: first_of(bytes, behind, behind.len() - left),
+                span: first_of(bytes, behind, behind.len() - left),
                 length,
                 ..NONE
             }

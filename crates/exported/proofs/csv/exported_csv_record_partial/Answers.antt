@@ -1,7 +1,7 @@
 use Rattle.std.proofs.Common.{arith}
 use Rattle.exported.proofs.Records.{nothing_may, refused_may, shown_for_good, some_may}
 use Rattle.exported.proofs.Records.{wanted_for_good}
-use Rattle.exported.proofs.csv.exported_csv_record_in_pieces.Goals as goal
+use Rattle.exported.proofs.csv.exported_csv_record_partial.Goals as goal
 
 pub returns-then-size-clause-record : goal.returns-then-size-clause-record
 returns-then-size-clause-record c is = shown_for_good c.dialect-dialect.result c.args.line_feeds

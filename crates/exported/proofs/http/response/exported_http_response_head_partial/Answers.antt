@@ -1,5 +1,5 @@
 use Rattle.exported.proofs.Refusals.{no_response_ever}
-use Rattle.exported.proofs.http.response.exported_http_response_head_in_pieces.Goals as goal
+use Rattle.exported.proofs.http.response.exported_http_response_head_partial.Goals as goal
 
 pub returns-in-Err-Refused-clause-refused : goal.returns-in-Err-Refused-clause-refused
 returns-in-Err-Refused-clause-refused c _ =
