@@ -109,7 +109,7 @@ PAGES = [
     ("exact", "Functions as parsers by a grammar", "exact", "*"),
     ("decided", "Answers for good", "decided", "*"),
     ("laws", "Laws of all parsers and streams", "laws", "@winnow_core"),
-    ("laws_meanings", "Laws of compositions", "laws", "@winnow_meanings"),
+    ("laws_meanings", "Laws of compositions", "laws", "@winnow_laws"),
     (
         "laws_parsers",
         "Laws of tokens, text, numbers and bits",
