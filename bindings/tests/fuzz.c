@@ -60,7 +60,7 @@ static void read_json(const uint8_t *bytes, size_t length)
     HOLDS(found <= length);
     HOLDS((value == PERGIDAU_DONE) == (found > 0));
     if (value == PERGIDAU_DONE && check != PERGIDAU_INVALID_UTF8) {
-        /* The value is a JSON text, and so is the input if and only if whitespace follows. */
+        /* The value is a JSON text, and so is the input if and only if only whitespace follows. */
         HOLDS(pergidau_json_check(bytes, found, max_depth) == PERGIDAU_DONE);
         size_t end = found;
         while (end < length && memchr(" \t\r\n", bytes[end], 4)) {

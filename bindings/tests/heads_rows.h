@@ -108,10 +108,10 @@ static void test_responses(void)
         size_t length =
             (size_t)snprintf(row, sizeof row, "%s%s", no_responses[i][0], no_responses[i][1]);
         uint8_t *text = copied(row, length);
-        same("an invalid response", row, pergidau_http_response_head(text, length, fields, 4, &out),
+        same("invalid response", row, pergidau_http_response_head(text, length, fields, 4, &out),
              PERGIDAU_INVALID);
         same("the error offset", row, (long long)out.error_offset, (long long)place);
-        same("an invalid response", row,
+        same("invalid response", row,
              pergidau_http_response_head_partial(text, length, fields, 4, &out),
              PERGIDAU_INVALID);
         same("the error offset", row, (long long)out.error_offset, (long long)place);
@@ -171,7 +171,7 @@ static void test_head_extents(void)
         size_t place = strlen(no_heads[i][0]);
         size_t length = (size_t)snprintf(row, sizeof row, "%s%s", no_heads[i][0], no_heads[i][1]);
         for (size_t step = 1; step <= length; step++) {
-            same("an invalid head", row, head_in_turn(row, length, step, &out), PERGIDAU_INVALID);
+            same("invalid head", row, head_in_turn(row, length, step, &out), PERGIDAU_INVALID);
             same("its error offset", row, (long long)out, (long long)place);
         }
         same("a prefix", row, head_in_turn(row, place, 1, &out), PERGIDAU_INCOMPLETE);
@@ -247,7 +247,7 @@ static void test_record_extents(void)
         uint32_t line_feeds = no_records[i].line_feeds;
         size_t length = strlen(row), begins = no_records[i].begins;
         for (size_t step = 1; step <= length; step++) {
-            same("an invalid record", row, record_in_turn(row, length, line_feeds, step, &out),
+            same("invalid record", row, record_in_turn(row, length, line_feeds, step, &out),
                  begins < length ? PERGIDAU_INVALID : PERGIDAU_INCOMPLETE);
             same("its error offset", row, (long long)out.error_offset,
                  begins < length ? (long long)begins : 0);

@@ -44,8 +44,8 @@ static void test_steps(void)
         same("steps", stepped[i].text, strcmp(found, stepped[i].steps), 0);
         free(text);
     }
-    same("an invalid step", "x", pergidau_json_step((const uint8_t *)",x", 2, &item), PERGIDAU_INVALID);
-    same("an invalid step", ", ,", pergidau_json_step((const uint8_t *)", ,", 3, &item), PERGIDAU_INVALID);
+    same("invalid step", "x", pergidau_json_step((const uint8_t *)",x", 2, &item), PERGIDAU_INVALID);
+    same("invalid step", ", ,", pergidau_json_step((const uint8_t *)", ,", 3, &item), PERGIDAU_INVALID);
     same("null", "step", pergidau_json_step(NULL, 1, &item), PERGIDAU_NULL);
     same("null", "step", pergidau_json_step((const uint8_t *)"1", 1, NULL), PERGIDAU_NULL);
     same("too long", "step",
@@ -111,7 +111,7 @@ static void test_strings(void)
     for (size_t i = 0; i < sizeof no_strings / sizeof *no_strings; i++) {
         size_t length = strlen(no_strings[i]);
         uint8_t *bytes = copied(no_strings[i], length);
-        same("an invalid string", no_strings[i],
+        same("invalid string", no_strings[i],
              pergidau_json_string(bytes, length, buffer, sizeof buffer, &out), PERGIDAU_INVALID);
         same("its lengths", no_strings[i], (long long)(out.text + out.length), 0);
         free(bytes);

@@ -478,9 +478,9 @@ static void test_heads(void)
         size_t place = strlen(no_heads[i][0]);
         size_t length = (size_t)snprintf(row, sizeof row, "%s%s", no_heads[i][0], no_heads[i][1]);
         uint8_t *text = copied(row, length);
-        same("an invalid head", row, pergidau_http_head(text, length, fields, 4, &out), PERGIDAU_INVALID);
+        same("invalid head", row, pergidau_http_head(text, length, fields, 4, &out), PERGIDAU_INVALID);
         same("the error offset", row, (long long)out.error_offset, (long long)place);
-        same("an invalid head", row, pergidau_http_head_partial(text, length, fields, 4, &out),
+        same("invalid head", row, pergidau_http_head_partial(text, length, fields, 4, &out),
              PERGIDAU_INVALID);
         same("the error offset", row, (long long)out.error_offset, (long long)place);
         free(text);
@@ -583,7 +583,7 @@ static void test_records(void)
         uint32_t line_feeds = no_records[i].line_feeds;
         size_t length = strlen(row);
         uint8_t *input = copied(row, length);
-        same("an invalid record", row,
+        same("invalid record", row,
              pergidau_csv_record(input, length, line_feeds, text, sizeof text, places, MOST_CSV,
                                  &out),
              PERGIDAU_INVALID);
@@ -591,7 +591,7 @@ static void test_records(void)
         free(input);
         for (size_t room = 0; room <= length; room++) {
             uint8_t *piece = copied(row, room);
-            same("an invalid partial record", row,
+            same("invalid partial record", row,
                  pergidau_csv_record_partial(piece, room, line_feeds, text, sizeof text, places,
                                                MOST_CSV, &out),
                  room > no_records[i].begins ? PERGIDAU_INVALID : PERGIDAU_INCOMPLETE);
@@ -663,9 +663,9 @@ static void test_replies(void)
     for (size_t i = 0; i < sizeof no_replies / sizeof *no_replies; i++) {
         size_t length = strlen(no_replies[i]);
         uint8_t *bytes = copied(no_replies[i], length);
-        same("an invalid reply", no_replies[i], pergidau_resp_reply(bytes, length, 0, &out),
+        same("invalid reply", no_replies[i], pergidau_resp_reply(bytes, length, 0, &out),
              PERGIDAU_INVALID);
-        same("an invalid reply", no_replies[i], pergidau_resp_reply_partial(bytes, length, 0, &out),
+        same("invalid reply", no_replies[i], pergidau_resp_reply_partial(bytes, length, 0, &out),
              PERGIDAU_INVALID);
         free(bytes);
     }
@@ -744,7 +744,7 @@ static void test_extents(void)
         const char *row = no_extents[i].bytes;
         size_t length = strlen(row), begins = no_extents[i].begins;
         for (size_t step = 1; step <= length; step++) {
-            same("an invalid reply", row, extent_in_pieces(row, length, step, &end), PERGIDAU_INVALID);
+            same("invalid reply", row, extent_in_pieces(row, length, step, &end), PERGIDAU_INVALID);
             same("no end", row, (long long)end, 0);
         }
         same("a prefix", row, extent_in_pieces(row, begins, 1, &end), PERGIDAU_INCOMPLETE);
@@ -885,7 +885,7 @@ static void test_bodies(void)
         const char *row = no_bodies[i].bytes;
         for (size_t piece = 1; piece <= strlen(row); piece++) {
             struct decoded made = decode(zeros, row, strlen(row), piece);
-            same("an invalid body", row, made.code, PERGIDAU_INVALID);
+            same("invalid body", row, made.code, PERGIDAU_INVALID);
             same("the error offset", row, (long long)made.taken, (long long)no_bodies[i].begins);
             same("why", row, (long long)made.error, no_bodies[i].error);
         }

@@ -179,7 +179,7 @@ static void test_toml(void)
     }
     for (size_t i = 0; i < sizeof refused_of_toml / sizeof *refused_of_toml; i++) {
         const char *text = refused_of_toml[i].text;
-        same("an invalid document", text, read_toml(text, 8, 0, 0, &it), PERGIDAU_INVALID);
+        same("invalid document", text, read_toml(text, 8, 0, 0, &it), PERGIDAU_INVALID);
         same("the error offset", text, (long long)it.found.error_offset,
              (long long)refused_of_toml[i].place);
         same("the error", text, (long long)it.found.error, (long long)refused_of_toml[i].error);
