@@ -1,5 +1,5 @@
 #!/usr/bin/env python3
-"""Generates the input texts of `bindings/beside`: `inputs.py FOLDER`.
+"""Generates the inputs of `bindings/beside`: `inputs.py FOLDER`.
 
 Each text is generated from a fixed seed, so it is the same everywhere. Some texts repeat one form; the
 log, the statuses and the table are as long and as varied as real data. They are generated once, and

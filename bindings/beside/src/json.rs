@@ -1,5 +1,5 @@
-//! JSON readers. A check counts 1 for a valid text. Otherwise each value is counted; the sum is of the
-//! kinds, numbered as in `pergidau.h` from 1 on, multiplied by the depths of the values.
+//! JSON readers. A check counts 1 for a valid text. The other readers count each value; the sum is of
+//! the kinds, numbered as in `pergidau.h` from 1 on, multiplied by the depths of the values.
 use crate::text::{Outcome, Text};
 use pergidau::json::{self, Kind, Step, Value};
 
