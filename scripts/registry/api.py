@@ -127,13 +127,13 @@ class Reference:
         stem = self.place[id(item)]
         return f"[{label}]({'' if stem == near else f'{stem}.md'}#{anchor})"
 
-    def of_parser(self, crate, name):
-        """The link of a parser's name from `docs/`, to its file."""
+    def of_parser(self, crate, name, dot=""):
+        """A parser's name, linked from `docs/` to its file; that of a method begins with a dot."""
         whole = [it for it, _ in self.all.values() if it.crate == crate]
         for item in [*whole, *(inner for it in whole for inner in it.inside)]:
             if item.name == name and item.kind in ("fn", "method"):
-                return file_link(item, f"`{name}`")
-        return f"`{name}`"
+                return file_link(item, f"`{dot}{name}`")
+        return f"`{dot}{name}`"
 
     def meant(self, item, target):
         """The item that a link in the documentation of another one means."""
@@ -272,25 +272,25 @@ class Reference:
         return text.rstrip() + "\n"
 
     def rows(self, item, link):
-        """The lines of an item in the index, and of what it has."""
+        """The lines of an item in the index, and of its members."""
         inner = [it for it in item.inside if it.kind not in ("part", "type")]
         for it in [item, *inner]:
-            head = "law" if self.is_law(it) else f"`{line_of(it.signature)}`"
-            cells = [link(it, f"`{self.title(it)}`"), head, sentence_of(it.doc)]
-            yield "| " + " | ".join(cell.replace("|", "\\|") for cell in cells) + " |\n"
+            about = re.split(r"[:;] ", sentence_of(it.doc))[0].removesuffix(".")
+            yield f"- {link(it, f'`{self.title(it)}`')}{': ' * bool(about)}{about}\n"
 
     def index(self, head, link):
-        """A line for each item, by the modules of the crate `winnow`."""
+        """A line for each item, by the modules of the crate `winnow`; structs of parsers share one."""
         text, done = head, set()
         for name in sorted(self.modules, key=lambda it: (it == "prelude", "impls" in it, it)):
             items = [it for it in self.modules[name] if id(it) not in done]
             done.update(id(it) for it in items)
-            again = [it for it in self.modules[name] if it not in items]
             text += f"\n## winnow{'::' * bool(name)}{name}\n\n{about_of(name)}\n\n"
-            links = ", ".join(link(it, f"`{it.name}`") for it in again)
-            text += f"Also {links}.\n\n" if again else ""
-            text += "| Item | Signature | Is |\n|---|---|---|\n" if items else ""
-            text += "".join(line for it in items for line in self.rows(it, link))
+            again = [it for it in self.modules[name] if it not in items]
+            structs = [it for it in items if name.endswith("impls") and it.kind == "struct"]
+            for before, several in (("Also", again), ("Structs:", structs)):
+                links = ", ".join(link(it, f"`{it.name}`") for it in several)
+                text += f"{before} {links}.\n\n" if several else ""
+            text += "".join(line for it in items if it not in structs for line in self.rows(it, link))
         return re.sub(r"\n\n\n+", "\n\n", text).rstrip() + "\n"
 
 
@@ -298,33 +298,24 @@ ABOUT_INDEX = f"""<!-- {HEAD} -->
 
 # Index
 
-Each public item of the crate `winnow`, by its modules. The file that is linked has its documentation
-with examples, and its contract; the definitions that clauses name stand in `specs/` of the same
-crate. Tables by purpose stand in [PARSERS.md](PARSERS.md). The modules `impls`, which stand last,
-have the structs of parsers, each of which stands for its parser wherever one is passed.
+The public items of the crate `winnow`, by module. Each is linked to its file, which has its signature,
+documentation and contract. [PARSERS.md](PARSERS.md) lists parsers by purpose. The modules `impls`, at
+the end, have the structs of the parsers: pass the struct `Alpha1` where a parser is expected.
 
-`python3 scripts/api.py` writes all of this into pages, `docs/api/`: documentation, signatures, the
-names of clauses, and what implements each trait.
+`python3 scripts/api.py` generates reference pages with signatures, documentation and clauses in
+`docs/api/`.
 """
 ABOUT_PAGES = """# API reference
 
-Each public item of the crate `winnow`, by its modules: its signature, its documentation with
-examples, and the names of the clauses of its contract, which stands in the file that is linked. A
-law has its contract with it. The definitions that clauses name stand in `specs/` of the same crate.
-Tables by purpose stand in [PARSERS.md](../PARSERS.md). The modules `impls` stand last.
+The public items of the crate `winnow`, by module, with signatures, documentation, examples and the
+names of their clauses. The linked file has the contract; a law is shown with it. Clauses use
+definitions in `specs/` of the same crate. [PARSERS.md](../PARSERS.md) lists parsers by purpose.
 """
 
 
 def file_link(item, label):
     """A link to the file of an item from `docs/`."""
     return f"[{label}](../{item.path.relative_to(TOP)})"
-
-
-def line_of(signature):
-    """A signature in one line, without what stands in braces."""
-    line = " ".join(signature.partition("{")[0].split()).removeprefix("pub ").rstrip(", ")
-    line = line.replace("/* private fields */", "..")
-    return re.sub(r"(?<=[<(]) |,? (?=[)>])|,(?= *$)", "", line)
 
 
 def sentence_of(doc):
