@@ -1,4 +1,4 @@
-"""What the writers of the registries share: where items stand, and how written parts are marked."""
+"""Common parts of the generators: paths of items, and the marks of generated parts."""
 import pathlib
 import re
 
@@ -6,7 +6,7 @@ TOP = pathlib.Path(__file__).resolve().parent.parent.parent
 CRATES = TOP / "crates"
 NAME = "scripts/registries.py"
 HEAD = f"Written by {NAME}: do not edit."
-# What stands above the written part of a file, of which the part above this is by hand.
+# The mark between the handwritten part of a file and the generated one.
 FROM_HERE = f"What stands below is written by {NAME}: do not edit."
 WIDTH = 100
 
@@ -16,20 +16,20 @@ def read(path):
 
 
 def write(path, text):
-    """Writes a file where its text is another one, and says so."""
+    """Writes a file if its text differs, and prints its path."""
     if not path.is_file() or read(path) != text:
         path.write_text(text, encoding="utf-8")
         print(path.relative_to(TOP))
 
 
 def contents(folder):
-    """The files of a folder, each with what it has."""
+    """The files of a folder, with their contents."""
     kept = (it for it in folder.rglob("*") if it.is_file() and "__pycache__" not in it.parts)
     return {str(it.relative_to(folder)): it.read_bytes() for it in kept}
 
 
 def by_hand(path, comment, end=""):
-    """The part of a file above its mark, with the mark."""
+    """The handwritten part of a file, with the mark."""
     mark = f"{comment} {FROM_HERE}{end}\n"
     return read(path).partition(mark)[0] + mark
 
@@ -39,7 +39,7 @@ def has_mark(path):
 
 
 def lines_of_crates():
-    """The lines of `crates.txt` that name crates, by their names, as they stand."""
+    """The lines of `crates.txt` that name crates, by name."""
     found = {}
     for line in read(TOP / "crates.txt").splitlines():
         name, colon, _ = line.partition(":")
@@ -49,12 +49,12 @@ def lines_of_crates():
 
 
 def crates():
-    """The crates, as `crates.txt` has them, each with those that it stands on."""
+    """The crates of `crates.txt`, each with its dependencies."""
     return {name: line.partition(":")[2].split() for name, line in lines_of_crates().items()}
 
 
 def below(name, known):
-    """The crates of those that are known which a crate stands on, itself among them."""
+    """The known crates that a crate depends on, including itself."""
     found, left = set(), [name]
     while left:
         name = left.pop()
@@ -65,7 +65,7 @@ def below(name, known):
 
 
 def below_winnow():
-    """The crates that the library's own names stand in, lowest first."""
+    """The crates of the library, lowest first."""
     return crates()["winnow"]
 
 
@@ -74,12 +74,12 @@ def camel(name):
 
 
 def in_order(name):
-    """A name by which others are sorted, with its numbers by their size."""
+    """A sort key that orders numbers in names by size."""
     return re.sub(r"\d+", lambda found: found[0].zfill(3), name)
 
 
 def items_of(path, kinds="fn|struct|trait|enum|const|type"):
-    """The names of the public items of a Rust file, and those that it makes public of others."""
+    """The names of the public items of a Rust file, including its `pub use`."""
     text = read(path)
     names = re.findall(rf"^pub (?:{kinds}) (\w+)", text, re.MULTILINE)
     for one, several in re.findall(r"^pub use [\w:]+::(?:(\w+)|\{([^}]*)\});", text, re.MULTILINE):
@@ -88,7 +88,7 @@ def items_of(path, kinds="fn|struct|trait|enum|const|type"):
 
 
 def closing(text, at, opened="<", closed=">"):
-    """Where the bracket that stands first at `at` or after it is closed."""
+    """The position after the closing bracket of the first one from `at` on."""
     depth = 0
     for place in range(at, len(text)):
         depth += (text[place] == opened) - (text[place] == closed and text[place - 1] != "-")
@@ -98,7 +98,7 @@ def closing(text, at, opened="<", closed=">"):
 
 
 def split(text):
-    """The parts of a list with commas, where those within brackets divide nothing."""
+    """The parts of a list with commas, except those within brackets."""
     depth, parts = 0, [""]
     for at, sign in enumerate(text):
         depth += (sign in "<([") - (sign in ">)]" and text[at - 1] != "-")
@@ -110,7 +110,7 @@ def split(text):
 
 
 def imports(module, names):
-    """A line that makes items of a module public, or more lines where it is long."""
+    """A `pub use` of items of a module, in one line or more."""
     if len(names) == 1:
         return f"pub use {module}::{names[0]};\n"
     line = f"pub use {module}::{{{', '.join(names)}}};\n"
@@ -118,7 +118,7 @@ def imports(module, names):
 
 
 def filled(first, names):
-    """An import that fills its lines."""
+    """An import in filled lines."""
     lines, now = [first], "   "
     for name in names:
         if len(f"{now} {name},") > WIDTH:

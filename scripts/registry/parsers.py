@@ -1,5 +1,5 @@
-"""The table of parsers, `docs/PARSERS.md`: the call of each, its call in winnow, what it consumes and
-returns, its grammar and its definition; and nom's names."""
+"""The table of parsers, `docs/PARSERS.md`: calls here and in winnow, consumed input, outputs, grammars
+and definitions; and nom's names."""
 import re
 
 from registry.common import CRATES, TOP, below_winnow, camel, closing

@@ -1,7 +1,7 @@
-"""The order of the table of parsers, what each parser consumes, and nom's names."""
+"""The rows of the table of parsers, and nom's names."""
 
-# The parsers by purpose. A row has a crate and names, what they consume, what they return if it is not
-# the type in the code, the word of their grammar, and their call in winnow if it is another one.
+# The parsers by purpose. A row has a crate and names; the consumed input; the output, if the type in the
+# code does not suffice; the word of the grammar; and the call in winnow, if it differs.
 PURPOSES = {
     "Tokens and literals": """
 winnow_token any | one token | | `Token` |
