@@ -53,12 +53,12 @@ winnow_comb cond | `parser` if the condition is true, otherwise nothing | | `Whe
 winnow_comb peek | nothing, if `parser` succeeds | | `Ahead` |
 winnow_comb not | nothing, if `parser` backtracks | | `NotAhead` |
 winnow_comb empty | nothing | | `Nothing` |
-winnow_comb fail | never succeeds | | `Never` |
+winnow_comb fail | nothing; it never succeeds | | `Never` |
 winnow_core eof | nothing, at the end of the input | | `NoTokens` |
 """,
     "Repetition": """
 winnow_repeat repeat | `parser`, as often as the range allows | | `Repeated` |
-winnow_repeat fold | the same, of a `repeat` | | `Folded` |
+winnow_repeat fold | the `repeat` that it is called on | | `Folded` |
 winnow_repeat verify_fold | the same; fails if `op` returns `None` | | |
 winnow_repeat try_fold | the same; fails if `op` returns an error | | |
 winnow_repeat repeat_till | `parser` until `terminator` succeeds, then `terminator` | | `Till` |
@@ -77,7 +77,8 @@ winnow_core span | the parser | its range of offsets | `Made`, `AnyPlaces` |
 winnow_core with_span | the parser | the output and its range of offsets | `Made`, `WithPlaces` |
 """,
     "Checking the output, or parsing it further": """
-winnow_core verify verify_map try_map | the parser, if the closure accepts its output | the output; of `map`, converted | `Made` |
+winnow_core verify | the parser, if the closure accepts its output | | `Made` |
+winnow_core verify_map try_map | the same | the closure's output | `Made` |
 winnow_core flat_map | the parser, then the parser that `map` returns | | `FlatMapped` |
 winnow_core and_then | the parser, if `inner` succeeds on its output | | `Made`, `ReadsWithin` |
 """,
