@@ -1,12 +1,12 @@
-"""The tables of `tests/parsers.md` as tests: a row has a parser, its input, the rest of the input and
-the result."""
+"""The tables of `tests/parsers.md` as tests. A row has a parser, its input, the rest of the input,
+and the result."""
 import re
 
 from registry.common import read
 
 HEAD = ["Parser", "Input", "Rest", "Result"]
-# Runs a row, and returns the result and the rest next to the expected ones. The rest is `None` if it
-# is not compared.
+# Runs a row, and returns the result and the rest next to the expected ones. The rest is `None` if
+# it is not compared.
 RUN = (
     "use std::alloc::Global; use std::fmt::Debug; type Ends<I, O> = "
     "(Result<O, ErrMode<EmptyError>>, Option<I>); fn row<I: Stream + PartialEq + Debug, "

@@ -279,7 +279,7 @@ class Reference:
             yield f"- {link(it, f'`{self.title(it)}`')}{': ' * bool(about)}{about}\n"
 
     def index(self, head, link):
-        """A line for each item, by the modules of the crate `winnow`; structs of parsers share one."""
+        """A line for each item, by the modules of `winnow`; structs of parsers share one."""
         text, done = head, set()
         for name in sorted(self.modules, key=lambda it: (it == "prelude", "impls" in it, it)):
             items = [it for it in self.modules[name] if id(it) not in done]
@@ -290,7 +290,8 @@ class Reference:
             for before, several in (("Also", again), ("Structs:", structs)):
                 links = ", ".join(link(it, f"`{it.name}`") for it in several)
                 text += f"{before} {links}.\n\n" if several else ""
-            text += "".join(line for it in items if it not in structs for line in self.rows(it, link))
+            others = [it for it in items if it not in structs]
+            text += "".join(line for it in others for line in self.rows(it, link))
         return re.sub(r"\n\n\n+", "\n\n", text).rstrip() + "\n"
 
 
@@ -298,9 +299,10 @@ ABOUT_INDEX = f"""<!-- {HEAD} -->
 
 # Index
 
-The public items of the crate `winnow`, by module. Each is linked to its file, which has its signature,
-documentation and contract. [PARSERS.md](PARSERS.md) lists parsers by purpose. The modules `impls`, at
-the end, have the structs of the parsers: pass the struct `Alpha1` where a parser is expected.
+The public items of the crate `winnow`, by module. Each is linked to its file, which has its
+signature, documentation and contract. [PARSERS.md](PARSERS.md) lists parsers by purpose. The
+modules `impls`, at the end, have the structs of the parsers: pass the struct `Alpha1` where a parser
+is expected.
 
 `python3 scripts/api.py` generates reference pages with signatures, documentation and clauses in
 `docs/api/`.

@@ -1,5 +1,5 @@
-"""The pages of the API reference, in order: file, title, module and items. `*` means the items of the
-module that no page names, `@winnow_core` those of that crate that no earlier page has, and
+"""The pages of the API reference, in order: file, title, module and items. `*` means the items of
+the module that no page names, `@winnow_core` those of that crate that no earlier page has, and
 `Parser::map` a method on another page than its trait."""
 
 ADAPTERS = """Parser::map Parser::value Parser::default_value Parser::void Parser::output_into

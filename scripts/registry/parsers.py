@@ -1,5 +1,5 @@
-"""The table of parsers, `docs/PARSERS.md`: calls here and in winnow, consumed input, outputs, grammars
-and definitions; and nom's names."""
+"""The table of parsers, `docs/PARSERS.md`: calls here and in winnow, consumed input, outputs,
+grammars and definitions; and nom's names."""
 import re
 
 from registry.common import CRATES, TOP, below_winnow, camel, closing
@@ -89,7 +89,8 @@ def row(line, files, said, reference):
         specs[f"[{of.stem}](../{of.relative_to(TOP)})"] = None
         if len(names) == 1 and "(alloc, " in called:
             winnow = winnow or f"`{called.replace('alloc, ', '')}`"
-    cells = [", ".join(links), winnow, consumes, returns or ", ".join(outputs), grammar, ", ".join(specs)]
+    returns = returns or ", ".join(outputs)
+    cells = [", ".join(links), winnow, consumes, returns, grammar, ", ".join(specs)]
     return "| " + " | ".join(it.replace("|", "\\|") for it in cells) + " |\n"
 
 
@@ -120,7 +121,8 @@ def tables(reference):
 def index():
     """nom's names that differ, and what to write for each."""
     calls = ", ".join(f"`{it[1:]}`" for it in sorted(SAME) if it[0] == ".")
-    text = "\n## Names of nom\n\nOther names of nom are the same here, if this library has the parser. "
+    text = "\n## Names of nom\n\n"
+    text += "Other names of nom are the same here, if this library has the parser. "
     text += f"These functions of nom are methods: {calls}.\n\n"
     text += "| In nom | Here |\n|---|---|\n"
     for names, module, here in sorted(others()):

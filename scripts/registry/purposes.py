@@ -1,7 +1,7 @@
 """The rows of the table of parsers, and nom's names."""
 
-# The parsers by purpose. A row has a crate and names; the consumed input; the output, if the type in the
-# code does not suffice; the word of the grammar; and the call in winnow, if it differs.
+# The parsers by purpose. A row has a crate and names; the consumed input; the output, if the type in
+# the code does not suffice; the word of the grammar; and the call in winnow, if it differs.
 PURPOSES = {
     "Tokens and literals": """
 winnow_token any | one token | | `Token` |
