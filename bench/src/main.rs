@@ -2,8 +2,9 @@
 //! table in Markdown.
 //!
 //! All readers of a text run alternately, and each reader's best time counts. Their results are
-//! compared. Only ratios are printed. `counts.py` runs one reader once with this program, and
-//! counts its instructions.
+//! compared. The table has ratios: the library's time to that of nom 7 and of the loop, and the
+//! library's time per byte at 4 MiB to that at 64 KiB. `counts.py` runs one reader once with this
+//! program, and counts its instructions.
 mod by_hand;
 mod by_nom;
 mod library;
@@ -126,10 +127,10 @@ fn time(turns: usize, only: &str) {
     }
     let cpus = std::thread::available_parallelism().map_or(0, usize::from);
     println!(
-        "{turns} turns on {cpus} processors, with a load average of {begun} at the begin and {} at the end.\n",
+        "{turns} turns on {cpus} processors. The load average was {begun} at the start and {} at the end.\n",
         load()
     );
-    println!("| Workload | beside nom 7 | beside a loop by hand | 4 MiB beside 64 KiB, a byte |");
+    println!("| Workload | nom 7 | loop | 4 MiB |");
     println!("|---|---|---|---|\n{}", rows.join("\n"));
 }
 
@@ -138,7 +139,7 @@ fn main() {
     let word = |at: usize| words.get(at).map_or("", String::as_str);
     match word(0) {
         "list" => list(),
-        "run" => run_once(word(2), word(1).parse().expect("the place of a reader")),
+        "run" => run_once(word(2), word(1).parse().expect("the index of a reader")),
         turns => time(turns.parse().unwrap_or(60), word(1)),
     }
 }

@@ -1,4 +1,4 @@
-/* Reads a formula, and the head of a request that came in a buffer. */
+/* Evaluates a formula, and parses the head of a request. */
 #include <stdio.h>
 #include <string.h>
 

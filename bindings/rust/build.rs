@@ -42,7 +42,7 @@ fn main() {
     for name in ["PERGIDAU_LIB", "PERGIDAU_UNPROVED", "PKG_CONFIG", "PKG_CONFIG_PATH", "DOCS_RS"] {
         println!("cargo:rerun-if-env-changed={name}");
     }
-    // Where documentation alone is written, nothing is linked.
+    // Nothing is linked on docs.rs, which only builds documentation.
     if env::var_os("DOCS_RS").is_some() {
         return;
     }

@@ -41,7 +41,7 @@ fn compare(work: &Work, text: &Text) {
     assert!(right[0].count > 0, "{}: nothing was read", work.name);
     assert!(right.iter().all(|it| *it == right[0]), "{}: {right:?}", work.name);
     if work.is_whole {
-        assert!(wrong.iter().all(|it| it.count == 0), "{}: half of it: {wrong:?}", work.name);
+        assert!(wrong.iter().all(|it| it.count == 0), "{}: first half: {wrong:?}", work.name);
     }
 }
 

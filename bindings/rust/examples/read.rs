@@ -1,4 +1,4 @@
-//! Reads a formula, and the head of a request that came in a buffer.
+//! Evaluates a formula, and parses the head of a request.
 use pergidau::http::{self, Field};
 use pergidau::{calc, Error};
 

@@ -12,7 +12,7 @@ use std::net::TcpListener;
 use std::os::unix::net::UnixStream;
 use std::thread;
 
-/// How many bytes one request may have.
+/// The maximum length of a request in bytes.
 const MOST: usize = 1 << 16;
 
 type Values = HashMap<Vec<u8>, Vec<u8>>;
@@ -56,7 +56,7 @@ fn incremented(old: Option<&Vec<u8>>) -> Option<i64> {
     }
 }
 
-/// Answers a request.
+/// Appends the reply to a request to `out`.
 fn answer(words: &[&[u8]], values: &mut Values, out: &mut Vec<u8>) -> Next {
     match (&words[0].to_ascii_uppercase()[..], &words[1..]) {
         (b"PING", []) => out.extend_from_slice(b"+PONG\r\n"),
@@ -132,7 +132,7 @@ fn serve(client: &mut (impl Read + Write), values: &mut Values) -> io::Result<Ne
     }
 }
 
-/// A reply as a person reads it.
+/// Formats a reply like `redis-cli`.
 fn shown(reply: Reply) -> String {
     match reply {
         Reply::Simple(text) => String::from_utf8_lossy(text).into_owned(),

@@ -1,4 +1,4 @@
-//! Formulas of whole numbers.
+//! Formulas of integers.
 //!
 //! ```
 //! use pergidau::calc;
@@ -15,7 +15,7 @@ use crate::{exports, Error, Position, NOTHING};
 ///
 /// # Errors
 ///
-/// [`Error::Refused`] holds the position of the error: of a syntax error, or of an operation whose
+/// [`Error::Invalid`] holds the position of the error: of a syntax error, or of an operation whose
 /// value is undefined or does not fit. `%` fails if the quotient does not fit, as in `-2 ^ 63 %
 /// -1`.
 ///

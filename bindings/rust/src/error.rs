@@ -14,11 +14,11 @@ pub struct Position {
 }
 
 impl Position {
-    /// The place after the first `offset` bytes.
+    /// Returns the position after the first `offset` bytes.
     pub fn of(bytes: &[u8], offset: usize) -> Position {
         let mut found = exports::Position::default();
-        // SAFETY: the pointers are those of live borrows, and the bytes are only read. The call takes up to
-        // 4 KiB of stack (measured); where there is less, the thread's guard page ends the program.
+        // SAFETY: the pointers are those of live borrows, and the bytes are only read. The call uses up to
+        // 4 KiB of stack (measured); with less, the thread's guard page stops the program.
         unsafe {
             exports::exported_text_position(bytes.as_ptr(), bytes.len(), offset, &mut found);
         }
@@ -48,16 +48,16 @@ pub enum Error {
     BufferTooSmall(RequiredSize),
     /// The requested depth limit is above [`MAX_DEPTH`](crate::MAX_DEPTH).
     MaxDepthTooLarge,
-    /// The library said what this crate does not know: it is another one.
+    /// A code that this crate does not know, from another version of the library.
     Unknown(u32),
 }
 
 /// The required size of a buffer.
 #[derive(Clone, Copy, Debug, PartialEq, Eq)]
 pub struct RequiredSize {
-    /// How many entries.
+    /// The number of entries.
     pub entries: usize,
-    /// How many bytes, where bytes are copied.
+    /// The number of bytes, if bytes are copied.
     pub bytes: usize,
 }
 

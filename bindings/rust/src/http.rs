@@ -161,9 +161,9 @@ pub enum ChunkedError {
     DataEnd,
     /// The byte can continue neither a field line nor the line ending after the trailer section.
     Trailers,
-    /// The trailer section would have more bytes than the limit lets.
+    /// The trailer section has more bytes than the limit allows.
     TrailersTooLong,
-    /// The library said what this crate does not know: it is another one.
+    /// A number that this crate does not know, from another version of the library.
     Unknown(usize),
 }
 

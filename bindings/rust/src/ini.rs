@@ -101,8 +101,8 @@ impl<'b> Section<'b> {
 ///
 /// # Errors
 ///
-/// - [`Error::TooSmall`] if a buffer is too small; it holds the required sizes.
-/// - [`Error::Refused`] holds the position of the first part that is not a section, pair,
+/// - [`Error::BufferTooSmall`] if a buffer is too small; it holds the required sizes.
+/// - [`Error::Invalid`] holds the position of the first part that is not a section, pair,
 ///   whitespace or comment. A pair extends to the end of its line, so a pair with bytes that are
 ///   not UTF-8 is rejected at its key.
 ///

@@ -95,8 +95,8 @@ impl<'i> Value<'i> {
     }
 }
 
-/// The library said what this crate does not know: it is another one. A text that was checked would
-/// seem to end here.
+/// Panics because of a number from another version of the library. Otherwise a valid text would seem to
+/// end here.
 #[cold]
 fn unknown(number: usize) -> ! {
     panic!("unknown number {number} from the library")

@@ -58,24 +58,24 @@ pub struct Page;
 /// No required size.
 const NOTHING: RequiredSize = RequiredSize { entries: 0, bytes: 0 };
 
-/// Returns the slice of `bytes` at `error_offset`.
+/// Returns the slice of `bytes` with the span `place`.
 fn at(bytes: &[u8], place: Span) -> &[u8] {
     &bytes[place.offset..][..place.length]
 }
 
-/// The version of the library that is linked.
+/// Returns the version of the linked library.
 ///
 /// ```
 /// assert_eq!(pergidau::version(), env!("CARGO_PKG_VERSION"));
 /// ```
 pub fn version() -> &'static str {
-    // SAFETY: the text is one of the library's own, is never changed, and ends with a byte that is 0.
+    // SAFETY: the string belongs to the library, never changes, and ends with a zero byte.
     let text = unsafe { core::ffi::CStr::from_ptr(exports::pergidau_version()) };
     text.to_str().unwrap_or("")
 }
 
-/// Whether each function of the library that is linked was proved before it was compiled. One that
-/// `bindings/build --unproved` built is not.
+/// Returns whether the linked library was proved before it was compiled. The library of
+/// `bindings/build --unproved` was not.
 pub fn is_proved() -> bool {
     // SAFETY: the function has no arguments, and reads no memory of the caller.
     unsafe { exports::pergidau_is_proved() == 1 }

@@ -11,12 +11,12 @@
 use crate::exports::{self, MAX_DEPTH};
 use crate::{at, Error, NOTHING};
 
-/// A reply of Redis: its strings are slices of the bytes that were read.
+/// A Redis reply, whose strings are slices of the input.
 #[derive(Clone, Copy, Debug, PartialEq, Eq)]
 pub enum Reply<'i> {
-    /// A simple string: bytes among which is neither a carriage return nor a line feed.
+    /// A simple string, without carriage returns and line feeds.
     Simple(&'i [u8]),
-    /// An error: such bytes.
+    /// An error, without carriage returns and line feeds.
     Error(&'i [u8]),
     /// An integer.
     Integer(i64),

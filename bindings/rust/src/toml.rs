@@ -36,7 +36,7 @@ pub enum Expected {
     Key,
     /// The equals sign after a key.
     EqualsSign,
-    /// The value after an equals sign, of no more levels than are read.
+    /// A value after an equals sign, nested at most to the depth limit.
     Value,
     /// The name of a table.
     TableName,
@@ -51,9 +51,9 @@ pub enum Expected {
 pub enum Reason {
     /// Its key is already defined.
     Defined,
-    /// It takes a value for a table.
+    /// It uses a value as a table.
     NotATable,
-    /// It adds to a table that is closed: an inline table, or by dotted keys one of a header.
+    /// It extends a closed table: an inline table, or with dotted keys a table of a header.
     Closed,
     /// It adds a table to a key that is not an array of tables.
     NotAnArrayOfTables,

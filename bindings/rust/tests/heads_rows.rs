@@ -11,7 +11,7 @@ fn offset_of(error: Error) -> Option<usize> {
     }
 }
 
-/// Of the response of RFC 9110, section 3.9, some fields, and the beginning of its content.
+/// The response of RFC 9110, section 3.9, with some of its fields and the start of its content.
 const HELLO: &[u8] = b"HTTP/1.1 200 OK\r\nDate: Mon, 27 Jul 2009 12:28:53 GMT\r\n\
 Server: Apache\r\nContent-Length: 51\r\n\r\nHello";
 

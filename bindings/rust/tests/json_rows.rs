@@ -3,7 +3,7 @@
 use pergidau::json::{self, Kind, Step};
 use pergidau::{Error, RequiredSize};
 
-/// The steps of a text, in short.
+/// Formats the steps of a text.
 fn told(steps: json::Steps<'_>) -> String {
     steps
         .map(|it| match it {

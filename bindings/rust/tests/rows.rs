@@ -1,4 +1,4 @@
-//! Rows of the readers' tests, from Rust.
+//! Tables of the readers' tests, from Rust.
 use pergidau::csv::{self, LineEnd};
 use pergidau::http::{self, Chunked, ChunkedError, Field, Step};
 use pergidau::ini::{self, Entry};

@@ -1,4 +1,4 @@
-//! Rows of documents of TOML. The wanted values are those of Python's tomllib, and of the examples of
+//! Tables of TOML documents. The expected values are those of Python's tomllib, and of the examples in
 //! the standard.
 use pergidau::toml::{self, Date, Error, Expected, Item, Node, Reason, Time, Value};
 
