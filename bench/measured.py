@@ -72,7 +72,7 @@ def check(file, now, only=""):
             print(f"fewer instructions: {said}")
     for line in dearer:
         print(f"failed: {line}")
-    print(f"{len(now)} workloads; {len(dearer)} missing, or over 5 % more instructions")
+    print(f"{len(now)} workloads; {len(dearer)} missing, or with over 5 % more instructions")
     sys.exit(min(len(dearer), 1))
 
 

@@ -132,7 +132,7 @@ fn serve(client: &mut (impl Read + Write), values: &mut Values) -> io::Result<Ne
     }
 }
 
-/// Formats a reply like `redis-cli`.
+/// Formats a reply, similar to `redis-cli`.
 fn shown(reply: Reply) -> String {
     match reply {
         Reply::Simple(text) => String::from_utf8_lossy(text).into_owned(),
