@@ -12,7 +12,6 @@ use Rattle.winnow.specs.Alt.Says.{or_else_said, or_else_says}
 use Rattle.winnow.specs.AsChar.{IsAlpha, IsDecDigit}
 use Rattle.winnow.specs.Chain.Items.{last_item}
 use Rattle.winnow.specs.Chain.Says.{ItemOf}
-use Rattle.winnow.specs.Class.{ClassRuns}
 use Rattle.winnow.specs.Class.Laws.{class_takes, one_is_some}
 use Rattle.winnow.specs.Class.Says.{class_said, class_says}
 use Rattle.winnow.specs.Counted.{counted_reading}
@@ -20,6 +19,7 @@ use Rattle.winnow.specs.CutErr.Says.{cut_err_said, cut_err_says}
 use Rattle.winnow.specs.Equal.{none_is_some, same_first, true_is_false}
 use Rattle.winnow.specs.Form.{ErrorForm}
 use Rattle.winnow.specs.Grammar.{Class, Each, Grammar, Literally, Longest, NoneStands}
+use Rattle.winnow.specs.Grammar.{TakesTokens}
 use Rattle.winnow.specs.Grammar.Known.{Byte, byte_stands, stands_byte}
 use Rattle.winnow.specs.Input.{Input}
 use Rattle.winnow.specs.Kind.{Kind}
@@ -29,8 +29,7 @@ use Rattle.winnow.specs.Outcome.{Alike, Does, Outcome, Setting, took, backs, cut
 use Rattle.winnow.specs.Range.{from_to}
 use Rattle.winnow.specs.Reading.{Reading}
 use Rattle.winnow.specs.Repeat.Says.{repeat_says}
-use Rattle.winnow.specs.Runs.{Keeps}
-use Rattle.winnow.specs.Says.{Lawful, Said, Says, setting_of}
+use Rattle.winnow.specs.Says.{Lawful, Says, setting_of}
 use Rattle.winnow.specs.Says.Whole.{IsFaultBefore, IsParseOf, TellsAll}
 use Rattle.winnow.specs.Sequence.Says.{sequence2_said, sequence2_says, sequence4_said}
 use Rattle.winnow.specs.Sequence.Says.{sequence4_says}
@@ -81,19 +80,18 @@ Byte1 b = literal_says counted_reading (λ xs. xs ≡ b ∷ []) (λ _. b) (λ o 
 abbrev pub Line1 : Says ℕ (Unit {0})
 Line1 = LineSays counted_reading (λ b. b) (λ b. b) (λ b xs. xs ≡ b ∷ [])
 
-class1_said : (class : ℕ → Type 0)
-    → Said (Class1 class) tt (λ form. Keeps (λ (_ : ⊤). ClassRuns class 1 (λ b. b) (λ b. b)
-    counted_reading form))
-class1_said class = class_said class 1 (λ b. b) (λ b. b) counted_reading
+some_takes : (class : ℕ → Type 0) → TakesTokens (Some1 class)
+some_takes class = class_takes class 1 (λ b. b) (λ b. b) counted_reading one_is_some
 
 line_law : Lawful Line1.stable Line1.alike Line1.does
 line_law =
+    let some = λ (class : ℕ → Type 0). class_said class 1 (λ b. b) (λ b. b) counted_reading in
     let byte = λ (b : ℕ). literal_said counted_reading (λ b xs. xs ≡ b ∷ []) (λ b _. b)
     (λ o q. o ≡ q) b (λ xs ys e f. ap (λ l. length l) (e ∙ sym f)) (λ _ _ _. refl) in
     let one = λ (k l : ℕ) (e : k ≡ l). e in
-    (or_else_said (void_said (sequence4_said (class1_said IsAlpha) (byte 61)
-    (cut_err_said (class1_said IsDecDigit)) (byte 10)))
-    (void_said (sequence2_said (class1_said IsAlpha) (byte 10)))).law ((one, tt, one, tt), (one, tt))
+    (or_else_said (void_said (sequence4_said (some IsAlpha) (byte 61)
+    (cut_err_said (some IsDecDigit)) (byte 10)))
+    (void_said (sequence2_said (some IsAlpha) (byte 10)))).law ((one, tt, one, tt), (one, tt))
 
 -- What is known of an outcome: what is read, or where it backs, or cuts. No more is asked for.
 abbrev Known : {O : Type 0} → (O → List ℕ → Type 0) → (List ℕ → Type 0) → (List ℕ → Type 0)
@@ -137,13 +135,6 @@ one : {U : Type 0} {f : List ℕ → Outcome ℕ U} {at : Setting} {mid : List �
     → Gives (λ at l y. y ≡ f l) at mid also more less
 one {also = also} {more} {less} is =
     record { gives = λ y e. subst (Known also more less) (sym e) is }
-
--- nothing is kept of the output
-void : {at : Setting} {mid : List ℕ} {also : Unit {0} → List ℕ → Type 0}
-    {more less : List ℕ → Type 0} → also tt mid
-    → Gives (λ at l y. (u : Unit {0}) × ⊤ × (y ≡ took u l)) at mid also more less
-void {also = also} {more} {less} is =
-    record { gives = λ y (u, made, e). subst (Known also more less) (sym e) is }
 
 -- it is read, and this follows
 after : {O U : Type 0} {does : Does ℕ O} {came : O → Comes ℕ U} {at : Setting}
@@ -195,6 +186,20 @@ not_first (y ∷ ys) none x more e is =
     longer y first ys [] ys (empty IsDecDigit ys (not_first ys
     (λ o rest (front, l, enough, shown). longer y first ys front rest l none))) none
 
+-- a line has tokens
+fewer : (tokens : List ℕ) (u : Unit {0}) (rest : List ℕ) → Line tokens u rest
+    → length rest < length tokens
+fewer tokens u rest (inl (name, value, digits, x, z)) =
+    omega (arith, (some_takes IsAlpha).fewer tokens name (61 ∷ value) x,
+    (some_takes IsDecDigit).fewer value digits (10 ∷ rest) z)
+fewer tokens u rest (inr (name, x)) =
+    omega (arith, (some_takes IsAlpha).fewer tokens name (10 ∷ rest) x)
+
+-- Lines are left off where none is, and no name with a value that lacks.
+abbrev EndsLines : List ℕ → List ℕ → Type 0
+EndsLines tokens rest =
+    AreLines tokens rest × (NoneStands Line rest × ((end : List ℕ) → NoValue rest end → ⊥))
+
 -- ---- a whole input
 
 module _ (at : Setting) (whole : at.more ≡ false) where
@@ -227,7 +232,7 @@ module _ (at : Setting) (whole : at.more ≡ false) where
       by y (inr (within, inr (inl (o, rest, (f, longest, over, enough, shown), e)))) =
           subst Is (sym e) (f, longest, enough, shown)
       by y (inr (within, inr (inr (lacks, e)))) = subst Is (sym e) (refl, λ o rest x.
-          ((class1_said class).law (λ k l e. e)).one at tokens (backs tokens) (took o rest)
+          ((class_said class 1 (λ b. b) (λ b. b) counted_reading).law (λ k l e. e)).one at tokens (backs tokens) (took o rest)
           (inr (within, inr (inr (lacks, refl)))) (class_there class tokens o rest x))
 
   byte_there : (b : ℕ) (rest : List ℕ) → (Byte1 b).does at (b ∷ rest) (took b rest)
@@ -252,12 +257,14 @@ module _ (at : Setting) (whole : at.more ≡ false) where
   line_back : (tokens : List ℕ)
       → Gives Line1.does at tokens (Line tokens) (λ _. ⊤) (NoValue tokens)
   line_back tokens =
+      let Is : Outcome ℕ (Unit {0}) → Type 0 = Known (Line tokens) (λ _. ⊤) (NoValue tokens) in
       let flag : Gives (void_says (sequence2_says (Class1 IsAlpha) (Byte1 10))).does at tokens
       (Line tokens) (λ _. ⊤) (NoValue tokens) =
       after {reads = λ _ rest. IsFlag tokens rest} (after (class_back IsAlpha tokens)
       (λ name a x. after (byte_back 10 a) (λ n rest is.
-      one (name, subst (λ l. Name tokens name l) is x)))) (λ o rest is. void (inr is)) in
-      comes (after {reads = λ _ rest. IsSetting tokens rest} (after (class_back IsAlpha tokens)
+      one (name, subst (λ l. Name tokens name l) is x)))) (λ o rest is.
+      record { gives = λ y (u, made, e). subst Is (sym e) (inr is) }) in
+      comes {reads = Line tokens} (after {reads = λ _ rest. IsSetting tokens rest} (after (class_back IsAlpha tokens)
       (λ name a x. after (byte_back 61 a) (λ e b is.
       let first = subst (λ l. Name tokens name l) is x in
       after {back = λ _. ⊤} (comes (class_back IsDecDigit {cut = λ _. ⊥} b) (λ o rest is. one is)
@@ -265,7 +272,7 @@ module _ (at : Setting) (whole : at.more ≡ false) where
       subst (NoneStands Digits) same none)) (λ place never. absurd never)) (λ digits c z.
       after (byte_back 10 c) (λ n rest was.
       one (name, b, digits, first, subst (λ l. Digits b digits l) was z))))))
-      (λ o rest is. void (inl is)))
+      (λ o rest is. record { gives = λ y (u, made, e). subst Is (sym e) (inl is) }))
       (λ u rest is. one is) (λ place is. record { gives = flag.gives }) (λ place is. one is)
 
   line_there : (tokens : List ℕ) (u : Unit {0}) (rest : List ℕ) → Line tokens u rest
@@ -299,37 +306,13 @@ module _ (at : Setting) (whole : at.more ≡ false) where
       let none = few IsAlpha [] (λ x more e. absurd (cc)) in
       (_, (_, (_, none, refl), refl), (_, (_, none, refl), refl))
 
-  -- where a line backs none is, and no value lacks
-  no_line : (tokens place : List ℕ) → Line1.does at tokens (backs place)
-      → NoneStands Line tokens × ((end : List ℕ) → NoValue tokens end → ⊥)
-  no_line tokens place d =
-      (
-        λ u rest x.
-            line_law.one at tokens (backs place) (took u rest) d (line_there tokens u rest x),
-        λ end x. line_law.one at tokens (backs place) (cuts end) d (lacks_there tokens end x),
-      )
-
   -- ---- all lines
-
-  fewer : (tokens : List ℕ) (u : Unit {0}) (rest : List ℕ) → Line tokens u rest
-      → length rest < length tokens
-  fewer tokens u rest (inl (name, value, digits, x, z)) =
-      let name_takes = class_takes IsAlpha 1 (λ b. b) (λ b. b) counted_reading one_is_some in
-      let digits_take = class_takes IsDecDigit 1 (λ b. b) (λ b. b) counted_reading one_is_some in
-      omega (arith, name_takes.fewer tokens name (61 ∷ value) x,
-      digits_take.fewer value digits (10 ∷ rest) z)
-  fewer tokens u rest (inr (name, x)) =
-      let takes = class_takes IsAlpha 1 (λ b. b) (λ b. b) counted_reading one_is_some in
-      omega (arith, takes.fewer tokens name (10 ∷ rest) x)
 
   each_there : (tokens : List ℕ) (us : List (Unit {0})) (rest : List ℕ)
       → Each Line tokens us rest → FoldsTo (λ a u b. ItemOf Line1.does at a u b) tokens us rest
   each_there tokens [] rest is = sym is
-  each_there tokens (u ∷ us) rest (mid, x, more) = (
-    mid,
-    (line_there tokens u mid x, fewer tokens u mid x),
-    each_there mid us rest more,
-  )
+  each_there tokens (u ∷ us) rest (mid, x, more) =
+      (mid, (line_there tokens u mid x, fewer tokens u mid x), each_there mid us rest more)
 
   each_back : (tokens : List ℕ) (us : List (Unit {0})) (rest : List ℕ)
       → FoldsTo (λ a u b. ItemOf Line1.does at a u b) tokens us rest → Each Line tokens us rest
@@ -337,105 +320,95 @@ module _ (at : Setting) (whole : at.more ≡ false) where
   each_back tokens (u ∷ us) rest (mid, (d, less), more) =
       (mid, (line_back tokens).gives (took u mid) d, each_back mid us rest more)
 
-  taken : (us : List (Unit {0})) → FoldsTo (λ (_ : Unit {0}) (_ : Unit {0}) (_ : Unit {0}). ⊤) tt us tt
-  taken [] = refl
-  taken (u ∷ us) = (tt, tt, taken us)
-
-  -- what comes of the lines before what ends them
-  ends_there : (tokens mid : List ℕ) (x y : Outcome ℕ (Unit {0})) → (lines : AreLines tokens mid)
+  -- after lines this ends them, and that comes of it
+  lines_there : (tokens mid : List ℕ) (x y : Outcome ℕ (Unit {0})) (lines : AreLines tokens mid)
       → Line1.does at mid x → ComesOf (last_item nothing_kept 0 tt lines.0) at mid x y
       → (LinesSay Line1).does at tokens y
-  ends_there tokens mid x y (us, each) d c = inr (
-    λ (e, _). absurd (cc),
-    inr (inr (
-      tt,
-      tt,
-      tt,
-      (us, mid, each_there tokens us mid each, inr (tt, (x, d, c))),
-    )),
-  )
+  lines_there tokens mid x y (us, each) d c =
+      let chain = each_there tokens us mid each in
+      inr (λ (e, _). absurd (cc), inr (inr (tt, tt, tt, (us, mid, chain, inr (tt, (x, d, c))))))
 
-  all_there : (tokens : List ℕ) → AreLines tokens [] → (LinesSay Line1).does at tokens (took tt [])
-  all_there tokens lines =
-      ends_there tokens [] (backs []) (took tt []) lines none_there
-      (inl (omega arith, (tt, record { taken = taken lines.0 }, refl)))
-
-  fault_there : (tokens rest : List ℕ) → LacksValue tokens rest
-      → (LinesSay Line1).does at tokens (cuts rest)
-  fault_there tokens rest (mid, lines, x) =
-      ends_there tokens mid (cuts rest) (cuts rest) lines (lacks_there mid rest x) refl
-
-  abbrev AllKnown : List ℕ → Outcome ℕ (Unit {0}) → Type 0
-  AllKnown tokens =
-      Known (λ u rest. AreLines tokens rest × NoneStands Line rest
-      × ((end : List ℕ) → NoValue rest end → ⊥)) (λ _. ⊥) (LacksValue tokens)
-
-  lines_back : (tokens : List ℕ) (y : Outcome ℕ (Unit {0})) → (LinesSay Line1).does at tokens y
-      → AllKnown tokens y
-  lines_back tokens y (inl (one, any, d)) = absurd (cc)
-  lines_back tokens y (inr (other, inl (most, is, below, e))) = none_is_some is
-  lines_back tokens y (inr (other, inr (inl (within, grows, e)))) = absurd grows
-  lines_back tokens y (inr (other, inr (inr (empty, within, starts, (us, mid, each, inl (full, d)))))) =
-      none_is_some full
-  lines_back tokens y
-      (inr (other, inr (inr (empty, within, starts, (us, mid, each, inr (below, (x, d, c))))))) =
-      by x d c
+  lines_back : (tokens : List ℕ)
+      → Gives (LinesSay Line1).does at tokens (λ _ rest. EndsLines tokens rest) (λ _. ⊥)
+      (LacksValue tokens)
+  lines_back tokens = record { gives = all }
     where
-      by : (x : Outcome ℕ (Unit {0})) → Line1.does at mid x
-          → ComesOf (last_item nothing_kept 0 empty us) at mid x y → AllKnown tokens y
-      by (took u rest) d (inl (none, e)) =
-          absurd (none (fewer mid u rest ((line_back mid).gives (took u rest) d)))
-      by (took u rest) d (inr (less, (some, gathered, grows), e)) = absurd grows
-      by (backs place) d (inl (enough, (all, gathered, e))) =
-          let (none, lacks) = no_line mid place d in
-          subst (AllKnown tokens) (sym e) ((us, each_back tokens us mid each), none, lacks)
-      by (backs place) d (inr (few, e)) = absurd (omega (arith, few))
-      by (cuts place) d e =
-          subst (AllKnown tokens) (sym e)
-          (mid, (us, each_back tokens us mid each), (line_back mid).gives (cuts place) d)
-      by (asks need place) d e = absurd ((line_back mid).gives (asks need place) d)
-      by wants d e = absurd ((line_back mid).gives wants d)
+      Is : Outcome ℕ (Unit {0}) → Type 0
+      Is = Known (λ _ rest. EndsLines tokens rest) (λ _. ⊥) (LacksValue tokens)
 
--- what a parse of all of the bytes returns, by what it does
-lines_by : {I X : Type 0} (inner_kind : X → Kind) (at : Setting) → at.more ≡ false
-    → (text : List ℕ) (result : Result (Unit {0}) (ParseFault I X Needed))
-    (x : Outcome ℕ (Unit {0})) → (LinesSay Line1).does at text x
-    → ((y : Outcome ℕ (Unit {0})) → (LinesSay Line1).does at text y
-    → Alike (LinesSay Line1).alike x y)
-    → IsParseOf length inner_kind text x result → IsTold inner_kind text result
-lines_by inner_kind at whole text (Ok p) (took o rest) does only (same, is) = record {
-  lines = subst (AreLines text) is (lines_back at whole text (took o rest) does).0;
-  all = λ lines. tt;
-  fault = tt;
-  lacks = λ end x. only (cuts end) (fault_there at whole text end x);
-}
-lines_by inner_kind at whole text (Err fault) (took o rest) does only (some, before) =
-    let (lines, none, lacks) = lines_back at whole text (took o rest) does in record {
-      lines = tt;
-      all = λ lines. some (only (took tt []) (all_there at whole text lines)).1;
-      fault = (rest, inr (lines, none, lacks, some), before);
-      lacks = λ end x. absurd (only (cuts end) (fault_there at whole text end x));
-    }
-lines_by inner_kind at whole text (Err fault) (cuts place) does only before = record {
-  lines = tt;
-  all = λ lines. only (took tt []) (all_there at whole text lines);
-  fault = (place, inl (lines_back at whole text (cuts place) does), before);
-  lacks = λ end x.
-      subst (λ l. IsFaultBefore length inner_kind text l fault)
-      (only (cuts end) (fault_there at whole text end x)) before;
-}
-lines_by inner_kind at whole text (Ok p) (cuts place) does only never = absurd never
-lines_by inner_kind at whole text result (backs place) does only parsed =
-    absurd (lines_back at whole text (backs place) does)
-lines_by inner_kind at whole text result (asks need place) does only parsed =
-    absurd (lines_back at whole text (asks need place) does)
-lines_by inner_kind at whole text result wants does only parsed =
-    absurd (lines_back at whole text wants does)
+      ends : (us : List (Unit {0})) (mid : List ℕ) → Each Line tokens us mid
+          → (x y : Outcome ℕ (Unit {0})) → Line1.does at mid x
+          → ComesOf (last_item nothing_kept 0 tt us) at mid x y → Is y
+      ends us mid each (took u rest) y d (inl (none, e)) =
+          absurd (none (fewer mid u rest ((line_back mid).gives (took u rest) d)))
+      ends us mid each (took u rest) y d (inr (less, (some, gathered, grows), e)) = absurd grows
+      ends us mid each (backs place) y d (inl (enough, (all, gathered, e))) =
+          subst Is (sym e) ((us, each), (
+            λ u rest x. line_law.one at mid (backs place) (took u rest) d (line_there mid u rest x),
+            λ end x. line_law.one at mid (backs place) (cuts end) d (lacks_there mid end x),
+          ))
+      ends us mid each (backs place) y d (inr (less, e)) = absurd (omega (arith, less))
+      ends us mid each (cuts place) y d e =
+          subst Is (sym e) (mid, (us, each), (line_back mid).gives (cuts place) d)
+      ends us mid each (asks need place) y d e = absurd ((line_back mid).gives (asks need place) d)
+      ends us mid each wants y d e = absurd ((line_back mid).gives wants d)
+
+      all : (y : Outcome ℕ (Unit {0})) → (LinesSay Line1).does at tokens y → Is y
+      all y (inl (one, any, d)) = absurd (cc)
+      all y (inr (other, inl (most, is, below, e))) = none_is_some is
+      all y (inr (other, inr (inl (within, grows, e)))) = absurd grows
+      all y (inr (other, inr (inr (empty, within, starts, (us, mid, chain, inl (full, d)))))) =
+          none_is_some full
+      all y (inr (other, inr (inr (empty, within, starts, (us, mid, chain, inr (below, (x, d, c))))))) =
+          ends us mid (each_back tokens us mid chain) x y d c
+
+  -- a parse of all of the bytes, by their outcome
+  parsed_by : {I X : Type 0} (inner_kind : X → Kind) (text : List ℕ)
+      (result : Result (Unit {0}) (ParseFault I X Needed)) (x : Outcome ℕ (Unit {0}))
+      → Known (λ _ rest. EndsLines text rest) (λ _. ⊥) (LacksValue text) x
+      → (AreLines text [] → Alike (LinesSay Line1).alike x (took tt []))
+      → ((end : List ℕ) → LacksValue text end → Alike (LinesSay Line1).alike x (cuts end))
+      → IsParseOf length inner_kind text x result → IsTold inner_kind text result
+  parsed_by inner_kind text (Ok p) (took o rest) (lines, ends) whole lacks (same, is) = record {
+    lines = subst (AreLines text) is lines;
+    all = λ lines. tt;
+    fault = tt;
+    lacks = lacks;
+  }
+  parsed_by inner_kind text (Err fault) (took o rest) (lines, (none, valued)) whole lacks (some, before) =
+      record {
+        lines = tt;
+        all = λ lines. some (whole lines).1;
+        fault = (rest, inr (lines, none, valued, some), before);
+        lacks = λ end x. absurd (lacks end x);
+      }
+  parsed_by inner_kind text (Err fault) (cuts place) is whole lacks before = record {
+    lines = tt;
+    all = whole;
+    fault = (place, inl is, before);
+    lacks = λ end x.
+        subst (λ l. IsFaultBefore length inner_kind text l fault) (lacks end x) before;
+  }
+  parsed_by inner_kind text (Ok p) (cuts place) is whole lacks never = absurd never
+  parsed_by inner_kind text result (backs place) never whole lacks parsed = absurd never
+  parsed_by inner_kind text result (asks need place) never whole lacks parsed = absurd never
+  parsed_by inner_kind text result wants never whole lacks parsed = absurd never
+
+taken : (us : List (Unit {0})) → FoldsTo (λ (_ _ _ : Unit {0}). ⊤) tt us tt
+taken [] = refl
+taken (u ∷ us) = (tt, tt, taken us)
 
 pub lines_told : {I X : Type 0} (inner_kind : X → Kind) (form : ErrorForm) (i : Input ℕ)
     → i.status.cut ≡ false → (result : Result (Unit {0}) (ParseFault I X Needed))
     → TellsAll length inner_kind (LinesSay Line1) form i result
     → IsTold inner_kind i.left.tokens result
 lines_told inner_kind form i whole result all =
-    lines_by inner_kind (setting_of form i) whole i.left.tokens result all.outcome
-    all.tells.does all.tells.only all.parsed
+    let at = setting_of form i in
+    let text = i.left.tokens in
+    parsed_by at whole inner_kind text result all.outcome
+    ((lines_back at whole text).gives all.outcome all.tells.does)
+    (λ lines. all.tells.only (took tt []) (lines_there at whole text [] (backs []) (took tt [])
+    lines (none_there at whole)
+    (inl (omega arith, (tt, record { taken = taken lines.0 }, refl)))))
+    (λ end (mid, lines, x). all.tells.only (cuts end) (lines_there at whole text mid (cuts end)
+    (cuts end) lines (lacks_there at whole mid end x) refl)) all.parsed
