@@ -1,3 +1,4 @@
 -- Written by scripts/registries.py: do not edit.
 pub mod Assignments
 pub mod Read
+pub mod Says

@@ -1,17 +1,19 @@
--- What the parser of assignments says that it does, and that this is lines and faults.
-use Rattle.std.specs.Prelude.{◌≡◌, ◌⊎◌, ◌<◌, ⊤, ℕ, Bool, true, false, List, [], ◌∷◌, ◌++◌, length, None, IsTrue}
-use Rattle.std.specs.Prelude.{Result, Ok, Err, ◌↔◌}
+-- What the parser of assignments says that it does is lines and faults.
+use Rattle.std.specs.Prelude.{◌≡◌, ◌<◌, ⊤, ℕ, Bool, true, false, List, [], ◌∷◌, ◌++◌, length}
+use Rattle.std.specs.Prelude.{None, IsTrue, Result, Ok, Err, ◌↔◌}
 use Rattle.std.specs.Borrow.{Bor}
 use Rattle.std.specs.List.{FoldsTo}
 use Rattle.std.proofs.Common.{refl, sym, ap, subst, inl, inr, ◌∙◌, arith}
 use Rattle.std.proofs.lemmas.List.Elements.{All-cons, All-nil}
 use Rattle.examples.specs.Assignments.Assignments.{AreLines, Digits, IsFlag, IsSetting, IsTold}
-use Rattle.examples.specs.Assignments.Assignments.{LacksValue, Line, Name, NoLine, NoValue}
+use Rattle.examples.specs.Assignments.Assignments.{LacksValue, Line, Name, NoValue}
+use Rattle.examples.specs.Assignments.Says.{LineSays, LinesSay}
 use Rattle.winnow.specs.Accumulator.{nothing_kept}
 use Rattle.winnow.specs.Alt.Says.{or_else_said, or_else_says}
 use Rattle.winnow.specs.AsChar.{IsAlpha, IsDecDigit}
 use Rattle.winnow.specs.Chain.Items.{last_item}
 use Rattle.winnow.specs.Chain.Says.{ItemOf}
+use Rattle.winnow.specs.Compare.{StandsFirst}
 use Rattle.winnow.specs.Class.Laws.{class_takes, one_is_some}
 use Rattle.winnow.specs.Class.Says.{class_said, class_says}
 use Rattle.winnow.specs.Counted.{counted_reading}
@@ -20,7 +22,7 @@ use Rattle.winnow.specs.Equal.{none_is_some, same_first, true_is_false}
 use Rattle.winnow.specs.Form.{ErrorForm}
 use Rattle.winnow.specs.Grammar.{Class, Each, Grammar, Literally, Longest, NoneStands}
 use Rattle.winnow.specs.Grammar.{TakesTokens}
-use Rattle.winnow.specs.Grammar.Known.{Byte, byte_stands, stands_byte}
+use Rattle.winnow.specs.Grammar.Known.{byte_stands, stands_byte}
 use Rattle.winnow.specs.Input.{Input}
 use Rattle.winnow.specs.Kind.{Kind}
 use Rattle.winnow.specs.Literal.Says.{literal_said, literal_says}
@@ -38,35 +40,6 @@ use Rattle.winnow.specs.Then.{Comes, ComesOf, Next, Then}
 use Rattle.winnow.specs.Then.Steps.{where_took}
 use Rattle.winnow.specs.Void.Says.{void_said, void_says}
 use Rattle.winnow.specs.{Needed, ParseFault}
-
--- ---- what the parsers say
-
--- repeat(alloc, Range::from(0..), line)
-abbrev pub LinesSay : {T : Type 0} → Says T (Unit {0}) → Says T (Unit {0})
-LinesSay line = repeat_says nothing_kept (λ all os. ⊤) (from_to 0 None) line
-
-module _ {K T L : Type 0} (reading : Reading T L) (seen : K → T) (code : K → ℕ)
-    (spells : ℕ → List T → Type 0) where
-  abbrev ClassSays : (ℕ → Type 0) → Says T L
-  ClassSays class = class_says class 1 code seen reading
-
-  abbrev ByteSays : ℕ → Says T ℕ
-  ByteSays b = literal_says reading (spells b) (λ _. b) (λ o q. o ≡ q)
-
-  -- (Alpha1, b'=', cut_err(Digit1), b'\n').void()
-  abbrev pub SettingSays : Says T (Unit {0})
-  SettingSays = void_says (sequence4_says (ClassSays IsAlpha) (ByteSays 61)
-      (cut_err_says (ClassSays IsDecDigit)) (ByteSays 10))
-
-  -- (Alpha1, b'\n').void()
-  abbrev pub FlagSays : Says T (Unit {0})
-  FlagSays = void_says (sequence2_says (ClassSays IsAlpha) (ByteSays 10))
-
-  -- alt((setting, flag))
-  abbrev pub LineSays : Says T (Unit {0})
-  LineSays = or_else_says SettingSays FlagSays
-
--- ---- over bytes
 
 abbrev Class1 : (ℕ → Type 0) → Says ℕ (Bor (List ℕ))
 Class1 class = class_says class 1 (λ b. b) (λ b. b) counted_reading
@@ -190,15 +163,20 @@ not_first (y ∷ ys) none x more e is =
 fewer : (tokens : List ℕ) (u : Unit {0}) (rest : List ℕ) → Line tokens u rest
     → length rest < length tokens
 fewer tokens u rest (inl (name, value, digits, x, z)) =
-    omega (arith, (some_takes IsAlpha).fewer tokens name (61 ∷ value) x,
-    (some_takes IsDecDigit).fewer value digits (10 ∷ rest) z)
+    let less = (some_takes IsAlpha).fewer tokens name (61 ∷ value) x in
+    let more = (some_takes IsDecDigit).fewer value digits (10 ∷ rest) z in
+    omega (arith, less, more)
 fewer tokens u rest (inr (name, x)) =
     omega (arith, (some_takes IsAlpha).fewer tokens name (10 ∷ rest) x)
 
 -- Lines are left off where none is, and no name with a value that lacks.
 abbrev EndsLines : List ℕ → List ℕ → Type 0
 EndsLines tokens rest =
-    AreLines tokens rest × (NoneStands Line rest × ((end : List ℕ) → NoValue rest end → ⊥))
+    AreLines tokens rest × NoneStands Line rest × ((end : List ℕ) → NoValue rest end → ⊥)
+
+not_equals : (rest : List ℕ) → StandsFirst (λ xs. xs ≡ 61 ∷ []) (10 ∷ rest) → ⊥
+not_equals rest (front, end, is, e) =
+    absurd (omega (arith, same_first (e ∙ ap (λ l. l ++ end) is)))
 
 -- ---- a whole input
 
@@ -213,27 +191,33 @@ module _ (at : Setting) (whole : at.more ≡ false) where
   few : (class : ℕ → Type 0) (tokens : List ℕ)
       → ((x : ℕ) (more : List ℕ) → tokens ≡ x ∷ more → class x → ⊥)
       → (Class1 class).does at tokens (backs tokens)
-  few class tokens none = inr (tt, inr (inr
-      (([], tokens, empty class tokens none, inr whole, omega arith), refl)))
+  few class tokens none =
+      let longest = empty class tokens none in
+      inr (tt, inr (inr (([], tokens, longest, inr whole, omega arith), refl)))
 
   class_back : (class : ℕ → Type 0) {cut : List ℕ → Type 0} (tokens : List ℕ)
       → Gives (Class1 class).does at tokens (Some1 class tokens)
-      (λ place. (tokens ≡ place) × NoneStands (Some1 class) tokens) cut
+      (λ place. (tokens ≡ place) × NoneStands (Some1 class) place) cut
   unfolding Longest
   class_back class {cut} tokens = record { gives = by }
     where
       Is : Outcome ℕ (Bor (List ℕ)) → Type 0
       Is = Known (Some1 class tokens)
-          (λ place. (tokens ≡ place) × NoneStands (Some1 class) tokens) cut
+          (λ place. (tokens ≡ place) × NoneStands (Some1 class) place) cut
 
       by : (y : Outcome ℕ (Bor (List ℕ))) → (Class1 class).does at tokens y → Is y
       by y (inl ((most, is, below), e)) = none_is_some is
       by y (inr (within, inl ((all, more), e))) = true_is_false (sym more ∙ whole)
       by y (inr (within, inr (inl (o, rest, (f, longest, over, enough, shown), e)))) =
           subst Is (sym e) (f, longest, enough, shown)
-      by y (inr (within, inr (inr (lacks, e)))) = subst Is (sym e) (refl, λ o rest x.
-          ((class_said class 1 (λ b. b) (λ b. b) counted_reading).law (λ k l e. e)).one at tokens (backs tokens) (took o rest)
-          (inr (within, inr (inr (lacks, refl)))) (class_there class tokens o rest x))
+      by y (inr (within, inr (inr (lacks, e)))) =
+          let law = (class_said class 1 (λ b. b) (λ b. b) counted_reading).law (λ k l e. e) in
+          let here : (Class1 class).does at tokens (backs tokens) =
+          inr (within, inr (inr (lacks, refl))) in
+          let none : NoneStands (Some1 class) tokens = λ o rest x.
+          law.one at tokens (backs tokens) (took o rest) here
+          (class_there class tokens o rest x) in
+          subst Is (sym e) (refl, none)
 
   byte_there : (b : ℕ) (rest : List ℕ) → (Byte1 b).does at (b ∷ rest) (took b rest)
   unfolding Literally
@@ -268,8 +252,9 @@ module _ (at : Setting) (whole : at.more ≡ false) where
       (λ name a x. after (byte_back 61 a) (λ e b is.
       let first = subst (λ l. Name tokens name l) is x in
       after {back = λ _. ⊤} (comes (class_back IsDecDigit {cut = λ _. ⊥} b) (λ o rest is. one is)
-      (λ place (same, none). one (name, subst (λ l. Name tokens name (61 ∷ l)) same first,
-      subst (NoneStands Digits) same none)) (λ place never. absurd never)) (λ digits c z.
+      (λ place (same, none).
+      one (name, subst (λ l. Name tokens name (61 ∷ l)) same first, none))
+      (λ place never. absurd never)) (λ digits c z.
       after (byte_back 10 c) (λ n rest was.
       one (name, b, digits, first, subst (λ l. Digits b digits l) was z))))))
       (λ o rest is. record { gives = λ y (u, made, e). subst Is (sym e) (inl is) }))
@@ -286,8 +271,7 @@ module _ (at : Setting) (whole : at.more ≡ false) where
   line_there tokens u rest (inr (name, x)) =
       let first = class_there IsAlpha tokens name (10 ∷ rest) x in
       let back : (Byte1 61).does at (10 ∷ rest) (backs (10 ∷ rest)) =
-      inr (inr ((λ (front, end, is, e).
-      absurd (omega (arith, same_first (e ∙ ap (λ l. l ++ end) is))), λ short. whole), refl)) in
+      inr (inr ((not_equals rest, λ short. whole), refl)) in
       let feed = byte_there 10 rest in (
         _,
         (_, (_, first, (_, back, refl)), refl),
@@ -343,10 +327,11 @@ module _ (at : Setting) (whole : at.more ≡ false) where
           absurd (none (fewer mid u rest ((line_back mid).gives (took u rest) d)))
       ends us mid each (took u rest) y d (inr (less, (some, gathered, grows), e)) = absurd grows
       ends us mid each (backs place) y d (inl (enough, (all, gathered, e))) =
-          subst Is (sym e) ((us, each), (
-            λ u rest x. line_law.one at mid (backs place) (took u rest) d (line_there mid u rest x),
-            λ end x. line_law.one at mid (backs place) (cuts end) d (lacks_there mid end x),
-          ))
+          let none : NoneStands Line mid = λ u rest x.
+          line_law.one at mid (backs place) (took u rest) d (line_there mid u rest x) in
+          let valued : (end : List ℕ) → NoValue mid end → ⊥ = λ end x.
+          line_law.one at mid (backs place) (cuts end) d (lacks_there mid end x) in
+          subst Is (sym e) ((us, each), none, valued)
       ends us mid each (backs place) y d (inr (less, e)) = absurd (omega (arith, less))
       ends us mid each (cuts place) y d e =
           subst Is (sym e) (mid, (us, each), (line_back mid).gives (cuts place) d)
@@ -369,13 +354,13 @@ module _ (at : Setting) (whole : at.more ≡ false) where
       → (AreLines text [] → Alike (LinesSay Line1).alike x (took tt []))
       → ((end : List ℕ) → LacksValue text end → Alike (LinesSay Line1).alike x (cuts end))
       → IsParseOf length inner_kind text x result → IsTold inner_kind text result
-  parsed_by inner_kind text (Ok p) (took o rest) (lines, ends) whole lacks (same, is) = record {
+  parsed_by inner_kind text (Ok p) (took o rest) (lines, none, valued) whole lacks (same, is) = record {
     lines = subst (AreLines text) is lines;
     all = λ lines. tt;
     fault = tt;
     lacks = lacks;
   }
-  parsed_by inner_kind text (Err fault) (took o rest) (lines, (none, valued)) whole lacks (some, before) =
+  parsed_by inner_kind text (Err fault) (took o rest) (lines, none, valued) whole lacks (some, before) =
       record {
         lines = tt;
         all = λ lines. some (whole lines).1;
