@@ -7,6 +7,9 @@ use Rattle.std.proofs.Common.{refl, sym, ap, subst, inl, inr, ◌∙◌, arith}
 use Rattle.std.proofs.lemmas.List.Elements.{All-cons, All-nil}
 use Rattle.examples.specs.Assignments.Assignments.{AreLines, Digits, IsFlag, IsSetting, IsTold}
 use Rattle.examples.specs.Assignments.Assignments.{LacksValue, Line, Name, NoValue}
+use Rattle.examples.specs.Assignments.Parts.{Byte1, Class1, Gives, Known, after, byte_back}
+use Rattle.examples.specs.Assignments.Parts.{byte_fails, byte_there, class_back, class_fails}
+use Rattle.examples.specs.Assignments.Parts.{class_there, comes, one, some_takes}
 use Rattle.examples.specs.Assignments.Says.{LineSays, LinesSay}
 use Rattle.winnow.specs.Accumulator.{nothing_kept}
 use Rattle.winnow.specs.Alt.Says.{or_else_said, or_else_says}
@@ -22,7 +25,7 @@ use Rattle.winnow.specs.Equal.{none_is_some, same_first, true_is_false}
 use Rattle.winnow.specs.Form.{ErrorForm}
 use Rattle.winnow.specs.Grammar.{Class, Each, Grammar, Literally, Longest, NoneStands}
 use Rattle.winnow.specs.Grammar.{TakesTokens}
-use Rattle.winnow.specs.Grammar.Known.{byte_stands, stands_byte}
+use Rattle.winnow.specs.Grammar.Known.{Byte, byte_stands, stands_byte}
 use Rattle.winnow.specs.Input.{Input}
 use Rattle.winnow.specs.Kind.{Kind}
 use Rattle.winnow.specs.Literal.Says.{literal_said, literal_says}
@@ -41,20 +44,8 @@ use Rattle.winnow.specs.Then.Steps.{where_took}
 use Rattle.winnow.specs.Void.Says.{void_said, void_says}
 use Rattle.winnow.specs.{Needed, ParseFault}
 
-abbrev Class1 : (ℕ → Type 0) → Says ℕ (Bor (List ℕ))
-Class1 class = class_says class 1 (λ b. b) (λ b. b) counted_reading
-
-abbrev Some1 : (ℕ → Type 0) → Grammar ℕ (Bor (List ℕ))
-Some1 class = Class class 1 (λ b. b) (λ b. b) counted_reading
-
-abbrev Byte1 : ℕ → Says ℕ ℕ
-Byte1 b = literal_says counted_reading (λ xs. xs ≡ b ∷ []) (λ _. b) (λ o q. o ≡ q)
-
 abbrev pub Line1 : Says ℕ (Unit {0})
 Line1 = LineSays counted_reading (λ b. b) (λ b. b) (λ b xs. xs ≡ b ∷ [])
-
-some_takes : (class : ℕ → Type 0) → TakesTokens (Some1 class)
-some_takes class = class_takes class 1 (λ b. b) (λ b. b) counted_reading one_is_some
 
 line_law : Lawful Line1.stable Line1.alike Line1.does
 line_law =
@@ -65,99 +56,6 @@ line_law =
     (or_else_said (void_said (sequence4_said (some IsAlpha) (byte 61)
     (cut_err_said (some IsDecDigit)) (byte 10)))
     (void_said (sequence2_said (some IsAlpha) (byte 10)))).law ((one, tt, one, tt), (one, tt))
-
--- What is known of an outcome: what is read, or where it backs, or cuts. No more is asked for.
-abbrev Known : {O : Type 0} → (O → List ℕ → Type 0) → (List ℕ → Type 0) → (List ℕ → Type 0)
-    → Outcome ℕ O → Type 0
-Known reads back cut (took o rest) = reads o rest
-Known reads back cut (backs place) = back place
-Known reads back cut (cuts place) = cut place
-Known reads back cut (asks need place) = ⊥
-Known reads back cut wants = ⊥
-
--- What is known of all that is done with tokens.
-record Gives {O : Type 0} (does : Does ℕ O) (at : Setting) (tokens : List ℕ)
-    (reads : O → List ℕ → Type 0) (back cut : List ℕ → Type 0) : Type 0 where
-  gives : (y : Outcome ℕ O) → does at tokens y → Known reads back cut y
-
-module _ {O U : Type 0} {does : Does ℕ O} {at : Setting} {tokens : List ℕ}
-    {reads : O → List ℕ → Type 0} {back cut : List ℕ → Type 0} {also : U → List ℕ → Type 0}
-    {more less : List ℕ → Type 0} where
-  -- what comes of a part
-  comes : {next : Next ℕ O U} → Gives does at tokens reads back cut
-      → ((o : O) (mid : List ℕ) → reads o mid
-      → Gives (λ at l y. next.on_took o at tokens l y) at mid also more less)
-      → ((place : List ℕ) → back place
-      → Gives (λ at l y. next.on_backs at tokens l y) at place also more less)
-      → ((place : List ℕ) → cut place
-      → Gives (λ at l y. next.on_cuts at tokens l y) at place also more less)
-      → Gives (Then does next) at tokens also more less
-  comes {next} part takes fails stops = record { gives = λ y (x, d, c). by y x (part.gives x d) c }
-    where
-      by : (y : Outcome ℕ U) (x : Outcome ℕ O) → Known reads back cut x
-          → ComesOf next at tokens x y → Known also more less y
-      by y (took o mid) is c = (takes o mid is).gives y c
-      by y (backs place) is c = (fails place is).gives y c
-      by y (cuts place) is c = (stops place is).gives y c
-      by y (asks need place) is c = absurd is
-      by y wants is c = absurd is
-
--- it is one outcome
-one : {U : Type 0} {f : List ℕ → Outcome ℕ U} {at : Setting} {mid : List ℕ}
-    {also : U → List ℕ → Type 0} {more less : List ℕ → Type 0} → Known also more less (f mid)
-    → Gives (λ at l y. y ≡ f l) at mid also more less
-one {also = also} {more} {less} is =
-    record { gives = λ y e. subst (Known also more less) (sym e) is }
-
--- it is read, and this follows
-after : {O U : Type 0} {does : Does ℕ O} {came : O → Comes ℕ U} {at : Setting}
-    {tokens : List ℕ} {reads : O → List ℕ → Type 0} {also : U → List ℕ → Type 0}
-    {back cut : List ℕ → Type 0} → Gives does at tokens reads back cut
-    → ((o : O) (mid : List ℕ) → reads o mid
-    → Gives (λ at l y. came o at tokens l y) at mid also (λ _. ⊤) cut)
-    → Gives (Then does (where_took came)) at tokens also (λ _. ⊤) cut
-after part next = comes part next (λ place is. one tt) (λ place is. one is)
-
--- ---- the longest beginning of a class
-
-abbrev Member : (ℕ → Type 0) → ℕ → Bool → Type 0
-Member class = AnswersSeen (λ b. b) (λ k b. IsTrue b ↔ class k)
-
--- it is empty where none is first
-empty : (class : ℕ → Type 0) (tokens : List ℕ)
-    → ((x : ℕ) (more : List ℕ) → tokens ≡ x ∷ more → class x → ⊥)
-    → IsLongest (Member class) None tokens [] tokens
-empty class tokens none = record {
-  splits = refl;
-  members = All-nil (λ t. Member class t true);
-  within = tt;
-  stops = λ x more e. inl (x, refl, ((λ never. true_is_false (sym never)), λ is. absurd (none x more e is)));
-}
-
-longer : (x : ℕ) → IsDecDigit x → (more front rest : List ℕ)
-    → IsLongest (Member IsDecDigit) None more front rest → NoneStands Digits (x ∷ more) → ⊥
-unfolding Longest
-longer x is more front rest l none =
-    let some : IsLongest (Member IsDecDigit) None (x ∷ more) (x ∷ front) rest = record {
-      splits = ap (λ t. x ∷ t) l.splits;
-      members = All-cons (λ t. Member IsDecDigit t true) x front
-          (x, refl, ((λ _. is), (λ _. refl))) l.members;
-      within = tt;
-      stops = λ y others e. elim (l.stops y others e) [
-        | inl lacks ↦ inl lacks
-        | inr full ↦ none_is_some full
-      ];
-    } in
-    none (record { ref_ptr = (0, 0); now = x ∷ front }) rest (x ∷ front, some, omega arith, refl)
-
-not_first : (tokens : List ℕ) → NoneStands Digits tokens → (x : ℕ) (more : List ℕ)
-    → tokens ≡ x ∷ more → IsDecDigit x → ⊥
-unfolding Longest
-not_first [] none x more e is = absurd (cc)
-not_first (y ∷ ys) none x more e is =
-    let first = subst IsDecDigit (sym (same_first e)) is in
-    longer y first ys [] ys (empty IsDecDigit ys (not_first ys
-    (λ o rest (front, l, enough, shown). longer y first ys front rest l none))) none
 
 -- a line has tokens
 fewer : (tokens : List ℕ) (u : Unit {0}) (rest : List ℕ) → Line tokens u rest
@@ -174,68 +72,9 @@ abbrev EndsLines : List ℕ → List ℕ → Type 0
 EndsLines tokens rest =
     AreLines tokens rest × NoneStands Line rest × ((end : List ℕ) → NoValue rest end → ⊥)
 
-not_equals : (rest : List ℕ) → StandsFirst (λ xs. xs ≡ 61 ∷ []) (10 ∷ rest) → ⊥
-not_equals rest (front, end, is, e) =
-    absurd (omega (arith, same_first (e ∙ ap (λ l. l ++ end) is)))
-
 -- ---- a whole input
 
 module _ (at : Setting) (whole : at.more ≡ false) where
-  class_there : (class : ℕ → Type 0) (tokens : List ℕ) (o : Bor (List ℕ)) (rest : List ℕ)
-      → Some1 class tokens o rest
-      → (Class1 class).does at tokens (took o rest)
-  unfolding Longest
-  class_there class tokens o rest (f, longest, enough, shown) =
-      inr (tt, inr (inl (o, rest, (f, longest, inr whole, enough, shown), refl)))
-
-  few : (class : ℕ → Type 0) (tokens : List ℕ)
-      → ((x : ℕ) (more : List ℕ) → tokens ≡ x ∷ more → class x → ⊥)
-      → (Class1 class).does at tokens (backs tokens)
-  few class tokens none =
-      let longest = empty class tokens none in
-      inr (tt, inr (inr (([], tokens, longest, inr whole, omega arith), refl)))
-
-  class_back : (class : ℕ → Type 0) {cut : List ℕ → Type 0} (tokens : List ℕ)
-      → Gives (Class1 class).does at tokens (Some1 class tokens)
-      (λ place. (tokens ≡ place) × NoneStands (Some1 class) place) cut
-  unfolding Longest
-  class_back class {cut} tokens = record { gives = by }
-    where
-      Is : Outcome ℕ (Bor (List ℕ)) → Type 0
-      Is = Known (Some1 class tokens)
-          (λ place. (tokens ≡ place) × NoneStands (Some1 class) place) cut
-
-      by : (y : Outcome ℕ (Bor (List ℕ))) → (Class1 class).does at tokens y → Is y
-      by y (inl ((most, is, below), e)) = none_is_some is
-      by y (inr (within, inl ((all, more), e))) = true_is_false (sym more ∙ whole)
-      by y (inr (within, inr (inl (o, rest, (f, longest, over, enough, shown), e)))) =
-          subst Is (sym e) (f, longest, enough, shown)
-      by y (inr (within, inr (inr (lacks, e)))) =
-          let law = (class_said class 1 (λ b. b) (λ b. b) counted_reading).law (λ k l e. e) in
-          let here : (Class1 class).does at tokens (backs tokens) =
-          inr (within, inr (inr (lacks, refl))) in
-          let none : NoneStands (Some1 class) tokens = λ o rest x.
-          law.one at tokens (backs tokens) (took o rest) here
-          (class_there class tokens o rest x) in
-          subst Is (sym e) (refl, none)
-
-  byte_there : (b : ℕ) (rest : List ℕ) → (Byte1 b).does at (b ∷ rest) (took b rest)
-  unfolding Literally
-  byte_there b rest = inl (b, rest, stands_byte b (b ∷ rest) rest refl, refl)
-
-  byte_back : (b : ℕ) {cut : List ℕ → Type 0} (tokens : List ℕ)
-      → Gives (Byte1 b).does at tokens (λ o rest. tokens ≡ b ∷ rest) (λ _. ⊤) cut
-  unfolding Literally
-  byte_back b {cut} tokens = record { gives = by }
-    where
-      Is : Outcome ℕ ℕ → Type 0
-      Is = Known (λ o rest. tokens ≡ b ∷ rest) (λ _. ⊤) cut
-
-      by : (y : Outcome ℕ ℕ) → (Byte1 b).does at tokens y → Is y
-      by y (inl (o, rest, x, e)) = subst Is (sym e) (byte_stands b tokens o rest x).0
-      by y (inr (inl ((short, more), e))) = true_is_false (sym more ∙ whole)
-      by y (inr (inr (none, e))) = subst Is (sym e) tt
-
   -- ---- one line
 
   line_back : (tokens : List ℕ)
@@ -244,18 +83,18 @@ module _ (at : Setting) (whole : at.more ≡ false) where
       let Is : Outcome ℕ (Unit {0}) → Type 0 = Known (Line tokens) (λ _. ⊤) (NoValue tokens) in
       let flag : Gives (void_says (sequence2_says (Class1 IsAlpha) (Byte1 10))).does at tokens
       (Line tokens) (λ _. ⊤) (NoValue tokens) =
-      after {reads = λ _ rest. IsFlag tokens rest} (after (class_back IsAlpha tokens)
-      (λ name a x. after (byte_back 10 a) (λ n rest is.
+      after {reads = λ _ rest. IsFlag tokens rest} (after (class_back at whole IsAlpha tokens)
+      (λ name a x. after (byte_back at whole 10 a) (λ n rest is.
       one (name, subst (λ l. Name tokens name l) is x)))) (λ o rest is.
       record { gives = λ y (u, made, e). subst Is (sym e) (inr is) }) in
-      comes {reads = Line tokens} (after {reads = λ _ rest. IsSetting tokens rest} (after (class_back IsAlpha tokens)
-      (λ name a x. after (byte_back 61 a) (λ e b is.
+      comes {reads = Line tokens} (after {reads = λ _ rest. IsSetting tokens rest}
+      (after (class_back at whole IsAlpha tokens) (λ name a x. after (byte_back at whole 61 a) (λ e b is.
       let first = subst (λ l. Name tokens name l) is x in
-      after {back = λ _. ⊤} (comes (class_back IsDecDigit {cut = λ _. ⊥} b) (λ o rest is. one is)
-      (λ place (same, none).
+      after {back = λ _. ⊤} (comes (class_back at whole IsDecDigit {cut = λ _. ⊥} b)
+      (λ o rest is. one is) (λ place (same, none).
       one (name, subst (λ l. Name tokens name (61 ∷ l)) same first, none))
       (λ place never. absurd never)) (λ digits c z.
-      after (byte_back 10 c) (λ n rest was.
+      after (byte_back at whole 10 c) (λ n rest was.
       one (name, b, digits, first, subst (λ l. Digits b digits l) was z))))))
       (λ o rest is. record { gives = λ y (u, made, e). subst Is (sym e) (inl is) }))
       (λ u rest is. one is) (λ place is. record { gives = flag.gives }) (λ place is. one is)
@@ -263,16 +102,16 @@ module _ (at : Setting) (whole : at.more ≡ false) where
   line_there : (tokens : List ℕ) (u : Unit {0}) (rest : List ℕ) → Line tokens u rest
       → Line1.does at tokens (took u rest)
   line_there tokens u rest (inl (name, value, digits, x, z)) =
-      let first = class_there IsAlpha tokens name (61 ∷ value) x in
-      let second = class_there IsDecDigit value digits (10 ∷ rest) z in
-      let feed = byte_there 10 rest in
-      let equals = byte_there 61 value in
+      let first = class_there at whole IsAlpha tokens name (61 ∷ value) x in
+      let second = class_there at whole IsDecDigit value digits (10 ∷ rest) z in
+      let feed = byte_there at whole 10 rest in
+      let equals = byte_there at whole 61 value in
       (_, (_, (_, first, (_, equals, (_, (_, second, refl), (_, feed, refl)))), (u, tt, refl)), refl)
   line_there tokens u rest (inr (name, x)) =
-      let first = class_there IsAlpha tokens name (10 ∷ rest) x in
-      let back : (Byte1 61).does at (10 ∷ rest) (backs (10 ∷ rest)) =
-      inr (inr ((not_equals rest, λ short. whole), refl)) in
-      let feed = byte_there 10 rest in (
+      let first = class_there at whole IsAlpha tokens name (10 ∷ rest) x in
+      let back = byte_fails at whole 61 (10 ∷ rest) (λ o end x.
+      absurd (omega (arith, same_first (byte_stands 61 (10 ∷ rest) o end x).0))) in
+      let feed = byte_there at whole 10 rest in (
         _,
         (_, (_, first, (_, back, refl)), refl),
         (_, (_, first, (_, feed, refl)), (u, tt, refl)),
@@ -280,14 +119,15 @@ module _ (at : Setting) (whole : at.more ≡ false) where
 
   lacks_there : (tokens rest : List ℕ) → NoValue tokens rest → Line1.does at tokens (cuts rest)
   lacks_there tokens rest (name, x, none) =
-      let first = class_there IsAlpha tokens name (61 ∷ rest) x in
-      let lacks = few IsDecDigit rest (not_first rest none) in
-      let equals = byte_there 61 rest in
+      let first = class_there at whole IsAlpha tokens name (61 ∷ rest) x in
+      let lacks = class_fails at whole IsDecDigit rest none in
+      let equals = byte_there at whole 61 rest in
       (_, (_, (_, first, (_, equals, (_, (_, lacks, refl), refl))), refl), refl)
 
   none_there : Line1.does at [] (backs [])
   none_there =
-      let none = few IsAlpha [] (λ x more e. absurd (cc)) in
+      let none = class_fails at whole IsAlpha [] (λ o rest x.
+      absurd (omega (arith, (some_takes IsAlpha).fewer [] o rest x))) in
       (_, (_, (_, none, refl), refl), (_, (_, none, refl), refl))
 
   -- ---- all lines
@@ -344,7 +184,8 @@ module _ (at : Setting) (whole : at.more ≡ false) where
       all y (inr (other, inr (inl (within, grows, e)))) = absurd grows
       all y (inr (other, inr (inr (empty, within, starts, (us, mid, chain, inl (full, d)))))) =
           none_is_some full
-      all y (inr (other, inr (inr (empty, within, starts, (us, mid, chain, inr (below, (x, d, c))))))) =
+      all y
+          (inr (other, inr (inr (empty, within, starts, (us, mid, chain, inr (below, (x, d, c))))))) =
           ends us mid (each_back tokens us mid chain) x y d c
 
   -- a parse of all of the bytes, by their outcome
@@ -354,30 +195,30 @@ module _ (at : Setting) (whole : at.more ≡ false) where
       → (AreLines text [] → Alike (LinesSay Line1).alike x (took tt []))
       → ((end : List ℕ) → LacksValue text end → Alike (LinesSay Line1).alike x (cuts end))
       → IsParseOf length inner_kind text x result → IsTold inner_kind text result
-  parsed_by inner_kind text (Ok p) (took o rest) (lines, none, valued) whole lacks (same, is) = record {
+  parsed_by inner_kind text (Ok p) (took o rest) (lines, none, valued) all lacks (same, is) = record {
     lines = subst (AreLines text) is lines;
     all = λ lines. tt;
     fault = tt;
     lacks = lacks;
   }
-  parsed_by inner_kind text (Err fault) (took o rest) (lines, none, valued) whole lacks (some, before) =
+  parsed_by inner_kind text (Err fault) (took o rest) (lines, none, valued) all lacks (some, before) =
       record {
         lines = tt;
-        all = λ lines. some (whole lines).1;
+        all = λ lines. some (all lines).1;
         fault = (rest, inr (lines, none, valued, some), before);
         lacks = λ end x. absurd (lacks end x);
       }
-  parsed_by inner_kind text (Err fault) (cuts place) is whole lacks before = record {
+  parsed_by inner_kind text (Err fault) (cuts place) is all lacks before = record {
     lines = tt;
-    all = whole;
+    all = all;
     fault = (place, inl is, before);
     lacks = λ end x.
         subst (λ l. IsFaultBefore length inner_kind text l fault) (lacks end x) before;
   }
-  parsed_by inner_kind text (Ok p) (cuts place) is whole lacks never = absurd never
-  parsed_by inner_kind text result (backs place) never whole lacks parsed = absurd never
-  parsed_by inner_kind text result (asks need place) never whole lacks parsed = absurd never
-  parsed_by inner_kind text result wants never whole lacks parsed = absurd never
+  parsed_by inner_kind text (Ok p) (cuts place) is all lacks never = absurd never
+  parsed_by inner_kind text result (backs place) never all lacks parsed = absurd never
+  parsed_by inner_kind text result (asks need place) never all lacks parsed = absurd never
+  parsed_by inner_kind text result wants never all lacks parsed = absurd never
 
 taken : (us : List (Unit {0})) → FoldsTo (λ (_ _ _ : Unit {0}). ⊤) tt us tt
 taken [] = refl
