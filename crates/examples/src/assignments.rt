@@ -1,5 +1,5 @@
-//! Lines of settings and flags, as `width=12` and `debug`: after an equals sign a value is due, so
-//! that a line lacks it is told for good, where the value is due.
+//! Lines of settings and flags, as `width=12` and `debug`: after an equals sign a value is due. If
+//! it lacks, the parse fails there for good.
 ghost use Rattle.std.specs.Prelude.{◌≡◌, false};
 ghost use Rattle.examples.specs.Assignments.Assignments.{IsTold};
 ghost use Rattle.examples.specs.Assignments.Says.{LineSays, LinesSay};

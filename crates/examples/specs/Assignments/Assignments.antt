@@ -48,9 +48,9 @@ NoLine tokens rest =
     AreLines tokens rest × NoneStands Line rest × ((end : List ℕ) → NoValue rest end → ⊥)
     × (rest ≡ [] → ⊥)
 
--- What a text is told to be. It is lines, or a fault says at which byte a value lacks, or what is
--- no
--- line begins; lines have no fault, and where a value lacks there is that fault.
+-- What a result says of a text. An output: the text is lines. A fault: after lines a value lacks
+-- there, or what is no line begins there. If the text is lines, there is no fault; if a value
+-- lacks after lines, the fault is there.
 pub record IsTold {I X : Type 0} (inner_kind : X → Kind) (text : List ℕ)
     (result : Result (Unit {0}) (ParseFault I X Needed)) : Type 0 where
   pub lines : IfOk result (λ o. AreLines text [])

@@ -1,45 +1,23 @@
--- What is known of what parsers of bytes do with a whole input.
-use Rattle.std.specs.Prelude.{◌≡◌, ◌<◌, ⊤, ℕ, Bool, true, false, List, [], ◌∷◌, ◌++◌, length}
-use Rattle.std.specs.Prelude.{None, IsTrue, Result, Ok, Err, ◌↔◌}
+-- What parsers of bytes do with a whole input: what is known of a part, and what comes of it.
+use Rattle.std.specs.Prelude.{◌≡◌, ⊤, ℕ, Bool, true, false, List, [], ◌∷◌, ◌++◌}
+use Rattle.std.specs.Prelude.{None, IsTrue, ◌↔◌}
 use Rattle.std.specs.Borrow.{Bor}
-use Rattle.std.specs.List.{FoldsTo}
 use Rattle.std.proofs.Common.{refl, sym, ap, subst, inl, inr, ◌∙◌, arith}
 use Rattle.std.proofs.lemmas.List.Elements.{All-cons, All-nil}
-use Rattle.examples.specs.Assignments.Assignments.{AreLines, Digits, IsFlag, IsSetting, IsTold}
-use Rattle.examples.specs.Assignments.Assignments.{LacksValue, Line, Name, NoValue}
-use Rattle.examples.specs.Assignments.Says.{LineSays, LinesSay}
-use Rattle.winnow.specs.Accumulator.{nothing_kept}
-use Rattle.winnow.specs.Alt.Says.{or_else_said, or_else_says}
-use Rattle.winnow.specs.AsChar.{IsAlpha, IsDecDigit}
-use Rattle.winnow.specs.Chain.Items.{last_item}
-use Rattle.winnow.specs.Chain.Says.{ItemOf}
 use Rattle.winnow.specs.Compare.{StandsFirst}
 use Rattle.winnow.specs.Class.Laws.{class_takes, one_is_some}
 use Rattle.winnow.specs.Class.Says.{class_said, class_says}
 use Rattle.winnow.specs.Counted.{counted_reading}
-use Rattle.winnow.specs.CutErr.Says.{cut_err_said, cut_err_says}
 use Rattle.winnow.specs.Equal.{none_is_some, same_first, true_is_false}
-use Rattle.winnow.specs.Form.{ErrorForm}
-use Rattle.winnow.specs.Grammar.{Class, Each, Grammar, Literally, Longest, NoneStands}
-use Rattle.winnow.specs.Grammar.{TakesTokens}
+use Rattle.winnow.specs.Grammar.{Class, Grammar, Literally, Longest, NoneStands, TakesTokens}
 use Rattle.winnow.specs.Grammar.Known.{Byte, byte_stands, stands_byte}
-use Rattle.winnow.specs.Input.{Input}
-use Rattle.winnow.specs.Kind.{Kind}
-use Rattle.winnow.specs.Literal.Says.{literal_said, literal_says}
+use Rattle.winnow.specs.Literal.Says.{literal_says}
 use Rattle.winnow.specs.Longest.{IsLongest}
-use Rattle.winnow.specs.Outcome.{Alike, Does, Outcome, Setting, took, backs, cuts, asks, wants}
-use Rattle.winnow.specs.Range.{from_to}
-use Rattle.winnow.specs.Reading.{Reading}
-use Rattle.winnow.specs.Repeat.Says.{repeat_says}
-use Rattle.winnow.specs.Says.{Lawful, Says, setting_of}
-use Rattle.winnow.specs.Says.Whole.{IsFaultBefore, IsParseOf, TellsAll}
-use Rattle.winnow.specs.Sequence.Says.{sequence2_said, sequence2_says, sequence4_said}
-use Rattle.winnow.specs.Sequence.Says.{sequence4_says}
+use Rattle.winnow.specs.Outcome.{Does, Outcome, Setting, took, backs, cuts, asks, wants}
+use Rattle.winnow.specs.Says.{Says}
 use Rattle.winnow.specs.Stream.{AnswersSeen}
 use Rattle.winnow.specs.Then.{Comes, ComesOf, Next, Then}
 use Rattle.winnow.specs.Then.Steps.{where_took}
-use Rattle.winnow.specs.Void.Says.{void_said, void_says}
-use Rattle.winnow.specs.{Needed, ParseFault}
 
 -- What is known of an outcome: what is read, or where it backs, or cuts. No more is asked for.
 abbrev pub Known : {O : Type 0} → (O → List ℕ → Type 0) → (List ℕ → Type 0) → (List ℕ → Type 0)
@@ -77,14 +55,14 @@ module _ {O U : Type 0} {does : Does ℕ O} {at : Setting} {tokens : List ℕ}
       by y (asks need place) is c = absurd is
       by y wants is c = absurd is
 
--- it is one outcome
+-- it is this outcome
 pub one : {U : Type 0} {f : List ℕ → Outcome ℕ U} {at : Setting} {mid : List ℕ}
     {also : U → List ℕ → Type 0} {more less : List ℕ → Type 0} → Known also more less (f mid)
     → Gives (λ at l y. y ≡ f l) at mid also more less
 one {also = also} {more} {less} is =
     record { gives = λ y e. subst (Known also more less) (sym e) is }
 
--- it is read, and this follows
+-- the part reads, and then this follows; its failures are the whole's
 pub after : {O U : Type 0} {does : Does ℕ O} {came : O → Comes ℕ U} {at : Setting}
     {tokens : List ℕ} {reads : O → List ℕ → Type 0} {also : U → List ℕ → Type 0}
     {back cut : List ℕ → Type 0} → Gives does at tokens reads back cut
@@ -93,18 +71,18 @@ pub after : {O U : Type 0} {does : Does ℕ O} {came : O → Comes ℕ U} {at : 
     → Gives (Then does (where_took came)) at tokens also (λ _. ⊤) cut
 after part next = comes part next (λ place is. one tt) (λ place is. one is)
 
--- ---- characters of a class, at least one, and bytes
+-- ---- at least one character of a class, and a byte
 
-abbrev pub Class1 : (ℕ → Type 0) → Says ℕ (Bor (List ℕ))
-Class1 class = class_says class 1 (λ b. b) (λ b. b) counted_reading
+abbrev pub class1 : (ℕ → Type 0) → Says ℕ (Bor (List ℕ))
+class1 class = class_says class 1 (λ b. b) (λ b. b) counted_reading
 
-abbrev pub Some1 : (ℕ → Type 0) → Grammar ℕ (Bor (List ℕ))
-Some1 class = Class class 1 (λ b. b) (λ b. b) counted_reading
+abbrev pub Class1 : (ℕ → Type 0) → Grammar ℕ (Bor (List ℕ))
+Class1 class = Class class 1 (λ b. b) (λ b. b) counted_reading
 
-abbrev pub Byte1 : ℕ → Says ℕ ℕ
-Byte1 b = literal_says counted_reading (λ xs. xs ≡ b ∷ []) (λ _. b) (λ o q. o ≡ q)
+abbrev pub byte1 : ℕ → Says ℕ ℕ
+byte1 b = literal_says counted_reading (λ xs. xs ≡ b ∷ []) (λ _. b) (λ o q. o ≡ q)
 
-pub some_takes : (class : ℕ → Type 0) → TakesTokens (Some1 class)
+pub some_takes : (class : ℕ → Type 0) → TakesTokens (Class1 class)
 some_takes class = class_takes class 1 (λ b. b) (λ b. b) counted_reading one_is_some
 
 -- the longest beginning of a class
@@ -124,7 +102,7 @@ empty class tokens none = record {
 }
 
 longer : (class : ℕ → Type 0) (x : ℕ) → class x → (more front rest : List ℕ)
-    → IsLongest (Member class) None more front rest → NoneStands (Some1 class) (x ∷ more) → ⊥
+    → IsLongest (Member class) None more front rest → NoneStands (Class1 class) (x ∷ more) → ⊥
 unfolding Longest
 longer class x is more front rest l none =
     let some : IsLongest (Member class) None (x ∷ more) (x ∷ front) rest = record {
@@ -139,8 +117,8 @@ longer class x is more front rest l none =
     } in
     none (record { ref_ptr = (0, 0); now = x ∷ front }) rest (x ∷ front, some, omega arith, refl)
 
-not_first : (class : ℕ → Type 0) (tokens : List ℕ) → NoneStands (Some1 class) tokens → (x : ℕ) (more : List ℕ)
-    → tokens ≡ x ∷ more → class x → ⊥
+not_first : (class : ℕ → Type 0) (tokens : List ℕ) → NoneStands (Class1 class) tokens
+    → (x : ℕ) (more : List ℕ) → tokens ≡ x ∷ more → class x → ⊥
 unfolding Longest
 not_first class [] none x more e is = absurd (cc)
 not_first class (y ∷ ys) none x more e is =
@@ -150,61 +128,61 @@ not_first class (y ∷ ys) none x more e is =
 
 module _ (at : Setting) (whole : at.more ≡ false) where
   pub class_there : (class : ℕ → Type 0) (tokens : List ℕ) (o : Bor (List ℕ)) (rest : List ℕ)
-      → Some1 class tokens o rest → (Class1 class).does at tokens (took o rest)
+      → Class1 class tokens o rest → (class1 class).does at tokens (took o rest)
   unfolding Longest
   class_there class tokens o rest (f, longest, enough, shown) =
       inr (tt, inr (inl (o, rest, (f, longest, inr whole, enough, shown), refl)))
 
-  pub class_fails : (class : ℕ → Type 0) (tokens : List ℕ) → NoneStands (Some1 class) tokens
-      → (Class1 class).does at tokens (backs tokens)
+  pub class_fails : (class : ℕ → Type 0) (tokens : List ℕ) → NoneStands (Class1 class) tokens
+      → (class1 class).does at tokens (backs tokens)
   class_fails class tokens none =
       let longest = empty class tokens (not_first class tokens none) in
       inr (tt, inr (inr (([], tokens, longest, inr whole, omega arith), refl)))
 
   pub class_back : (class : ℕ → Type 0) {cut : List ℕ → Type 0} (tokens : List ℕ)
-      → Gives (Class1 class).does at tokens (Some1 class tokens)
-      (λ place. (tokens ≡ place) × NoneStands (Some1 class) place) cut
+      → Gives (class1 class).does at tokens (Class1 class tokens)
+      (λ place. (tokens ≡ place) × NoneStands (Class1 class) place) cut
   unfolding Longest
   class_back class {cut} tokens = record { gives = by }
     where
       Is : Outcome ℕ (Bor (List ℕ)) → Type 0
-      Is = Known (Some1 class tokens)
-          (λ place. (tokens ≡ place) × NoneStands (Some1 class) place) cut
+      Is = Known (Class1 class tokens)
+          (λ place. (tokens ≡ place) × NoneStands (Class1 class) place) cut
 
-      by : (y : Outcome ℕ (Bor (List ℕ))) → (Class1 class).does at tokens y → Is y
+      by : (y : Outcome ℕ (Bor (List ℕ))) → (class1 class).does at tokens y → Is y
       by y (inl ((most, is, below), e)) = none_is_some is
       by y (inr (within, inl ((all, more), e))) = true_is_false (sym more ∙ whole)
       by y (inr (within, inr (inl (o, rest, (f, longest, over, enough, shown), e)))) =
           subst Is (sym e) (f, longest, enough, shown)
       by y (inr (within, inr (inr (lacks, e)))) =
           let law = (class_said class 1 (λ b. b) (λ b. b) counted_reading).law (λ k l e. e) in
-          let here : (Class1 class).does at tokens (backs tokens) =
+          let here : (class1 class).does at tokens (backs tokens) =
           inr (within, inr (inr (lacks, refl))) in
-          let none : NoneStands (Some1 class) tokens = λ o rest x.
+          let none : NoneStands (Class1 class) tokens = λ o rest x.
           law.one at tokens (backs tokens) (took o rest) here
           (class_there class tokens o rest x) in
           subst Is (sym e) (refl, none)
 
-  pub byte_there : (b : ℕ) (rest : List ℕ) → (Byte1 b).does at (b ∷ rest) (took b rest)
+  pub byte_there : (b : ℕ) (rest : List ℕ) → (byte1 b).does at (b ∷ rest) (took b rest)
   unfolding Literally
   byte_there b rest = inl (b, rest, stands_byte b (b ∷ rest) rest refl, refl)
 
   pub byte_fails : (b : ℕ) (tokens : List ℕ) → NoneStands (Byte b) tokens
-      → (Byte1 b).does at tokens (backs tokens)
+      → (byte1 b).does at tokens (backs tokens)
   byte_fails b tokens none =
       let other : StandsFirst (λ xs. xs ≡ b ∷ []) tokens → ⊥ = λ (front, rest, is, e).
       none b rest (stands_byte b tokens rest (e ∙ ap (λ l. l ++ rest) is)) in
       inr (inr ((other, λ short. whole), refl))
 
   pub byte_back : (b : ℕ) {cut : List ℕ → Type 0} (tokens : List ℕ)
-      → Gives (Byte1 b).does at tokens (λ o rest. tokens ≡ b ∷ rest) (λ _. ⊤) cut
+      → Gives (byte1 b).does at tokens (λ o rest. tokens ≡ b ∷ rest) (λ _. ⊤) cut
   unfolding Literally
   byte_back b {cut} tokens = record { gives = by }
     where
       Is : Outcome ℕ ℕ → Type 0
       Is = Known (λ o rest. tokens ≡ b ∷ rest) (λ _. ⊤) cut
 
-      by : (y : Outcome ℕ ℕ) → (Byte1 b).does at tokens y → Is y
+      by : (y : Outcome ℕ ℕ) → (byte1 b).does at tokens y → Is y
       by y (inl (o, rest, x, e)) = subst Is (sym e) (byte_stands b tokens o rest x).0
       by y (inr (inl ((short, more), e))) = true_is_false (sym more ∙ whole)
       by y (inr (inr (none, e))) = subst Is (sym e) tt

@@ -1,53 +1,42 @@
--- What the parser of assignments says that it does is lines and faults.
-use Rattle.std.specs.Prelude.{◌≡◌, ◌<◌, ⊤, ℕ, Bool, true, false, List, [], ◌∷◌, ◌++◌, length}
-use Rattle.std.specs.Prelude.{None, IsTrue, Result, Ok, Err, ◌↔◌}
-use Rattle.std.specs.Borrow.{Bor}
+-- What the parser of assignments says that it does: lines are read, and a fault is where one lacks
+-- its value, or where no line begins.
+use Rattle.std.specs.Prelude.{◌≡◌, ◌<◌, ⊤, ℕ, false, List, [], ◌∷◌, length}
+use Rattle.std.specs.Prelude.{Result, Ok, Err}
 use Rattle.std.specs.List.{FoldsTo}
 use Rattle.std.proofs.Common.{refl, sym, ap, subst, inl, inr, ◌∙◌, arith}
-use Rattle.std.proofs.lemmas.List.Elements.{All-cons, All-nil}
 use Rattle.examples.specs.Assignments.Assignments.{AreLines, Digits, IsFlag, IsSetting, IsTold}
 use Rattle.examples.specs.Assignments.Assignments.{LacksValue, Line, Name, NoValue}
-use Rattle.examples.specs.Assignments.Parts.{Byte1, Class1, Gives, Known, after, byte_back}
+use Rattle.examples.specs.Assignments.Parts.{byte1, class1, Gives, Known, after, byte_back}
 use Rattle.examples.specs.Assignments.Parts.{byte_fails, byte_there, class_back, class_fails}
 use Rattle.examples.specs.Assignments.Parts.{class_there, comes, one, some_takes}
 use Rattle.examples.specs.Assignments.Says.{LineSays, LinesSay}
 use Rattle.winnow.specs.Accumulator.{nothing_kept}
-use Rattle.winnow.specs.Alt.Says.{or_else_said, or_else_says}
+use Rattle.winnow.specs.Alt.Says.{or_else_said}
 use Rattle.winnow.specs.AsChar.{IsAlpha, IsDecDigit}
 use Rattle.winnow.specs.Chain.Items.{last_item}
 use Rattle.winnow.specs.Chain.Says.{ItemOf}
-use Rattle.winnow.specs.Compare.{StandsFirst}
-use Rattle.winnow.specs.Class.Laws.{class_takes, one_is_some}
-use Rattle.winnow.specs.Class.Says.{class_said, class_says}
+use Rattle.winnow.specs.Class.Says.{class_said}
 use Rattle.winnow.specs.Counted.{counted_reading}
-use Rattle.winnow.specs.CutErr.Says.{cut_err_said, cut_err_says}
-use Rattle.winnow.specs.Equal.{none_is_some, same_first, true_is_false}
+use Rattle.winnow.specs.CutErr.Says.{cut_err_said}
+use Rattle.winnow.specs.Equal.{none_is_some, same_first}
 use Rattle.winnow.specs.Form.{ErrorForm}
-use Rattle.winnow.specs.Grammar.{Class, Each, Grammar, Literally, Longest, NoneStands}
-use Rattle.winnow.specs.Grammar.{TakesTokens}
-use Rattle.winnow.specs.Grammar.Known.{Byte, byte_stands, stands_byte}
+use Rattle.winnow.specs.Grammar.{Each, NoneStands}
+use Rattle.winnow.specs.Grammar.Known.{byte_stands}
 use Rattle.winnow.specs.Input.{Input}
 use Rattle.winnow.specs.Kind.{Kind}
-use Rattle.winnow.specs.Literal.Says.{literal_said, literal_says}
-use Rattle.winnow.specs.Longest.{IsLongest}
-use Rattle.winnow.specs.Outcome.{Alike, Does, Outcome, Setting, took, backs, cuts, asks, wants}
-use Rattle.winnow.specs.Range.{from_to}
-use Rattle.winnow.specs.Reading.{Reading}
-use Rattle.winnow.specs.Repeat.Says.{repeat_says}
+use Rattle.winnow.specs.Literal.Says.{literal_said}
+use Rattle.winnow.specs.Outcome.{Alike, Outcome, Setting, took, backs, cuts, asks, wants}
 use Rattle.winnow.specs.Says.{Lawful, Says, setting_of}
 use Rattle.winnow.specs.Says.Whole.{IsFaultBefore, IsParseOf, TellsAll}
 use Rattle.winnow.specs.Sequence.Says.{sequence2_said, sequence2_says, sequence4_said}
-use Rattle.winnow.specs.Sequence.Says.{sequence4_says}
-use Rattle.winnow.specs.Stream.{AnswersSeen}
-use Rattle.winnow.specs.Then.{Comes, ComesOf, Next, Then}
-use Rattle.winnow.specs.Then.Steps.{where_took}
+use Rattle.winnow.specs.Then.{ComesOf}
 use Rattle.winnow.specs.Void.Says.{void_said, void_says}
 use Rattle.winnow.specs.{Needed, ParseFault}
 
-abbrev pub Line1 : Says ℕ (Unit {0})
-Line1 = LineSays counted_reading (λ b. b) (λ b. b) (λ b xs. xs ≡ b ∷ [])
+abbrev pub line1 : Says ℕ (Unit {0})
+line1 = LineSays counted_reading (λ b. b) (λ b. b) (λ b xs. xs ≡ b ∷ [])
 
-line_law : Lawful Line1.stable Line1.alike Line1.does
+line_law : Lawful line1.stable line1.alike line1.does
 line_law =
     let some = λ (class : ℕ → Type 0). class_said class 1 (λ b. b) (λ b. b) counted_reading in
     let byte = λ (b : ℕ). literal_said counted_reading (λ b xs. xs ≡ b ∷ []) (λ b _. b)
@@ -67,28 +56,27 @@ fewer tokens u rest (inl (name, value, digits, x, z)) =
 fewer tokens u rest (inr (name, x)) =
     omega (arith, (some_takes IsAlpha).fewer tokens name (10 ∷ rest) x)
 
--- Lines are left off where none is, and no name with a value that lacks.
+-- Lines, and then the rest, which is no line and no name with a value that lacks.
 abbrev EndsLines : List ℕ → List ℕ → Type 0
 EndsLines tokens rest =
     AreLines tokens rest × NoneStands Line rest × ((end : List ℕ) → NoValue rest end → ⊥)
-
--- ---- a whole input
 
 module _ (at : Setting) (whole : at.more ≡ false) where
   -- ---- one line
 
   line_back : (tokens : List ℕ)
-      → Gives Line1.does at tokens (Line tokens) (λ _. ⊤) (NoValue tokens)
+      → Gives line1.does at tokens (Line tokens) (λ _. ⊤) (NoValue tokens)
   line_back tokens =
       let Is : Outcome ℕ (Unit {0}) → Type 0 = Known (Line tokens) (λ _. ⊤) (NoValue tokens) in
-      let flag : Gives (void_says (sequence2_says (Class1 IsAlpha) (Byte1 10))).does at tokens
+      let flag : Gives (void_says (sequence2_says (class1 IsAlpha) (byte1 10))).does at tokens
       (Line tokens) (λ _. ⊤) (NoValue tokens) =
       after {reads = λ _ rest. IsFlag tokens rest} (after (class_back at whole IsAlpha tokens)
       (λ name a x. after (byte_back at whole 10 a) (λ n rest is.
       one (name, subst (λ l. Name tokens name l) is x)))) (λ o rest is.
       record { gives = λ y (u, made, e). subst Is (sym e) (inr is) }) in
       comes {reads = Line tokens} (after {reads = λ _ rest. IsSetting tokens rest}
-      (after (class_back at whole IsAlpha tokens) (λ name a x. after (byte_back at whole 61 a) (λ e b is.
+      (after (class_back at whole IsAlpha tokens) (λ name a x.
+      after (byte_back at whole 61 a) (λ e b is.
       let first = subst (λ l. Name tokens name l) is x in
       after {back = λ _. ⊤} (comes (class_back at whole IsDecDigit {cut = λ _. ⊥} b)
       (λ o rest is. one is) (λ place (same, none).
@@ -100,13 +88,13 @@ module _ (at : Setting) (whole : at.more ≡ false) where
       (λ u rest is. one is) (λ place is. record { gives = flag.gives }) (λ place is. one is)
 
   line_there : (tokens : List ℕ) (u : Unit {0}) (rest : List ℕ) → Line tokens u rest
-      → Line1.does at tokens (took u rest)
+      → line1.does at tokens (took u rest)
   line_there tokens u rest (inl (name, value, digits, x, z)) =
       let first = class_there at whole IsAlpha tokens name (61 ∷ value) x in
       let second = class_there at whole IsDecDigit value digits (10 ∷ rest) z in
       let feed = byte_there at whole 10 rest in
-      let equals = byte_there at whole 61 value in
-      (_, (_, (_, first, (_, equals, (_, (_, second, refl), (_, feed, refl)))), (u, tt, refl)), refl)
+      let sign = byte_there at whole 61 value in
+      (_, (_, (_, first, (_, sign, (_, (_, second, refl), (_, feed, refl)))), (u, tt, refl)), refl)
   line_there tokens u rest (inr (name, x)) =
       let first = class_there at whole IsAlpha tokens name (10 ∷ rest) x in
       let back = byte_fails at whole 61 (10 ∷ rest) (λ o end x.
@@ -117,14 +105,14 @@ module _ (at : Setting) (whole : at.more ≡ false) where
         (_, (_, first, (_, feed, refl)), (u, tt, refl)),
       )
 
-  lacks_there : (tokens rest : List ℕ) → NoValue tokens rest → Line1.does at tokens (cuts rest)
+  lacks_there : (tokens rest : List ℕ) → NoValue tokens rest → line1.does at tokens (cuts rest)
   lacks_there tokens rest (name, x, none) =
       let first = class_there at whole IsAlpha tokens name (61 ∷ rest) x in
       let lacks = class_fails at whole IsDecDigit rest none in
       let equals = byte_there at whole 61 rest in
       (_, (_, (_, first, (_, equals, (_, (_, lacks, refl), refl))), refl), refl)
 
-  none_there : Line1.does at [] (backs [])
+  none_there : line1.does at [] (backs [])
   none_there =
       let none = class_fails at whole IsAlpha [] (λ o rest x.
       absurd (omega (arith, (some_takes IsAlpha).fewer [] o rest x))) in
@@ -133,27 +121,27 @@ module _ (at : Setting) (whole : at.more ≡ false) where
   -- ---- all lines
 
   each_there : (tokens : List ℕ) (us : List (Unit {0})) (rest : List ℕ)
-      → Each Line tokens us rest → FoldsTo (λ a u b. ItemOf Line1.does at a u b) tokens us rest
+      → Each Line tokens us rest → FoldsTo (λ a u b. ItemOf line1.does at a u b) tokens us rest
   each_there tokens [] rest is = sym is
   each_there tokens (u ∷ us) rest (mid, x, more) =
       (mid, (line_there tokens u mid x, fewer tokens u mid x), each_there mid us rest more)
 
   each_back : (tokens : List ℕ) (us : List (Unit {0})) (rest : List ℕ)
-      → FoldsTo (λ a u b. ItemOf Line1.does at a u b) tokens us rest → Each Line tokens us rest
+      → FoldsTo (λ a u b. ItemOf line1.does at a u b) tokens us rest → Each Line tokens us rest
   each_back tokens [] rest is = sym is
   each_back tokens (u ∷ us) rest (mid, (d, less), more) =
       (mid, (line_back tokens).gives (took u mid) d, each_back mid us rest more)
 
-  -- after lines this ends them, and that comes of it
+  -- lines, an outcome after them, and what comes of it
   lines_there : (tokens mid : List ℕ) (x y : Outcome ℕ (Unit {0})) (lines : AreLines tokens mid)
-      → Line1.does at mid x → ComesOf (last_item nothing_kept 0 tt lines.0) at mid x y
-      → (LinesSay Line1).does at tokens y
+      → line1.does at mid x → ComesOf (last_item nothing_kept 0 tt lines.0) at mid x y
+      → (LinesSay line1).does at tokens y
   lines_there tokens mid x y (us, each) d c =
       let chain = each_there tokens us mid each in
       inr (λ (e, _). absurd (cc), inr (inr (tt, tt, tt, (us, mid, chain, inr (tt, (x, d, c))))))
 
   lines_back : (tokens : List ℕ)
-      → Gives (LinesSay Line1).does at tokens (λ _ rest. EndsLines tokens rest) (λ _. ⊥)
+      → Gives (LinesSay line1).does at tokens (λ _ rest. EndsLines tokens rest) (λ _. ⊥)
       (LacksValue tokens)
   lines_back tokens = record { gives = all }
     where
@@ -161,7 +149,7 @@ module _ (at : Setting) (whole : at.more ≡ false) where
       Is = Known (λ _ rest. EndsLines tokens rest) (λ _. ⊥) (LacksValue tokens)
 
       ends : (us : List (Unit {0})) (mid : List ℕ) → Each Line tokens us mid
-          → (x y : Outcome ℕ (Unit {0})) → Line1.does at mid x
+          → (x y : Outcome ℕ (Unit {0})) → line1.does at mid x
           → ComesOf (last_item nothing_kept 0 tt us) at mid x y → Is y
       ends us mid each (took u rest) y d (inl (none, e)) =
           absurd (none (fewer mid u rest ((line_back mid).gives (took u rest) d)))
@@ -178,36 +166,35 @@ module _ (at : Setting) (whole : at.more ≡ false) where
       ends us mid each (asks need place) y d e = absurd ((line_back mid).gives (asks need place) d)
       ends us mid each wants y d e = absurd ((line_back mid).gives wants d)
 
-      all : (y : Outcome ℕ (Unit {0})) → (LinesSay Line1).does at tokens y → Is y
+      all : (y : Outcome ℕ (Unit {0})) → (LinesSay line1).does at tokens y → Is y
       all y (inl (one, any, d)) = absurd (cc)
       all y (inr (other, inl (most, is, below, e))) = none_is_some is
       all y (inr (other, inr (inl (within, grows, e)))) = absurd grows
       all y (inr (other, inr (inr (empty, within, starts, (us, mid, chain, inl (full, d)))))) =
           none_is_some full
       all y
-          (inr (other, inr (inr (empty, within, starts, (us, mid, chain, inr (below, (x, d, c))))))) =
+          (inr (other, inr (inr (none, fits, starts, (us, mid, chain, inr (below, (x, d, c))))))) =
           ends us mid (each_back tokens us mid chain) x y d c
 
-  -- a parse of all of the bytes, by their outcome
+  -- what a parse of all of the text returns, by its outcome
   parsed_by : {I X : Type 0} (inner_kind : X → Kind) (text : List ℕ)
       (result : Result (Unit {0}) (ParseFault I X Needed)) (x : Outcome ℕ (Unit {0}))
       → Known (λ _ rest. EndsLines text rest) (λ _. ⊥) (LacksValue text) x
-      → (AreLines text [] → Alike (LinesSay Line1).alike x (took tt []))
-      → ((end : List ℕ) → LacksValue text end → Alike (LinesSay Line1).alike x (cuts end))
+      → (AreLines text [] → Alike (LinesSay line1).alike x (took tt []))
+      → ((end : List ℕ) → LacksValue text end → Alike (LinesSay line1).alike x (cuts end))
       → IsParseOf length inner_kind text x result → IsTold inner_kind text result
-  parsed_by inner_kind text (Ok p) (took o rest) (lines, none, valued) all lacks (same, is) = record {
-    lines = subst (AreLines text) is lines;
+  parsed_by inner_kind text (Ok p) (took o rest) is all lacks (same, end) = record {
+    lines = subst (AreLines text) end is.0;
     all = λ lines. tt;
     fault = tt;
     lacks = lacks;
   }
-  parsed_by inner_kind text (Err fault) (took o rest) (lines, none, valued) all lacks (some, before) =
-      record {
-        lines = tt;
-        all = λ lines. some (all lines).1;
-        fault = (rest, inr (lines, none, valued, some), before);
-        lacks = λ end x. absurd (lacks end x);
-      }
+  parsed_by inner_kind text (Err fault) (took o rest) is all lacks (some, before) = record {
+    lines = tt;
+    all = λ lines. some (all lines).1;
+    fault = (rest, inr (is.0, is.1, is.2, some), before);
+    lacks = λ end x. absurd (lacks end x);
+  }
   parsed_by inner_kind text (Err fault) (cuts place) is all lacks before = record {
     lines = tt;
     all = all;
@@ -226,7 +213,7 @@ taken (u ∷ us) = (tt, tt, taken us)
 
 pub lines_told : {I X : Type 0} (inner_kind : X → Kind) (form : ErrorForm) (i : Input ℕ)
     → i.status.cut ≡ false → (result : Result (Unit {0}) (ParseFault I X Needed))
-    → TellsAll length inner_kind (LinesSay Line1) form i result
+    → TellsAll length inner_kind (LinesSay line1) form i result
     → IsTold inner_kind i.left.tokens result
 lines_told inner_kind form i whole result all =
     let at = setting_of form i in
