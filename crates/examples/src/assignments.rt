@@ -1,19 +1,16 @@
 //! Lines of settings and flags, as `width=12` and `debug`. A value must follow an equals sign, so a
 //! missing value is a final error at the offset where the value is expected.
-ghost use Rattle.std.specs.Prelude.{◌≡◌, [], ⊤, false};
+ghost use Rattle.std.specs.Prelude.{◌≡◌, false};
 ghost use Rattle.examples.specs.Assignments.Assignments.{IsTold};
-ghost use Rattle.examples.specs.Assignments.Read.{LineFails, LineRead, LinesFail, LinesRead};
-ghost use Rattle.winnow.specs.Exact.Whole.{ReadsAll};
-ghost use Rattle.winnow.specs.Fails.Calls.{FaultsBy};
-ghost use Rattle.winnow.specs.Grammar.{Literally};
-ghost use Rattle.winnow.specs.Once.{SeesApart};
+ghost use Rattle.examples.specs.Assignments.Says.{LineSays, LinesSay};
+ghost use Rattle.winnow.specs.Class.Says.{SeenOnce};
+ghost use Rattle.winnow.specs.Says.Whole.{TellsAll};
 
 use std::alloc::Allocator;
 use winnow::Parser;
 use winnow::ascii::impls::{Alpha1, Digit1};
 use winnow::combinator::{alt, cut_err, repeat};
 use winnow::error::{EmptyError, ErrMode, ModalError, ParseFault, ParserError};
-use winnow::exact::Fails;
 use winnow::stream::{AsChar, Compare, Range, StreamIsPartial};
 
 /// Parses all of `input` as a sequence of lines by `line`.
@@ -22,18 +19,14 @@ where
     I: StreamIsPartial,
     E: ParserError<I>,
     A: Allocator + Copy,
-    P: Fails<I, (), E> + Drop,
+    P: Parser<I, (), E> + Drop,
     requires whole { I.supports_partial ≡ false }
-    requires line { P.can_parse line × (P.told line).premise × (P.told line).consumes }
-    ensures reads { ReadsAll E.inner_kind
-        (LinesRead (P.told line).grammar (P.told line).failure) (I.view input).left.tokens
-        result }
-    ensures fails { FaultsBy I.reading.units E.inner_kind ((P.told line).spares_memory × ⊤)
-        (LinesRead (P.told line).grammar (P.told line).failure)
-        (LinesFail (P.told line).grammar (P.told line).failure) (I.view input).left.tokens
-        result }
+    requires callable { P.can_parse line }
+    requires premise { (P.says (P.state line)).premise }
+    ensures { TellsAll I.reading.units E.inner_kind (LinesSay (P.says (P.state line)))
+        E.form (I.view input) result }
 {
-    repeat(alloc, Range::from(0..), line).parse_failing(input)
+    repeat(alloc, Range::from(0..), line).parse_outcome(input)
 }
 
 /// Lines of settings and flags, from any stream of bytes.
@@ -44,22 +37,10 @@ where
     E: ParserError<I> + ModalError,
     A: Allocator + Copy,
     requires whole { I.supports_partial ≡ false }
-    requires seen { SeesApart I.seen_as }
-    ensures reads { ReadsAll E.inner_kind
-        (LinesRead (LineRead I.reading I.seen_as I.Token.code
-        (Literally I.reading I.spells (λ s _. s)))
-        (LineFails I.reading I.seen_as I.Token.code
-        (Literally I.reading I.spells (λ s _. s)))) (I.view input).left.tokens result }
-    ensures fails { FaultsBy I.reading.units E.inner_kind
-        (((⊤ × ⊤ × ⊤ × ⊤) × (⊤ × ⊤)) × ⊤)
-        (LinesRead (LineRead I.reading I.seen_as I.Token.code
-        (Literally I.reading I.spells (λ s _. s)))
-        (LineFails I.reading I.seen_as I.Token.code
-        (Literally I.reading I.spells (λ s _. s))))
-        (LinesFail (LineRead I.reading I.seen_as I.Token.code
-        (Literally I.reading I.spells (λ s _. s)))
-        (LineFails I.reading I.seen_as I.Token.code
-        (Literally I.reading I.spells (λ s _. s)))) (I.view input).left.tokens result }
+    requires seen { SeenOnce I.seen_as I.Token.code }
+    ensures { TellsAll I.reading.units E.inner_kind
+        (LinesSay (LineSays I.reading I.seen_as I.Token.code I.spells)) E.form (I.view input)
+        result }
 {
     let setting = Parser::<I, _, E>::void((Alpha1, b'=', cut_err(Digit1), b'\n'));
     let flag = Parser::<I, _, E>::void((Alpha1, b'\n'));

@@ -3,7 +3,7 @@ use Rattle.std.specs.Prelude.{◌≡◌, ◌⊎◌, ℕ, List, [], ◌∷◌, le
 use Rattle.std.specs.Borrow.{Bor}
 use Rattle.winnow.specs.AsChar.{IsAlpha, IsDecDigit}
 use Rattle.winnow.specs.Counted.{counted_reading}
-use Rattle.winnow.specs.Fails.Calls.{IsBefore}
+use Rattle.winnow.specs.Says.Whole.{IsFaultBefore}
 use Rattle.winnow.specs.Grammar.{Class, Each, Grammar, NoneStands}
 use Rattle.winnow.specs.Kind.{Kind}
 use Rattle.winnow.specs.{Needed, ParseFault}
@@ -57,6 +57,6 @@ pub record IsTold {I X : Type 0} (inner_kind : X → Kind) (text : List ℕ)
   pub lines : IfOk result (λ o. AreLines text [])
   pub all : AreLines text [] → IfErr result (λ fault. ⊥)
   pub fault : IfErr result (λ fault. (rest : List ℕ) × (LacksValue text rest ⊎ NoLine text rest)
-      × IsBefore length inner_kind text rest fault)
+      × IsFaultBefore length inner_kind text rest fault)
   pub lacks : (rest : List ℕ) → LacksValue text rest
-      → MatchResult result (λ o. ⊥) (IsBefore length inner_kind text rest)
+      → MatchResult result (λ o. ⊥) (IsFaultBefore length inner_kind text rest)

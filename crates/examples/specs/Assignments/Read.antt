@@ -1,303 +1,227 @@
--- The grammar and the errors of the parser of assignments, and a proof that these are those of
--- lines.
-use Rattle.std.specs.Prelude.{◌⊎◌, ⊤, ℕ, List, [], ◌∷◌, length, None, Result, Ok, Err}
-use Rattle.std.specs.Borrow.{Bor}
+-- The outcomes of the parser of assignments: it consumes lines, and an error is where a value is
+-- missing, or where the input does not start with a line.
+use Rattle.std.specs.Prelude.{◌≡◌, ◌<◌, ⊤, ℕ, false, List, [], ◌∷◌, length}
+use Rattle.std.specs.Prelude.{Result, Ok, Err}
+use Rattle.std.specs.List.{FoldsTo}
 use Rattle.std.proofs.Common.{refl, sym, ap, subst, inl, inr, ◌∙◌, arith}
-use Rattle.examples.specs.Assignments.Assignments.{AreLines, Digits, IsTold}
-use Rattle.examples.specs.Assignments.Assignments.{LacksValue, Line, Name, NoLine, NoValue}
+use Rattle.examples.specs.Assignments.Assignments.{AreLines, Digits, IsFlag, IsSetting, IsTold}
+use Rattle.examples.specs.Assignments.Assignments.{LacksValue, Line, Name, NoValue}
+use Rattle.examples.specs.Assignments.Parts.{byte1, class1, Gives, Known, after, byte_back}
+use Rattle.examples.specs.Assignments.Parts.{byte_fails, byte_there, class_back, class_fails}
+use Rattle.examples.specs.Assignments.Parts.{class_there, comes, one, some_takes}
+use Rattle.examples.specs.Assignments.Says.{LineSays, LinesSay}
+use Rattle.winnow.specs.Accumulator.{nothing_kept}
+use Rattle.winnow.specs.Alt.Says.{or_else_said}
 use Rattle.winnow.specs.AsChar.{IsAlpha, IsDecDigit}
-use Rattle.winnow.specs.Class.Laws.{class_takes, class_unique, one_is_some}
+use Rattle.winnow.specs.Chain.Items.{last_item}
+use Rattle.winnow.specs.Chain.Says.{ItemOf}
+use Rattle.winnow.specs.Class.Says.{class_said}
 use Rattle.winnow.specs.Counted.{counted_reading}
+use Rattle.winnow.specs.CutErr.Says.{cut_err_said}
 use Rattle.winnow.specs.Equal.{none_is_some, same_first}
-use Rattle.winnow.specs.Exact.Whole.{IsWant, ReadsAll}
-use Rattle.winnow.specs.Fails.{IsFailureOf, back_is_cut, back_is_memory, law_beside}
-use Rattle.winnow.specs.Fails.Adapters.{made_back}
-use Rattle.winnow.specs.Fails.Calls.{FaultsBy, IsBefore, NotAll}
-use Rattle.winnow.specs.Fails.Choice.{either_law}
-use Rattle.winnow.specs.Fails.Errors.{for_good_law}
-use Rattle.winnow.specs.Fails.InOrder.{behind_law}
-use Rattle.winnow.specs.Fails.Leaves.{not_there_law}
-use Rattle.winnow.specs.Fails.Tuples.{four_law}
-use Rattle.winnow.specs.Fails.Words.{Backs, Failure, FailsAmong, FailsBehind, FailsEither, ForGood}
-use Rattle.winnow.specs.Fails.Words.{ManyUpTo, NotThere, Otherwise}
-use Rattle.winnow.specs.Grammar.{Both, Class, Each, Gathered, Grammar, IsUnique, Made, NoneStands}
-use Rattle.winnow.specs.Grammar.Known.{Byte, byte_stands, byte_unique, stands_byte}
-use Rattle.winnow.specs.Grammar.Tuples.{Four}
-use Rattle.winnow.specs.Kind.{Kind, backtrack, cut}
-use Rattle.winnow.specs.Range.{from_to}
-use Rattle.winnow.specs.Reading.{Reading}
-use Rattle.winnow.specs.ParseFaultCases.{Incomplete, Refused}
+use Rattle.winnow.specs.Form.{ErrorForm}
+use Rattle.winnow.specs.Grammar.{Each, NoneStands}
+use Rattle.winnow.specs.Grammar.Known.{byte_stands}
+use Rattle.winnow.specs.Input.{Input}
+use Rattle.winnow.specs.Kind.{Kind}
+use Rattle.winnow.specs.Literal.Says.{literal_said}
+use Rattle.winnow.specs.Outcome.{Alike, Outcome, Setting, took, backs, cuts, asks, wants}
+use Rattle.winnow.specs.Says.{Lawful, Says, setting_of}
+use Rattle.winnow.specs.Says.Whole.{IsFaultBefore, IsParseOf, TellsAll}
+use Rattle.winnow.specs.Sequence.Says.{sequence2_said, sequence2_says, sequence4_said}
+use Rattle.winnow.specs.Then.{ComesOf}
+use Rattle.winnow.specs.Void.Says.{void_said, void_says}
 use Rattle.winnow.specs.{Needed, ParseFault}
 
--- ---- lines that a parser reads, into nothing
+abbrev pub line1 : Says ℕ (Unit {0})
+line1 = LineSays counted_reading (λ b. b) (λ b. b) (λ b xs. xs ≡ b ∷ [])
 
-module _ {T : Type 0} (line : Grammar T (Unit {0})) (fails : Failure T) where
-  abbrev pub LinesRead : Grammar T (Unit {0})
-  LinesRead = Gathered (λ (all : Unit {0}) os. ⊤) (ManyUpTo line fails (from_to 0 None))
+line_law : Lawful line1.stable line1.alike line1.does
+line_law =
+    let some = λ (class : ℕ → Type 0). class_said class 1 (λ b. b) (λ b. b) counted_reading in
+    let byte = λ (b : ℕ). literal_said counted_reading (λ b xs. xs ≡ b ∷ []) (λ b _. b)
+    (λ o q. o ≡ q) b (λ xs ys e f. ap (λ l. length l) (e ∙ sym f)) (λ _ _ _. refl) in
+    let one = λ (k l : ℕ) (e : k ≡ l). e in
+    (or_else_said (void_said (sequence4_said (some IsAlpha) (byte 61)
+    (cut_err_said (some IsDecDigit)) (byte 10)))
+    (void_said (sequence2_said (some IsAlpha) (byte 10)))).law ((one, tt, one, tt), (one, tt))
 
-  abbrev pub LinesFail : Failure T
-  LinesFail = FailsAmong line fails (from_to 0 None)
+-- a line has tokens
+fewer : (tokens : List ℕ) (u : Unit {0}) (rest : List ℕ) → Line tokens u rest
+    → length rest < length tokens
+fewer tokens u rest (inl (name, value, digits, x, z)) =
+    let less = (some_takes IsAlpha).fewer tokens name (61 ∷ value) x in
+    let more = (some_takes IsDecDigit).fewer value digits (10 ∷ rest) z in
+    omega (arith, less, more)
+fewer tokens u rest (inr (name, x)) =
+    omega (arith, (some_takes IsAlpha).fewer tokens name (10 ∷ rest) x)
 
--- ---- one line
+-- Lines, and then the rest, which starts neither with a line nor with a missing value.
+abbrev EndsLines : List ℕ → List ℕ → Type 0
+EndsLines tokens rest =
+    AreLines tokens rest × NoneStands Line rest × ((end : List ℕ) → NoValue rest end → ⊥)
 
-module _ {K T L : Type 0} (reading : Reading T L) (seen : K → T) (code : K → ℕ)
-    (literal : ℕ → Grammar T ℕ) where
-  abbrev pub NameRead : Grammar T L
-  NameRead = Class IsAlpha 1 code seen reading
+module _ (at : Setting) (whole : at.more ≡ false) where
+  -- ---- one line
 
-  abbrev pub DigitsRead : Grammar T L
-  DigitsRead = Class IsDecDigit 1 code seen reading
+  line_back : (tokens : List ℕ)
+      → Gives line1.does at tokens (Line tokens) (λ _. ⊤) (NoValue tokens)
+  line_back tokens =
+      let Is : Outcome ℕ (Unit {0}) → Type 0 = Known (Line tokens) (λ _. ⊤) (NoValue tokens) in
+      let flag : Gives (void_says (sequence2_says (class1 IsAlpha) (byte1 10))).does at tokens
+      (Line tokens) (λ _. ⊤) (NoValue tokens) =
+      after {reads = λ _ rest. IsFlag tokens rest} (after (class_back at whole IsAlpha tokens)
+      (λ name a x. after (byte_back at whole 10 a) (λ n rest is.
+      one (name, subst (λ l. Name tokens name l) is x)))) (λ o rest is.
+      record { gives = λ y (u, made, e). subst Is (sym e) (inr is) }) in
+      comes {reads = Line tokens} (after {reads = λ _ rest. IsSetting tokens rest}
+      (after (class_back at whole IsAlpha tokens) (λ name a x.
+      after (byte_back at whole 61 a) (λ e b is.
+      let first = subst (λ l. Name tokens name l) is x in
+      after {back = λ _. ⊤} (comes (class_back at whole IsDecDigit {cut = λ _. ⊥} b)
+      (λ o rest is. one is) (λ place (same, none).
+      one (name, subst (λ l. Name tokens name (61 ∷ l)) same first, none))
+      (λ place never. absurd never)) (λ digits c z.
+      after (byte_back at whole 10 c) (λ n rest was.
+      one (name, b, digits, first, subst (λ l. Digits b digits l) was z))))))
+      (λ o rest is. record { gives = λ y (u, made, e). subst Is (sym e) (inl is) }))
+      (λ u rest is. one is) (λ place is. record { gives = flag.gives }) (λ place is. one is)
 
-  -- (Alpha1, b'=', cut_err(Digit1), b'\n').void()
-  abbrev pub SettingRead : Grammar T (Unit {0})
-  SettingRead = Made (λ (_ : Unit {0}) o (u : Unit {0}). ⊤) tt
-      (Four NameRead (literal 61) DigitsRead (literal 10))
+  line_there : (tokens : List ℕ) (u : Unit {0}) (rest : List ℕ) → Line tokens u rest
+      → line1.does at tokens (took u rest)
+  line_there tokens u rest (inl (name, value, digits, x, z)) =
+      let first = class_there at whole IsAlpha tokens name (61 ∷ value) x in
+      let second = class_there at whole IsDecDigit value digits (10 ∷ rest) z in
+      let feed = byte_there at whole 10 rest in
+      let sign = byte_there at whole 61 value in
+      (_, (_, (_, first, (_, sign, (_, (_, second, refl), (_, feed, refl)))), (u, tt, refl)), refl)
+  line_there tokens u rest (inr (name, x)) =
+      let first = class_there at whole IsAlpha tokens name (10 ∷ rest) x in
+      let back = byte_fails at whole 61 (10 ∷ rest) (λ o end x.
+      absurd (omega (arith, same_first (byte_stands 61 (10 ∷ rest) o end x).0))) in
+      let feed = byte_there at whole 10 rest in (
+        _,
+        (_, (_, first, (_, back, refl)), refl),
+        (_, (_, first, (_, feed, refl)), (u, tt, refl)),
+      )
 
-  abbrev pub SettingFails : Failure T
-  SettingFails = FailsBehind NameRead (NotThere NameRead)
-      (FailsBehind (literal 61) (NotThere (literal 61))
-      (FailsBehind DigitsRead (ForGood (NotThere DigitsRead)) (NotThere (literal 10))))
+  lacks_there : (tokens rest : List ℕ) → NoValue tokens rest → line1.does at tokens (cuts rest)
+  lacks_there tokens rest (name, x, none) =
+      let first = class_there at whole IsAlpha tokens name (61 ∷ rest) x in
+      let lacks = class_fails at whole IsDecDigit rest none in
+      let equals = byte_there at whole 61 rest in
+      (_, (_, (_, first, (_, equals, (_, (_, lacks, refl), refl))), refl), refl)
 
-  -- (Alpha1, b'\n').void()
-  abbrev pub FlagRead : Grammar T (Unit {0})
-  FlagRead = Made (λ (_ : Unit {0}) o (u : Unit {0}). ⊤) tt
-      (Both {O = L × ℕ} (λ o1 o2. (o1, o2)) NameRead (literal 10))
+  none_there : line1.does at [] (backs [])
+  none_there =
+      let none = class_fails at whole IsAlpha [] (λ o rest x.
+      absurd (omega (arith, (some_takes IsAlpha).fewer [] o rest x))) in
+      (_, (_, (_, none, refl), refl), (_, (_, none, refl), refl))
 
-  abbrev pub FlagFails : Failure T
-  FlagFails = FailsBehind NameRead (NotThere NameRead) (NotThere (literal 10))
+  -- ---- all lines
 
-  -- alt((setting, flag))
-  abbrev pub LineRead : Grammar T (Unit {0})
-  LineRead = Otherwise SettingRead SettingFails FlagRead
+  each_there : (tokens : List ℕ) (us : List (Unit {0})) (rest : List ℕ)
+      → Each Line tokens us rest → FoldsTo (λ a u b. ItemOf line1.does at a u b) tokens us rest
+  each_there tokens [] rest is = sym is
+  each_there tokens (u ∷ us) rest (mid, x, more) =
+      (mid, (line_there tokens u mid x, fewer tokens u mid x), each_there mid us rest more)
 
-  abbrev pub LineFails : Failure T
-  LineFails = FailsEither SettingFails FlagFails
+  each_back : (tokens : List ℕ) (us : List (Unit {0})) (rest : List ℕ)
+      → FoldsTo (λ a u b. ItemOf line1.does at a u b) tokens us rest → Each Line tokens us rest
+  each_back tokens [] rest is = sym is
+  each_back tokens (u ∷ us) rest (mid, (d, less), more) =
+      (mid, (line_back tokens).gives (took u mid) d, each_back mid us rest more)
 
--- ---- over bytes
+  -- lines, and an outcome after them
+  lines_there : (tokens mid : List ℕ) (x y : Outcome ℕ (Unit {0})) (lines : AreLines tokens mid)
+      → line1.does at mid x → ComesOf (last_item nothing_kept 0 tt lines.0) at mid x y
+      → (LinesSay line1).does at tokens y
+  lines_there tokens mid x y (us, each) d c =
+      let chain = each_there tokens us mid each in
+      inr (λ (e, _). absurd (cc), inr (inr (tt, tt, tt, (us, mid, chain, inr (tt, (x, d, c))))))
 
-abbrev LineGrammar : Grammar ℕ (Unit {0})
-LineGrammar = LineRead counted_reading (λ b. b) (λ b. b) Byte
+  lines_back : (tokens : List ℕ)
+      → Gives (LinesSay line1).does at tokens (λ _ rest. EndsLines tokens rest) (λ _. ⊥)
+      (LacksValue tokens)
+  lines_back tokens = record { gives = all }
+    where
+      Is : Outcome ℕ (Unit {0}) → Type 0
+      Is = Known (λ _ rest. EndsLines tokens rest) (λ _. ⊥) (LacksValue tokens)
 
-abbrev Fails : Failure ℕ
-Fails = LineFails counted_reading (λ b. b) (λ b. b) Byte
+      ends : (us : List (Unit {0})) (mid : List ℕ) → Each Line tokens us mid
+          → (x y : Outcome ℕ (Unit {0})) → line1.does at mid x
+          → ComesOf (last_item nothing_kept 0 tt us) at mid x y → Is y
+      ends us mid each (took u rest) y d (inl (none, e)) =
+          absurd (none (fewer mid u rest ((line_back mid).gives (took u rest) d)))
+      ends us mid each (took u rest) y d (inr (less, (some, gathered, grows), e)) = absurd grows
+      ends us mid each (backs place) y d (inl (enough, (all, gathered, e))) =
+          let none : NoneStands Line mid = λ u rest x.
+          line_law.one at mid (backs place) (took u rest) d (line_there mid u rest x) in
+          let valued : (end : List ℕ) → NoValue mid end → ⊥ = λ end x.
+          line_law.one at mid (backs place) (cuts end) d (lacks_there mid end x) in
+          subst Is (sym e) ((us, each), none, valued)
+      ends us mid each (backs place) y d (inr (less, e)) = absurd (omega (arith, less))
+      ends us mid each (cuts place) y d e =
+          subst Is (sym e) (mid, (us, each), (line_back mid).gives (cuts place) d)
+      ends us mid each (asks need place) y d e = absurd ((line_back mid).gives (asks need place) d)
+      ends us mid each wants y d e = absurd ((line_back mid).gives wants d)
 
-name_unique : IsUnique Name
-name_unique = class_unique IsAlpha 1 (λ b. b) (λ b. b) counted_reading (λ t u e. e)
+      all : (y : Outcome ℕ (Unit {0})) → (LinesSay line1).does at tokens y → Is y
+      all y (inl (one, any, d)) = absurd (cc)
+      all y (inr (other, inl (most, is, below, e))) = none_is_some is
+      all y (inr (other, inr (inl (within, grows, e)))) = absurd grows
+      all y (inr (other, inr (inr (empty, within, starts, (us, mid, chain, inl (full, d)))))) =
+          none_is_some full
+      all y
+          (inr (other, inr (inr (none, fits, starts, (us, mid, chain, inr (below, (x, d, c))))))) =
+          ends us mid (each_back tokens us mid chain) x y d c
 
-digits_unique : IsUnique Digits
-digits_unique = class_unique IsDecDigit 1 (λ b. b) (λ b. b) counted_reading (λ t u e. e)
+  -- the result of a parse of all of the text, by its outcome
+  parsed_by : {I X : Type 0} (inner_kind : X → Kind) (text : List ℕ)
+      (result : Result (Unit {0}) (ParseFault I X Needed)) (x : Outcome ℕ (Unit {0}))
+      → Known (λ _ rest. EndsLines text rest) (λ _. ⊥) (LacksValue text) x
+      → (AreLines text [] → Alike (LinesSay line1).alike x (took tt []))
+      → ((end : List ℕ) → LacksValue text end → Alike (LinesSay line1).alike x (cuts end))
+      → IsParseOf length inner_kind text x result → IsTold inner_kind text result
+  parsed_by inner_kind text (Ok p) (took o rest) is all lacks (same, end) = record {
+    lines = subst (AreLines text) end is.0;
+    all = λ lines. tt;
+    fault = tt;
+    lacks = lacks;
+  }
+  parsed_by inner_kind text (Err fault) (took o rest) is all lacks (some, before) = record {
+    lines = tt;
+    all = λ lines. some (all lines).1;
+    fault = (rest, inr (is.0, is.1, is.2, some), before);
+    lacks = λ end x. absurd (lacks end x);
+  }
+  parsed_by inner_kind text (Err fault) (cuts place) is all lacks before = record {
+    lines = tt;
+    all = all;
+    fault = (place, inl is, before);
+    lacks = λ end x.
+        subst (λ l. IsFaultBefore length inner_kind text l fault) (lacks end x) before;
+  }
+  parsed_by inner_kind text (Ok p) (cuts place) is all lacks never = absurd never
+  parsed_by inner_kind text result (backs place) never all lacks parsed = absurd never
+  parsed_by inner_kind text result (asks need place) never all lacks parsed = absurd never
+  parsed_by inner_kind text result wants never all lacks parsed = absurd never
 
-line_law : IsFailureOf LineGrammar Fails
-line_law = either_law
-    (law_beside (made_back (λ (_ : Unit {0}) o (u : Unit {0}). ⊤) tt
-    (Four Name (Byte 61) Digits (Byte 10)))
-    (four_law name_unique (not_there_law Name) (byte_unique 61) (not_there_law (Byte 61))
-    digits_unique (for_good_law (not_there_law Digits)) (not_there_law (Byte 10))))
-    (law_beside (made_back (λ (_ : Unit {0}) o (u : Unit {0}). ⊤) tt
-    (Both {O = Bor (List ℕ) × ℕ} (λ o1 o2. (o1, o2)) Name (Byte 10)))
-    (behind_law {O = Bor (List ℕ) × ℕ} (λ o1 o2. (o1, o2)) name_unique (not_there_law Name)
-    (not_there_law (Byte 10))))
+taken : (us : List (Unit {0})) → FoldsTo (λ (_ _ _ : Unit {0}). ⊤) tt us tt
+taken [] = refl
+taken (u ∷ us) = (tt, tt, taken us)
 
-no_equals : (rest : List ℕ) → NoneStands (Byte 61) (10 ∷ rest)
-no_equals rest o end there =
-    absurd (omega (arith, same_first (byte_stands 61 (10 ∷ rest) o end there).0))
-
-line_there : (tokens : List ℕ) (u : Unit {0}) (rest : List ℕ) → Line tokens u rest
-    → LineGrammar tokens u rest
-unfolding Otherwise Made Four Both FailsBehind NotThere
-line_there tokens u rest (inl (name, value, digits, x, y)) = inl (
-  (name, 61, digits, 10),
-  (
-    name,
-    61,
-    digits,
-    10,
-    61 ∷ value,
-    value,
-    10 ∷ rest,
-    x,
-    stands_byte 61 (61 ∷ value) value refl,
-    y,
-    stands_byte 10 (10 ∷ rest) rest refl,
-    refl,
-  ),
-  tt,
-)
-line_there tokens u rest (inr (name, x)) = inr (
-  (10 ∷ rest, inr (name, 10 ∷ rest, x, inl (no_equals rest, refl, refl))),
-  (
-    (name, 10),
-    (name, 10, 10 ∷ rest, x, stands_byte 10 (10 ∷ rest) rest refl, refl),
-    tt,
-  ),
-)
-
-line_back : (tokens : List ℕ) (u : Unit {0}) (rest : List ℕ) → LineGrammar tokens u rest
-    → Line tokens u rest
-unfolding Otherwise Made Four Both
-line_back tokens u rest
-    (inl (o, (name, e, digits, n, a, b, c, x, y, z, w, made), is)) =
-    let P : List ℕ → Type 0 = λ l. Name tokens name l in
-    let Q : List ℕ → Type 0 = λ l. Digits b digits l in
-    inl (
-      name,
-      b,
-      digits,
-      subst P (byte_stands 61 a e b y).0 x,
-      subst Q (byte_stands 10 c n rest w).0 z,
-    )
-line_back tokens u rest (inr (backs, (o, (name, n, a, x, y, made), is))) =
-    let P : List ℕ → Type 0 = λ l. Name tokens name l in
-    inr (name, subst P (byte_stands 10 a n rest y).0 x)
-
-lines_there : (tokens : List ℕ) (us : List (Unit {0})) (rest : List ℕ)
-    → Each Line tokens us rest → Each LineGrammar tokens us rest
-lines_there tokens [] rest e = e
-lines_there tokens (u ∷ us) rest (mid, x, more) =
-    (mid, line_there tokens u mid x, lines_there mid us rest more)
-
-lines_back : (tokens : List ℕ) (us : List (Unit {0})) (rest : List ℕ)
-    → Each LineGrammar tokens us rest → Each Line tokens us rest
-lines_back tokens [] rest e = e
-lines_back tokens (u ∷ us) rest (mid, x, more) =
-    (mid, line_back tokens u mid x, lines_back mid us rest more)
-
--- a line is cut where a value lacks
-value_there : (tokens rest : List ℕ) → NoValue tokens rest → Fails tokens cut rest
-unfolding FailsEither FailsBehind ForGood NotThere
-value_there tokens rest (name, x, none) = inl (
-  refl,
-  inr (
-    name,
-    61 ∷ rest,
-    x,
-    inr (
-      61,
-      rest,
-      stands_byte 61 (61 ∷ rest) rest refl,
-      inl (refl, backtrack, (none, refl, refl)),
-    ),
-  ),
-)
-
-setting_back : (tokens rest : List ℕ)
-    → SettingFails counted_reading (λ b. b) (λ b. b) Byte tokens cut rest → NoValue tokens rest
-unfolding FailsBehind ForGood NotThere
-setting_back tokens rest (inl (none, is, same)) = back_is_cut (sym is)
-setting_back tokens rest (inr (name, a, x, inl (none, is, same))) = back_is_cut (sym is)
-setting_back tokens rest
-    (inr (name, a, x, inr (e, b, y, inl (is, was, (none, had, same))))) =
-    let P : List ℕ → Type 0 = λ l. Name tokens name l in
-    let Q : List ℕ → Type 0 = λ l. NoneStands Digits l in (
-      name,
-      subst P ((byte_stands 61 a e b y).0 ∙ ap (λ l. 61 ∷ l) (sym same)) x,
-      subst Q (sym same) none,
-    )
-setting_back tokens rest
-    (inr (name, a, x, inr (e, b, y, inr (digits, c, z, (none, is, same))))) =
-    back_is_cut (sym is)
-
-flag_back : (tokens rest : List ℕ)
-    → FlagFails counted_reading (λ b. b) (λ b. b) Byte tokens cut rest → ⊥
-unfolding FailsBehind NotThere
-flag_back tokens rest (inl (none, is, same)) = back_is_cut (sym is)
-flag_back tokens rest (inr (name, a, x, (none, is, same))) = back_is_cut (sym is)
-
-value_back : (tokens rest : List ℕ) → Fails tokens cut rest → NoValue tokens rest
-unfolding FailsEither
-value_back tokens rest (inl (is, x)) = setting_back tokens rest x
-value_back tokens rest (inr (backs, x)) = absurd (flag_back tokens rest x)
-
--- ---- all lines
-
-lacks_there : (tokens rest : List ℕ) → LacksValue tokens rest
-    → LinesFail LineGrammar Fails tokens cut rest
-unfolding FailsAmong
-lacks_there tokens rest (mid, (us, each), x) =
-    (us, mid, lines_there tokens us mid each, tt, value_there mid rest x, inl refl)
-
-lacks_back : (tokens : List ℕ) (k : Kind) (rest : List ℕ)
-    → LinesFail LineGrammar Fails tokens k rest
-    → LacksValue tokens rest
-unfolding FailsAmong
-lacks_back tokens k rest (us, mid, each, below, x, inl is) =
-    let P : Kind → Type 0 = λ l. Fails mid l rest in
-    (mid, (us, lines_back tokens us mid each), value_back mid rest (subst P is x))
-lacks_back tokens k rest (us, mid, each, below, x, inr few) = absurd (omega (arith, few))
-
--- where a line backtracks none is, and no value lacks
-no_line : (rest : List ℕ) → Backs Fails rest
-    → NoneStands Line rest × ((end : List ℕ) → NoValue rest end → ⊥)
-no_line rest (place, x) = (
-  λ u end there. line_law.apart rest backtrack place x u end (line_there rest u end there),
-  λ end lacks.
-      back_is_cut (line_law.one rest backtrack cut place end x (value_there rest end lacks)).0,
-)
-
-read_back : (tokens : List ℕ) (all : Unit {0}) (rest : List ℕ)
-    → LinesRead LineGrammar Fails tokens all rest
-    → AreLines tokens rest × NoneStands Line rest × ((end : List ℕ) → NoValue rest end → ⊥)
-unfolding Gathered ManyUpTo
-read_back tokens all rest (us, held, (each, enough, inl full)) = none_is_some full
-read_back tokens all rest (us, held, (each, enough, inr (below, backs))) =
-    let (none, lacks) = no_line rest backs in
-    ((us, lines_back tokens us rest each), none, lacks)
-
-left_back : (tokens rest : List ℕ)
-    → NotAll (LinesRead LineGrammar Fails) (LinesFail LineGrammar Fails) tokens rest
-    → LacksValue tokens rest ⊎ NoLine tokens rest
-left_back tokens rest (inl (k, x)) = inl (lacks_back tokens k rest x)
-left_back tokens rest (inr (all, x, some)) =
-    let (lines, none, lacks) = read_back tokens all rest x in inr (lines, none, lacks, some)
-
--- at the end a line backtracks
-no_name : NoneStands Name []
-no_name o rest x =
-    let takes = class_takes IsAlpha 1 (λ b. b) (λ b. b) counted_reading one_is_some in
-    absurd (omega (arith, takes.fewer [] o rest x))
-
-backs_at_end : Fails [] backtrack []
-unfolding FailsEither FailsBehind NotThere
-backs_at_end = inr (([], inl (no_name, refl, refl)), inl (no_name, refl, refl))
-
-read_there : (tokens : List ℕ) → AreLines tokens [] → LinesRead LineGrammar Fails tokens tt []
-unfolding Gathered ManyUpTo
-read_there tokens (us, each) =
-    (us, tt, (lines_there tokens us [] each, omega arith, inr (tt, ([], backs_at_end))))
-
-before_wants : {I X : Type 0} (inner_kind : X → Kind) (text rest : List ℕ)
-    (fault : ParseFault I X Needed) → IsBefore length inner_kind text rest fault
-    → IsWant inner_kind fault → ⊥
-before_wants inner_kind text rest (Refused e) (at, is) wants = back_is_memory (sym is ∙ wants)
-before_wants inner_kind text rest (Incomplete needed) never wants = never
-
-pub lines_told : {I X : Type 0} (inner_kind : X → Kind) (text : List ℕ)
-    (result : Result (Unit {0}) (ParseFault I X Needed)) {spares : Type 0} → spares
-    → ReadsAll inner_kind (LinesRead LineGrammar Fails) text result
-    → FaultsBy length inner_kind spares (LinesRead LineGrammar Fails)
-    (LinesFail LineGrammar Fails) text result
-    → IsTold inner_kind text result
-lines_told inner_kind text (Ok o) spares reads faults = record {
-  lines = (read_back text o [] reads.stands).0;
-  all = λ x. tt;
-  fault = tt;
-  lacks = λ rest x. faults.must rest (inl (cut, lacks_there text rest x));
-}
-lines_told inner_kind text (Err fault) spares reads faults = record {
-  lines = tt;
-  all = λ x. elim faults.fell [
-    | inl (want, asks) ↦ asks spares
-    | inr (rest, left, before) ↦ elim reads.none [
-      | inl want ↦ before_wants inner_kind text rest fault before want
-      | inr none ↦ none tt (read_there text x)
-    ]
-  ];
-  fault = elim faults.fell [
-    | inl (want, asks) ↦ absurd (asks spares)
-    | inr (rest, left, before) ↦ (rest, left_back text rest left, before)
-  ];
-  lacks = λ rest x. elim (faults.must rest (inl (cut, lacks_there text rest x))) [
-    | inl (want, asks) ↦ absurd (asks spares)
-    | inr before ↦ before
-  ];
-}
+pub lines_told : {I X : Type 0} (inner_kind : X → Kind) (form : ErrorForm) (i : Input ℕ)
+    → i.status.cut ≡ false → (result : Result (Unit {0}) (ParseFault I X Needed))
+    → TellsAll length inner_kind (LinesSay line1) form i result
+    → IsTold inner_kind i.left.tokens result
+lines_told inner_kind form i whole result all =
+    let at = setting_of form i in
+    let text = i.left.tokens in
+    parsed_by at whole inner_kind text result all.outcome
+    ((lines_back at whole text).gives all.outcome all.tells.does)
+    (λ lines. all.tells.only (took tt []) (lines_there at whole text [] (backs []) (took tt [])
+    lines (none_there at whole)
+    (inl (omega arith, (tt, record { taken = taken lines.0 }, refl)))))
+    (λ end (mid, lines, x). all.tells.only (cuts end) (lines_there at whole text mid (cuts end)
+    (cuts end) lines (lacks_there at whole mid end x) refl)) all.parsed

@@ -1,6 +1,6 @@
+use Rattle.std.proofs.Common.{refl}
 use Rattle.examples.specs.Assignments.Read.{lines_told}
 use Rattle.examples.proofs.assignments.check_assignments.Goals as goal
 
 pub returns : goal.returns
-returns g c = lines_told _ _ c.lines.result (((tt, tt, tt, tt), (tt, tt)), tt)
-    c.lines.ensures.reads c.lines.ensures.fails
+returns g c = lines_told _ _ _ refl c.lines.result c.lines.ensures
