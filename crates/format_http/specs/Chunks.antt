@@ -1,5 +1,6 @@
 -- Written by scripts/registries.py: do not edit.
 pub mod Bodies
+pub mod Codings
 pub mod Framing
 pub mod Lines
 pub mod Read

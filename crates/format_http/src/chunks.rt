@@ -7,6 +7,7 @@
 //! and no line feed alone; the data of a chunk, which is as many bytes as the size says, and its
 //! line end, are for the caller to take, and so is the trailer section after the last chunk
 //! (section 7.1.2).
+pub(crate) mod codings;
 pub(crate) mod framing;
 pub mod laws;
 mod lines;

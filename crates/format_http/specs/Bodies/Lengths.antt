@@ -7,7 +7,9 @@ use Rattle.format_http.specs.Heads.Head.{Pair}
 use Rattle.winnow.specs.Digits.{value_in}
 
 -- One of the elements of the Content-Length fields is this text. All fields of the name are one
--- list.
+-- list. An element that is empty, as in `,4`, counts as one, so it differs from `4`: the field is
+-- 1*DIGIT, or the same numeral several times (RFC 9110, section 8.6), and no list that may have
+-- empty elements.
 abbrev pub HasLength : List ℕ → List Pair → Type 0
 HasLength text [] = ⊥
 HasLength text (field ∷ fields) =

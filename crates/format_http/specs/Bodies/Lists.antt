@@ -1,6 +1,5 @@
 -- Lists in the values of fields (RFC 9110, section 5.6.1): elements with commas between them.
-use Rattle.std.specs.Prelude.{◌≡◌, ◌==◌, ◌<◌, ◌⊎◌, ◌++◌, ℕ, List, [], ◌∷◌, length, Option, Some}
-use Rattle.std.specs.Prelude.{None}
+use Rattle.std.specs.Prelude.{◌≡◌, ◌==◌, ◌⊎◌, ◌++◌, ℕ, List, [], ◌∷◌, Option, Some, None}
 use Rattle.std.specs.Borrow.{Bor}
 use Rattle.std.specs.List.{All, slice_split}
 use Rattle.format_http.specs.Heads.Bytes.{IsWhite}
@@ -10,19 +9,18 @@ use Rattle.format_http.specs.Heads.FieldLine.{BeginsBare, EndsBare}
 abbrev pub parts_of : List ℕ → List (List ℕ)
 parts_of = slice_split (λ b. b == 44)
 
--- The element that stands in a part of a list: one byte or more, with white space alone around it,
--- which is no part of it.
+-- The element in a part of a list: what is left of the part without the white space around it. It is
+-- empty if the part has nothing else.
 pub record IsElement (element part : List ℕ) : Type 0 where
   pub before : List ℕ
   pub behind : List ℕ
   pub splits : part ≡ before ++ (element ++ behind)
-  pub some : 0 < length element
   pub white_before : All IsWhite before
   pub white_behind : All IsWhite behind
   pub begins_bare : BeginsBare element
   pub ends_bare : EndsBare element
 
--- The element stands in one of the parts. A part of white space alone has none, and is passed over.
+-- One of the parts has this element, which may be empty.
 abbrev pub HasElement : List ℕ → List (List ℕ) → Type 0
 HasElement element [] = ⊥
 HasElement element (part ∷ parts) = IsElement element part ⊎ HasElement element parts

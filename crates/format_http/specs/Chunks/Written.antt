@@ -296,5 +296,5 @@ module _ {A : Type 0} where
       let P : E → Type 0 =
       λ x. Reads reading kind (First (SizeLineText {A = A})) i (Err x) j in
       subst P (sym is) (err_as f (λ tokens line rest (front, (parts, a, means), e).
-          let Q : List ℕ → Type 0 = λ l. Line counted_reading (λ b. b) Byte l parts rest in
-          (parts, subst Q (sym e) (line_of.back parts front rest a tt))))
+      let Q : List ℕ → Type 0 = λ l. Line counted_reading (λ b. b) Byte l parts rest in
+      (parts, subst Q (sym e) (line_of.back parts front rest a tt))))

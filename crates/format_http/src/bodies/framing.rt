@@ -10,6 +10,7 @@ ghost use Rattle.format_http.specs.declared.bodies.framing.Message.TheVariants.{
 ghost use Rattle.std.specs.Prelude.{◌↔◌, IsTrue, map};
 
 use crate::bodies::lengths::declared_length;
+use crate::chunks::codings::chunked_is_followed;
 use crate::chunks::framing::{end_chunked, first_value};
 use crate::heads::field_line::Field;
 use crate::heads::head::Head;
@@ -76,13 +77,15 @@ pub enum FramingFault {
     /// A message has both a Transfer-Encoding and a Content-Length field, by which two recipients
     /// may take different bytes for its body (rule 3).
     LengthBesideCoding,
+    /// A transfer coding comes after `chunked`, be it `chunked` once more (section 6.1).
+    ChunkedNotLast,
     /// The last transfer coding of a request is not `chunked`, or its Transfer-Encoding fields have
     /// none (rule 4).
     NotChunked,
     /// Two elements of the Content-Length fields are not the same text (rule 5), be it in zeros
-    /// before a number.
+    /// before a number, or since one of them is empty, as in `42,`.
     LengthsDiffer,
-    /// The one element of the Content-Length fields is no number, or they have none (rule 5).
+    /// The one element of the Content-Length fields is no number, as where it is empty (rule 5).
     LengthIsNoNumber,
     /// The length is 2<sup>64</sup> or more.
     LengthTooLarge,
@@ -133,6 +136,9 @@ fn has(fields: &[Field<'_>], name: &[u8]) -> bool
 fn coded_length(message: Message<'_>, fields: &[Field<'_>]) -> Result<BodyLength, FramingFault>
     ensures { IsCodedLength message.entry (map pair fields.now) result }
 {
+    if chunked_is_followed(fields) {
+        return Err(FramingFault::ChunkedNotLast);
+    }
     if end_chunked(fields) {
         return Ok(BodyLength::Chunked);
     }
@@ -159,16 +165,17 @@ fn undeclared_length(message: Message<'_>) -> Result<BodyLength, FramingFault>
 /// 2. A response of status 2xx to CONNECT makes the connection a tunnel.
 /// 3. A Transfer-Encoding field in a version before 1.1, or beside a Content-Length field, is a
 ///    fault.
-/// 4. Where the last transfer coding is `chunked` the body is chunks. Where it is another, a
-///    request is refused, and the body of a response ends with the connection.
+/// 4. A coding after `chunked`, be it `chunked` once more, is a fault (section 6.1). If the last
+///    transfer coding is `chunked`, the body is chunks. If it is another, a request is refused, and
+///    the body of a response ends with the connection.
 /// 5. Content-Length fields must be one numeral, be it several times, in a list or in several
-///    fields.
+///    fields. An element that is empty is no numeral.
 /// 6. Its number is the length.
 /// 7. With neither field a request has no body.
 /// 8. With neither field the body of a response ends with the connection.
 ///
-/// Names of fields and of codings are the same in letters of either case. Codings before the last
-/// one are not looked at. No memory is asked for; the time is linear in the lengths of the fields.
+/// Names of fields and of codings are the same in letters of either case. Of codings before the last
+/// one it is only seen whether they are `chunked`. No memory is asked for; the time is linear in the lengths of the fields.
 ///
 /// ```
 /// use format_http::bodies::framing::{BodyLength, FramingFault, Message, body_length};
@@ -183,6 +190,8 @@ fn undeclared_length(message: Message<'_>) -> Result<BodyLength, FramingFault>
 /// let coding = Field { name: b"Transfer-Encoding", value: b"chunked" };
 /// let both = body_length(Message::Request, 1, 1, [coding, length].as_slice());
 /// assert!(rt; both == Err(FramingFault::LengthBesideCoding));
+/// let twice = body_length(Message::Request, 1, 1, [coding, coding].as_slice());
+/// assert!(rt; twice == Err(FramingFault::ChunkedNotLast));
 /// ```
 pub fn body_length(
     message: Message<'_>,

@@ -67,7 +67,7 @@ fn one_element<'i>(
     let mut left = Some(list);
     'parts: while let Some(here) = left {
         let (part, more) = next_part(here);
-        match one_of(one, element_of(part)) {
+        match one_of(one, Some(element_of(part))) {
             Ok(text) => one = text,
             Err(fault) => return Err(fault),
         }

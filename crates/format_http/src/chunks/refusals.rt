@@ -4,18 +4,19 @@
 //! White space between the name of a field and its colon (RFC 9112, section 5.1), and a carriage
 //! return in a name or a value (section 2.2), stand in no head that
 //! [`read_head`](crate::heads::head::read_head) reads, by the [laws](crate::heads::laws) of field
-//! lines: it backtracks there. The value of a Host field is not looked at, nor which codings there
-//! are before
-//! the last one: a server answers those that it does not know with status 501 (section 6.1). Nor is
-//! a transfer coding in a request of HTTP/1.0 refused, after which a server closes the connection.
+//! lines: it backtracks there. The value of a Host field is not looked at, nor which codings other
+//! than `chunked` there are: a server answers those that it does not know with status 501 (section
+//! 6.1). Nor is a transfer coding in a request of HTTP/1.0 refused, after which a server closes the
+//! connection.
 #![tactic(auto)]
 
-ghost use Rattle.format_http.specs.Chunks.Framing.{HasNone, HasValue, content_length};
+ghost use Rattle.format_http.specs.Chunks.Framing.{HasNone, HasOne, HasValue, content_length};
 ghost use Rattle.format_http.specs.Chunks.Framing.{transfer_encoding};
 ghost use Rattle.format_http.specs.Chunks.Refusals.{AreHosts, IsFault, IsHostRefusal, IsRefusal};
 ghost use Rattle.format_http.specs.Heads.Head.{pair};
 ghost use Rattle.std.specs.Prelude.{ℕ, map};
 
+use crate::chunks::codings::chunked_is_followed;
 use crate::chunks::framing::{end_chunked, first_value, have_value, is_number};
 use crate::heads::field_line::Field;
 use crate::heads::head::Head;
@@ -40,6 +41,9 @@ pub enum Refusal {
     /// A request has both a Content-Length and a Transfer-Encoding field, by which two servers may
     /// take different bytes for its body (sections 6.1 and 6.3).
     LengthBesideCoding,
+    /// A coding of the Transfer-Encoding fields comes after `chunked`, be it `chunked` once more
+    /// (section 6.1).
+    ChunkedNotLast,
     /// The last coding of the Transfer-Encoding fields is not `chunked`, or they have none, so that
     /// nothing says where the body ends (section 6.3).
     NotChunked,
@@ -92,6 +96,21 @@ fn length_refusal(fields: &[Field<'_>], length: &[u8]) -> Option<Refusal>
     None
 }
 
+/// Why a request of these fields with no length is refused for its codings.
+fn coding_refusal(fields: &[Field<'_>]) -> Option<Refusal>
+    requires none { HasNone content_length (map pair fields.now) }
+    requires some { HasOne transfer_encoding (map pair fields.now) }
+    ensures { IsFault (map pair fields.now) result }
+{
+    if chunked_is_followed(fields) {
+        return Some(Refusal::ChunkedNotLast);
+    }
+    if !end_chunked(fields) {
+        return Some(Refusal::NotChunked);
+    }
+    None
+}
+
 /// Why a request of these fields is refused for those that say where its body ends.
 fn framing_refusal(fields: &[Field<'_>]) -> Option<Refusal>
     ensures { IsFault (map pair fields.now) result }
@@ -102,21 +121,15 @@ fn framing_refusal(fields: &[Field<'_>]) -> Option<Refusal>
         (None, None) => None,
         (Some(length), None) => length_refusal(fields, length),
         (Some(_), Some(_)) => Some(Refusal::LengthBesideCoding),
-        (None, Some(_)) => {
-            if end_chunked(fields) {
-                None
-            } else {
-                Some(Refusal::NotChunked)
-            }
-        }
+        (None, Some(_)) => coding_refusal(fields),
     }
 }
 
 /// Why a server must refuse the request of this head: the first of these that holds, in the order
 /// of [`Refusal`]. It has more than one Host field, or none where its version is 1.1, or a later
-/// one that begins with 1 (RFC 9112, section 3.2); a length beside a transfer coding; a last
-/// transfer coding that is not `chunked`; lengths that differ; or a length that is no number
-/// (section 6.3). None where nothing of this is so. Names of fields and of codings are the same in
+/// one that begins with 1 (RFC 9112, section 3.2); a length beside a transfer coding; a coding
+/// after `chunked` (section 6.1); a last transfer coding that is not `chunked`; lengths that differ;
+/// or a length that is no number (section 6.3). None where nothing of this is so. Names of fields and of codings are the same in
 /// letters of either case.
 ///
 /// All fields of one name count as one list. Elements of it that are empty are passed over, and
