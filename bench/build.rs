@@ -1,4 +1,5 @@
-//! Links the library's workloads, and the C half of the kit's allocator. `run.sh` says where both lie.
+//! Links the library's workloads, and the C half of the kit's allocator. `run.sh` passes their
+//! paths.
 use std::env;
 
 fn main() {

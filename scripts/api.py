@@ -1,13 +1,14 @@
 #!/usr/bin/env python3
-"""Writes the API reference, `docs/api/`: each public item of the crate `winnow`, by its modules.
+"""Generates the API reference, `docs/api/`: each public item of the crate `winnow`, by module.
 
-Run it at the top of the repository, where `rt fmt` has laid out the sources:
+Run it at the top of the repository, after `rt fmt`:
 
     python3 scripts/api.py
 
-Git does not keep these pages: `scripts/release` writes them, to be put beside the release. What is
-kept is the index of all items, `docs/API.md`, which `scripts/registries.py` writes. It prints the pages that it changed, and each link of a comment that leads to no item. On which page
-an item stands is said in `scripts/registry/pages.py`; what no page names has one of its module.
+These pages are not in git: `scripts/release` generates them, to be published with the release. The
+index of all items, `docs/API.md`, is in git; `scripts/registries.py` generates it. This script
+prints the pages that it changed, and each link of a comment without a target.
+`scripts/registry/pages.py` assigns items to pages; other items are on the page of their module.
 """
 from registry.api import Reference, write_api
 

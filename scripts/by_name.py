@@ -1,18 +1,21 @@
 #!/usr/bin/env python3
-"""Checks that each public parser has what its readers look for by its name.
+"""Checks that each public parser has a table row, a test and an edit under its name.
 
 Run it at the top of the repository:
 
     python3 scripts/by_name.py
 
-A public parser is a struct in a file of its own under `src/*/impls/` of a library crate, which
-`impls.rt` beside that folder re-exports, and its name is that of the file. It has a row in
-`docs/PARSERS.md`, which links its definition, a file of `specs/`; a test, a function of `tests/`
-whose name begins with the parser's, or a row that is labelled with it; and an edit that the prover
-must refuse, whose name begins with the parser's and with no longer parser's, of `edits.txt` or
-`must-fail/` of its crate or of one that it stands on. And a test calls its function or runs its
-struct, as one calls each adapter of `Parser` and each call of a stream, so that each is seen to
-type-check at a concrete type. It fails where one lacks any of these.
+A public parser is a struct in a file of its own under `src/*/impls/` of a library crate. The
+`impls.rt` next to that folder re-exports it, and its name is that of the file. It needs:
+
+- a row in `docs/PARSERS.md` with a link to its definition, a file of `specs/`;
+- a test: a function of `tests/` whose name starts with the parser's, or a row labelled with it;
+- an edit that the prover must reject, in `edits.txt` or `must-fail/` of its crate or of a
+  dependency. The edit's name starts with the parser's, and not with a longer parser's;
+- a call in a test, so that it is type-checked at a concrete type. Adapters of `Parser` and methods
+  of streams need a call too.
+
+It fails if one of these is missing.
 """
 import re
 import sys
@@ -22,14 +25,14 @@ from registry.common import CRATES, TOP, crates
 
 
 def parsers():
-    """The public parsers, each with the crate that has it."""
+    """Returns the public parsers, each with its crate."""
     for path in sorted(CRATES.glob("*/src/*/impls/*.rt")):
         if f"::impls::{path.stem}::" in path.parent.with_suffix(".rt").read_text(encoding="utf-8"):
             yield path.relative_to(CRATES).parts[0], path.stem
 
 
 def rows():
-    """The definitions that the rows of the table link, by the names in their first cells."""
+    """Returns the definitions that the table's rows link, by the names in the first cells."""
     found = {}
     for line in (TOP / "docs/PARSERS.md").read_text(encoding="utf-8").splitlines():
         cells = [cell.strip() for cell in line.strip("|").split("|")]
@@ -42,7 +45,7 @@ def rows():
 
 
 def tests():
-    """The names of the functions and the labels of the rows in the tests."""
+    """Returns the names of the functions and the labels of the rows in the tests."""
     names = set()
     for path in (TOP / "tests").glob("**/*.rs"):
         names.update(re.findall(r"\bfn (\w+)|\"(\w+)\"", path.read_text(encoding="utf-8")))
@@ -50,7 +53,7 @@ def tests():
 
 
 def edits():
-    """The edits, each by its crate and the longest of the parsers' names that its own begins with."""
+    """Returns each edit's crate and the longest parser's name that the edit's name starts with."""
     known = {name for _, name in parsers()}
     for crate in [it.name for it in CRATES.iterdir()]:
         for edit in [*edits_of(crate), *must_fail_of(crate)]:
@@ -60,7 +63,7 @@ def edits():
 
 
 def calls():
-    """The adapters of `Parser` and the calls of a stream, each with the crate that has it."""
+    """Returns the adapters of `Parser` and the methods of streams, each with its crate."""
     for crate, file in (("winnow_core", "parser"), ("streams", "stream")):
         text = (CRATES / crate / "src" / f"{file}.rt").read_text(encoding="utf-8")
         for name in re.findall(r"^    (?:final )?fn (\w+)", text, re.MULTILINE):
@@ -68,14 +71,14 @@ def calls():
 
 
 def code_of_tests():
-    """The code of the tests, without comments, texts and imports."""
+    """Returns the code of the tests, without comments, string literals and imports."""
     texts = [path.read_text(encoding="utf-8") for path in (TOP / "tests").glob("**/*.rs")]
     code = re.sub(r'"(?:[^"\\\n]|\\.)*"|//.*', "", "\n".join(texts))
     return re.sub(r"^\s*(?:pub )?use [^;]*;", "", code, flags=re.MULTILINE)
 
 
 def uncalled():
-    """What no test calls, neither the function nor its struct."""
+    """Returns the parsers and methods that no test calls, neither the function nor its struct."""
     code = code_of_tests()
     called = {*re.findall(r"(?<!fn )\b(\w+)(?:::<[^;(]*>)?\(", code)}
     called |= {*re.findall(r"\b[A-Z]\w*", code)}
@@ -86,7 +89,7 @@ def uncalled():
 
 
 def lacks(crate, name, table, names, edited, on):
-    """What the parser lacks, in words."""
+    """Returns descriptions of a parser's missing items."""
     if name not in table:
         yield "a row in docs/PARSERS.md"
     elif not table[name] or not all((TOP / link).is_file() for link in table[name]):
@@ -94,7 +97,7 @@ def lacks(crate, name, table, names, edited, on):
     if not any(test == name or test.startswith(name + "_") for test in names):
         yield "a test in tests/"
     if not any((at, name) in edited for at in on[crate]):
-        yield "an edit that the prover must refuse"
+        yield "an edit that the prover must reject"
 
 
 def main():

@@ -1,5 +1,5 @@
 #!/usr/bin/env python3
-"""Prints the crates that changed against the last commit and those that stand on them, lowest
+"""Prints the crates that changed since the last commit and those that depend on them, dependencies
 first; with `--own` only those that changed."""
 import re
 import subprocess

@@ -1,15 +1,15 @@
 #!/usr/bin/env python3
-"""Names what nothing cites:
+"""Lists the declarations that nothing cites:
 
     python3 scripts/cited.py
 
-It goes from what stands for itself to all that is cited from there, and prints FILE:LINE and the
-name of each declaration of `specs/` and `proofs/` that it does not come to, and of each law. What
-stands for itself: the sources, with their clauses and with what `using(..)` names; the answers and
-invariants of their functions; and what `scripts/cited.allow` names, each for a reason. A law, a
-function of a file of laws, stands where code calls it. An import is no citation, a name that the
-crate `winnow` passes on is none, and a lemma of a ruleset is cited where the ruleset is. It fails
-where something is not cited, or where `cited.allow` names what is cited anyhow or is not there.
+It follows citations from the roots, and prints FILE:LINE and the name of each declaration of
+`specs/` and `proofs/` that it does not reach, and of each such law. The roots are the sources, with
+their clauses and the names in `using(..)`; the answers and invariants of their functions; and the
+names in `scripts/cited.allow`, each with a reason. A law, a function of a file of laws, is a root
+if code calls it. Imports and the re-exports of the crate `winnow` are not citations. A lemma of a
+ruleset is cited if the ruleset is. It fails if a declaration is not cited, or if `cited.allow` has
+a name that is cited or does not exist.
 """
 import collections
 import sys
@@ -23,7 +23,7 @@ CODE = ("bench", "bindings", "tests")
 
 
 def modules():
-    """The files of definitions and lemmas, by their crates and paths."""
+    """Returns the files of definitions and lemmas, by crate and path."""
     found = {}
     for part in ("specs", "proofs"):
         for path in sorted(CRATES.glob(f"*/{part}/**/*.antt")):
@@ -33,7 +33,7 @@ def modules():
 
 
 def sources():
-    """The files of code: those of the crates, of the tests and of what stands beside."""
+    """Returns the files of code of the crates, the tests, the benchmarks and the bindings."""
     paths = sorted(CRATES.glob("*/src/**/*.rt"))
     for folder in CODE:
         paths += sorted(it for it in (TOP / folder).rglob("*.r[ts]") if "out" not in it.parts)
@@ -41,7 +41,7 @@ def sources():
 
 
 def graph(known, code):
-    """What each declaration cites, and what stands for itself."""
+    """Returns the citations of each declaration, and the roots."""
     cites, roots = collections.defaultdict(set), []
     laws = {path: law for source in code for path, law in source.laws.items()}
     for module in known.values():
@@ -62,7 +62,7 @@ def graph(known, code):
 
 
 def reached(cites, roots):
-    """All that is cited from the roots, themselves with them."""
+    """Returns the items that are reachable from the roots, including the roots."""
     found, left = set(roots), list(roots)
     while left:
         for item in cites[left.pop()] - found:
@@ -72,7 +72,7 @@ def reached(cites, roots):
 
 
 def allowed():
-    """The names that stand for a reason, with these."""
+    """Returns the allowed names with their reasons."""
     for line in read(ALLOWED).splitlines():
         name, _, reason = line.partition(": ")
         if reason and not line.startswith("#"):
@@ -80,7 +80,7 @@ def allowed():
 
 
 def fits(name, path):
-    """Whether a name that is allowed is that of a declaration, or of a module above it."""
+    """Returns whether an allowed name is that of a declaration or of a module that contains it."""
     return path == name or (name.endswith((".*", "::*")) and path.startswith(name[:-1]))
 
 
@@ -92,7 +92,7 @@ def main():
     wrong, kept = [], []
     for name, _ in allowed():
         found = [it for it in items if it not in cited and it.is_declared and fits(name, it.path)]
-        wrong += [] if found else [f"scripts/cited.allow: {name} is not there, or is cited"]
+        wrong += [] if found else [f"scripts/cited.allow: {name} does not exist, or is cited"]
         kept += found
     cited |= reached(cites, kept)
     for item in items:

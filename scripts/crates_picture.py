@@ -3,10 +3,10 @@
 
     python3 scripts/crates_picture.py
 
-A box is a crate, or several on which nothing stands and which stand on the same ones. It stands
-above those that it is made of, and a line leads down to each, but where another line below it leads
-there too. Rows are layers, and the layers of the parsers begin above those of the streams. The
-order in a row is one with few crossings. It prints the name of the picture where it changed.
+A box is a crate, or several that have the same dependencies and no dependents. It is above its
+dependencies. A line leads down to each dependency, unless another path leads there too. Rows are
+layers, and the layers of the parsers are above those of the streams. The order within a row has few
+crossings. It prints the name of the picture if it changed.
 """
 import html
 import random
@@ -19,7 +19,7 @@ KINDS = {
     "streams": "streams, sets, searches, errors",
     "parsers": "parsers",
     "expressions": "operator expressions",
-    "above": "what stands above",
+    "above": "laws and facade",
     "callers": "callers",
 }
 STYLE = """
@@ -47,7 +47,7 @@ rect { stroke: #57606a; }
 
 
 def stands_on():
-    """The crates that each crate stands on."""
+    """Returns the dependencies of each crate."""
     found = {}
     for name, others in crates().items():
         found[name] = [it for it in others if it in found]
@@ -55,7 +55,7 @@ def stands_on():
 
 
 def reduced(on):
-    """The same, without those on which another of them stands."""
+    """Returns the dependencies without those that another dependency depends on."""
     below = {}
     for name, others in on.items():
         below[name] = set(others).union(*(below[it] for it in others))
@@ -76,7 +76,7 @@ def kind_of(name, on):
 
 
 class Box:
-    """What stands in a row: crates, or a line that passes between them."""
+    """An element of a row: crates, or a line that passes between them."""
 
     def __init__(self, names, kind, row):
         self.names, self.kind, self.row = names, kind, row
@@ -89,7 +89,7 @@ class Box:
 
 
 def boxes(on):
-    """The boxes by rows, the lowest first, with the lines between those of rows side by side."""
+    """Returns the boxes by row, the lowest first, with the lines between adjacent rows."""
     direct, level, alike = reduced(on), {}, {}
     streams = [name for name in on if kind_of(name, on) == "streams"]
     for name in on:
@@ -118,7 +118,7 @@ def boxes(on):
 
 
 def join(upper, lower, rows):
-    """A line from a box down to another one, by a place in each row between."""
+    """Joins a box to a lower one, with a point for the line in each row between."""
     while upper.row > lower.row + 1:
         place = Box([], "", upper.row - 1)
         rows[place.row].append(place)
@@ -139,7 +139,7 @@ def crossings(rows):
 
 
 def order(rows):
-    """Sorts each row by the middle of what its boxes are joined with, from many beginnings."""
+    """Sorts each row by the mean position of its boxes' neighbours, from many random orders."""
     chance, best = random.Random(1), None
     for _ in range(BEGINNINGS):
         for row in rows:
@@ -152,7 +152,7 @@ def order(rows):
 
 
 def by_neighbours(rows, side):
-    """Sorts each row by its neighbours on one side, beginning on that side."""
+    """Sorts each row by its neighbours on one side, starting from that side."""
     for row in rows if side == "below" else reversed(rows):
         at = {id(it): n / len(other) for other in rows for n, it in enumerate(other)}
         row.sort(key=lambda box: middle([at[id(it)] for it in getattr(box, side)], at[id(box)]))
@@ -163,7 +163,7 @@ def middle(places, otherwise):
 
 
 def settle(row, wanted):
-    """Places the boxes of a row, in their order, as near to what is wanted as widths allow."""
+    """Places the boxes of a row, in order, as close to the wanted positions as widths allow."""
     offset, blocks = 0, []
     for n, box in enumerate(row):
         if n:
@@ -193,7 +193,7 @@ def place(rows):
 
 
 def end(box, others, other):
-    """Where on a box a line from another one ends: those of one side are spread over its width."""
+    """Returns the x coordinate of a line's end on a box: lines are spread over its width."""
     if not box.names:
         return box.x
     some = sorted(others, key=lambda it: it.x)
@@ -202,8 +202,8 @@ def end(box, others, other):
 
 
 def line(upper, lower, bottom):
-    """A line from the lower side of a box, or a place, to the upper side of another one below it,
-    and through this where it is a place."""
+    """Returns the path of a line from the lower side of a box to the upper side of a lower one. It
+    passes through elements that are points of a line."""
     x, y = end(upper, upper.below, lower), bottom - ROW * upper.row + upper.high / 2
     z, w = end(lower, lower.above, upper), bottom - ROW * lower.row - lower.high / 2
     half = (y + w) / 2
@@ -214,13 +214,13 @@ def line(upper, lower, bottom):
 def drawn(rows):
     wide = round(max(box.x + box.wide / 2 for row in rows for box in row) + EDGE)
     bottom = 56 + ROW * (len(rows) - 1)
-    yield "<!-- Written by scripts/crates_picture.py: do not edit. -->"
+    yield "<!-- Generated by scripts/crates_picture.py; do not edit. -->"
     yield (
         f'<svg xmlns="http://www.w3.org/2000/svg" viewBox="0 0 {wide} {bottom + 60}" '
-        f'role="img" aria-label="The crates, each above those that it stands on">'
+        f'role="img" aria-label="The crates, each above its dependencies">'
     )
     yield f"<style>{STYLE}</style>"
-    yield f'<text class="title" x="{EDGE}" y="20">Lines lead down to what a crate stands on</text>'
+    yield f'<text class="title" x="{EDGE}" y="20">Lines lead down to a crate\'s dependencies</text>'
     every = [box for row in rows for box in row]
     for box in every:
         for it in box.below:

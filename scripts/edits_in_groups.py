@@ -1,11 +1,11 @@
-"""Tries edits of one crate, many in one check, and says of each whether the prover refuses it.
+"""Tries edits of one crate, many in one check, and reports for each whether the prover rejects it.
 
-`Trial` checks the functions that the edits change as they stand, unless they are known to be
-proved and call little, and then puts edits of different functions into one check, over a copy of
-what the first one proved. An edit is refused where the prover does not prove a goal of a function
-that it changes (`edits_refusals.py` reads what it says). What a group does not settle is tried
-alone, and so is an edit outside the bodies of functions, as of an impl's head: first with the
-functions of its module, and where none of these is refused over a check of the whole crate.
+`Trial` first checks the unchanged functions, unless they are known to be proved and call little.
+Then it checks groups of edits of different functions, each over a copy of the first check. An edit
+is rejected if the prover does not prove a goal of a function that it changes (`edits_refusals.py`
+parses the messages). An edit without a result in its group is tried separately. So is an edit
+outside the bodies of functions, for instance of the head of an impl: first with the functions of
+its module, then, if none of these is rejected, with the whole crate.
 """
 import os
 import re
@@ -17,19 +17,19 @@ from collections import Counter
 
 from edits_refusals import own_refusal, open_goals, refusal_alone, unread
 
-# How many edits stand in one check.
+# The maximum number of edits in one check.
 SIZE = 12
 FUNCTION = re.compile(r"( *)(?:pub(?:\([^)]*\))? |const |final |unsafe |extern \"C\" )*fn (\w+)")
 
 
 def modules_of(path):
-    """The names of the modules above what a file of code has, and its own."""
+    """Returns the path of the module of a source file."""
     parts = os.path.splitext(path)[0].split("/")[1:]
     return parts[:-1] if parts[-1] in ("lib", "main") else parts
 
 
 class Function:
-    """A function as the source has it: its module, its name, and the words of its impl's head."""
+    """A function in the source: its module, its name, and the words of its impl's head."""
 
     def __init__(self, path, lines, at):
         self.modules = modules_of(path)
@@ -37,12 +37,12 @@ class Function:
         self.head = head_above(lines, at) if indent else []
 
     def is_as(self, other):
-        """Whether the other one is the same function, of another text."""
+        """Returns whether `other` is the same function in another version of the text."""
         mine = (self.modules, self.name, self.head)
         return mine == (other.modules, other.name, other.head)
 
     def among(self, names):
-        """Those of the prover's names of functions that can be this one's."""
+        """Returns the prover's names that may denote this function."""
         depth = 1 + len(self.modules)
         found = [
             name
@@ -52,12 +52,12 @@ class Function:
             and len(name.split("::")) <= depth + 2
         ]
         near = [it for it in found if all(word in it.split("::")[depth] for word in self.head)]
-        # (a type such as `&str` has another name there, so that none may be near)
+        # (A type such as `&str` has another name there, so `near` may be empty.)
         return near or found
 
 
 def head_above(lines, at):
-    """The trait and the type that the impl or the trait above a line names."""
+    """Returns the names of the trait and the type of the impl or trait that contains a line."""
     begins = [it for it in range(at) if re.match(r"(pub )?(impl|trait)\b", lines[it])]
     text = " ".join(lines[begins[-1] if begins else at : at]).partition("{")[0].replace("->", "")
     while re.search(r"<[^<>]*>", text):
@@ -66,7 +66,7 @@ def head_above(lines, at):
 
 
 def function_at(path, text, at):
-    """The function in whose body, or on whose first line, a line stands; None outside of all."""
+    """Returns the function whose first line or body contains a line, or None."""
     lines = text.split("\n")
     indent, closed = len(lines[at]) - len(lines[at].lstrip()), set()
     for number in range(at, -1, -1):
@@ -79,7 +79,7 @@ def function_at(path, text, at):
 
 
 class Edit:
-    """An edit of a crate: the pairs of lines that it changes."""
+    """An edit of a crate: the lines that it replaces, with their replacements."""
 
     def __init__(self, written):
         self.name, self.pairs, path, old = written.name, [], "", None
@@ -91,12 +91,13 @@ class Edit:
             elif line.startswith("new:") and path and old:
                 self.pairs.append((path, old, line[len("new:") :].removeprefix(" ")))
                 old = None
-        # What it changes: functions, None for what is none, and their names for the prover; and its
-        # modules, with an empty name for the root and for what is no code.
+        # The changed functions (None for other code), their names for the prover, and the changed
+        # modules (an empty name for the root and for files that are not code).
         self.functions, self.names, self.modules = [], [], set()
 
     def applied(self, texts, folder):
-        """The texts with this edit, by their paths, or None where a line does not stand once."""
+        """Returns the texts with this edit, by path, or None if a line does not occur exactly
+        once."""
         texts = dict(texts)
         for path, old, new in self.pairs:
             if path not in texts:
@@ -109,7 +110,7 @@ class Edit:
         return texts
 
     def find(self, folder):
-        """Finds what it changes in the texts as they stand, and says whether it can be applied."""
+        """Finds the changed functions and modules, and returns whether the edit can be applied."""
         texts = self.applied({}, folder)
         for path, old, new in self.pairs if texts else []:
             whole = (folder / path).read_text(encoding="utf-8")
@@ -120,32 +121,34 @@ class Edit:
         return bool(texts) and bool(self.pairs)
 
     def has(self, path, texts, number):
-        """Whether a line of a checked text, by its number from 1, is of a function that this
-        changes."""
+        """Returns whether a line of a checked text, numbered from 1, is in a function that this
+        edit changes."""
         found = function_at(path, texts[path], number - 1)
         return found is not None and any(found.is_as(it) for it in self.functions if it)
 
     def take_names(self, names):
-        """Takes the names of its functions out of those that the prover told; none where one of
-        its places is in no function, or has no name."""
+        """Selects the names of its functions from the prover's names. There are none if a changed
+        line is in no function, or in one without a name."""
         found = [it.among(names) if it else [] for it in self.functions]
         self.names = sorted({name for each in found for name in each}) if all(found) else []
         self.is_clear = bool(found) and all(len(each) == 1 for each in found)
 
 
 class Trial:
-    """The edits of one crate, tried over what was proved of it. `laid` is the crate as the kit
-    knows it, over proved libraries; `say` prints a line about an edit."""
+    """The edits of one crate, tried over its proof. `laid` is the kit's object of the crate, over
+    proved libraries; `say` prints a line about an edit."""
 
     def __init__(self, lib, laid, folder, edits, say):
         self.lib, self.laid, self.folder, self.edits, self.say = lib, laid, folder, edits, say
-        # The names of the edits that are not refused, and of those that an answer alone refuses.
+        # The names of the edits that are not rejected, and of those that only a stored answer
+        # rejects.
         self.missed, self.by_answer = [], []
-        # Files of proofs that a check goes without.
+        # Files of proofs that are left out of a check.
         self.without = ()
 
     def checked(self, texts, only, over):
-        """Checks the crate with these texts in place of its own: the status and the lines said."""
+        """Checks the crate with these texts replaced, and returns the status and the output's
+        lines."""
         with tempfile.TemporaryDirectory(prefix="edit-") as room:
             for part in ("src", "specs", "proofs"):
                 if (self.folder / part).is_dir():
@@ -165,15 +168,16 @@ class Trial:
         return ran.returncode, ran.stdout.rstrip("\n").split("\n")
 
     def over_seed(self, texts, only):
-        """A check over a copy of what was proved of the crate as it stands."""
+        """Runs a check over a copy of the proof of the unchanged crate."""
         with tempfile.TemporaryDirectory(prefix="over-") as over:
             link_all(self.seed, over)
             return self.checked(texts, only, over)
 
     def run(self, start, calls):
-        """Tries all edits. `start` is a folder of work that an earlier check kept, or None. `calls`
-        has, of each of the crate's functions, those that it calls, where it is known that they are
-        proved as they stand; or it is None. Returns the names of the edits that were not refused."""
+        """Tries all edits, and returns the names of those that were not rejected. `start` is the
+        incremental folder of an earlier check, or None. `calls` maps each of the crate's functions
+        to those that it calls, if the unchanged functions are known to be proved; otherwise it is
+        None."""
         ready = []
         for edit in self.edits:
             if edit.find(self.folder):
@@ -187,7 +191,7 @@ class Trial:
             names = self.as_they_stand(ready) if calls is None else [*calls]
             if names is None:
                 for edit in ready:
-                    self.miss(edit, "the crate is not proved as it stands")
+                    self.miss(edit, "the unchanged crate is not proved")
                 return self.missed
             for edit in ready:
                 edit.take_names(names)
@@ -195,8 +199,8 @@ class Trial:
         return self.missed
 
     def as_they_stand(self, edits):
-        """Checks the modules that edits change as they stand, and returns the names of their
-        functions, or None where they are not proved."""
+        """Checks the unchanged modules of some edits, and returns the names of their functions, or
+        None if they are not proved."""
         modules = {"::".join(it.modules) for edit in edits for it in edit.functions if it}
         self.is_whole = not modules or "" in modules
         status, said = self.checked({}, [] if self.is_whole else sorted(modules), self.seed)
@@ -207,10 +211,10 @@ class Trial:
 
     def miss(self, edit, why):
         self.missed.append(edit.name)
-        self.say(edit, f"NOT REFUSED: {why}")
+        self.say(edit, f"NOT REJECTED: {why}")
 
     def in_groups(self, edits):
-        """Tries edits in groups, and alone what no group settles."""
+        """Tries edits in groups, then separately those without a result."""
         waiting, groups = [it for it in edits if it.is_clear], []
         alone = [it for it in edits if not it.is_clear]
         while waiting:
@@ -224,8 +228,8 @@ class Trial:
             self.alone(edit)
 
     def prove_what_is_called(self, groups):
-        """A check of functions is one of those that they call too. So it proves those of all groups
-        as they stand, once, where that is less than what each group would prove by itself."""
+        """Proves the unchanged functions of all groups once, if that is less work than each group
+        would do: a check of functions also checks those that they call."""
         changed = [{name for edit in group for name in edit.names} for group, _ in groups]
         all_changed = set().union(*changed)
         once = len(self.reached(all_changed)) + sum(map(len, changed))
@@ -233,7 +237,7 @@ class Trial:
             self.checked({}, sorted(all_changed), self.seed)
 
     def reached(self, names):
-        """Some functions, and those that they call, and those that these call."""
+        """Returns the functions that are reachable from some by calls."""
         found, waiting = set(), {*names}
         while waiting:
             found |= waiting
@@ -241,8 +245,8 @@ class Trial:
         return found
 
     def next_group(self, waiting):
-        """The next edits that change different functions, and the texts with all of them. Those of
-        functions with the most edits go first, since each group takes one of them at most."""
+        """Returns the next edits of different functions, and the texts with all of them. Edits of
+        the functions with the most edits go first, since a group takes at most one of each."""
         counts = Counter(name for edit in waiting for name in edit.names)
         group, texts, used = [], {}, set()
         for edit in sorted(waiting, key=lambda it: -max(counts[name] for name in it.names)):
@@ -252,12 +256,12 @@ class Trial:
         return group, texts
 
     def unsettled(self, group, texts):
-        """Tries a group, and returns those edits of which it does not say that they are refused."""
+        """Tries a group, and returns the edits that it does not reject."""
         begun, left = time.monotonic(), []
         names = sorted({name for edit in group for name in edit.names})
         status, said = self.over_seed(texts, names)
         if not said[-1].startswith("only="):
-            # One of them does not compile, or met a limit, and then nothing is said of the others.
+            # If one of them does not compile or meets a limit, the others have no result.
             halves = [group[: len(group) // 2], group[len(group) // 2 :]]
             if len(group) == 2:
                 return group
@@ -275,33 +279,33 @@ class Trial:
         return left
 
     def is_refused(self, edit, said, texts):
-        """Whether a goal of a function that an edit changes is refused; says so where one is.
-        `texts` are those that were checked."""
+        """Returns whether a goal of a function that an edit changes is rejected, and prints it.
+        `texts` are the checked texts."""
         places = open_goals(said)
         left = [it for it in places if it.path in texts and edit.has(it.path, texts, it.line)]
         told = [it for it in (own_refusal(said, name, left) for name in edit.names) if it]
-        # (what the prover says itself tells more than what an answer does)
+        # (A rejection by the prover is stronger than one by a stored answer.)
         return self.note(edit, min(told, key=lambda it: it.by_answer, default=None))
 
     def note(self, edit, refusal):
-        """Notes what refuses an edit, if anything does."""
+        """Records the rejection of an edit, if there is one."""
         if refusal:
             if refusal.by_answer:
                 self.by_answer.append(edit.name)
-            by = " by an answer" if refusal.by_answer else ""
-            self.say(edit, f"refused{by}: {refusal.told[:100]}")
+            by = " by a stored answer" if refusal.by_answer else ""
+            self.say(edit, f"rejected{by}: {refusal.told[:100]}")
         return bool(refusal)
 
     def alone(self, edit):
-        """Tries one edit: its functions, or where it changes none those of its module, and the
-        whole crate where these do not settle it."""
+        """Tries one edit with its functions; if it changes none, with those of its module; without
+        a result, with the whole crate."""
         texts = edit.applied({}, self.folder)
         if not edit.names and "" not in edit.modules and self.by_modules(edit, texts):
             return
         if not edit.names and not self.is_whole:
             self.is_whole = not self.checked({}, [], self.seed)[0]
             if not self.is_whole:
-                self.miss(edit, "the crate is not proved as it stands")
+                self.miss(edit, "the unchanged crate is not proved")
                 return
         status, said = self.over_seed(texts, edit.names)
         why = unread(status, said)
@@ -310,11 +314,11 @@ class Trial:
         elif self.is_refused(edit, said, texts):
             return
         elif not self.note(edit, refusal_alone(said, bool(edit.names))):
-            self.miss(edit, "no goal fails but by a name that it took away")
+            self.miss(edit, "goals fail only because of a name that it removed")
 
     def by_modules(self, edit, texts):
-        """Tries an edit that changes no function with the functions of its modules alone, which are
-        proved as they stand, and says whether it is refused so."""
+        """Tries an edit that changes no function with only the functions of its modules, which are
+        proved unchanged, and returns whether it is rejected."""
         names = sorted(edit.modules)
         if self.calls is None and self.checked({}, names, self.seed)[0]:
             return False
@@ -323,7 +327,8 @@ class Trial:
 
 
 def link_all(of, to):
-    """Copies kept work into a folder, by links: a check replaces a file there, and changes none."""
+    """Copies an incremental folder by hard links: a check replaces files, and never changes
+    them."""
 
     def copy(one, other):
         try:

@@ -1,14 +1,14 @@
 """Reads the edits of crates.
 
-Those of a crate stand in its file `edits.txt`, parted by empty lines:
+A crate's edits are in its file `edits.txt`, separated by empty lines:
 
     edit: complement_is_the_set
     file: src/byte_set.rt
     old:     !word
     new:     word
 
-Behind its name an edit has a file of the crate, and what stands there once in a line, with what is
-put in its place. More such pairs may follow, of other files too. In `must-fail/`, which the kit
+After its name, an edit has a file of the crate, a text that occurs once in it, within a line, and
+the replacement. More such pairs may follow, also for other files. In `must-fail/`, which the kit
 reads, each edit is a file, without the line of its name.
 """
 import pathlib
@@ -20,19 +20,19 @@ CRATES = pathlib.Path(__file__).resolve().parent.parent / "crates"
 NAME = "edit: "
 LINES = re.compile(r"(file: .+\n|old: .+\n|new:.*\n)+")
 
-# An edit: its crate, its name, and the lines behind that.
+# An edit: its crate, its name, and the lines after the name.
 Written = namedtuple("Written", "crate name text")
 
 
 def edits_of(crate):
-    """The edits of a crate, by their names in order."""
+    """Returns the edits of a crate, sorted by name."""
     file, found = CRATES / crate / "edits.txt", {}
     text = file.read_text(encoding="utf-8") if file.is_file() else ""
     for block in filter(None, re.split(r"\n\n+", text.strip("\n"))):
         first, _, lines = f"{block}\n".partition("\n")
         name = first.removeprefix(NAME)
         if not first.startswith(NAME) or not LINES.fullmatch(lines):
-            sys.exit(f"crates/{crate}/edits.txt: this is no edit:\n{block}")
+            sys.exit(f"crates/{crate}/edits.txt: not an edit:\n{block}")
         if name in found:
             sys.exit(f"crates/{crate}/edits.txt has two edits {name}")
         found[name] = Written(crate, name, lines)
@@ -40,11 +40,11 @@ def edits_of(crate):
 
 
 def must_fail_of(crate):
-    """Those of `must-fail/`."""
+    """Returns the edits in `must-fail/`."""
     files = sorted((CRATES / crate / "must-fail").glob("*.edit"))
     return [Written(crate, it.stem, it.read_text(encoding="utf-8")) for it in files]
 
 
 def text_of(edits):
-    """The text of a file with these edits."""
+    """Returns the text of a file with these edits."""
     return "\n".join(f"{NAME}{it.name}\n{it.text}" for it in sorted(edits))

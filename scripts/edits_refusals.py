@@ -1,74 +1,75 @@
-"""Reads what the prover says against an edit.
+"""Parses the prover's messages about an edit.
 
-It refuses an edit where it does not prove a goal of a function that the edit changes. That a
-function waits for another one, or that its proof names what the edit took away, says nothing.
+An edit is rejected if the prover does not prove a goal of a function that the edit changes. An edit
+is not rejected if a function waits for another one, or if its proof uses a name that the edit
+removed.
 
-A stored answer proves its goal from one body, so it may refuse a right edit too: such a refusal
-says that the answer is stale. One says more where the prover itself leaves open a goal that it
-proved by `search` before, or finds values at which a goal is false. `Refusal` tells the two apart.
+A stored answer proves its goal for one body, so it may reject a correct edit too: such a rejection
+only means that the answer is stale. A rejection means more if the prover leaves open a goal that it
+proved by `search` before, or finds values for which a goal is false. `Refusal` distinguishes the
+two.
 """
 import re
 from collections import namedtuple
 
-# An error in a proof that only misses a name, and with it what cites that proof. Of a goal that is
-# gone the words behind its module differ by kit.
+# An error in a proof because a name is missing, or in a proof that cites such a proof. For a
+# missing goal, the words after its module differ between kits.
 NAMES = re.compile(
     r"has no field|is not in scope|has no `|was not admitted|`goal\.[^`]*`: module `"
     r"|, which was rejected, was not checked"
 )
-# An error that the front end found: the text is no Rattle.
+# An error of the front end: the text is not valid Rattle.
 BAD_TEXT = re.compile(r"\berror\[[\w-]+\]", re.MULTILINE)
 BAD_CLAUSE = re.compile(r"is not in scope|has no field|is no name|expected the end|cannot cont")
-# A place in the proofs of a cycle of calls, whose folder has a name of its own.
+# A position in the proofs of a cycle of calls, whose folder has a name of its own.
 CYCLE = re.compile(r"\./proofs/(\S*/)?\+[^/\s]*/")
-# A line that says what is not proved, or not read, and where.
+# A line that reports what is not proved or not valid, and where.
 ERROR = re.compile(r"(\./)?(src|specs|proofs)/\S+: error|note: src/\S+: it is not proved")
 OPEN = re.compile(r"note: (src/\S+?):(\d+):\d+: it is not proved")
-# What it says of a goal that no proof can have.
+# The message for a goal that is false.
 FALSE = "allow values at which this goal is false"
 
-# What is said against an edit, and whether only a stored answer is against it: one that no longer
-# proves its goal, or the want of one, where the edit took away the names that answers have.
+# The message that rejects an edit, and whether only a stored answer rejects it: one that no longer
+# proves its goal, or one that is missing because the edit removed a name.
 Refusal = namedtuple("Refusal", "told by_answer")
-# A goal that is left open: the file and the line of its place, and what is said of it.
+# An open goal: the file and line of its position, and the message.
 OpenGoal = namedtuple("OpenGoal", "path line told")
 
 
 def open_goals(said):
-    """The goals that `search` left open, by their places in the code."""
+    """Returns the goals that `search` left open, with their positions in the code."""
     found = ((OPEN.match(line), line) for line in said)
     return [OpenGoal(it[1], int(it[2]), words_of(line)) for it, line in found if it]
 
 
 def words_of(note):
-    """What a note says, without the place that it says it of."""
+    """Returns the message of a note, without its position."""
     return note.split(": ", 2)[-1]
 
 
 def proofs_of(name):
-    """Where the proofs of a function stand: in its folder, or in that of the cycle of calls that it
-    is in, which has the names of all that are, each behind a plus."""
+    """Returns a pattern of the path of a function's proofs: its folder, or the folder of its cycle
+    of calls, whose name has all functions of the cycle, each after a plus."""
     *above, last = (re.escape(it) for it in name.split("::")[1:])
     folders = "".join(it + "/" for it in above)
     return rf"\./proofs/{folders}(\+([^/\s]*\+)?{last}(\+[^/\s]*)?|{last})/"
 
 
 def errors_at(said, at):
-    """The errors in proofs there: what only misses a name, and the others."""
+    """Returns the errors in proofs at a path: those of missing names, and the others."""
     errors = [it for it in said if re.match(rf"{at}\S*: error", it)]
     stale = [it for it in errors if NAMES.search(it)]
     return stale, [it for it in errors if it not in stale]
 
 
 def by_search(told, stale):
-    """What goals that are left open say, beside answers that name what is gone."""
+    """Returns the rejection by open goals; `stale` are errors of missing names in stored answers."""
     false = [it for it in told if FALSE in it]
     return Refusal((false or told)[0], bool(stale) and not false)
 
 
 def own_refusal(said, name, left=()):
-    """What the prover says against a goal of a function's own, or None. `left` are the goals that
-    it leaves open there."""
+    """Returns the rejection of a function's own goals, or None. `left` are its open goals."""
     stale, errors = errors_at(said, proofs_of(name))
     lines = [it for it in said if re.match(rf"fn {re.escape(name)}(::\S+)?: .*did not prove", it)]
     told = [re.search(r"`search` did not prove.*", it)[0] for it in lines]
@@ -80,10 +81,9 @@ def own_refusal(said, name, left=()):
 
 
 def refusal_alone(said, is_named):
-    """What the check of one edit says against it, or None: no other body differs, so a goal that
-    `search` left open is one of this edit's, and one of a cycle of calls is of the function that
-    calls this one, or of itself. `is_named` says that what the edit changes are functions that have
-    names."""
+    """Returns the rejection in a check of one edit, or None. No other body differs, so an open goal
+    belongs to this edit, and a goal of a cycle of calls to the function or to one that calls it.
+    `is_named`: the edit changes only functions that have names."""
     told = [it for it in said if ERROR.match(it) and not NAMES.search(it)]
     if is_named:
         told = [it for it in told if it.startswith("note: ") or CYCLE.match(it)]
@@ -94,13 +94,13 @@ def refusal_alone(said, is_named):
 
 
 def unread(status, said):
-    """Why the check of one edit says nothing of its goals, or None."""
+    """Returns why the check of one edit has no result for its goals, or None."""
     errors = [it for it in said if ERROR.match(it)]
     bad = [it for it in errors if not it.startswith("./proofs/") and BAD_CLAUSE.search(it)]
     if status == 0:
         return "it is still proved"
     if bad or BAD_TEXT.search("\n".join(said)):
-        return f"it cannot be read: {(bad or said)[0]}"
+        return f"it does not compile: {(bad or said)[0]}"
     if not said[-1].startswith(("only=", "logic=not-proved")):
-        return f"its check came to no end: {said[-1]}"
+        return f"its check did not finish: {said[-1]}"
     return None

@@ -1,10 +1,10 @@
-"""The formats whose readers `scripts/vendor --with` copies, and what their proofs cost."""
+"""The formats whose parsers `scripts/vendor --with` copies, and the cost of their proofs."""
 import re
 
 from laid import library
 from registry.common import TOP, read
 
-# The crates of each format. What they stand on is found in `crates.txt`.
+# The crates of each format. Their dependencies are in `crates.txt`.
 FORMATS = {
     "calculator": ["format_calculator"],
     "csv": ["format_csv", "format_csv_records", "format_csv_reader"],
@@ -19,20 +19,20 @@ FORMATS = {
 
 
 def lines_of(formats):
-    """The lines of `crates.txt` that name the crates of formats, and those that they stand on above
-    the library, lowest first."""
+    """Returns the lines of `crates.txt` for the crates of formats and their dependencies above the
+    library, dependencies first."""
     below = library()
     found = library(*(crate for it in formats for crate in FORMATS[it]))
     return {name: line for name, line in found.items() if name not in below}
 
 
 def seconds():
-    """Processor seconds of the proof of each crate, as CONTRIBUTING.md has them."""
+    """Returns the CPU seconds of each crate's proof, from CONTRIBUTING.md."""
     rows = re.findall(r"`(\w+)` \| (\d+) \| (?:\d+|new) \|", read(TOP / "CONTRIBUTING.md"))
     return {name: int(took) for name, took in rows}
 
 
 def minutes_of(formats):
-    """Processor minutes of the proofs of the crates of formats, beside those of the library."""
+    """Returns the CPU minutes of the proofs of the crates of formats, without the library's."""
     known = seconds()
     return round(sum(known[it] for it in lines_of(formats)) / 60)

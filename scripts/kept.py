@@ -1,10 +1,11 @@
 #!/usr/bin/env python3
-"""Gives the crates of a folder what `rt ci` proved of the same on this machine: `scripts/kept.py FOLDER`.
+"""Copies proofs that `rt ci` kept on this machine to the crates of a folder:
+`scripts/kept.py FOLDER`.
 
-It is for a folder that another script laid, so that `rt` there proves only what was not proved. A kit
-keeps what passed `rt ci` from 13f on; with one that keeps nothing, nothing is given. A crate is given
-where all that it stands on is, or is built in the folder already, and the kit sees to it that it is
-the same: code, specs, proofs, handles, and the libraries below.
+The folder is one that another script created. Then `rt` proves only the other crates there. Kits
+from 13f on keep what passed `rt ci`; with an older kit nothing is copied. A crate's proof is copied
+if all its dependencies have theirs, or are built in the folder already. The kit checks that the
+crate is the same: code, specs, proofs, handles, and the libraries below.
 """
 import functools
 import pathlib
@@ -17,8 +18,8 @@ from toolchain import toolchain  # noqa: E402
 
 
 def give(rt, crates):
-    """Gives these crates, which are in no order, what was kept, and returns the names of those that
-    are built then."""
+    """Copies the kept proofs of these crates, in any order, and returns the names of those that are
+    then built."""
     if not hasattr(rt, "Kept"):
         return set()
     store, given = rt.Kept([*crates]), set()
@@ -26,7 +27,7 @@ def give(rt, crates):
         if not {dep.name for dep in it.below()} <= given:
             continue
         if not it.is_built():
-            # The kit drops what it kept of a crate where files of another build stand beside it.
+            # The kit drops the kept proof of a crate if files of another build are next to it.
             shutil.rmtree(pathlib.Path(it.folder) / "out/rlib", ignore_errors=True)
             if not store.give(it, False, store.key(it)):
                 continue
@@ -37,7 +38,7 @@ def give(rt, crates):
 
 def main(top):
     rt = toolchain()
-    # A crate asks for the stamps of all that it stands on.
+    # A crate reads the stamps of all its dependencies.
     rt.rtlib.Crate.stamp = functools.cache(rt.rtlib.Crate.stamp)
     crates = [it for it in rt.rtlib.crates_below(str(top)) if not it.is_program and not it.is_static]
     given = give(rt, crates)
@@ -46,7 +47,7 @@ def main(top):
             stamp = pathlib.Path(it.folder) / "out/rlib/stamp"
             stamp.write_text(it.stamp(), encoding="utf-8")
     left = ", ".join(sorted(it.name for it in crates if it.name not in given)) or "none"
-    print(f"Of {len(crates)} crates {len(given)} are proved already; left: {left}.")
+    print(f"{len(given)} of {len(crates)} crates are already proved; not proved: {left}.")
 
 
 if __name__ == "__main__":

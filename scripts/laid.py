@@ -1,12 +1,12 @@
-"""Lays the library into another folder, for what is run over it."""
+"""Copies the library into another folder, for programs that are run over it."""
 import shutil
 
 from registry.common import CRATES, TOP, crates, lines_of_crates
 
 
 def library(*above):
-    """The lines of `crates.txt` that name the library's crates, lowest first, and these above, with
-    all that they stand on."""
+    """Returns the lines of `crates.txt` for the library's crates, dependencies first, and for the
+    crates `above` with their dependencies."""
     found, known, lines = {}, crates(), lines_of_crates()
 
     def add(name):
@@ -21,15 +21,15 @@ def library(*above):
 
 
 def copy_crate(name, folder):
-    """Copies what a crate is made of: its code, specs and proofs."""
+    """Copies a crate's code, specs and proofs."""
     for part in ("src", "specs", "proofs"):
         if (CRATES / name / part).is_dir():
             shutil.copytree(CRATES / name / part, folder / name / part)
 
 
 def lay(room, others, above=()):
-    """Lays the library into a folder, with these crates above it, and names other crates, by what
-    each stands on, behind it."""
+    """Copies the library into a folder, with the crates `above` it, and appends the crates `others`
+    with their dependencies to its `crates.txt`."""
     lines = library(*above)
     for name in lines:
         copy_crate(name, room / "crates")

@@ -1,13 +1,13 @@
 #!/usr/bin/env python3
-"""Names the faults of documentation comments:
+"""Reports errors in documentation comments:
 
     python3 scripts/lint.py
 
-The comment of each public item, `///` in a crate's `src/`, begins with a capital letter or a code
-span, ends its first paragraph as a sentence, and names each other name of the item once ("Known as
-`tag` in nom"). Every public item of the library has one. README.md has at most 700 words outside of
-its blocks of code, and at most 25 lines of code that are not empty in these blocks together. It
-fails where a comment or README.md has a fault.
+The comment of each public item, `///` in a crate's `src/`, must begin with a capital letter or a
+code span, end its first paragraph as a sentence, and mention each other name of the item once
+("Known as `tag` in nom"). Every public item of the library must have one. README.md may have at
+most 700 words outside of its code blocks, and at most 25 nonempty lines of code. It fails if there
+is an error.
 """
 import pathlib
 import re
@@ -22,8 +22,8 @@ MOST_WORDS, MOST_CODE = 700, 25
 
 
 def comments(path):
-    """The documentation of the public items of a file: the first line's number, the item and the
-    lines of the comment."""
+    """Returns the documentation of a file's public items: the number of the first line, the item
+    and the comment's lines."""
     comment, start = [], 0
     for number, line in enumerate(read(path).splitlines(), 1):
         text = line.strip()
@@ -40,13 +40,13 @@ def comments(path):
 
 
 def aliases(text):
-    """The other names that a comment says an item is known by."""
+    """Returns the other names of an item in its comment."""
     for sentence in re.findall(r"Known as (.*?)\.(?= |$)", text):
         yield from re.findall(r"`(\w+)`", sentence)
 
 
 def faults(comment):
-    """What is wrong with a comment, in words."""
+    """Returns descriptions of the errors of a comment."""
     prose = " ".join(comment).partition("```")[0]
     if not re.match(r"[A-Z]|\[?`", prose):
         yield "begins in mid-sentence"
@@ -59,14 +59,14 @@ def faults(comment):
 
 
 def faults_of_readme():
-    """What README.md has too much of, in words."""
+    """Returns descriptions of README.md's excesses."""
     parts = re.split(r"^```.*$", read(TOP / "README.md"), flags=re.MULTILINE)
     words = len(re.findall(r"\S*\w\S*", "".join(parts[::2])))
     code = len(re.findall(r"\S.*", "".join(parts[1::2])))
     if words > MOST_WORDS:
-        yield f"{words} words, and at most {MOST_WORDS} are allowed"
+        yield f"{words} words, more than {MOST_WORDS}"
     if code > MOST_CODE:
-        yield f"{code} lines of code, and at most {MOST_CODE} are allowed"
+        yield f"{code} lines of code, more than {MOST_CODE}"
 
 
 def main():
@@ -82,7 +82,7 @@ def main():
             for fault in found:
                 wrong += 1
                 print(f"{path.relative_to(TOP)}:{number}: {item} {fault}")
-    print(f"{wrong} faults of documentation")
+    print(f"{wrong} errors of documentation")
     return 1 if wrong else 0
 
 

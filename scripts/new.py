@@ -1,15 +1,15 @@
 #!/usr/bin/env python3
-"""Lays out the files of a new parser:
+"""Creates the files of a new parser:
 
-    ./x new leaf FILE NAME          as `./x new leaf crates/winnow_token/src/token.rt word`
+    ./x new leaf FILE NAME          for instance `./x new leaf crates/winnow_token/src/token.rt word`
     ./x new combinator FILE NAME
     ./x new reader NAME             a format, as a crate `format_NAME` (`new_reader.py`)
 
-FILE is the one that gets the function NAME. The templates are two parsers of the library under the
-new name, `any` for a leaf and `opt` for a combinator, with their proofs: so what is laid out is
-proved as it stands, and is then changed step by step. A test, an edit and a note are laid out too,
-the lists and tables of all parsers are written, and each file is formatted, its long lines broken:
-so what checks names finds it. It prints what is to be changed.
+FILE gets the function NAME. The templates are two parsers of the library under the new name, `any`
+for a leaf and `opt` for a combinator, with their proofs. So the new files are proved unchanged, and
+can then be changed step by step. A test, an edit and a note are created too, the lists and tables
+of parsers are updated, and each file is formatted, so that the checks of names pass. It prints what
+to change.
 """
 import pathlib
 import re
@@ -29,22 +29,21 @@ MODELS = {
     "combinator": ("opt", CRATES / "winnow_comb/src/combinator/basic.rt"),
 }
 NEXT = """Now change, in this order:
-  {spec}: the definition, `{kind}Runs`, a line a case
-  {file}: the clauses and the documentation of `{name}`, and what it runs
-  {impls}: the struct `{kind}`, its parser with what it claims, and that it is stable
-  {laws}: that its runs leave an end, stay on longer inputs, and keep what is claimed: one
-    input decides them, and they read by its grammar
-  {test}: what it answers, by values from outside
-  {edit}, `{name}_..`: a line of the code, and a wrong one in its place
-  {note}: a line for the release
-`./x quick` says what is missing."""
-# The same in other words, so that a line of the model stays the only one of its kind in its file: an
-# edit names it.
+  {spec}: the definition, `{kind}Runs`, a line per case
+  {file}: the clauses, the documentation and the body of `{name}`
+  {impls}: the struct `{kind}`, its impl of `Parser` with the claim, and its impl of `Stable`
+  {laws}: the lemmas: it leaves a suffix, is stable, and satisfies its claim (it is
+    deterministic, and parses by its grammar)
+  {test}: its results, with expected values from another source
+  {edit}, `{name}_..`: a line of the code, and a wrong replacement
+  {note}: a line for the release notes
+`./x quick` reports what is missing."""
+# An equivalent line, so that the model's line stays unique in its file: an edit names it.
 OTHERWISE = ("match input.next_token() {", "match Input::next_token(input) {")
 
 
 class Place:
-    """Where a parser stands: its crate, the module that has it, and the file of its function."""
+    """The location of a parser: its crate, its module, and the file of its function."""
 
     def __init__(self, name, file):
         self.name, self.file = name, file
@@ -56,14 +55,14 @@ class Place:
 
 
 def renamed(text, of, to):
-    """A text of the model under the new name: all code, and in comments what is code. Marks stand
-    for the new names till the end, since these may begin with the model's."""
+    """Returns the model's text with the new names, in code and in code spans of comments. First it
+    writes placeholders, since the new names may begin with the model's."""
     kind, new, name = camel(of.name), "\0", "\1"
     text = text.replace(f"Rattle.{of.crate.name}.specs.{kind}", f"Rattle.{to.crate.name}.specs.{new}")
     text = text.replace(f"specs.declared.{of.module}.impls.{of.name}.", f"specs.declared.{to.module}.impls.{name}.")
     text = text.replace(f"Rattle.{of.crate.name}.specs.declared", f"Rattle.{to.crate.name}.specs.declared")
     text = re.sub(rf"\bcrate::{of.module}::", f"crate::{to.module}::", text)
-    # what callers know of a run of the model beside its grammar is the model's own
+    # The model's inversion lemmas are not copied.
     text = text.replace("pub mod Known\n", "")
     lines, is_code = [], False
     for line in text.split("\n"):
@@ -80,13 +79,13 @@ def renamed(text, of, to):
 
 
 def function(of):
-    """The model's function, with its documentation, but not with its names elsewhere."""
+    """Returns the model's function with its documentation, without its names in other libraries."""
     found = re.search(rf"(?:^(?:///|#\[).*\n)*^pub fn {of.name}\b(?:.*\n)*?^\}}\n", read(of.file), re.MULTILINE)
     return re.sub(r"///\n/// Known as .*\n", "", found[0]).replace(*OTHERWISE)
 
 
 def imports(text):
-    """The names that a file brings in: the words before each path, the path and the name."""
+    """Returns the imports of a file: the words before each path, the path and the name."""
     for words, path, names in re.findall(
         r"^((?:ghost )?use )([\w.:◌]+?)(?:\.|::)(?:\{([^}]*)\}|\w+);", text, re.MULTILINE
     ):
@@ -97,7 +96,7 @@ def imports(text):
 
 
 def with_import(text, words, line):
-    """A text with one more line that brings something in, in the order of these lines."""
+    """Returns a text with one more import, inserted in order."""
     lines = list(re.finditer(rf"^{words}(?:[^;]*);\n", text, re.MULTILINE))
     behind = [it.end() for it in lines if it[0] < line]
     at = behind[-1] if behind else lines[0].start() if lines else text.index("\n\n") + 2
@@ -105,7 +104,7 @@ def with_import(text, words, line):
 
 
 def with_function(of, to):
-    """The text of the new parser's file with its function, and with what that names."""
+    """Returns the text of the new parser's file with its function and the imports for it."""
     body, text = function(of), read(to.file)
     have = {name for *_, name in imports(text)}
     for words, path, name in imports(read(of.file)):
@@ -120,7 +119,7 @@ def with_function(of, to):
 
 
 def copies(of, to):
-    """The files of the model, each with that of the new parser."""
+    """Returns pairs of the model's files and the new parser's files."""
     yield of.impls, to.impls
     yield of.spec, to.spec
     folder = of.spec.with_suffix("")
@@ -135,7 +134,7 @@ def copies(of, to):
 
 
 def name_in_module(to):
-    """Names the function in the root of its module, where that is another file."""
+    """Re-exports the function from the root of its module, if that is another file."""
     root = to.crate / "src" / f"{to.module}.rt"
     path = "crate::" + "::".join(to.path)
     found = re.search(rf"^pub use {path}::(?:\{{([^}}]*)\}}|(\w+));", read(root), re.MULTILINE)
@@ -146,7 +145,7 @@ def name_in_module(to):
 
 
 def written():
-    """Writes the lists of what the tree has: the crates with a file that it wrote."""
+    """Updates the generated lists, and returns the crates with a changed file."""
     how = {"check": True, "capture_output": True, "text": True}
     said = subprocess.run([sys.executable, str(TOP / "scripts/registries.py")], **how).stdout
     return {CRATES / name for name in re.findall(r"^crates/(\w+)/", said, re.MULTILINE)}

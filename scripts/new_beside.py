@@ -1,10 +1,10 @@
-"""What `scripts/new.py` lays out beside a parser: its test, an edit and a note."""
+"""The test, the edit and the note that `scripts/new.py` creates for a parser."""
 import re
 
 from edits_read import Written, edits_of, text_of
 from registry.common import TOP, camel, read
 
-# Where the tests of a crate's parsers stand, a file each: the folder, and the file that names them.
+# The tests of a crate's parsers, one file each: the folder, and the file that declares the modules.
 TESTS = {
     "winnow_ascii": ("tokens/ascii", "tokens/ascii.rs"),
     "winnow_binary": ("binary", "binary/lib.rs"),
@@ -38,7 +38,7 @@ fn {name}(rt: HostRuntime) {{
     at_text!(rt; {name}_of_text);
 }}
 """
-# What a test has of its kind. `OF` stands for the parser's module and its crate.
+# The parts of a test, by kind. `OF` stands for the parser's module and its crate.
 TEST = {
     "leaf": {
         "more": "",
@@ -67,7 +67,7 @@ TEST = {
         ],
     },
 }
-# An edit of the struct's own file: its name, a line that stands there once, and a wrong one.
+# An edit of the struct's file: its name, a line that occurs once, and a wrong replacement.
 EDIT = {
     "leaf": (
         "skips_a_token",
@@ -84,13 +84,14 @@ EDIT = {
 
 
 def summary(place):
-    """The first sentence of the function's documentation."""
+    """Returns the first sentence of the function's documentation."""
     found = re.search(rf"^/// ((?:(?!///).)*)\n(?:(?:///|#\[).*\n)*pub fn {place.name}\b", read(place.file), re.MULTILINE)
     return found[1] if found else f"The parser {place.name}."
 
 
 def test_of(kind, place):
-    """The file of the parser's test and its text, and the file that names it and its text."""
+    """Returns the file of the parser's test and its text, and the file that declares the module and
+    its text."""
     folder, root = TESTS[place.crate.name]
     of = f"{place.crate.name}::{place.module}"
     words = {key: it for key, it in TEST[kind].items() if key != "rows"}
@@ -104,7 +105,7 @@ def test_of(kind, place):
 
 
 def with_module(text, name):
-    """A text that names modules, and this one too, in order."""
+    """Returns a text of module declarations with one more module, in order."""
     mods = re.findall(r"(?:^#\[cfg\(test\)\]\n)?^mod \w+;\n", text, re.MULTILINE)
     mark = "#[cfg(test)]\n" if mods[0].startswith("#") else ""
     old = "".join(mods)
@@ -113,7 +114,8 @@ def with_module(text, name):
 
 
 def beside(kind, place):
-    """The files beside a parser, each with its text; the test, the edit and the note come first."""
+    """Returns the other files of a parser with their texts; first the test, the edit and the
+    note."""
     test, text, root, named = test_of(kind, place)
     what, old, new = EDIT[kind]
     file = place.impls.relative_to(place.crate)

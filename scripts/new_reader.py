@@ -1,9 +1,8 @@
-"""What `./x new reader NAME` lays out: a reader of a format, in a crate `format_NAME`.
+"""Creates the crate `format_NAME` for `./x new reader NAME`: the parser of a format.
 
-The model is `examples::settings_file`, the reader of docs/FIRST_PROOF.md, with its specs, answers,
-tests and edits under other names. So what is laid out is proved as it stands. Beside the crate it
-writes its lines in `crates.txt`, ARCHITECTURE, CONTRIBUTING, GUARANTEES and the lists of
-`scripts/`, and a note.
+The model is `examples::settings_file`, the parser of docs/FIRST_PROOF.md, with its specs, answers,
+tests and edits under other names. So the new crate is proved unchanged. The script also adds its
+lines to `crates.txt`, ARCHITECTURE, CONTRIBUTING and the lists of `scripts/`, and writes a note.
 """
 import re
 import subprocess
@@ -16,7 +15,7 @@ from vendor_beside import taken_names
 from wrap import wrapped
 
 MODEL = CRATES / "examples"
-# The files of the model, each with that of the new crate.
+# The files of the model, and those of the new crate.
 COPIES = {
     "src/settings_file.rt": "src/reader.rt",
     "specs/SettingsFile/Settings.antt": "specs/Settings.antt",
@@ -26,7 +25,7 @@ COPIES = {
 }
 EDITS = ("ends_keys_at_a_colon", "wants_a_value")
 TEST = TOP / "tests/example_first_proofs/settings_file.rs"
-# How names of the model are called in the new crate, whose name is `FORMAT`.
+# The names of the model, and those in the new crate, whose name is `FORMAT`.
 RENAMED = {
     "examples.specs.SettingsFile.Settings.": "FORMAT.specs.Settings.",
     "examples.specs.SettingsFile.Read.": "FORMAT.specs.SettingsRead.",
@@ -36,30 +35,30 @@ RENAMED = {
     "parse_settings": "parse_file",
     ": the first proof of `docs/FIRST_PROOF.md`.": ".",
 }
-WHAT = "settings, a line each, as `width=12`"
-ROOT = """//! A reader of settings, a line each, as `width=12`.
+WHAT = "lines of settings such as `width=12`"
+ROOT = """//! A parser of lines of settings such as `width=12`.
 #![tactic(auto)]
 
 pub mod reader;
 """
 PAGE = """# {crate}
 
-A reader of {what}.
+A parser of {what}.
 
-**Theorem.** `parse_file` returns `Ok` exactly if the bytes are settings in the words of `specs/Settings.antt`, with their keys and values, out of memory aside.
+Depends on `winnow`.
 
 Begin with:
 
-- [specs/Settings.antt](specs/Settings.antt): what the format is
+- [specs/Settings.antt](specs/Settings.antt): the definition of the format
 - [src/reader.rt](src/reader.rt): `parse_file`
 
-Stands on `winnow`.
+## Theorems
 
-What is proved: [GUARANTEES](../../docs/GUARANTEES.md#grammars-winnow_core-winnow_exact).
+- **`reader::parse_file`** returns `Ok` if and only if all bytes are settings, with their keys and values, unless an allocation fails. Clause: its `ensures` (`IsTextOf` of [`Settings`](specs/Settings.antt)).
 """
-# Processor seconds of its proof.
+# The CPU seconds of its proof.
 SECONDS = 30
-# Lines beside the crate: the file, what they stand in front of (or, with `+`, behind), and they.
+# Lines in other files: the file, the text that they are inserted before, and the lines.
 LINES = [
     (TOP / "crates.txt", "# The readers.\n", "# {What}.\n{crate}: winnow\n"),
     (
@@ -71,52 +70,49 @@ LINES = [
         TOP / "scripts/registry/readers.py",
         '    ("INI", "readers", ',
         '    ("{name}: settings, a line each", "{crate}", "yes",\n'
-        '        "`Ok` exactly where the bytes are these settings"),\n',
+        '        "exactly"),\n',
     ),
     (TOP / "scripts/formats.py", "}}\n\n\ndef lines_of", '    "{name}": ["{crate}"],\n'),
 ]
-# The table of CONTRIBUTING.md that has two crates a row, and its last row.
+# The table of CONTRIBUTING.md, with two crates per row, and its last row.
 COSTS = TOP / "CONTRIBUTING.md"
 HALF = re.compile(r"^(\| `\w+` \| \d+ \| (?:\d+|new) \|) \| \| \|\n", re.MULTILINE)
 FULL = re.compile(r"(?:^\| `\w+` \| \d+ \| (?:\d+|new) \| `\w+` \| \d+ \| (?:\d+|new) \|\n)+", re.MULTILINE)
-GUARANTEES = TOP / "docs/GUARANTEES.md"
-ROW = re.compile(r"^\| `parse_settings` of `examples::settings_file`.*\n", re.MULTILINE)
-PROMISE = "| `{crate}::reader::parse_file` returns `Ok` exactly if all of the bytes are of the format, with its parts | `IsTextOf` |\n"
-NEXT = """{crate} is laid out. Now change, in this order (docs/FIRST_PROOF.md is the lesson):
-  {at}/specs/Settings.antt: what the format is
+NEXT = """{crate} is created. Now change, in this order (docs/FIRST_PROOF.md explains the steps):
+  {at}/specs/Settings.antt: the definition of the format
   {at}/src/reader.rt: the sets and the parser, with its documentation
-  {at}/specs/SettingsRead.antt: the grammar of each part, and a lemma each
-  tests/{crate}/lib.rs: what it returns, by values from outside
+  {at}/specs/SettingsRead.antt: the grammar of each part, with a lemma
+  tests/{crate}/lib.rs: its results, with expected values from another source
   {at}/proofs: the two answers
-  {at}/edits.txt: a wrong line for each meaning
-  {at}/README.md, and in docs/GUARANTEES.md the row of {crate}
-  scripts/registry/readers.py, docs/ARCHITECTURE.md, crates.txt, changes/{crate}.md: what it reads
-  CONTRIBUTING.md: what its proof costs
-`./x quick` says what is missing; `rt check` in {at} proves it."""
+  {at}/edits.txt: a wrong line for each definition
+  {at}/README.md: the page of the crate, with its theorem
+  scripts/registry/readers.py, docs/ARCHITECTURE.md, crates.txt, changes/{crate}.md: the format
+  CONTRIBUTING.md: the cost of its proof
+`./x quick` reports what is missing; `rt check` in {at} proves it."""
 
 
 def fault_of_name(name):
-    """Why no format can have a name, or nothing."""
+    """Returns why a format cannot have a name, or an empty text."""
     if not re.fullmatch(r"[a-z][a-z0-9]*(?:_[a-z0-9]+)*", name):
-        return f"{name} is no name: it has small letters, digits, and _ between words"
+        return f"{name} is not a name: use lower-case letters, digits, and _ between words"
     crate = f"format_{name}"
     named = re.findall(r"^(\w+)", read(TOP / "crates.txt"), re.MULTILINE)
     if crate in named or (CRATES / crate).exists() or (TOP / "tests" / crate).exists():
-        return f"there is a crate {crate}, or tests of it"
+        return f"the crate {crate} or its tests already exist"
     if name in FORMATS:
         return f"{name} is a format of scripts/vendor"
     return f"the kit has a library {crate}" if crate in taken_names() else ""
 
 
 def renamed(text, crate):
-    """A text of the model under the new names."""
+    """Returns the model's text with the new names."""
     for old, new in RENAMED.items():
         text = text.replace(old, new.replace("FORMAT", crate))
     return text
 
 
 def files(crate):
-    """The files of the crate and of its tests, each with its text."""
+    """Returns the files of the crate and of its tests with their texts."""
     for old, new in COPIES.items():
         text = wrapped(renamed(read(MODEL / old), crate), new.endswith(".antt"))
         yield CRATES / crate / new, text
@@ -128,19 +124,19 @@ def files(crate):
     yield CRATES / crate / "README.md", PAGE.format(crate=crate, what=WHAT)
     doc, _, tests = renamed(read(TEST), crate).partition("\n")
     yield TOP / "tests" / crate / "lib.rs", f"{doc}\n#![tactic(auto)]\n\n{tests}"
-    yield TOP / "changes" / f"{crate}.md", f"- `{crate}`: a reader of {WHAT}.\n"
+    yield TOP / "changes" / f"{crate}.md", f"- `{crate}`: a parser of {WHAT}.\n"
 
 
 def put(path, mark, lines):
-    """Writes lines into a file in front of what it has there."""
+    """Inserts lines into a file before a mark."""
     text = read(path)
     if text.count(mark) != 1:
-        sys.exit(f"{path.relative_to(TOP)} has not one place for a reader, before {mark!r}")
+        sys.exit(f"{path.relative_to(TOP)} does not have {mark!r} exactly once")
     path.write_text(text.replace(mark, lines + mark), encoding="utf-8")
 
 
 def put_cost(crate):
-    """Writes what the crate's proof costs into the table of CONTRIBUTING.md."""
+    """Adds the cost of the crate's proof to the table of CONTRIBUTING.md."""
     text, cell = read(COSTS), f"| `{crate}` | {SECONDS} | new |"
     if half := HALF.search(text):
         text = text.replace(half[0], f"{half[1]}{cell[1:]}\n")
@@ -150,15 +146,8 @@ def put_cost(crate):
     COSTS.write_text(text, encoding="utf-8")
 
 
-def put_promise(crate):
-    """Writes the row of the reader's clause behind that of the model."""
-    text = read(GUARANTEES)
-    end = ROW.search(text).end()
-    GUARANTEES.write_text(text[:end] + PROMISE.format(crate=crate) + text[end:], encoding="utf-8")
-
-
 def lay_reader(name):
-    """Lays the reader out: what is to be changed then."""
+    """Creates the crate, and returns the list of what to change."""
     if wrong := fault_of_name(name):
         sys.exit(wrong)
     crate = f"format_{name}"
@@ -169,7 +158,6 @@ def lay_reader(name):
     for path, mark, lines in LINES:
         put(path, mark.format(), lines.format(**words))
     put_cost(crate)
-    put_promise(crate)
     for script in ("registries.py", "crates_picture.py"):
         subprocess.run([sys.executable, TOP / "scripts" / script], check=True, capture_output=True)
     subprocess.run(["rt", "fmt"], cwd=CRATES / crate, check=False, stdout=subprocess.DEVNULL)

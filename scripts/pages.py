@@ -3,10 +3,10 @@
 
     python3 scripts/pages.py
 
-Each crate of `crates.txt` has a page, `crates/NAME/README.md`, of at most 20 lines: its name as the
-title, what it is, its theorem, where to begin, and each crate that it stands on. ARCHITECTURE.md
-links each page. The links of the pages, of the documents in `docs/` and of those at the top lead to
-files that are there, and to headings that these have. It fails if any of this is not so.
+Each crate of `crates.txt` has a page, `crates/NAME/README.md`, of at most 2,000 words: its name as
+the title, what it is, each crate that it depends on, where to begin, and its theorems. ARCHITECTURE.md
+links each page. The links of the pages, of the documents in `docs/` and `bindings/` and of those at
+the top lead to existing files and headings. It fails if any of this is not so.
 """
 import pathlib
 import re
@@ -15,10 +15,10 @@ import sys
 sys.path.insert(0, str(pathlib.Path(__file__).resolve().parent))
 from registry.common import CRATES, TOP, crates, read  # noqa: E402
 
-MOST_LINES = 20
+MOST_WORDS = 2000
 ARCHITECTURE = TOP / "docs/ARCHITECTURE.md"
-# What the page of `winnow` says in the place of a long list.
-ALL = "Stands on each crate of the library."
+# What the page of `winnow` says instead of a long list.
+ALL = "Depends on every crate of the library."
 LINK = re.compile(r"\]\(([^()\s]+)\)")
 
 
@@ -66,22 +66,22 @@ def faults_of_page(name, others):
         return
     text = read(page)
     lines = text.splitlines()
-    if len(lines) > MOST_LINES:
-        yield f"{MOST_LINES + 1}: it has {len(lines)} lines, and at most {MOST_LINES} are allowed"
+    if len(text.split()) > MOST_WORDS:
+        yield f"1: it has {len(text.split())} words, and at most {MOST_WORDS} are allowed"
     if lines[0] != f"# {name}":
         yield f"1: the title is not {name}"
-    for part in ("**Theorem.** ", "Begin with:", "Stands on "):
+    for part in ("Depends on", "Begin with:", "## Theorems"):
         if not any(line.startswith(part) for line in lines):
             yield f"1: no line begins with {part.strip()}"
     lacking = [] if ALL in lines else [it for it in others if f"`{it}`" not in text]
     if lacking:
-        yield f"1: it does not say that the crate stands on {', '.join(lacking)}"
+        yield f"1: it does not say that the crate depends on {', '.join(lacking)}"
     if f"](../crates/{name}/README.md)" not in read(ARCHITECTURE):
         yield "1: docs/ARCHITECTURE.md does not link it"
 
 
 def main():
-    documents = [*sorted(TOP.glob("*.md")), *sorted((TOP / "docs").glob("*.md"))]
+    documents = [it for folder in (".", "docs", "bindings") for it in sorted((TOP / folder).glob("*.md"))]
     found = []
     for name, others in crates().items():
         page = CRATES / name / "README.md"

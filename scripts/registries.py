@@ -1,15 +1,15 @@
 #!/usr/bin/env python3
-"""Writes the lists of what the tree has.
+"""Generates the lists and tables of the repository's contents.
 
-Run it at the top of the repository, and then `rt fmt` in the crates whose files it names:
+Run it at the top of the repository, and then `rt fmt` in the crates whose files it prints:
 
     python3 scripts/registries.py
 
-It writes, from the files that are there and the comments beside the items: each `impls.rt`, each
-`specs/Lib.antt`, the modules of the crate `winnow` that say so, its specs, and the tables of
-`docs/PARSERS.md` and `docs/API.md`, and of the readers in `README.md` and `docs/READERS.md`. In a
-file that has a part by hand that part stands above a line that says where the written one begins.
-It prints the files that it changed.
+From the files and the comments of the items it generates each `impls.rt`, each `specs/Lib.antt`,
+the marked modules of the crate `winnow`, its specs, the tables of `docs/PARSERS.md` and
+`docs/API.md`, and the tables of readers in `README.md` and `docs/READERS.md`. In a file with a part
+by hand, that part is above a line that marks the start of the generated one. It prints the files
+that it changed.
 """
 from registry.api import Reference, write_index
 from registry.facade import write_facade

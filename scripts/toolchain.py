@@ -1,6 +1,6 @@
-"""The kit's own module `rt`, for scripts that use what its commands are made of. Run by itself, in
-the folder of a crate, it is `rt try` without the check that `rt` runs beside it: that gives hints
-of names that are reserved, and takes as long again."""
+"""The kit's module `rt`, for scripts that use the functions of its commands. As a program, in the
+folder of a crate, it is `rt try` without the check that `rt` runs in parallel: that check gives
+hints about reserved names, and takes as long again."""
 import importlib.machinery
 import importlib.util
 import os
@@ -9,7 +9,7 @@ import sys
 
 
 def toolchain():
-    """The module `rt` of the kit whose command is on the path."""
+    """Returns the module `rt` of the kit whose command is on the path."""
     path = os.path.realpath(shutil.which("rt") or sys.exit("there is no command rt"))
     loader = importlib.machinery.SourceFileLoader("rt_module", path)
     made = importlib.util.module_from_spec(importlib.util.spec_from_loader("rt_module", loader))

@@ -1,9 +1,9 @@
-"""Breaks the long lines of specs, proofs and clauses, as `rt fmt` does not.
+"""Breaks the long lines of specs, proofs and clauses, which `rt fmt` does not break.
 
-python3 scripts/wrap.py            says which lines are longer than 100 columns
-python3 scripts/wrap.py FILE ..    breaks those of these files
+python3 scripts/wrap.py            lists the lines longer than 100 columns
+python3 scripts/wrap.py FILE ..    breaks the long lines of these files
 
-A line is broken where it is nested least, before an operator if it can be.
+A line is broken where it is nested least, before an operator if possible.
 """
 import os
 import re
@@ -12,18 +12,18 @@ import sys
 from registry.common import split
 
 WIDTH = 100
-# What a broken line is made to fit, since `rt fmt` moves some parts in.
+# The width for broken lines, since `rt fmt` indents some parts further.
 FIT = 96
 OPEN, CLOSE = "([{⟨", ")]}⟩"
-# What a line of Rust begins with that is broken here.
+# The prefixes of Rust lines that are broken here.
 GHOST = ("ghost ", "ensures ", "requires ", "pub ghost ", "invariant ")
-# Where a line is broken before the word, the loosest first.
+# The words before which a line is broken, the loosest first.
 ARGUMENT = 14
 OPERATORS = ["→", "↔", "⊎", "×", "≡", "∙", "$", "↦", "in", "++"]
 
 
 def breaks_of(text):
-    """The places where a line may be broken: place, depth and how loose the break is."""
+    """Returns the possible breaks of a line: offset, depth and looseness."""
     places, depth, at = [], 0, 0
     while at < len(text):
         char = text[at]
@@ -58,13 +58,13 @@ def breaks_of(text):
 
 
 def in_binder(text, at):
-    """Whether a place stands between the names that a λ or a bracket binds."""
+    """Returns whether an offset is between the names that a λ or a bracket binds."""
     return bool(re.search(r"λ [^.]*$", text[:at]) or re.search(r"[({][^(){}:]*$", text[:at]) and re.match(r"[^(){}]* :", text[at:]))
 
 
 def broken(line, indent, braces=0):
-    """The lines that a line becomes, each further in than the first, by how deep it is nested
-    inside the braces of a clause."""
+    """Returns a line as several lines, each indented more than the first, by its depth inside the
+    braces of a clause."""
     places = [it for it in breaks_of(line) if it[1] >= braces]
     lines, start, now = [], 0, 0
     while len(line) - start + now > FIT:
@@ -95,8 +95,8 @@ def wrapped_comment(line, mark):
 
 
 def imports(line):
-    """An import of many names as several, since `rt fmt` gives each name of a broken one a line. So
-    it stands with a name that no line has room for beside its path."""
+    """Returns an import of many names as several imports, since `rt fmt` puts each name of a broken
+    import on its own line. A name that does not fit on a line with its path is also broken so."""
     head, names, end = re.fullmatch(r"(.*\{)(.*)(\};?)", line).groups()
     groups = [[]]
     for name in names.split(", "):
@@ -111,8 +111,8 @@ def imports(line):
 
 
 def example(line):
-    """A statement of an example: what a name gets below the name, and what is called with its
-    arguments a line each."""
+    """Returns a statement of an example as several lines: the value of a `let` below the name, or
+    the arguments of a call on a line each."""
     head, text = re.fullmatch(r"( *//[/!] +)(.*)", line).groups()
     if found := re.fullmatch(r"(let [^=]* =) ([^=].*)", text):
         return [head + found[1], f"{head}    {found[2]}"]
@@ -124,13 +124,13 @@ def example(line):
 
 
 def is_fixed(line):
-    """Whether a line has no place to be broken: it names a module of the checker's, whose name is as
-    long as it is, or begins an import from one, or is a link of a comment, or a parser as a type."""
+    """Returns whether a line cannot be broken: it names or imports from a module of the checker, is
+    a link in a comment, or is a parser as a type."""
     return bool(re.fullmatch(r"(pub |ghost )*use [^{}]*\{?| *//[/!] \S+| *⟦<[^⟧]* as [^⟧]*(⟧\.meaning \})?", line))
 
 
 def wrapped_line(line, is_antt, is_fenced, is_inside):
-    """The lines that a line becomes, inside an example or a ghost item or outside."""
+    """Returns a line as several lines, inside or outside of an example or a ghost item."""
     stripped = line.lstrip()
     indent = len(line) - len(stripped)
     if len(line) <= WIDTH or is_fixed(stripped):
@@ -155,7 +155,7 @@ def wrapped(text, is_antt):
         stripped = line.lstrip()
         if stripped.startswith(("/// ```", "//! ```")):
             is_fenced = not is_fenced
-        # A ghost item of several lines ends where its first brace is closed.
+        # A ghost item of several lines ends at the closing brace of its first brace.
         is_inside = open_braces > 0
         if is_inside or stripped.startswith(GHOST):
             open_braces += line.count("{") - line.count("}")
@@ -181,7 +181,7 @@ def main(names):
             with open(name, "w", encoding="utf-8") as it:
                 it.write(text)
         for number, line in enumerate(text.split("\n"), 1):
-            # The formatter leaves the brace that ends a clause on its line.
+            # The formatter keeps the closing brace of a clause on its line.
             if len(line.removesuffix(" }")) > WIDTH and not is_fixed(line):
                 long += 1
                 print(f"{name}:{number}: {len(line)} columns")

@@ -1,7 +1,9 @@
-//! Times the library's parsers beside nom 7 and hand-written loops, and prints a table in Markdown.
+//! Compares the speed of the library's parsers with nom 7 and hand-written loops, and prints a
+//! table in Markdown.
 //!
-//! All that read one text take turns, and the best of their turns stands. What they answer is
-//! compared. Only ratios are printed. `counts.py` has it run one of them once, and counts.
+//! All readers of a text run alternately, and each reader's best time counts. Their results are
+//! compared. Only ratios are printed. `counts.py` runs one reader once with this program, and
+//! counts its instructions.
 mod by_hand;
 mod by_nom;
 mod library;
@@ -20,7 +22,7 @@ const SMALL: usize = 1 << 16;
 const MIDDLE: usize = 1 << 20;
 const LARGE: usize = 1 << 22;
 
-/// The least time of each reader, in seconds, and what they all answer.
+/// Returns the best time of each reader in seconds, and their common result.
 fn best(text: &[u8], readers: &[&Reader], turns: usize, name: &str) -> (Vec<f64>, Outcome) {
     let want = readers[0](text);
     let mut best = vec![f64::MAX; readers.len()];
@@ -53,8 +55,8 @@ fn row(workload: &Workload, turns: usize) -> String {
     format!("| {} | {:.2} | {hand} | {growth:.2} |", workload.name, times[1] / times[0])
 }
 
-/// How the time grows for a literal whose beginning stands everywhere: 39 times `a` and a `b`, in a
-/// text of `a`.
+/// Measures how the time grows for a literal whose prefixes occur everywhere: 39 times `a` and a
+/// `b`, in input that contains only `a`.
 fn hard_search(turns: usize) -> String {
     let literal: &'static [u8] = b"aaaaaaaaaaaaaaaaaaaaaaaaaaaaaaaaaaaaaaab";
     let time = |size: usize, reader: Reader| {
@@ -77,8 +79,8 @@ fn counted_run(reader: &Reader, text: &[u8]) -> Outcome {
     reader(text)
 }
 
-/// Runs a reader of a workload once, by its place among the readers, and prints how many bytes the
-/// text has, and what requests for memory there were, if they are counted.
+/// Runs one reader of a workload once, selected by its index, and prints the size of the text in
+/// bytes, and the number of allocations if they are counted.
 fn run_once(name: &str, place: usize) {
     let all = workloads::all();
     let workload = all.iter().find(|workload| workload.name == name).expect("a workload");

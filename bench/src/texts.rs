@@ -54,7 +54,7 @@ pub fn document(size: usize) -> Vec<u8> {
     })
 }
 
-/// Numbers of one to nine digits, a comma behind each.
+/// Generates numbers of one to nine digits, each followed by a comma.
 pub fn numbers(size: usize) -> Vec<u8> {
     parts(size, |dice, out| {
         let bound = 10usize.pow(dice.below(9) as u32 + 1);
@@ -108,7 +108,8 @@ pub fn heads(size: usize) -> Vec<u8> {
     })
 }
 
-/// Six keywords, in either case where `mixed`, with a space behind each.
+/// Generates words from six keywords, each followed by a space; in upper or lower case if `mixed`
+/// is true.
 pub fn keywords(size: usize, mixed: bool) -> Vec<u8> {
     let words = ["select", "from", "where", "group", "order", "limit"];
     parts(size, |dice, out| {
@@ -121,7 +122,7 @@ pub fn keywords(size: usize, mixed: bool) -> Vec<u8> {
     })
 }
 
-/// Words, some of letters beyond ASCII, with a space behind each.
+/// Generates words, some of them with letters beyond ASCII, each followed by a space.
 pub fn words(size: usize) -> Vec<u8> {
     parts(size, |dice, out| {
         let word = dice.below(9) + 1;
@@ -138,7 +139,8 @@ pub fn bytes(size: usize) -> Vec<u8> {
     parts(size, |dice, out| out.push(dice.below(256) as u8))
 }
 
-/// Records of a kind of two bytes, a length of two bytes, and so many bytes, up to 63.
+/// Generates records: a two-byte kind, a two-byte length, and a payload of that length, up to 63
+/// bytes.
 pub fn records(size: usize) -> Vec<u8> {
     parts(size, |dice, out| {
         out.extend((dice.below(1 << 16) as u16).to_be_bytes());
@@ -158,7 +160,7 @@ pub fn expression(size: usize) -> Vec<u8> {
     all
 }
 
-/// Names of headers, a colon behind each.
+/// Generates names of headers, each followed by a colon.
 pub fn names(size: usize) -> Vec<u8> {
     let names = [
         "Host",
@@ -180,8 +182,8 @@ pub fn names(size: usize) -> Vec<u8> {
     })
 }
 
-/// Letters and spaces, in which the literal stands about once in `every` bytes, and its first byte
-/// alone about once in `alone` bytes, unless that is 0.
+/// Generates letters and spaces in which the literal occurs about once in `every` bytes. Its first
+/// byte also occurs without the rest, about once in `alone` bytes, unless `alone` is 0.
 pub fn marked(size: usize, literal: &[u8], every: usize, alone: usize) -> Vec<u8> {
     parts(size, |dice, out| {
         for _ in 0..dice.below(2 * every) {

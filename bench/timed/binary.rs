@@ -1,4 +1,4 @@
-//! Integers as bytes, and records behind their lengths.
+//! Workloads with binary integers, and with length-prefixed records.
 #![tactic(auto, using(winnow::specs::Rules::ends_follow))]
 
 ghost use Rattle.winnow.specs.Claim.{no_claim, nothing_claimed};
@@ -24,8 +24,8 @@ fn integers<'i>(
     repeat(alloc, Range::from(0..), BeU32).parse_next(input)
 }
 
-/// Integers of four bytes, the highest first, as a list: how many they are. Nothing is told where a
-/// request for memory was refused.
+/// Parses 4-byte big-endian integers into a list and counts them. `out` stays zero if an allocation
+/// fails.
 #[unsafe(no_mangle)]
 pub extern "C" fn timed_integers(alloc: Global, input: &[u8], out: &mut Outcome) {
     let mut rest = input;
@@ -43,7 +43,7 @@ pub extern "C" fn timed_integers(alloc: Global, input: &[u8], out: &mut Outcome)
 /// A record: its kind, and its payload.
 type Record<'i> = (u16, &'i [u8]);
 
-/// The parsers of a kind, and of a payload behind its length.
+/// The parsers of a kind, and of a length-prefixed payload.
 type RecordParts<I, E> = (BeU16, LengthTake<BeU16, I, u16, E>);
 
 /// The parser of a record.
@@ -51,7 +51,7 @@ fn parts<I: StreamIsPartial + ByteStream, E: ParserError<I>>() -> RecordParts<I,
     (BeU16, length_take(BeU16))
 }
 
-/// A record that stands first.
+/// Parses one record.
 fn record<'i>(input: &mut &'i [u8]) -> Result<Record<'i>, ErrMode<EmptyError>>
     ensures { IsEndOf bytes_reading (bytes_input input.new.now) (bytes_input input.old.now) }
 {
@@ -107,9 +107,8 @@ fn total(records: &[Record<'_>]) -> u64 {
     sum
 }
 
-/// Records of a kind of two bytes, a length of two bytes and so many bytes, as a list: how many
-/// they are, and the sum of their kinds and lengths. Nothing is told where a request for memory
-/// was refused.
+/// Parses records into a list: a two-byte kind, a two-byte length, and a payload of that length.
+/// Counts them, and sums their kinds and lengths. `out` stays zero if an allocation fails.
 #[unsafe(no_mangle)]
 pub extern "C" fn timed_records(alloc: Global, input: &[u8], out: &mut Outcome) {
     let mut rest = input;

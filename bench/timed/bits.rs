@@ -24,7 +24,7 @@ fn fields<I: ByteStream + StreamIsPartial, E: ParserError<Bits<I>>>() -> Fields<
     (take(4_u8), take(4_u8), take(8_u8), take(16_u8))
 }
 
-/// The sum of the fields of the word that stands first.
+/// Parses one word, and returns the sum of its fields.
 fn word<I: ByteStream + StreamIsPartial + Copy>(input: &mut I) -> Result<u64, ErrMode<EmptyError>>
     ensures { IsEndOf I.reading (I.view input.new) (I.view input.old) }
 {
@@ -38,12 +38,13 @@ fn word<I: ByteStream + StreamIsPartial + Copy>(input: &mut I) -> Result<u64, Er
     }
 }
 
-/// How many words stand first, the sum of their fields, and how many bytes are left behind them.
+/// Parses as many words as possible. Counts them, sums their fields, and returns the number of
+/// bytes that remain.
 fn read_words<I: ByteStream + StreamIsPartial + Copy>(input: &mut I) -> Outcome {
     let mut count: u64 = 0;
     let mut sum: u64 = 0;
     let mut left = input.eof_offset();
-    // No more words stand there than bytes.
+    // There are at most as many words as bytes.
     for _ in 0..left {
         match word(input) {
             Ok(fields) => {
@@ -68,7 +69,7 @@ pub extern "C" fn timed_words_of_bits(input: &[u8], out: &mut Outcome) {
     *out = read_words(&mut rest);
 }
 
-/// The parsers of four fields of 64 bits, of which the last two lie in three bytes and in four.
+/// The parsers of four fields that fill 64 bits; the last two fields span three and four bytes.
 type WideFields<I, E> = (
     Take<I, u8, E>,
     Take<I, u16, E>,
@@ -81,7 +82,7 @@ fn wide_fields<I: ByteStream + StreamIsPartial, E: ParserError<Bits<I>>>() -> Wi
     (take(3_u8), take(13_u8), take(21_u8), take(27_u8))
 }
 
-/// The sum of the fields of the 64 bits that stand first.
+/// Parses 64 bits, and returns the sum of their fields.
 fn wide_word<I: ByteStream + StreamIsPartial + Copy>(
     input: &mut I,
 ) -> Result<u64, ErrMode<EmptyError>>
@@ -97,12 +98,12 @@ fn wide_word<I: ByteStream + StreamIsPartial + Copy>(
     }
 }
 
-/// The same of words whose fields cross bytes.
+/// Like `read_words`, for words whose fields cross byte boundaries.
 fn read_wide_words<I: ByteStream + StreamIsPartial + Copy>(input: &mut I) -> Outcome {
     let mut count: u64 = 0;
     let mut sum: u64 = 0;
     let mut left = input.eof_offset();
-    // No more words stand there than bytes.
+    // There are at most as many words as bytes.
     for _ in 0..left {
         match wide_word(input) {
             Ok(fields) => {

@@ -5,7 +5,7 @@ use readers::ini;
 use readers::ini::Section;
 use std::alloc::Global;
 
-/// How many bytes the pairs' values have, and so many more.
+/// Returns `more` plus the length in bytes of the values of all pairs.
 fn with_values(more: u64, pairs: &[(&str, &str)]) -> u64 {
     let mut sum = more;
     for pair in pairs {

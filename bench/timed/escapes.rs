@@ -27,7 +27,7 @@ fn named(character: char) -> Option<char> {
     }
 }
 
-/// What stands between the quotes, its escapes undone.
+/// Parses the contents of a quoted string, and decodes its escapes.
 fn unescaped<'i>(alloc: Global, input: &mut &'i str) -> Result<String, ErrMode<EmptyError>>
     ensures { IsEndOf text_reading (text_input input.new.now) (text_input input.old.now) }
 {
@@ -35,7 +35,7 @@ fn unescaped<'i>(alloc: Global, input: &mut &'i str) -> Result<String, ErrMode<E
     escaped(alloc, plain, '\\', Any.verify_map(named)).parse_next(input)
 }
 
-/// A text in quotes with a comma behind it, its escapes undone.
+/// Parses a quoted string followed by a comma, and decodes its escapes.
 fn text<'i>(alloc: Global, input: &mut &'i str) -> Result<String, ErrMode<EmptyError>>
     ensures { IsEndOf text_reading (text_input input.new.now) (text_input input.old.now) }
 {
@@ -94,9 +94,8 @@ fn texts<'i>(alloc: Global, input: &mut &'i str) -> Result<(u64, u64), ErrMode<E
         .parse_next(input)
 }
 
-/// Texts in quotes, a comma behind each: how many they are, and how many bytes they have with their
-/// escapes undone. Nothing is told of bytes that are no text, or where a request for memory was
-/// refused.
+/// Parses quoted strings, each followed by a comma. Counts them, and sums their decoded lengths in
+/// bytes. `out` stays zero if the input is not UTF-8 or an allocation fails.
 #[unsafe(no_mangle)]
 pub extern "C" fn timed_escapes(alloc: Global, input: &[u8], out: &mut Outcome) {
     *out = Outcome {

@@ -19,7 +19,7 @@ use winnow::token::{one_of, take_until};
 /// A row: its first field, and the others.
 type Row<'i> = (&'i str, Vec<&'i str, Global>);
 
-/// The fields of a row behind the first, each behind a comma.
+/// Parses the fields of a row after the first, each preceded by a comma.
 fn others<'i>(
     alloc: Global,
     input: &mut &'i str,
@@ -34,7 +34,7 @@ fn others<'i>(
     .parse_next(input)
 }
 
-/// A row, and the line feed behind it.
+/// Parses a row and the line feed after it.
 fn row<'i>(alloc: Global, input: &mut &'i str) -> Result<Row<'i>, ErrMode<InputError<&'i str>>>
     ensures { IsEndOf text_reading (text_input input.new.now) (text_input input.old.now) }
 {
@@ -100,8 +100,8 @@ fn totals(rows: &[Row<'_>]) -> (u64, u64) {
     (count, sum)
 }
 
-/// Rows of fields, as a list of lists of text: how many they are, and how many fields they have.
-/// Nothing is told of bytes that are no text, or where a request for memory was refused.
+/// Parses rows of fields into a list of lists of strings. Counts the rows and their fields. `out`
+/// stays zero if the input is not UTF-8 or an allocation fails.
 #[unsafe(no_mangle)]
 pub extern "C" fn timed_rows(alloc: Global, input: &[u8], out: &mut Outcome) {
     *out = Outcome {
@@ -121,7 +121,7 @@ pub extern "C" fn timed_rows(alloc: Global, input: &[u8], out: &mut Outcome) {
     }
 }
 
-/// How many fields have a comma or a line feed behind them.
+/// Counts the fields that are followed by a comma or a line feed.
 fn counted<'i>(
     alloc: Global,
     input: &mut &'i [u8],

@@ -31,7 +31,7 @@ fn member_bytes(members: &[(String<Global>, Value<Global>)]) -> u64 {
     sum
 }
 
-/// The same of all objects among values.
+/// Sums `member_bytes` over all objects in `values`.
 #[inline(never)]
 fn object_bytes(values: &[Value<Global>]) -> u64 {
     let mut sum: u64 = 0;
@@ -44,9 +44,8 @@ fn object_bytes(values: &[Value<Global>]) -> u64 {
     sum
 }
 
-/// An array of JSON: how many elements it has, and how many bytes the names, texts and numbers of
-/// the objects among them. Nothing is told of another text, or where a request for memory was
-/// refused.
+/// Parses a JSON array. Counts its elements, and sums the lengths in bytes of the names, strings
+/// and numbers of the objects in it. `out` stays zero for other input, or if an allocation fails.
 #[unsafe(no_mangle)]
 pub extern "C" fn timed_json(alloc: Global, input: &[u8], out: &mut Outcome) {
     *out = Outcome {
@@ -82,8 +81,8 @@ fn record_bytes(records: &[Record<Global>]) -> u64 {
     sum
 }
 
-/// Records of fields, with quotes round some: how many records there are, and how many bytes their
-/// fields have. Nothing is told of other bytes, or where a request for memory was refused.
+/// Parses records, some of whose fields are quoted. Counts the records, and sums the lengths of
+/// their fields in bytes. `out` stays zero for other input, or if an allocation fails.
 #[unsafe(no_mangle)]
 pub extern "C" fn timed_csv(alloc: Global, input: &[u8], out: &mut Outcome) {
     *out = Outcome {
@@ -121,12 +120,13 @@ fn reply_bytes(reply: &Reply<&[u8], Global>) -> u64 {
     sum
 }
 
-/// How many replies stand first, how many bytes they have, and how many bytes are left behind them.
+/// Parses as many replies as possible. Counts them and their bytes, and returns the number of bytes
+/// that remain.
 fn read_replies(alloc: Global, input: &mut Partial<&[u8]>) -> Outcome {
     let mut count: u64 = 0;
     let mut sum: u64 = 0;
     let mut left = input.eof_offset();
-    // No more replies stand there than bytes.
+    // There are at most as many replies as bytes.
     for _ in 0..left {
         match read_reply(alloc, Protocol::Resp2, 4, input) {
             Ok(reply) => {

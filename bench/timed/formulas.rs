@@ -23,8 +23,7 @@ enum Operator {
     Over,
 }
 
-/// What an operator makes of two numbers, modulo 2 to the 64; 0 where the second is 0 and would
-/// divide.
+/// Applies an operator to two numbers, modulo 2 to the 64. Division by 0 gives 0.
 fn joined(operator: Operator, left: u64, right: u64) -> u64 {
     match operator {
         Operator::Plus => left.wrapping_add(right),
@@ -135,15 +134,15 @@ impl<'i> Parser<&'i [u8], Infix<Operator>, EmptyError> for Between {
     }
 }
 
-/// The value of the expression that stands first.
+/// Parses one expression, and returns its value.
 fn value<'i>(alloc: Global, input: &mut &'i [u8]) -> Result<u64, EmptyError>
     ensures { IsEndOf bytes_reading (bytes_input input.new.now) (bytes_input input.old.now) }
 {
     expression(alloc, Digit).infix(Between).parse_next(input)
 }
 
-/// One expression of digits, with `+`, `-`, `*` and `/` between them: its value. Nothing is told
-/// where a request for memory was refused.
+/// Evaluates an expression of numbers with `+`, `-`, `*` and `/`. `out` stays zero if an allocation
+/// fails.
 #[unsafe(no_mangle)]
 pub extern "C" fn timed_expression(alloc: Global, input: &[u8], out: &mut Outcome) {
     let mut rest = input;

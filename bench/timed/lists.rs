@@ -10,7 +10,7 @@ use winnow::combinator::{separated, terminated};
 use winnow::error::{EmptyError, ErrMode, InputError};
 use winnow::prelude::*;
 
-/// How many items an input is, and their sum; what is left is 1 where a part is no item.
+/// Counts and sums the items of an input. `left` is 1 if a part of the input is not an item.
 fn sum_of_items<P: Parser<I, u32, E>, I: StreamIsPartial, E: ParserError<I>>(
     item: &mut P,
     input: I,
@@ -34,7 +34,7 @@ fn sum_of_items<P: Parser<I, u32, E>, I: StreamIsPartial, E: ParserError<I>>(
     Outcome { count, sum, left }
 }
 
-/// The sum of numbers by an iterator, with a comma behind each.
+/// Sums numbers, each followed by a comma, with an iterator.
 #[unsafe(no_mangle)]
 pub extern "C" fn timed_number_items(input: &[u8], out: &mut Outcome) {
     let mut item = terminated(DecUint, b',');
@@ -59,8 +59,8 @@ fn numbers(lists: &[Vec<u32, Global>]) -> u64 {
     sum
 }
 
-/// Lists of numbers with commas between them, and line feeds between the lists: how many lists there
-/// are, and how many numbers. Nothing is told where a request for memory was refused.
+/// Parses lists of numbers: the numbers are separated by commas, the lists by line feeds. Counts
+/// the lists and the numbers. `out` stays zero if an allocation fails.
 #[unsafe(no_mangle)]
 pub extern "C" fn timed_number_lists(alloc: Global, input: &[u8], out: &mut Outcome) {
     let mut rest = input;

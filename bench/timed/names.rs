@@ -8,7 +8,7 @@ use winnow::error::{EmptyError, ErrMode};
 use winnow::stream::{ByteSet, Range};
 use winnow::token::take_while;
 
-/// How many names have a colon behind them, where the set of their bytes is a table.
+/// Counts the names that are followed by a colon; the set of their bytes is a table.
 fn names_by_table<'i>(
     alloc: Global,
     set: ByteSet,
@@ -22,7 +22,7 @@ fn names_by_table<'i>(
     .parse_next(input)
 }
 
-/// Names of letters, digits and dashes, a colon behind each, by a table.
+/// Parses names of letters, digits and dashes, each followed by a colon, with a table.
 #[unsafe(no_mangle)]
 pub extern "C" fn timed_names_by_table(alloc: Global, input: &[u8], out: &mut Outcome) {
     let set = ByteSet::from_set(&(b'-', b'0'..=b'9', b'A'..=b'Z', b'a'..=b'z'));

@@ -1,4 +1,4 @@
-//! Numbers with a comma between them, or behind each.
+//! Numbers separated by commas, or each followed by a comma.
 
 use crate::outcome::Outcome;
 use std::alloc::Global;
@@ -15,7 +15,7 @@ fn list<'i>(
     separated(alloc, Range::from(0..), DecUint, b',').parse_next(input)
 }
 
-/// A list of numbers. Nothing is told where a request for memory was refused.
+/// Parses a list of numbers. `out` stays zero if an allocation fails.
 #[unsafe(no_mangle)]
 pub extern "C" fn timed_number_list(alloc: Global, input: &[u8], out: &mut Outcome) {
     let mut rest = input;
@@ -70,7 +70,7 @@ where
     terminated(DecUint, b',').parse_next(input)
 }
 
-/// Adds up the numbers that stand first, and answers how many units are left behind them.
+/// Parses and sums as many numbers as possible, and returns the number of units that remain.
 fn read_numbers<I: StreamIsPartial + SlicesAsBytes + Compare<u8>>(
     input: &mut I,
     out: &mut Outcome,
@@ -80,7 +80,7 @@ where
     I::Slice: AsBStr,
 {
     let mut left = input.eof_offset();
-    // No more numbers stand there than units.
+    // There are at most as many numbers as units.
     for _ in 0..left {
         match item::<I, ErrMode<EmptyError>>(input) {
             Ok(number) => {
@@ -94,7 +94,7 @@ where
     left
 }
 
-/// The same of a piece, behind which more may come.
+/// Like `read_numbers`, for a chunk of partial input.
 fn read_piece<I: StreamIsPartial + SlicesAsBytes + Compare<u8>>(
     piece: I,
     out: &mut Outcome,
@@ -107,8 +107,8 @@ where
     read_numbers(&mut input, out)
 }
 
-/// The sum of numbers that come in pieces of 4 KiB: each piece begins where the last one asked for
-/// more.
+/// Sums numbers that arrive in chunks of 4 KiB: each chunk starts where the previous one was
+/// incomplete.
 #[unsafe(no_mangle)]
 pub extern "C" fn timed_number_pieces(input: &[u8], out: &mut Outcome) {
     let mut rest = input;
@@ -117,7 +117,7 @@ pub extern "C" fn timed_number_pieces(input: &[u8], out: &mut Outcome) {
         sum: 0,
         left: 0,
     };
-    // No more pieces stand there than bytes.
+    // There are at most as many chunks as bytes.
     for _ in 0..input.len() {
         let size = rest.len().min(4096);
         let read = size.saturating_sub(read_piece(&rest[..size], out));

@@ -8,7 +8,7 @@ use winnow::error::{ErrMode, InputError};
 use winnow::stream::Range;
 use winnow::token::{literal, take_until};
 
-/// How many parts have the literal behind them.
+/// Counts the parts that are followed by the literal.
 fn parts<'i>(
     alloc: Global,
     mark: &'static [u8],
@@ -22,7 +22,7 @@ fn parts<'i>(
     .parse_next(input)
 }
 
-/// Parts of bytes, the literal behind each.
+/// Parses parts that are each followed by the literal.
 #[unsafe(no_mangle)]
 pub extern "C" fn timed_until(alloc: Global, mark: &'static [u8], input: &[u8], out: &mut Outcome) {
     let mut rest = input;

@@ -10,7 +10,7 @@ use winnow::prelude::*;
 use winnow::stream::Range;
 use winnow::token::{literal, take_until};
 
-/// How many of six keywords have a space behind them.
+/// Counts consecutive words, each one of six keywords followed by a space.
 fn keywords<'i>(alloc: Global, input: &mut &'i [u8]) -> Result<usize, ErrMode<EmptyError>> {
     let keyword = alt((
         literal(b"select".as_slice()),
@@ -23,7 +23,7 @@ fn keywords<'i>(alloc: Global, input: &mut &'i [u8]) -> Result<usize, ErrMode<Em
     repeat(alloc, Range::from(0..), terminated(keyword, b' ')).parse_next(input)
 }
 
-/// Six keywords, a space behind each.
+/// Parses words from six keywords, each followed by a space.
 #[unsafe(no_mangle)]
 pub extern "C" fn timed_keywords(alloc: Global, input: &[u8], out: &mut Outcome) {
     let mut rest = input;
@@ -38,7 +38,7 @@ pub extern "C" fn timed_keywords(alloc: Global, input: &[u8], out: &mut Outcome)
     }
 }
 
-/// How many of six keywords, in upper or lower case, have a space behind them.
+/// Counts consecutive words, each one of six keywords in upper or lower case, followed by a space.
 fn keywords_of_any_case<'i>(
     alloc: Global,
     input: &mut &'i [u8],
@@ -69,7 +69,7 @@ pub extern "C" fn timed_any_case(alloc: Global, input: &[u8], out: &mut Outcome)
     }
 }
 
-/// How many words have a space behind them.
+/// Counts words that are followed by a space.
 fn words<'i>(alloc: Global, input: &mut &'i str) -> Result<usize, ErrMode<EmptyError>> {
     repeat(
         alloc,
@@ -79,7 +79,7 @@ fn words<'i>(alloc: Global, input: &mut &'i str) -> Result<usize, ErrMode<EmptyE
     .parse_next(input)
 }
 
-/// Words of text, a space behind each.
+/// Parses words, each followed by a space.
 #[unsafe(no_mangle)]
 pub extern "C" fn timed_words(alloc: Global, input: &[u8], out: &mut Outcome) {
     *out = Outcome {

@@ -144,7 +144,7 @@ static void serve_all(struct connection *from)
         }
         /* One byte of such a line is not yet a request. */
         bool is_cut = from->length == 1 && from->bytes[0] == '\r';
-        enum pergidau_code code = is_cut ? PERGIDAU_INCOMPLETE : pergidau_http_head_in_pieces(
+        enum pergidau_code code = is_cut ? PERGIDAU_INCOMPLETE : pergidau_http_head_partial(
             from->bytes, from->length, fields, MOST_FIELDS, &head);
         bool keeps;
         switch (code) {
@@ -156,10 +156,10 @@ static void serve_all(struct connection *from)
                 ? more(from)
                 : refuse(from->socket, "431 Request Header Fields Too Large");
             break;
-        case PERGIDAU_TOO_SMALL:
+        case PERGIDAU_BUFFER_TOO_SMALL:
             keeps = refuse(from->socket, "431 Request Header Fields Too Large");
             break;
-        case PERGIDAU_REFUSED:
+        case PERGIDAU_INVALID:
             keeps = refuse(from->socket, "400 Bad Request");
             break;
         default:

@@ -12,8 +12,8 @@ static void formula(const char *text)
     if (pergidau_calc_value(bytes, strlen(text), &number) == PERGIDAU_DONE) {
         printf("%s is %lld\n", text, (long long)number.value);
     } else {
-        pergidau_text_position(bytes, strlen(text), number.place, &at);
-        printf("%s: refused at line %zu, column %zu\n", text, at.line, at.column);
+        pergidau_text_position(bytes, strlen(text), number.error_offset, &at);
+        printf("%s: invalid input at line %zu, column %zu\n", text, at.line, at.column);
     }
 }
 

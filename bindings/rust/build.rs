@@ -1,13 +1,13 @@
-//! Finds the library, and has it linked: in the folder that `PERGIDAU_LIB` names, else where
-//! `pkg-config` says, else in `bindings/out` beside this crate, where `bindings/build` puts it. Where
-//! `PERGIDAU_UNPROVED` is 1, it is the one that was built with no proof.
+//! Finds the library and links it: in the folder that `PERGIDAU_LIB` names; otherwise as
+//! `pkg-config` reports; otherwise in `bindings/out` next to this crate, where `bindings/build`
+//! puts it. If `PERGIDAU_UNPROVED` is 1, links the library that was built without proofs.
 use std::env;
 use std::path::{Path, PathBuf};
 use std::process::Command;
 
 const VERSION: &str = env!("CARGO_PKG_VERSION");
 
-/// What `pkg-config` answers.
+/// Returns the output of `pkg-config`.
 fn asked(words: &[&str]) -> Option<String> {
     let program = env::var("PKG_CONFIG").unwrap_or_else(|_| "pkg-config".to_string());
     let done = Command::new(program).args(words).output().ok()?;
@@ -15,8 +15,8 @@ fn asked(words: &[&str]) -> Option<String> {
     done.status.success().then(|| text.trim().to_string())
 }
 
-/// Whether the library stands in a folder, and is then linked from there: the static one before the
-/// shared one.
+/// Links the library from `folder` if it is there, and returns whether it is. The static library is
+/// preferred to the shared one.
 fn links(folder: &Path, name: &str) -> bool {
     for (file, kind) in [(format!("lib{name}.a"), "static"), (format!("lib{name}.so"), "dylib")] {
         println!("cargo:rerun-if-changed={}", folder.join(&file).display());
@@ -31,11 +31,11 @@ fn links(folder: &Path, name: &str) -> bool {
 
 /// The folder that `pkg-config` names, if the version is that of this crate.
 fn installed(name: &str) -> Result<PathBuf, String> {
-    let found = asked(&["--modversion", name]).ok_or("pkg-config knows none")?;
+    let found = asked(&["--modversion", name]).ok_or("pkg-config finds none")?;
     if found != VERSION {
-        return Err(format!("pkg-config knows the version {found}"));
+        return Err(format!("pkg-config finds version {found}"));
     }
-    asked(&["--variable=libdir", name]).map(PathBuf::from).ok_or("pkg-config names none".into())
+    asked(&["--variable=libdir", name]).map(PathBuf::from).ok_or("pkg-config reports no folder".into())
 }
 
 fn main() {
@@ -60,18 +60,18 @@ fn main() {
         return;
     }
     let build = if is_unproved { "bindings/build --unproved" } else { "bindings/build" };
-    eprintln!("There is no lib{name}.a or lib{name}.so of the version {VERSION}:");
+    eprintln!("no lib{name}.a or lib{name}.so of version {VERSION} found:");
     match (asked_for, installed) {
-        (Ok(folder), _) => eprintln!("- PERGIDAU_LIB names {}", folder.display()),
-        (_, Ok(folder)) => eprintln!("- pkg-config names {}", folder.display()),
+        (Ok(folder), _) => eprintln!("- PERGIDAU_LIB is {}", folder.display()),
+        (_, Ok(folder)) => eprintln!("- pkg-config reports {}", folder.display()),
         (_, Err(why)) => eprintln!("- PERGIDAU_LIB is not set, and {why}"),
     }
-    eprintln!("Build it in a clone of Pergidau, which needs Rattle's rt, a C compiler and ar:");
+    eprintln!("Build it in a clone of Pergidau (requires Rattle's rt, a C compiler and ar):");
     eprintln!("    {build}");
-    eprintln!("and set PERGIDAU_LIB to its folder bindings/out, or install it, and set PKG_CONFIG_PATH:");
+    eprintln!("then set PERGIDAU_LIB to its folder bindings/out, or install it and set PKG_CONFIG_PATH:");
     eprintln!("    make -C bindings install PREFIX=/usr/local");
     if !is_unproved {
-        eprintln!("To try it in half a minute, with no proof: bindings/build --unproved, and set");
+        eprintln!("To try it without proofs (half a minute), run bindings/build --unproved, and set");
         eprintln!("PERGIDAU_UNPROVED=1 here.");
     }
     std::process::exit(1);

@@ -65,9 +65,9 @@ enum call { CALC, PAIR, DOCUMENT, ENTRY, CHECK, VALUE, NEXT, STEP, STRING, INTEG
             TOML };
 static const char *const names[] = {
     "calc_value", "ini_pair", "ini_document", "ini_next", "json_check", "json_value", "json_next",
-    "json_step", "json_string", "json_integer", "json_natural", "http_head", "http_head_in_pieces",
-    "http_head_extent", "http_response_head", "http_response_head_in_pieces", "csv_record",
-    "csv_record_in_pieces", "csv_record_extent", "resp_reply", "resp_reply_in_pieces",
+    "json_step", "json_string", "json_integer", "json_natural", "http_head", "http_head_partial",
+    "http_head_extent", "http_response_head", "http_response_head_partial", "csv_record",
+    "csv_record_partial", "csv_record_extent", "resp_reply", "resp_reply_partial",
     "resp_extent", "http_chunked", "text_position", "toml_document",
 };
 
@@ -164,7 +164,7 @@ static const struct {
 static const uint8_t *bytes;
 static size_t length;
 
-static enum pergidau_code call(enum call which, size_t levels)
+static enum pergidau_code call(enum call which, size_t max_depth)
 {
     struct pergidau_number number;
     struct pergidau_pair pair;
@@ -176,17 +176,17 @@ static enum pergidau_code call(enum call which, size_t levels)
     int64_t integer;
     uint64_t natural;
     struct pergidau_head head;
-    struct pergidau_http_head_extent passed = {0};
+    struct pergidau_http_head_state passed = {0};
     struct pergidau_response_head response;
     struct pergidau_record record;
-    struct pergidau_csv_record_extent fields = {0};
+    struct pergidau_csv_record_state fields = {0};
     struct pergidau_reply reply;
-    struct pergidau_resp_extent state = {0};
+    struct pergidau_resp_reply_state state = {0};
     /* With no limits, so that all of the bytes are taken. */
     struct pergidau_chunked_state chunked = {1, 0, 0, SIZE_MAX, SIZE_MAX, SIZE_MAX, SIZE_MAX};
     struct pergidau_chunked_step step;
     struct pergidau_position position;
-    struct pergidau_toml_document toml;
+    struct pergidau_toml_result toml;
     size_t found;
     switch (which) {
     case CALC:
@@ -198,11 +198,11 @@ static enum pergidau_code call(enum call which, size_t levels)
     case ENTRY:
         return pergidau_ini_next(&reading, bytes, length, PERGIDAU_INI_DIALECT_LENIENT, &entry);
     case CHECK:
-        return pergidau_json_check(bytes, length, levels);
+        return pergidau_json_check(bytes, length, max_depth);
     case VALUE:
-        return pergidau_json_value(bytes, length, levels, &found);
+        return pergidau_json_value(bytes, length, max_depth, &found);
     case NEXT:
-        return pergidau_json_next(bytes, length, levels, &item);
+        return pergidau_json_next(bytes, length, max_depth, &item);
     case STEP:
         return pergidau_json_step(bytes, length, &item);
     case STRING:
@@ -214,29 +214,29 @@ static enum pergidau_code call(enum call which, size_t levels)
     case HEAD:
         return pergidau_http_head(bytes, length, NULL, 0, &head);
     case HEAD_IN_PIECES:
-        return pergidau_http_head_in_pieces(bytes, length, NULL, 0, &head);
+        return pergidau_http_head_partial(bytes, length, NULL, 0, &head);
     case HEAD_EXTENT:
         return pergidau_http_head_extent(&passed, bytes, length, &found);
     case RESPONSE:
         return pergidau_http_response_head(bytes, length, NULL, 0, &response);
     case RESPONSE_IN_PIECES:
-        return pergidau_http_response_head_in_pieces(bytes, length, NULL, 0, &response);
+        return pergidau_http_response_head_partial(bytes, length, NULL, 0, &response);
     case RECORD:
         return pergidau_csv_record(bytes, length, 1, NULL, 0, NULL, 0, &record);
     case RECORD_IN_PIECES:
-        return pergidau_csv_record_in_pieces(bytes, length, 1, NULL, 0, NULL, 0, &record);
+        return pergidau_csv_record_partial(bytes, length, 1, NULL, 0, NULL, 0, &record);
     case RECORD_EXTENT:
         return pergidau_csv_record_extent(&fields, bytes, length, 1, &record);
     case REPLY:
-        return pergidau_resp_reply(bytes, length, levels, &reply);
+        return pergidau_resp_reply(bytes, length, max_depth, &reply);
     case REPLY_IN_PIECES:
-        return pergidau_resp_reply_in_pieces(bytes, length, levels, &reply);
+        return pergidau_resp_reply_partial(bytes, length, max_depth, &reply);
     case EXTENT:
         return pergidau_resp_extent(&state, bytes, length, &found);
     case CHUNKED:
         return pergidau_http_chunked(&chunked, bytes, length, &step);
     case TOML:
-        return pergidau_toml_document(bytes, length, levels, NULL, 0, NULL, 0, &toml);
+        return pergidau_toml_document(bytes, length, max_depth, NULL, 0, NULL, 0, &toml);
     default:
         return pergidau_text_position(bytes, length, length / 2, &position);
     }
@@ -246,7 +246,7 @@ static enum pergidau_code code;
 
 static void *called(void *row)
 {
-    code = call(rows[*(size_t *)row].call, PERGIDAU_MOST_LEVELS);
+    code = call(rows[*(size_t *)row].call, PERGIDAU_MAX_DEPTH);
     return NULL;
 }
 

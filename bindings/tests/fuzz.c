@@ -33,8 +33,8 @@ static void read_formula(const uint8_t *bytes, size_t length)
 {
     struct pergidau_number out;
     enum pergidau_code code = pergidau_calc_value(bytes, length, &out);
-    HOLDS(code == PERGIDAU_DONE || code == PERGIDAU_REFUSED || code == PERGIDAU_NO_TEXT);
-    HOLDS(out.place <= length);
+    HOLDS(code == PERGIDAU_DONE || code == PERGIDAU_INVALID || code == PERGIDAU_INVALID_UTF8);
+    HOLDS(out.error_offset <= length);
     HOLDS(code == PERGIDAU_DONE || out.value == 0);
 }
 
@@ -48,20 +48,20 @@ static void read_pair(const uint8_t *bytes, size_t length)
         HOLDS(out.value.length == 0 || !memchr(bytes + out.value.offset, '\n', out.value.length));
         HOLDS(length - out.value.offset - out.value.length <= 1);
     } else {
-        HOLDS(out.place <= length);
+        HOLDS(out.error_offset <= length);
     }
 }
 
 static void read_json(const uint8_t *bytes, size_t length)
 {
-    size_t levels = below(8), found;
-    enum pergidau_code check = pergidau_json_check(bytes, length, levels);
-    enum pergidau_code value = pergidau_json_value(bytes, length, levels, &found);
+    size_t max_depth = below(8), found;
+    enum pergidau_code check = pergidau_json_check(bytes, length, max_depth);
+    enum pergidau_code value = pergidau_json_value(bytes, length, max_depth, &found);
     HOLDS(found <= length);
     HOLDS((value == PERGIDAU_DONE) == (found > 0));
-    if (value == PERGIDAU_DONE && check != PERGIDAU_NO_TEXT) {
+    if (value == PERGIDAU_DONE && check != PERGIDAU_INVALID_UTF8) {
         /* The value alone is a text, and all of the bytes are one where only space is behind it. */
-        HOLDS(pergidau_json_check(bytes, found, levels) == PERGIDAU_DONE);
+        HOLDS(pergidau_json_check(bytes, found, max_depth) == PERGIDAU_DONE);
         size_t end = found;
         while (end < length && memchr(" \t\r\n", bytes[end], 4)) {
             end++;
@@ -72,23 +72,23 @@ static void read_json(const uint8_t *bytes, size_t length)
 
 /* Walks through what stands there, and counts what is passed. It ends where the caller's bytes do,
  * or at a closing bracket. */
-static size_t walk(const uint8_t *bytes, size_t length, size_t levels)
+static size_t walk(const uint8_t *bytes, size_t length, size_t max_depth)
 {
     struct pergidau_json_item item;
     size_t count = 0;
     enum pergidau_code code;
-    while ((code = pergidau_json_next(bytes, length, levels, &item)) == PERGIDAU_DONE) {
-        HOLDS(within(item.place, length) && item.place.length > 0);
+    while ((code = pergidau_json_next(bytes, length, max_depth, &item)) == PERGIDAU_DONE) {
+        HOLDS(within(item.span, length) && item.span.length > 0);
         HOLDS(item.kind <= PERGIDAU_JSON_OBJECT);
-        const uint8_t *value = bytes + item.place.offset;
+        const uint8_t *value = bytes + item.span.offset;
         count++;
         if (item.kind == PERGIDAU_JSON_ARRAY || item.kind == PERGIDAU_JSON_OBJECT) {
-            HOLDS(levels > 0);
-            size_t inside = walk(value + 1, item.place.length - 1, levels - 1);
+            HOLDS(max_depth > 0);
+            size_t inside = walk(value + 1, item.span.length - 1, max_depth - 1);
             HOLDS(item.kind == PERGIDAU_JSON_ARRAY || inside % 2 == 0);
         }
-        length -= item.place.offset + item.place.length;
-        bytes = value + item.place.length;
+        length -= item.span.offset + item.span.length;
+        bytes = value + item.span.length;
     }
     HOLDS(code == PERGIDAU_END);
     return count;
@@ -97,23 +97,23 @@ static size_t walk(const uint8_t *bytes, size_t length, size_t levels)
 static void read_values(const uint8_t *bytes, size_t length)
 {
     struct pergidau_json_item item;
-    size_t levels = below(8), found;
-    enum pergidau_code code = pergidau_json_next(bytes, length, levels, &item);
-    HOLDS(code == PERGIDAU_DONE || code == PERGIDAU_REFUSED || code == PERGIDAU_END);
+    size_t max_depth = below(8), found;
+    enum pergidau_code code = pergidau_json_next(bytes, length, max_depth, &item);
+    HOLDS(code == PERGIDAU_DONE || code == PERGIDAU_INVALID || code == PERGIDAU_END);
     if (code == PERGIDAU_DONE) {
-        HOLDS(within(item.place, length));
-        size_t behind = length - item.place.offset;
-        HOLDS(pergidau_json_value(bytes + item.place.offset, behind, levels, &found)
+        HOLDS(within(item.span, length));
+        size_t behind = length - item.span.offset;
+        HOLDS(pergidau_json_value(bytes + item.span.offset, behind, max_depth, &found)
               == PERGIDAU_DONE);
-        HOLDS(found == item.place.length);
-        for (size_t i = 0; i < item.place.offset; i++) {
+        HOLDS(found == item.span.length);
+        for (size_t i = 0; i < item.span.offset; i++) {
             HOLDS(memchr(" \t\r\n,:", bytes[i], 6));
         }
     } else {
-        HOLDS(item.place.length == 0);
+        HOLDS(item.span.length == 0);
     }
-    if (pergidau_json_check(bytes, length, levels) == PERGIDAU_DONE) {
-        HOLDS(walk(bytes, length, levels) == 1);
+    if (pergidau_json_check(bytes, length, max_depth) == PERGIDAU_DONE) {
+        HOLDS(walk(bytes, length, max_depth) == 1);
     }
 }
 
@@ -132,7 +132,7 @@ static void read_document(const uint8_t *bytes, size_t length)
     uint8_t *text = (uint8_t *)memset((uint8_t *)entries - most, 0xab, most);
     enum pergidau_code code =
         pergidau_ini_document(bytes, length, text, most, entries, count, &out);
-    if (code == PERGIDAU_TOO_SMALL) {
+    if (code == PERGIDAU_BUFFER_TOO_SMALL) {
         HOLDS(out.entries > count || out.text > most);
         for (size_t i = 0; i < most + size; i++) {
             HOLDS(text[i] == 0xab);
@@ -157,10 +157,10 @@ static void read_document(const uint8_t *bytes, size_t length)
         HOLDS(sum == out.text);
         HOLDS(out.entries == 0 || entries[0].key.length == 0);
     } else {
-        HOLDS(code == PERGIDAU_REFUSED && out.place <= length);
+        HOLDS(code == PERGIDAU_INVALID && out.error_offset <= length);
         /* What stands before the place is a document. */
-        HOLDS(pergidau_ini_document(bytes, out.place, NULL, 0, NULL, 0, &out)
-              != PERGIDAU_REFUSED);
+        HOLDS(pergidau_ini_document(bytes, out.error_offset, NULL, 0, NULL, 0, &out)
+              != PERGIDAU_INVALID);
     }
 }
 
@@ -173,7 +173,7 @@ static void read_head(const uint8_t *bytes, size_t length)
     uint8_t *start = buffer_room + PAGES * page - size;
     struct pergidau_field *fields = (struct pergidau_field *)(void *)start;
     enum pergidau_code code = pergidau_http_head(bytes, length, fields, count, &out);
-    if (code == PERGIDAU_TOO_SMALL) {
+    if (code == PERGIDAU_BUFFER_TOO_SMALL) {
         HOLDS(out.fields > count);
         HOLDS(out.fields <= MOST_FIELDS);
         count = out.fields;
@@ -196,22 +196,22 @@ static void read_head(const uint8_t *bytes, size_t length)
         }
         /* No shorter beginning is a head, and each can become one. */
         size_t end = below(out.length);
-        HOLDS(pergidau_http_head(bytes, end, fields, count, &cut) == PERGIDAU_REFUSED);
-        HOLDS(pergidau_http_head_in_pieces(bytes, end, fields, count, &cut)
+        HOLDS(pergidau_http_head(bytes, end, fields, count, &cut) == PERGIDAU_INVALID);
+        HOLDS(pergidau_http_head_partial(bytes, end, fields, count, &cut)
               == PERGIDAU_INCOMPLETE);
         HOLDS(pergidau_http_head(bytes, out.length, fields, count, &cut) == PERGIDAU_DONE);
         HOLDS(cut.length == out.length && cut.fields == out.fields);
     } else {
-        HOLDS(code == PERGIDAU_REFUSED);
-        code = pergidau_http_head_in_pieces(bytes, length, fields, count, &cut);
-        HOLDS(code == PERGIDAU_REFUSED || code == PERGIDAU_INCOMPLETE);
-        HOLDS(out.place == (code == PERGIDAU_REFUSED ? cut.place : length));
+        HOLDS(code == PERGIDAU_INVALID);
+        code = pergidau_http_head_partial(bytes, length, fields, count, &cut);
+        HOLDS(code == PERGIDAU_INVALID || code == PERGIDAU_INCOMPLETE);
+        HOLDS(out.error_offset == (code == PERGIDAU_INVALID ? cut.error_offset : length));
         /* What is before the place can become a head, and with the byte there it cannot. */
-        HOLDS(pergidau_http_head_in_pieces(bytes, out.place, fields, count, &cut)
+        HOLDS(pergidau_http_head_partial(bytes, out.error_offset, fields, count, &cut)
               == PERGIDAU_INCOMPLETE);
         HOLDS(code == PERGIDAU_INCOMPLETE
-              || pergidau_http_head_in_pieces(bytes, out.place + 1, fields, count, &cut)
-                     == PERGIDAU_REFUSED);
+              || pergidau_http_head_partial(bytes, out.error_offset + 1, fields, count, &cut)
+                     == PERGIDAU_INVALID);
     }
 }
 
@@ -229,7 +229,7 @@ static bool may_go_on(const uint8_t *bytes, size_t length, uint32_t line_feeds)
         memcpy(more + length, ends[i], size);
         goes_on = goes_on
             || pergidau_csv_record(more, length + size, line_feeds, NULL, 0, NULL, 0, &out)
-                != PERGIDAU_REFUSED;
+                != PERGIDAU_INVALID;
     }
     free(more);
     return goes_on;
@@ -246,7 +246,7 @@ static void read_record(const uint8_t *bytes, size_t length)
     uint8_t *text = (uint8_t *)memset((uint8_t *)places - most, 0xab, most);
     enum pergidau_code code =
         pergidau_csv_record(bytes, length, line_feeds, text, most, places, count, &out);
-    if (code == PERGIDAU_TOO_SMALL) {
+    if (code == PERGIDAU_BUFFER_TOO_SMALL) {
         HOLDS(out.fields > count || out.text > most);
         for (size_t i = 0; i < most + size; i++) {
             HOLDS(text[i] == 0xab);
@@ -272,54 +272,54 @@ static void read_record(const uint8_t *bytes, size_t length)
         HOLDS(pergidau_csv_record(bytes, out.length, line_feeds, text, most, places, count, &cut)
               == PERGIDAU_DONE);
         HOLDS(cut.length == out.length && cut.fields == out.fields && cut.text == out.text);
-        code = pergidau_csv_record_in_pieces(bytes, length, line_feeds, text, most, places, count,
+        code = pergidau_csv_record_partial(bytes, length, line_feeds, text, most, places, count,
                                              &cut);
         HOLDS(code == PERGIDAU_DONE || (code == PERGIDAU_INCOMPLETE && out.length == length));
         HOLDS(code == PERGIDAU_INCOMPLETE || cut.length == out.length);
     } else {
-        HOLDS(code == PERGIDAU_REFUSED && out.place <= length);
-        HOLDS(may_go_on(bytes, out.place, line_feeds));
-        HOLDS(out.place == length || !may_go_on(bytes, out.place + 1, line_feeds));
-        code = pergidau_csv_record_in_pieces(bytes, length, line_feeds, text, most, places, count,
+        HOLDS(code == PERGIDAU_INVALID && out.error_offset <= length);
+        HOLDS(may_go_on(bytes, out.error_offset, line_feeds));
+        HOLDS(out.error_offset == length || !may_go_on(bytes, out.error_offset + 1, line_feeds));
+        code = pergidau_csv_record_partial(bytes, length, line_feeds, text, most, places, count,
                                              &cut);
         HOLDS(code == (may_go_on(bytes, length, line_feeds) ? PERGIDAU_INCOMPLETE
-                                                            : PERGIDAU_REFUSED));
-        HOLDS(cut.place == (code == PERGIDAU_REFUSED ? out.place : 0));
+                                                            : PERGIDAU_INVALID));
+        HOLDS(cut.error_offset == (code == PERGIDAU_INVALID ? out.error_offset : 0));
     }
 }
 
 static void read_reply(const uint8_t *bytes, size_t length)
 {
     struct pergidau_reply out, part;
-    size_t levels = below(4);
-    enum pergidau_code code = pergidau_resp_reply(bytes, length, levels, &out);
-    enum pergidau_code piece = pergidau_resp_reply_in_pieces(bytes, length, levels, &part);
+    size_t max_depth = below(4);
+    enum pergidau_code code = pergidau_resp_reply(bytes, length, max_depth, &out);
+    enum pergidau_code piece = pergidau_resp_reply_partial(bytes, length, max_depth, &part);
     if (code != PERGIDAU_DONE) {
-        HOLDS(code == PERGIDAU_REFUSED);
-        HOLDS(piece == PERGIDAU_REFUSED || piece == PERGIDAU_INCOMPLETE);
+        HOLDS(code == PERGIDAU_INVALID);
+        HOLDS(piece == PERGIDAU_INVALID || piece == PERGIDAU_INCOMPLETE);
         return;
     }
     HOLDS(piece == PERGIDAU_DONE && part.length == out.length && part.kind == out.kind);
-    HOLDS(out.length >= 3 && out.length <= length && within(out.place, out.length));
+    HOLDS(out.length >= 3 && out.length <= length && within(out.span, out.length));
     HOLDS(!memcmp(bytes + out.length - 2, "\r\n", 2));
     HOLDS((out.kind == PERGIDAU_RESP_ARRAY) == (bytes[0] == '*' && bytes[1] != '-'));
     /* Its elements are replies, one behind the other, and fill its place. */
-    size_t at = out.place.offset, end = at + out.place.length;
+    size_t at = out.span.offset, end = at + out.span.length;
     for (size_t i = 0; i < out.elements; i++) {
-        HOLDS(pergidau_resp_reply(bytes + at, end - at, levels - 1, &part) == PERGIDAU_DONE);
+        HOLDS(pergidau_resp_reply(bytes + at, end - at, max_depth - 1, &part) == PERGIDAU_DONE);
         at += part.length;
     }
     HOLDS(out.kind != PERGIDAU_RESP_ARRAY || at == end);
     /* No shorter beginning is a reply, and each can become one. */
     size_t cut = below(out.length);
-    HOLDS(pergidau_resp_reply(bytes, cut, levels, &part) == PERGIDAU_REFUSED);
-    HOLDS(pergidau_resp_reply_in_pieces(bytes, cut, levels, &part) == PERGIDAU_INCOMPLETE);
+    HOLDS(pergidau_resp_reply(bytes, cut, max_depth, &part) == PERGIDAU_INVALID);
+    HOLDS(pergidau_resp_reply_partial(bytes, cut, max_depth, &part) == PERGIDAU_INCOMPLETE);
 }
 
 /* Where a reply ends, by calls in turn and by one, is where it is read to. */
 static void read_extent(const uint8_t *bytes, size_t length)
 {
-    struct pergidau_resp_extent state = {0}, once = {0};
+    struct pergidau_resp_reply_state state = {0}, once = {0};
     struct pergidau_reply reply;
     size_t end = 0, whole = 0, have = 0;
     enum pergidau_code code = PERGIDAU_INCOMPLETE;
@@ -329,7 +329,7 @@ static void read_extent(const uint8_t *bytes, size_t length)
         code = pergidau_resp_extent(&state, bytes, have, &end);
     }
     HOLDS(code == all && end == whole);
-    enum pergidau_code read = pergidau_resp_reply(bytes, length, PERGIDAU_MOST_LEVELS, &reply);
+    enum pergidau_code read = pergidau_resp_reply(bytes, length, PERGIDAU_MAX_DEPTH, &reply);
     HOLDS((read == PERGIDAU_DONE) == (all == PERGIDAU_DONE));
     HOLDS(read != PERGIDAU_DONE || reply.length == end);
 }
@@ -350,12 +350,12 @@ static void read_chunked(const uint8_t *bytes, size_t length)
             const uint8_t *left = bytes + taken[turn];
             size_t count = have - taken[turn];
             codes[turn] = pergidau_http_chunked(&state, left, count, &step);
-            HOLDS(step.taken <= count && within(step.place, count));
+            HOLDS(step.taken <= count && within(step.span, count));
             if (codes[turn] == PERGIDAU_DONE) {
-                HOLDS(step.place.length > 0);
-                HOLDS(step.place.offset + step.place.length == step.taken);
-                memcpy(given[turn] + counts[turn], left + step.place.offset, step.place.length);
-                counts[turn] += step.place.length;
+                HOLDS(step.span.length > 0);
+                HOLDS(step.span.offset + step.span.length == step.taken);
+                memcpy(given[turn] + counts[turn], left + step.span.offset, step.span.length);
+                counts[turn] += step.span.length;
             }
             taken[turn] += step.taken;
             HOLDS(codes[turn] != PERGIDAU_INCOMPLETE || taken[turn] == have);

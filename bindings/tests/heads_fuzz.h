@@ -81,7 +81,7 @@ static struct by_hand response_by_hand(const uint8_t *bytes, size_t length)
             break;
         }
         if (!goes) {
-            made.code = PERGIDAU_REFUSED;
+            made.code = PERGIDAU_INVALID;
             made.at = i;
         }
         if (made.code != PERGIDAU_INCOMPLETE) {
@@ -102,16 +102,16 @@ static void read_response(const uint8_t *bytes, size_t length)
         (struct pergidau_field *)(void *)(buffer_room + PAGES * page - size);
     enum pergidau_code code = pergidau_http_response_head(bytes, length, fields, count, &out);
     enum pergidau_code piece =
-        pergidau_http_response_head_in_pieces(bytes, length, fields, count, &cut);
+        pergidau_http_response_head_partial(bytes, length, fields, count, &cut);
     if (want.code != PERGIDAU_DONE) {
-        HOLDS(code == PERGIDAU_REFUSED && out.place == want.at);
+        HOLDS(code == PERGIDAU_INVALID && out.error_offset == want.at);
         HOLDS(piece == want.code);
-        HOLDS(cut.place == (piece == PERGIDAU_REFUSED ? want.at : 0));
+        HOLDS(cut.error_offset == (piece == PERGIDAU_INVALID ? want.at : 0));
         return;
     }
     HOLDS(piece == code && cut.fields == want.fields && out.fields == want.fields);
-    HOLDS((code == PERGIDAU_TOO_SMALL) == (want.fields > count));
-    if (code == PERGIDAU_TOO_SMALL) {
+    HOLDS((code == PERGIDAU_BUFFER_TOO_SMALL) == (want.fields > count));
+    if (code == PERGIDAU_BUFFER_TOO_SMALL) {
         HOLDS(want.fields <= MOST_FIELDS);
         count = want.fields;
         fields = (struct pergidau_field *)(void *)(buffer_room + PAGES * page
@@ -134,7 +134,7 @@ static void read_response(const uint8_t *bytes, size_t length)
 
 static void read_head_extent(const uint8_t *bytes, size_t length)
 {
-    struct pergidau_http_head_extent state = {0};
+    struct pergidau_http_head_state state = {0};
     struct pergidau_head head;
     struct pergidau_field fields[MOST_FIELDS];
     size_t out = 0, have = 0;
@@ -145,14 +145,14 @@ static void read_head_extent(const uint8_t *bytes, size_t length)
         code = pergidau_http_head_extent(&state, bytes, have, &out);
     }
     enum pergidau_code whole =
-        pergidau_http_head_in_pieces(bytes, length, fields, MOST_FIELDS, &head);
+        pergidau_http_head_partial(bytes, length, fields, MOST_FIELDS, &head);
     HOLDS(code == whole && state.passed <= have);
-    HOLDS(out == (code == PERGIDAU_DONE ? head.length : head.place));
+    HOLDS(out == (code == PERGIDAU_DONE ? head.length : head.error_offset));
 }
 
 static void read_record_extent(const uint8_t *bytes, size_t length)
 {
-    struct pergidau_csv_record_extent state = {0};
+    struct pergidau_csv_record_state state = {0};
     struct pergidau_record out, record;
     uint32_t line_feeds = (uint32_t)below(2);
     size_t have = 0;
@@ -163,10 +163,10 @@ static void read_record_extent(const uint8_t *bytes, size_t length)
         code = pergidau_csv_record_extent(&state, bytes, have, line_feeds, &out);
     }
     enum pergidau_code whole =
-        pergidau_csv_record_in_pieces(bytes, length, line_feeds, NULL, 0, NULL, 0, &record);
-    HOLDS(code == (whole == PERGIDAU_TOO_SMALL ? PERGIDAU_DONE : whole));
+        pergidau_csv_record_partial(bytes, length, line_feeds, NULL, 0, NULL, 0, &record);
+    HOLDS(code == (whole == PERGIDAU_BUFFER_TOO_SMALL ? PERGIDAU_DONE : whole));
     HOLDS(out.fields == record.fields && out.text == record.text);
-    HOLDS(out.length == record.length && out.place == record.place);
+    HOLDS(out.length == record.length && out.error_offset == record.error_offset);
 }
 
 #endif

@@ -57,9 +57,9 @@ static void test_response(size_t i)
     if (fields == NULL) {
         exit(2);
     }
-    for (int in_pieces = 0; in_pieces < 2; in_pieces++) {
+    for (int is_partial = 0; is_partial < 2; is_partial++) {
         same("http_response_head", row,
-             (in_pieces ? pergidau_http_response_head_in_pieces : pergidau_http_response_head)(
+             (is_partial ? pergidau_http_response_head_partial : pergidau_http_response_head)(
                  text, length, fields, count, &out),
              PERGIDAU_DONE);
         shown(row, text, out.reason, responses[i].reason);
@@ -70,7 +70,7 @@ static void test_response(size_t i)
         same("the status code", row, out.status, responses[i].status);
         same("the length", row, (long long)out.length, (long long)(length - responses[i].rest));
         same("the fields", row, (long long)out.fields, (long long)count);
-        same("no place", row, (long long)out.place, 0);
+        same("no place", row, (long long)out.error_offset, 0);
         for (size_t k = 0; k < count; k++) {
             shown(row, text, fields[k].name, responses[i].fields[k][0]);
             shown(row, text, fields[k].value, responses[i].fields[k][1]);
@@ -78,16 +78,16 @@ static void test_response(size_t i)
     }
     for (size_t room = 0; room < count; room++) {
         same("too small", row, pergidau_http_response_head(text, length, fields, room, &out),
-             PERGIDAU_TOO_SMALL);
+             PERGIDAU_BUFFER_TOO_SMALL);
         same("wanted", row, (long long)out.fields, (long long)count);
     }
     for (size_t end = 0; end + responses[i].rest < length; end++) {
         uint8_t *front = copied(row, end);
         same("a beginning", row, pergidau_http_response_head(front, end, fields, count, &out),
-             PERGIDAU_REFUSED);
-        same("its end", row, (long long)out.place, (long long)end);
+             PERGIDAU_INVALID);
+        same("its end", row, (long long)out.error_offset, (long long)end);
         same("a piece", row,
-             pergidau_http_response_head_in_pieces(front, end, fields, count, &out),
+             pergidau_http_response_head_partial(front, end, fields, count, &out),
              PERGIDAU_INCOMPLETE);
         free(front);
     }
@@ -109,12 +109,12 @@ static void test_responses(void)
             (size_t)snprintf(row, sizeof row, "%s%s", no_responses[i][0], no_responses[i][1]);
         uint8_t *text = copied(row, length);
         same("no response", row, pergidau_http_response_head(text, length, fields, 4, &out),
-             PERGIDAU_REFUSED);
-        same("the place", row, (long long)out.place, (long long)place);
+             PERGIDAU_INVALID);
+        same("the place", row, (long long)out.error_offset, (long long)place);
         same("no response", row,
-             pergidau_http_response_head_in_pieces(text, length, fields, 4, &out),
-             PERGIDAU_REFUSED);
-        same("the place", row, (long long)out.place, (long long)place);
+             pergidau_http_response_head_partial(text, length, fields, 4, &out),
+             PERGIDAU_INVALID);
+        same("the place", row, (long long)out.error_offset, (long long)place);
         free(text);
     }
     const uint8_t *bytes = (const uint8_t *)"H";
@@ -130,8 +130,8 @@ static void test_responses(void)
                                      &out),
          PERGIDAU_TOO_LONG);
     same("no room", "response", pergidau_http_response_head(bytes, 1, NULL, 0, &out),
-         PERGIDAU_REFUSED);
-    same("nothing", "response", pergidau_http_response_head_in_pieces(NULL, 0, NULL, 0, &out),
+         PERGIDAU_INVALID);
+    same("nothing", "response", pergidau_http_response_head_partial(NULL, 0, NULL, 0, &out),
          PERGIDAU_INCOMPLETE);
 }
 
@@ -140,7 +140,7 @@ static void test_responses(void)
 /* Calls in turn, each with so many bytes more: what the last one answers, and writes. */
 static enum pergidau_code head_in_turn(const char *row, size_t length, size_t step, size_t *out)
 {
-    struct pergidau_http_head_extent state = {0};
+    struct pergidau_http_head_state state = {0};
     enum pergidau_code code = PERGIDAU_INCOMPLETE;
     for (size_t have = 0; code == PERGIDAU_INCOMPLETE && have <= length;
          have += length - have < step && have < length ? length - have : step) {
@@ -171,12 +171,12 @@ static void test_head_extents(void)
         size_t place = strlen(no_heads[i][0]);
         size_t length = (size_t)snprintf(row, sizeof row, "%s%s", no_heads[i][0], no_heads[i][1]);
         for (size_t step = 1; step <= length; step++) {
-            same("no head", row, head_in_turn(row, length, step, &out), PERGIDAU_REFUSED);
+            same("no head", row, head_in_turn(row, length, step, &out), PERGIDAU_INVALID);
             same("its place", row, (long long)out, (long long)place);
         }
         same("it begins", row, head_in_turn(row, place, 1, &out), PERGIDAU_INCOMPLETE);
     }
-    struct pergidau_http_head_extent state = {0};
+    struct pergidau_http_head_state state = {0};
     const uint8_t *bytes = (const uint8_t *)"A b HTTP/1.1\r\n\r\n";
     same("null", "state", pergidau_http_head_extent(NULL, bytes, 16, &out), PERGIDAU_NULL);
     same("null", "head", pergidau_http_head_extent(&state, NULL, 1, &out), PERGIDAU_NULL);
@@ -193,9 +193,9 @@ static void test_head_extents(void)
     same("its end", "head", (long long)out, 16);
     /* Of numbers that no call left, it may say anything, and reads the bytes alone. */
     for (size_t place = 0; place < 20; place++) {
-        state = (struct pergidau_http_head_extent){SIZE_MAX, place};
+        state = (struct pergidau_http_head_state){SIZE_MAX, place};
         (void)pergidau_http_head_extent(&state, bytes, 16, &out);
-        state = (struct pergidau_http_head_extent){place, SIZE_MAX - place};
+        state = (struct pergidau_http_head_state){place, SIZE_MAX - place};
         (void)pergidau_http_head_extent(&state, bytes, 16, &out);
     }
 }
@@ -206,14 +206,14 @@ static void test_head_extents(void)
 static enum pergidau_code record_in_turn(const char *row, size_t length, uint32_t line_feeds,
                                          size_t step, struct pergidau_record *out)
 {
-    struct pergidau_csv_record_extent state = {0};
+    struct pergidau_csv_record_state state = {0};
     enum pergidau_code code = PERGIDAU_INCOMPLETE;
     for (size_t have = 0; code == PERGIDAU_INCOMPLETE && have <= length;
          have += length - have < step && have < length ? length - have : step) {
         uint8_t *bytes = copied(row, have);
         code = pergidau_csv_record_extent(&state, bytes, have, line_feeds, out);
-        same("no place", row, (long long)out->place,
-             code == PERGIDAU_REFUSED ? (long long)state.passed : 0);
+        same("no place", row, (long long)out->error_offset,
+             code == PERGIDAU_INVALID ? (long long)state.passed : 0);
         free(bytes);
     }
     return code;
@@ -248,14 +248,14 @@ static void test_record_extents(void)
         size_t length = strlen(row), begins = no_records[i].begins;
         for (size_t step = 1; step <= length; step++) {
             same("no record", row, record_in_turn(row, length, line_feeds, step, &out),
-                 begins < length ? PERGIDAU_REFUSED : PERGIDAU_INCOMPLETE);
-            same("its place", row, (long long)out.place,
+                 begins < length ? PERGIDAU_INVALID : PERGIDAU_INCOMPLETE);
+            same("its place", row, (long long)out.error_offset,
                  begins < length ? (long long)begins : 0);
         }
         same("it begins", row, record_in_turn(row, begins, line_feeds, 1, &out),
              PERGIDAU_INCOMPLETE);
     }
-    struct pergidau_csv_record_extent state = {0};
+    struct pergidau_csv_record_state state = {0};
     const uint8_t *bytes = (const uint8_t *)"a,\"\"\r\n";
     same("null", "state", pergidau_csv_record_extent(NULL, bytes, 6, 0, &out), PERGIDAU_NULL);
     same("null", "record", pergidau_csv_record_extent(&state, NULL, 1, 0, &out), PERGIDAU_NULL);
@@ -270,9 +270,9 @@ static void test_record_extents(void)
     same("its fields", "record", (long long)out.fields, 2);
     /* Of numbers that no call left, it may say anything, and reads the bytes alone. */
     for (size_t place = 0; place < 8; place++) {
-        state = (struct pergidau_csv_record_extent){0, SIZE_MAX, SIZE_MAX, place};
+        state = (struct pergidau_csv_record_state){0, SIZE_MAX, SIZE_MAX, place};
         (void)pergidau_csv_record_extent(&state, bytes, 6, 0, &out);
-        state = (struct pergidau_csv_record_extent){SIZE_MAX, place, SIZE_MAX, place};
+        state = (struct pergidau_csv_record_state){SIZE_MAX, place, SIZE_MAX, place};
         (void)pergidau_csv_record_extent(&state, bytes, 6, 1, &out);
     }
 }

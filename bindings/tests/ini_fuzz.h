@@ -60,10 +60,10 @@ static enum pergidau_code own_by_hand(const uint8_t *bytes, struct pergidau_span
         const uint8_t *closed = memchr(bytes + at, ']', text.length);
         size_t name = closed ? (size_t)(closed - bytes) - at - 1 : 0;
         if (closed == NULL || name == 0 || at + name + 2 < end) {
-            out->fault = closed == NULL ? PERGIDAU_INI_FAULT_OPEN_SECTION
-                : name == 0             ? PERGIDAU_INI_FAULT_EMPTY_SECTION
-                                        : PERGIDAU_INI_FAULT_TEXT_BEHIND_SECTION;
-            return PERGIDAU_REFUSED;
+            out->error = closed == NULL ? PERGIDAU_INI_ERROR_UNCLOSED_SECTION
+                : name == 0             ? PERGIDAU_INI_ERROR_EMPTY_SECTION
+                                        : PERGIDAU_INI_ERROR_TRAILING_TEXT;
+            return PERGIDAU_INVALID;
         }
         *before = (struct before){true, -1};
         out->kind = PERGIDAU_INI_SECTION;
@@ -71,16 +71,17 @@ static enum pergidau_code own_by_hand(const uint8_t *bytes, struct pergidau_span
         return PERGIDAU_DONE;
     }
     if (!before->section && !(dialect & PERGIDAU_INI_DIALECT_BEFORE_SECTIONS)) {
-        out->fault = PERGIDAU_INI_FAULT_NO_SECTION;
-        return PERGIDAU_REFUSED;
+        out->error = PERGIDAU_INI_ERROR_MISSING_SECTION;
+        return PERGIDAU_INVALID;
     }
     size_t ends = dialect & 3 ? dialect & 3 : 3;
     while (at < end && !is_one(ends, 1, bytes[at], '=', ':')) {
         at++;
     }
     if (at == text.offset || (at == end && !(dialect & PERGIDAU_INI_DIALECT_VALUELESS))) {
-        out->fault = at == end ? PERGIDAU_INI_FAULT_NO_DELIMITER : PERGIDAU_INI_FAULT_NO_KEY;
-        return PERGIDAU_REFUSED;
+        out->error = at == end ? PERGIDAU_INI_ERROR_MISSING_DELIMITER
+                               : PERGIDAU_INI_ERROR_MISSING_KEY;
+        return PERGIDAU_INVALID;
     }
     out->kind = at < end ? PERGIDAU_INI_PAIR : PERGIDAU_INI_KEY;
     out->key = without_blanks(bytes, text.offset, at);
@@ -103,8 +104,8 @@ static enum pergidau_code next_by_hand(const uint8_t *bytes, size_t length, size
         }
         size_t behind = end + (end < length), kept = start;
         if (!is_text(bytes + start, end - start)) {
-            out->place = start;
-            return PERGIDAU_NO_TEXT;
+            out->error_offset = start;
+            return PERGIDAU_INVALID_UTF8;
         }
         for (; kept < end; kept++) {
             if ((kept == start || is_blank(bytes[kept - 1]))
@@ -133,8 +134,8 @@ static enum pergidau_code next_by_hand(const uint8_t *bytes, size_t length, size
             return PERGIDAU_DONE;
         }
         enum pergidau_code code = own_by_hand(bytes, text, dialect, before, out);
-        if (code == PERGIDAU_REFUSED) {
-            out->place = start;
+        if (code == PERGIDAU_INVALID) {
+            out->error_offset = start;
             return code;
         }
         if (out->kind != PERGIDAU_INI_SECTION) {
@@ -169,5 +170,5 @@ static void read_ini(const uint8_t *bytes, size_t length)
     struct pergidau_ini_state other = {below(length + 3), below(3), below(3), below(5)};
     code = pergidau_ini_next(&other, bytes, length, dialect, &out);
     HOLDS(code != PERGIDAU_DONE || (within(out.key, length) && within(out.value, length)));
-    HOLDS(out.place <= length);
+    HOLDS(out.error_offset <= length);
 }

@@ -12,7 +12,7 @@ static const struct {
     size_t dialect;
     const char *text, *entries;
     enum pergidau_code code;
-    size_t place, fault;
+    size_t place, error;
 } lines_of_ini[] = {
     {PYTHON, "", "", PERGIDAU_END, 0, 0},
     {PYTHON, "\n# a\n ; b\n\t\r\n", "", PERGIDAU_END, 0, 0},
@@ -26,20 +26,20 @@ static const struct {
     {PYTHON, "[s]\n  a = b\n  c = d\n", "[s]|a=b|c=d|", PERGIDAU_END, 0, 0},
     {PYTHON, "[s]\na = b ; c\n", "[s]|a=b ; c|", PERGIDAU_END, 0, 0},
     {PYTHON, "\xef\xbb\xbf[\xc3\xa9]\n", "[\xc3\xa9]|", PERGIDAU_END, 0, 0},
-    {PYTHON, "a = b\n", "", PERGIDAU_REFUSED, 0, PERGIDAU_INI_FAULT_NO_SECTION},
-    {PYTHON, "\xef\xbb\xbf# a\nb = c\n", "", PERGIDAU_REFUSED, 7, PERGIDAU_INI_FAULT_NO_SECTION},
-    {PYTHON, "[s]\n\nabc\n", "[s]|", PERGIDAU_REFUSED, 5, PERGIDAU_INI_FAULT_NO_DELIMITER},
-    {PYTHON, "[s]\n = b\n", "[s]|", PERGIDAU_REFUSED, 4, PERGIDAU_INI_FAULT_NO_KEY},
-    {PYTHON, "[s", "", PERGIDAU_REFUSED, 0, PERGIDAU_INI_FAULT_OPEN_SECTION},
-    {PYTHON, "[s]\n[]\n", "[s]|", PERGIDAU_REFUSED, 4, PERGIDAU_INI_FAULT_EMPTY_SECTION},
-    {PYTHON, "[s] x\n", "", PERGIDAU_REFUSED, 0, PERGIDAU_INI_FAULT_TEXT_BEHIND_SECTION},
-    {PYTHON, "[s]\na = \xff\nb = c\n", "[s]|", PERGIDAU_NO_TEXT, 4, 0},
-    {PYTHON, "[s]\n# \xff\n", "[s]|", PERGIDAU_NO_TEXT, 4, 0},
-    {PYTHON, "[s]\na\xff = \n", "[s]|", PERGIDAU_NO_TEXT, 4, 0},
+    {PYTHON, "a = b\n", "", PERGIDAU_INVALID, 0, PERGIDAU_INI_ERROR_MISSING_SECTION},
+    {PYTHON, "\xef\xbb\xbf# a\nb = c\n", "", PERGIDAU_INVALID, 7, PERGIDAU_INI_ERROR_MISSING_SECTION},
+    {PYTHON, "[s]\n\nabc\n", "[s]|", PERGIDAU_INVALID, 5, PERGIDAU_INI_ERROR_MISSING_DELIMITER},
+    {PYTHON, "[s]\n = b\n", "[s]|", PERGIDAU_INVALID, 4, PERGIDAU_INI_ERROR_MISSING_KEY},
+    {PYTHON, "[s", "", PERGIDAU_INVALID, 0, PERGIDAU_INI_ERROR_UNCLOSED_SECTION},
+    {PYTHON, "[s]\n[]\n", "[s]|", PERGIDAU_INVALID, 4, PERGIDAU_INI_ERROR_EMPTY_SECTION},
+    {PYTHON, "[s] x\n", "", PERGIDAU_INVALID, 0, PERGIDAU_INI_ERROR_TRAILING_TEXT},
+    {PYTHON, "[s]\na = \xff\nb = c\n", "[s]|", PERGIDAU_INVALID_UTF8, 4, 0},
+    {PYTHON, "[s]\n# \xff\n", "[s]|", PERGIDAU_INVALID_UTF8, 4, 0},
+    {PYTHON, "[s]\na\xff = \n", "[s]|", PERGIDAU_INVALID_UTF8, 4, 0},
     {DESKTOP, "[Desktop Entry]\nName[de]=a:b\n; = c\n", "[Desktop Entry]|Name[de]=a:b|;=c|",
      PERGIDAU_END, 0, 0},
     {DESKTOP, "[s]\na=b\n c=d\n", "[s]|a=b|c=d|", PERGIDAU_END, 0, 0},
-    {DESKTOP, "[s]\na:b\n", "[s]|", PERGIDAU_REFUSED, 4, PERGIDAU_INI_FAULT_NO_DELIMITER},
+    {DESKTOP, "[s]\na:b\n", "[s]|", PERGIDAU_INVALID, 4, PERGIDAU_INI_ERROR_MISSING_DELIMITER},
     {LENIENT, "a # b\nc = d;e ;f\n[s] ;g\n", "a|c=d;e|[s]|", PERGIDAU_END, 0, 0},
     {LENIENT, "a = b\n  c\n", "a=b|c|", PERGIDAU_END, 0, 0},
     /* Each flag by itself, and what else a sum may have. */
@@ -90,13 +90,14 @@ static void test_lines_of_ini(void)
         while ((code = pergidau_ini_next(&state, bytes, length, lines_of_ini[i].dialect, &entry))
                == PERGIDAU_DONE) {
             end = put_entry(end, (const char *)bytes, &entry);
-            same("no place", text, (long long)(entry.place + entry.fault), 0);
+            same("no place", text, (long long)(entry.error_offset + entry.error), 0);
         }
         same("the entries", text, strcmp(found, lines_of_ini[i].entries), 0);
         for (int again = 0; again < 2; again++) {
             same("the end", text, code, lines_of_ini[i].code);
-            same("the place", text, (long long)entry.place, (long long)lines_of_ini[i].place);
-            same("the fault", text, (long long)entry.fault, (long long)lines_of_ini[i].fault);
+            same("the place", text, (long long)entry.error_offset,
+                 (long long)lines_of_ini[i].place);
+            same("the error", text, (long long)entry.error, (long long)lines_of_ini[i].error);
             same("no text", text, (long long)(entry.key.length + entry.value.length), 0);
             code = pergidau_ini_next(&state, bytes, length, lines_of_ini[i].dialect, &entry);
         }

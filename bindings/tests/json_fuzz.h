@@ -79,11 +79,11 @@ static void read_string(const uint8_t *bytes, size_t length)
     struct pergidau_json_text out;
     enum pergidau_code code = pergidau_json_string(bytes, length, text, room_for, &out);
     if (string == 0) {
-        HOLDS(code == PERGIDAU_REFUSED && out.text == 0 && out.length == 0);
+        HOLDS(code == PERGIDAU_INVALID && out.text == 0 && out.length == 0);
         return;
     }
     HOLDS(out.length == string && out.text == size);
-    HOLDS(code == (size <= room_for ? PERGIDAU_DONE : PERGIDAU_TOO_SMALL));
+    HOLDS(code == (size <= room_for ? PERGIDAU_DONE : PERGIDAU_BUFFER_TOO_SMALL));
     if (code == PERGIDAU_DONE) {
         HOLDS(memcmp(text, wanted, size) == 0);
         for (size_t i = size; i < room_for; i++) {
@@ -128,7 +128,7 @@ static void read_integer(const uint8_t *bytes, size_t length)
     enum pergidau_code other = pergidau_json_natural(bytes, length, &natural);
     size_t whole = 0, number = number_by_hand(bytes, length, &whole);
     if (number == 0) {
-        HOLDS(code == PERGIDAU_REFUSED && other == PERGIDAU_REFUSED && found == 0 && natural == 0);
+        HOLDS(code == PERGIDAU_INVALID && other == PERGIDAU_INVALID && found == 0 && natural == 0);
         return;
     }
     bool minus = bytes[0] == '-', fits = number == whole;
@@ -140,25 +140,25 @@ static void read_integer(const uint8_t *bytes, size_t length)
     }
     bool is_natural = fits && !minus;
     bool is_integer = fits && size <= (uint64_t)INT64_MAX + minus;
-    HOLDS(other == (is_natural ? PERGIDAU_DONE : PERGIDAU_NO_INTEGER));
+    HOLDS(other == (is_natural ? PERGIDAU_DONE : PERGIDAU_NOT_AN_INTEGER));
     HOLDS(natural == (is_natural ? size : 0));
-    HOLDS(code == (is_integer ? PERGIDAU_DONE : PERGIDAU_NO_INTEGER));
+    HOLDS(code == (is_integer ? PERGIDAU_DONE : PERGIDAU_NOT_AN_INTEGER));
     HOLDS(found == (is_integer ? (minus ? (int64_t)(0 - size) : (int64_t)size) : 0));
 }
 
 /* The items that calls in turn tell of a text, through all levels. */
-static size_t items(const uint8_t *bytes, size_t length, size_t levels)
+static size_t items(const uint8_t *bytes, size_t length, size_t max_depth)
 {
     struct pergidau_json_item item;
     size_t count = 0;
-    while (pergidau_json_next(bytes, length, levels, &item) == PERGIDAU_DONE) {
-        const uint8_t *value = bytes + item.place.offset;
+    while (pergidau_json_next(bytes, length, max_depth, &item) == PERGIDAU_DONE) {
+        const uint8_t *value = bytes + item.span.offset;
         count++;
         if (item.kind == PERGIDAU_JSON_ARRAY || item.kind == PERGIDAU_JSON_OBJECT) {
-            count += items(value + 1, item.place.length - 1, levels - 1);
+            count += items(value + 1, item.span.length - 1, max_depth - 1);
         }
-        length -= item.place.offset + item.place.length;
-        bytes = value + item.place.length;
+        length -= item.span.offset + item.span.length;
+        bytes = value + item.span.length;
     }
     return count;
 }
@@ -166,13 +166,13 @@ static size_t items(const uint8_t *bytes, size_t length, size_t levels)
 /* The steps of a text are its items, each once, with brackets that open and close. */
 static void read_steps(const uint8_t *bytes, size_t length)
 {
-    size_t levels = below(8), left = length, count = 0, open = 0;
-    bool is_text = pergidau_json_check(bytes, length, levels) == PERGIDAU_DONE;
+    size_t max_depth = below(8), left = length, count = 0, open = 0;
+    bool is_text = pergidau_json_check(bytes, length, max_depth) == PERGIDAU_DONE;
     struct pergidau_json_item step;
     enum pergidau_code code;
     const uint8_t *from = bytes;
     while ((code = pergidau_json_step(from, left, &step)) == PERGIDAU_DONE) {
-        HOLDS(within(step.place, left) && step.place.length > 0);
+        HOLDS(within(step.span, left) && step.span.length > 0);
         HOLDS(step.kind != PERGIDAU_JSON_ARRAY && step.kind != PERGIDAU_JSON_OBJECT);
         bool begins = step.kind == PERGIDAU_JSON_BEGIN_ARRAY || step.kind == PERGIDAU_JSON_BEGIN_OBJECT;
         bool ends = step.kind == PERGIDAU_JSON_END_ARRAY || step.kind == PERGIDAU_JSON_END_OBJECT;
@@ -180,12 +180,12 @@ static void read_steps(const uint8_t *bytes, size_t length)
         HOLDS(!is_text || !ends || open > 0);
         open += begins;
         open -= ends;
-        from += step.place.offset + step.place.length;
-        left -= step.place.offset + step.place.length;
+        from += step.span.offset + step.span.length;
+        left -= step.span.offset + step.span.length;
     }
-    HOLDS(code == PERGIDAU_END || code == PERGIDAU_REFUSED);
-    HOLDS(step.place.offset == 0 && step.place.length == 0);
-    HOLDS(!is_text || (code == PERGIDAU_END && open == 0 && count == items(bytes, length, levels)));
+    HOLDS(code == PERGIDAU_END || code == PERGIDAU_INVALID);
+    HOLDS(step.span.offset == 0 && step.span.length == 0);
+    HOLDS(!is_text || (code == PERGIDAU_END && open == 0 && count == items(bytes, length, max_depth)));
 }
 
 /* From each byte on at which a string or a number may begin. */

@@ -23,14 +23,14 @@ static void walk_steps(const uint8_t *bytes, size_t length, char *into)
     while (pergidau_json_step(bytes, length, &item) == PERGIDAU_DONE) {
         bool told = item.kind == PERGIDAU_JSON_NUMBER || item.kind == PERGIDAU_JSON_STRING
             || item.kind == PERGIDAU_JSON_NAME;
-        into += sprintf(into, "%s%.*s ", marks[item.kind], told ? (int)item.place.length : 0,
-                        (const char *)bytes + item.place.offset);
-        bytes += item.place.offset + item.place.length;
-        length -= item.place.offset + item.place.length;
+        into += sprintf(into, "%s%.*s ", marks[item.kind], told ? (int)item.span.length : 0,
+                        (const char *)bytes + item.span.offset);
+        bytes += item.span.offset + item.span.length;
+        length -= item.span.offset + item.span.length;
     }
     same("the end of steps", (const char *)bytes, pergidau_json_step(bytes, length, &item),
          PERGIDAU_END);
-    same("what is told of the end", "a text", item.kind == 0 && item.place.length == 0, 1);
+    same("what is told of the end", "a text", item.kind == 0 && item.span.length == 0, 1);
 }
 
 static void test_steps(void)
@@ -44,8 +44,8 @@ static void test_steps(void)
         same("steps", stepped[i].text, strcmp(found, stepped[i].steps), 0);
         free(text);
     }
-    same("no step", "x", pergidau_json_step((const uint8_t *)",x", 2, &item), PERGIDAU_REFUSED);
-    same("no step", ", ,", pergidau_json_step((const uint8_t *)", ,", 3, &item), PERGIDAU_REFUSED);
+    same("no step", "x", pergidau_json_step((const uint8_t *)",x", 2, &item), PERGIDAU_INVALID);
+    same("no step", ", ,", pergidau_json_step((const uint8_t *)", ,", 3, &item), PERGIDAU_INVALID);
     same("null", "step", pergidau_json_step(NULL, 1, &item), PERGIDAU_NULL);
     same("null", "step", pergidau_json_step((const uint8_t *)"1", 1, NULL), PERGIDAU_NULL);
     same("too long", "step",
@@ -90,7 +90,7 @@ static void test_string(size_t i)
         struct pergidau_json_text out;
         bool fits = room >= most;
         same("json_string", row, pergidau_json_string(bytes, length, buffer, room, &out),
-             fits ? PERGIDAU_DONE : PERGIDAU_TOO_SMALL);
+             fits ? PERGIDAU_DONE : PERGIDAU_BUFFER_TOO_SMALL);
         same("the text's length", row, (long long)out.text, (long long)most);
         same("the string's length", row, (long long)out.length, (long long)strings[i].length);
         same("the text", row, fits ? memcmp(buffer, strings[i].text, most) : 0, 0);
@@ -112,7 +112,7 @@ static void test_strings(void)
         size_t length = strlen(no_strings[i]);
         uint8_t *bytes = copied(no_strings[i], length);
         same("no string", no_strings[i],
-             pergidau_json_string(bytes, length, buffer, sizeof buffer, &out), PERGIDAU_REFUSED);
+             pergidau_json_string(bytes, length, buffer, sizeof buffer, &out), PERGIDAU_INVALID);
         same("its lengths", no_strings[i], (long long)(out.text + out.length), 0);
         free(bytes);
     }
@@ -122,8 +122,8 @@ static void test_strings(void)
     same("null", "string", pergidau_json_string(one, 3, buffer, 1, NULL), PERGIDAU_NULL);
     same("too long", "string", pergidau_json_string(one, far, buffer, 1, &out), PERGIDAU_TOO_LONG);
     same("too long", "string", pergidau_json_string(one, 3, buffer, far, &out), PERGIDAU_TOO_LONG);
-    same("no buffer", "string", pergidau_json_string(one, 3, NULL, 0, &out), PERGIDAU_TOO_SMALL);
-    same("no bytes", "string", pergidau_json_string(NULL, 0, buffer, 1, &out), PERGIDAU_REFUSED);
+    same("no buffer", "string", pergidau_json_string(one, 3, NULL, 0, &out), PERGIDAU_BUFFER_TOO_SMALL);
+    same("no bytes", "string", pergidau_json_string(NULL, 0, buffer, 1, &out), PERGIDAU_INVALID);
 }
 
 static const struct {
@@ -134,24 +134,24 @@ static const struct {
     uint64_t of;
 } integers[] = {
     {"0", PERGIDAU_DONE, 0, PERGIDAU_DONE, 0},
-    {"-0", PERGIDAU_DONE, 0, PERGIDAU_NO_INTEGER, 0},
-    {"-12, 3", PERGIDAU_DONE, -12, PERGIDAU_NO_INTEGER, 0},
+    {"-0", PERGIDAU_DONE, 0, PERGIDAU_NOT_AN_INTEGER, 0},
+    {"-12, 3", PERGIDAU_DONE, -12, PERGIDAU_NOT_AN_INTEGER, 0},
     {"01", PERGIDAU_DONE, 0, PERGIDAU_DONE, 0},
-    {"1.0", PERGIDAU_NO_INTEGER, 0, PERGIDAU_NO_INTEGER, 0},
-    {"1e2", PERGIDAU_NO_INTEGER, 0, PERGIDAU_NO_INTEGER, 0},
+    {"1.0", PERGIDAU_NOT_AN_INTEGER, 0, PERGIDAU_NOT_AN_INTEGER, 0},
+    {"1e2", PERGIDAU_NOT_AN_INTEGER, 0, PERGIDAU_NOT_AN_INTEGER, 0},
     {"7x", PERGIDAU_DONE, 7, PERGIDAU_DONE, 7},
     {"9223372036854775807", PERGIDAU_DONE, INT64_MAX, PERGIDAU_DONE, INT64_MAX},
-    {"-9223372036854775808", PERGIDAU_DONE, INT64_MIN, PERGIDAU_NO_INTEGER, 0},
-    {"9223372036854775808", PERGIDAU_NO_INTEGER, 0, PERGIDAU_DONE, (uint64_t)INT64_MAX + 1},
-    {"-9223372036854775809", PERGIDAU_NO_INTEGER, 0, PERGIDAU_NO_INTEGER, 0},
-    {"18446744073709551615", PERGIDAU_NO_INTEGER, 0, PERGIDAU_DONE, UINT64_MAX},
-    {"18446744073709551616", PERGIDAU_NO_INTEGER, 0, PERGIDAU_NO_INTEGER, 0},
-    {"100000000000000000000000000000", PERGIDAU_NO_INTEGER, 0, PERGIDAU_NO_INTEGER, 0},
-    {"", PERGIDAU_REFUSED, 0, PERGIDAU_REFUSED, 0},
-    {"-", PERGIDAU_REFUSED, 0, PERGIDAU_REFUSED, 0},
-    {"+1", PERGIDAU_REFUSED, 0, PERGIDAU_REFUSED, 0},
-    {" 1", PERGIDAU_REFUSED, 0, PERGIDAU_REFUSED, 0},
-    {"\"1\"", PERGIDAU_REFUSED, 0, PERGIDAU_REFUSED, 0},
+    {"-9223372036854775808", PERGIDAU_DONE, INT64_MIN, PERGIDAU_NOT_AN_INTEGER, 0},
+    {"9223372036854775808", PERGIDAU_NOT_AN_INTEGER, 0, PERGIDAU_DONE, (uint64_t)INT64_MAX + 1},
+    {"-9223372036854775809", PERGIDAU_NOT_AN_INTEGER, 0, PERGIDAU_NOT_AN_INTEGER, 0},
+    {"18446744073709551615", PERGIDAU_NOT_AN_INTEGER, 0, PERGIDAU_DONE, UINT64_MAX},
+    {"18446744073709551616", PERGIDAU_NOT_AN_INTEGER, 0, PERGIDAU_NOT_AN_INTEGER, 0},
+    {"100000000000000000000000000000", PERGIDAU_NOT_AN_INTEGER, 0, PERGIDAU_NOT_AN_INTEGER, 0},
+    {"", PERGIDAU_INVALID, 0, PERGIDAU_INVALID, 0},
+    {"-", PERGIDAU_INVALID, 0, PERGIDAU_INVALID, 0},
+    {"+1", PERGIDAU_INVALID, 0, PERGIDAU_INVALID, 0},
+    {" 1", PERGIDAU_INVALID, 0, PERGIDAU_INVALID, 0},
+    {"\"1\"", PERGIDAU_INVALID, 0, PERGIDAU_INVALID, 0},
 };
 
 static void test_integers(void)
@@ -175,9 +175,9 @@ static void test_integers(void)
     same("null", "integer", pergidau_json_integer(NULL, 1, &integer), PERGIDAU_NULL);
     same("null", "integer", pergidau_json_integer(one, 1, NULL), PERGIDAU_NULL);
     same("too long", "integer", pergidau_json_integer(one, far, &integer), PERGIDAU_TOO_LONG);
-    same("nothing", "integer", pergidau_json_integer(NULL, 0, &integer), PERGIDAU_REFUSED);
+    same("nothing", "integer", pergidau_json_integer(NULL, 0, &integer), PERGIDAU_INVALID);
     same("null", "natural", pergidau_json_natural(NULL, 1, &natural), PERGIDAU_NULL);
     same("null", "natural", pergidau_json_natural(one, 1, NULL), PERGIDAU_NULL);
     same("too long", "natural", pergidau_json_natural(one, far, &natural), PERGIDAU_TOO_LONG);
-    same("nothing", "natural", pergidau_json_natural(NULL, 0, &natural), PERGIDAU_REFUSED);
+    same("nothing", "natural", pergidau_json_natural(NULL, 0, &natural), PERGIDAU_INVALID);
 }

@@ -2,7 +2,7 @@
  * megabytes in pieces of 1,460 bytes, as packets have.
  *
  *     pieces         by pergidau_resp_extent, and one call that reads the reply
- *     pieces all     and beside it by pergidau_resp_reply_in_pieces alone, which takes a while
+ *     pieces all     and beside it by pergidau_resp_reply_partial alone, which takes a while
  *
  * Exits with 1 where the end that is found is another. */
 #include <stdio.h>
@@ -38,7 +38,7 @@ static char *made(size_t *length)
 
 static size_t by_extent(const uint8_t *bytes, size_t length, struct pergidau_reply *out)
 {
-    struct pergidau_resp_extent state = {0};
+    struct pergidau_resp_reply_state state = {0};
     size_t end = 0, have = 0;
     enum pergidau_code code = PERGIDAU_INCOMPLETE;
     while (code == PERGIDAU_INCOMPLETE && have < length) {
@@ -57,7 +57,7 @@ static size_t by_pieces(const uint8_t *bytes, size_t length, struct pergidau_rep
     enum pergidau_code code = PERGIDAU_INCOMPLETE;
     while (code == PERGIDAU_INCOMPLETE && have < length) {
         have = length - have < PIECE ? length : have + PIECE;
-        code = pergidau_resp_reply_in_pieces(bytes, have, 1, out);
+        code = pergidau_resp_reply_partial(bytes, have, 1, out);
     }
     return code == PERGIDAU_DONE ? have : 0;
 }
@@ -67,7 +67,7 @@ int main(int count, char **words)
     size_t length;
     const uint8_t *bytes = (const uint8_t *)made(&length);
     size_t (*const ways[])(const uint8_t *, size_t, struct pergidau_reply *) = {by_extent, by_pieces};
-    const char *const names[] = {"resp_extent, then resp_reply", "resp_reply_in_pieces"};
+    const char *const names[] = {"resp_extent, then resp_reply", "resp_reply_partial"};
     int wrong = 0;
     for (int i = 0; i < (count > 1 && !strcmp(words[1], "all") ? 2 : 1); i++) {
         struct pergidau_reply reply = {0};

@@ -41,26 +41,26 @@ static const struct {
     {"2^3^2", PERGIDAU_DONE, 512, 0},
     {"-3!", PERGIDAU_DONE, -6, 0},
     {"-2^2", PERGIDAU_DONE, 4, 0},
-    {"1/0", PERGIDAU_REFUSED, 0, 3},
-    {"1 2", PERGIDAU_REFUSED, 0, 2},
-    {"1+", PERGIDAU_REFUSED, 0, 2},
-    {"", PERGIDAU_REFUSED, 0, 0},
-    {"-9223372036854775808", PERGIDAU_REFUSED, 0, 1},
+    {"1/0", PERGIDAU_INVALID, 0, 3},
+    {"1 2", PERGIDAU_INVALID, 0, 2},
+    {"1+", PERGIDAU_INVALID, 0, 2},
+    {"", PERGIDAU_INVALID, 0, 0},
+    {"-9223372036854775808", PERGIDAU_INVALID, 0, 1},
     {"3!!", PERGIDAU_DONE, 720, 0},
     {"7%-3", PERGIDAU_DONE, 1, 0},
     {"-7%3", PERGIDAU_DONE, -1, 0},
-    {"21!", PERGIDAU_REFUSED, 0, 3},
+    {"21!", PERGIDAU_INVALID, 0, 3},
     {"1+1=2", PERGIDAU_DONE, 1, 0},
     {"20!", PERGIDAU_DONE, 2432902008176640000, 0},
-    {"2^63", PERGIDAU_REFUSED, 0, 4},
-    {"9223372036854775807+1", PERGIDAU_REFUSED, 0, 21},
-    {"(1)", PERGIDAU_REFUSED, 0, 0},
-    {"\xff", PERGIDAU_NO_TEXT, 0, 0},
+    {"2^63", PERGIDAU_INVALID, 0, 4},
+    {"9223372036854775807+1", PERGIDAU_INVALID, 0, 21},
+    {"(1)", PERGIDAU_INVALID, 0, 0},
+    {"\xff", PERGIDAU_INVALID_UTF8, 0, 0},
     /* The remainder would be 0, and the quotient does not fit. */
     {"-2^63", PERGIDAU_DONE, INT64_MIN, 0},
-    {"-2^63%-1", PERGIDAU_REFUSED, 0, 8},
-    {"-2^63/-1", PERGIDAU_REFUSED, 0, 8},
-    {"7%0", PERGIDAU_REFUSED, 0, 3},
+    {"-2^63%-1", PERGIDAU_INVALID, 0, 8},
+    {"-2^63/-1", PERGIDAU_INVALID, 0, 8},
+    {"7%0", PERGIDAU_INVALID, 0, 3},
 };
 
 static void test_formulas(void)
@@ -72,7 +72,8 @@ static void test_formulas(void)
         same("calc_value", formulas[i].text, pergidau_calc_value(text, length, &out),
              formulas[i].code);
         same("the value", formulas[i].text, out.value, formulas[i].value);
-        same("the place", formulas[i].text, (long long)out.place, (long long)formulas[i].place);
+        same("the place", formulas[i].text, (long long)out.error_offset,
+             (long long)formulas[i].place);
         free(text);
     }
 }
@@ -86,11 +87,11 @@ static const struct {
     {"key=value", PERGIDAU_DONE, 3, 5, 0},
     {"a=", PERGIDAU_DONE, 1, 0, 0},
     {"a==b", PERGIDAU_DONE, 1, 2, 0},
-    {"a=b\nc", PERGIDAU_REFUSED, 0, 0, 4},
-    {"a=b\n\n", PERGIDAU_REFUSED, 0, 0, 4},
-    {"=b", PERGIDAU_REFUSED, 0, 0, 0},
-    {"key", PERGIDAU_REFUSED, 0, 0, 3},
-    {"", PERGIDAU_REFUSED, 0, 0, 0},
+    {"a=b\nc", PERGIDAU_INVALID, 0, 0, 4},
+    {"a=b\n\n", PERGIDAU_INVALID, 0, 0, 4},
+    {"=b", PERGIDAU_INVALID, 0, 0, 0},
+    {"key", PERGIDAU_INVALID, 0, 0, 3},
+    {"", PERGIDAU_INVALID, 0, 0, 0},
 };
 
 static void test_pairs(void)
@@ -106,36 +107,36 @@ static void test_pairs(void)
         same("the value", lines[i].line, (long long)out.value.length, (long long)lines[i].value);
         same("the value's place", lines[i].line, (long long)out.value.offset,
              done ? (long long)lines[i].key + 1 : 0);
-        same("the place", lines[i].line, (long long)out.place, (long long)lines[i].place);
+        same("the place", lines[i].line, (long long)out.error_offset, (long long)lines[i].place);
         free(line);
     }
 }
 
 static const struct {
-    size_t levels;
+    size_t max_depth;
     const char *text;
     enum pergidau_code check, value;
     size_t length;
 } texts[] = {
     {0, "null", PERGIDAU_DONE, PERGIDAU_DONE, 4},
-    {0, "nullx", PERGIDAU_REFUSED, PERGIDAU_DONE, 4},
-    {0, "01", PERGIDAU_REFUSED, PERGIDAU_DONE, 1},
+    {0, "nullx", PERGIDAU_INVALID, PERGIDAU_DONE, 4},
+    {0, "01", PERGIDAU_INVALID, PERGIDAU_DONE, 1},
     {0, "-1.5e3 ", PERGIDAU_DONE, PERGIDAU_DONE, 6},
-    {0, " 1", PERGIDAU_DONE, PERGIDAU_REFUSED, 0},
-    {0, "\"a\\\"]\" ]", PERGIDAU_REFUSED, PERGIDAU_DONE, 6},
-    {1, "[ \t\r\n]]", PERGIDAU_REFUSED, PERGIDAU_DONE, 6},
+    {0, " 1", PERGIDAU_DONE, PERGIDAU_INVALID, 0},
+    {0, "\"a\\\"]\" ]", PERGIDAU_INVALID, PERGIDAU_DONE, 6},
+    {1, "[ \t\r\n]]", PERGIDAU_INVALID, PERGIDAU_DONE, 6},
     {1, "[1,2,3]", PERGIDAU_DONE, PERGIDAU_DONE, 7},
-    {1, "[[]]", PERGIDAU_REFUSED, PERGIDAU_REFUSED, 0},
+    {1, "[[]]", PERGIDAU_INVALID, PERGIDAU_INVALID, 0},
     {2, "[[]]", PERGIDAU_DONE, PERGIDAU_DONE, 4},
     {1, "{ \"a\" : 1 , \"a\" : 2 }", PERGIDAU_DONE, PERGIDAU_DONE, 21},
-    {2, "{\"a\":[true,false]},2", PERGIDAU_REFUSED, PERGIDAU_DONE, 18},
-    {9, "[1,]", PERGIDAU_REFUSED, PERGIDAU_REFUSED, 0},
-    {9, "", PERGIDAU_REFUSED, PERGIDAU_REFUSED, 0},
-    {9, "\"\xff\"", PERGIDAU_NO_TEXT, PERGIDAU_DONE, 3},
+    {2, "{\"a\":[true,false]},2", PERGIDAU_INVALID, PERGIDAU_DONE, 18},
+    {9, "[1,]", PERGIDAU_INVALID, PERGIDAU_INVALID, 0},
+    {9, "", PERGIDAU_INVALID, PERGIDAU_INVALID, 0},
+    {9, "\"\xff\"", PERGIDAU_INVALID_UTF8, PERGIDAU_DONE, 3},
     {0, "\"\\ud83d\\ude00\"", PERGIDAU_DONE, PERGIDAU_DONE, 14},
-    {0, "\"\\ud800\"", PERGIDAU_REFUSED, PERGIDAU_REFUSED, 0},
-    {1, "[\"\\ude00\\ud83d\"]", PERGIDAU_REFUSED, PERGIDAU_REFUSED, 0},
-    {PERGIDAU_MOST_LEVELS + 1, "1", PERGIDAU_TOO_DEEP, PERGIDAU_TOO_DEEP, 0},
+    {0, "\"\\ud800\"", PERGIDAU_INVALID, PERGIDAU_INVALID, 0},
+    {1, "[\"\\ude00\\ud83d\"]", PERGIDAU_INVALID, PERGIDAU_INVALID, 0},
+    {PERGIDAU_MAX_DEPTH + 1, "1", PERGIDAU_MAX_DEPTH_TOO_LARGE, PERGIDAU_MAX_DEPTH_TOO_LARGE, 0},
 };
 
 static void test_json(void)
@@ -143,15 +144,15 @@ static void test_json(void)
     for (size_t i = 0; i < sizeof texts / sizeof *texts; i++) {
         size_t length = strlen(texts[i].text), out = 7;
         uint8_t *text = copied(texts[i].text, length);
-        same("json_check", texts[i].text, pergidau_json_check(text, length, texts[i].levels),
+        same("json_check", texts[i].text, pergidau_json_check(text, length, texts[i].max_depth),
              texts[i].check);
         same("json_value", texts[i].text,
-             pergidau_json_value(text, length, texts[i].levels, &out), texts[i].value);
+             pergidau_json_value(text, length, texts[i].max_depth, &out), texts[i].value);
         same("the length", texts[i].text, (long long)out, (long long)texts[i].length);
         free(text);
     }
     /* As many levels as may be asked for, and one more. */
-    size_t most = PERGIDAU_MOST_LEVELS;
+    size_t most = PERGIDAU_MAX_DEPTH;
     uint8_t *deep = malloc(2 * most + 2);
     if (deep == NULL) {
         exit(2);
@@ -161,7 +162,7 @@ static void test_json(void)
     same("json_check", "deep brackets", pergidau_json_check(deep + 1, 2 * most, most),
          PERGIDAU_DONE);
     same("json_check", "deeper brackets", pergidau_json_check(deep, 2 * most + 2, most),
-         PERGIDAU_REFUSED);
+         PERGIDAU_INVALID);
     free(deep);
 }
 
@@ -174,7 +175,7 @@ static void shown(const char *row, const uint8_t *bytes, struct pergidau_span pl
 
 /* What a walk through a text passes, each with its kind's letter, and a comma behind each. */
 static const struct {
-    size_t levels;
+    size_t max_depth;
     const char *text, *walk;
 } walks[] = {
     {0, "null", "n null,"},
@@ -188,33 +189,33 @@ static const struct {
 };
 
 /* Walks through what stands there, by the pattern of a caller, and writes what is passed. */
-static char *walk(const uint8_t *bytes, size_t length, size_t levels, char *into)
+static char *walk(const uint8_t *bytes, size_t length, size_t max_depth, char *into)
 {
     static const char letters[] = "nftdsao";
     struct pergidau_json_item item;
-    while (pergidau_json_next(bytes, length, levels, &item) == PERGIDAU_DONE) {
-        const uint8_t *value = bytes + item.place.offset;
+    while (pergidau_json_next(bytes, length, max_depth, &item) == PERGIDAU_DONE) {
+        const uint8_t *value = bytes + item.span.offset;
         *into++ = letters[item.kind];
         *into++ = ' ';
-        memcpy(into, value, item.place.length);
-        into += item.place.length;
+        memcpy(into, value, item.span.length);
+        into += item.span.length;
         if (item.kind == PERGIDAU_JSON_ARRAY || item.kind == PERGIDAU_JSON_OBJECT) {
             *into++ = '(';
-            into = walk(value + 1, item.place.length - 1, levels - 1, into);
+            into = walk(value + 1, item.span.length - 1, max_depth - 1, into);
         } else {
             *into++ = ',';
         }
-        length -= item.place.offset + item.place.length;
-        bytes = value + item.place.length;
+        length -= item.span.offset + item.span.length;
+        bytes = value + item.span.length;
     }
-    same("the end", (const char *)bytes, pergidau_json_next(bytes, length, levels, &item),
+    same("the end", (const char *)bytes, pergidau_json_next(bytes, length, max_depth, &item),
          PERGIDAU_END);
     *into = 0;
     return into;
 }
 
 static const struct {
-    size_t levels;
+    size_t max_depth;
     const char *bytes;
     enum pergidau_code code;
     size_t kind, offset, length;
@@ -229,12 +230,12 @@ static const struct {
     {0, " \t\r\n]", PERGIDAU_END, 0, 0, 0},
     {0, "}", PERGIDAU_END, 0, 0, 0},
     {0, "", PERGIDAU_END, 0, 0, 0},
-    {0, ",", PERGIDAU_REFUSED, 0, 0, 0},
-    {0, ", ]", PERGIDAU_REFUSED, 0, 0, 0},
-    {0, ",,1", PERGIDAU_REFUSED, 0, 0, 0},
-    {0, "[]", PERGIDAU_REFUSED, 0, 0, 0},
+    {0, ",", PERGIDAU_INVALID, 0, 0, 0},
+    {0, ", ]", PERGIDAU_INVALID, 0, 0, 0},
+    {0, ",,1", PERGIDAU_INVALID, 0, 0, 0},
+    {0, "[]", PERGIDAU_INVALID, 0, 0, 0},
     {1, ", []]", PERGIDAU_DONE, PERGIDAU_JSON_ARRAY, 2, 2},
-    {PERGIDAU_MOST_LEVELS + 1, "1", PERGIDAU_TOO_DEEP, 0, 0, 0},
+    {PERGIDAU_MAX_DEPTH + 1, "1", PERGIDAU_MAX_DEPTH_TOO_LARGE, 0, 0, 0},
 };
 
 static void test_walks(void)
@@ -245,10 +246,10 @@ static void test_walks(void)
         size_t length = strlen(row);
         uint8_t *text = copied(row, length);
         char passed[256] = "";
-        bool is = pergidau_json_check(text, length, walks[i].levels) == PERGIDAU_DONE;
+        bool is = pergidau_json_check(text, length, walks[i].max_depth) == PERGIDAU_DONE;
         same("is walked", row, is, walks[i].walk != NULL);
         if (is && walks[i].walk != NULL) {
-            walk(text, length, walks[i].levels, passed);
+            walk(text, length, walks[i].max_depth, passed);
             same(passed, row, strcmp(passed, walks[i].walk), 0);
         }
         free(text);
@@ -257,11 +258,11 @@ static void test_walks(void)
         size_t length = strlen(nexts[i].bytes);
         uint8_t *bytes = copied(nexts[i].bytes, length);
         same("json_next", nexts[i].bytes,
-             pergidau_json_next(bytes, length, nexts[i].levels, &item), nexts[i].code);
+             pergidau_json_next(bytes, length, nexts[i].max_depth, &item), nexts[i].code);
         same("the kind", nexts[i].bytes, (long long)item.kind, (long long)nexts[i].kind);
-        same("the place", nexts[i].bytes, (long long)item.place.offset,
+        same("the place", nexts[i].bytes, (long long)item.span.offset,
              (long long)nexts[i].offset);
-        same("the length", nexts[i].bytes, (long long)item.place.length,
+        same("the length", nexts[i].bytes, (long long)item.span.length,
              (long long)nexts[i].length);
         free(bytes);
     }
@@ -291,12 +292,12 @@ static const struct {
      {{"", "a"}, {"x", "1"}, {"y", "2"}, {"", "b c"}, {"x", "2"}, {"x", "3"}},
      6,
      0},
-    {"x=1", PERGIDAU_REFUSED, {{0}}, 0, 0},
-    {"[a]\nx\n", PERGIDAU_REFUSED, {{0}}, 0, 4},
-    {"[a]\nx=1\n [b", PERGIDAU_REFUSED, {{0}}, 0, 9},
-    {"[a]\nx=\xff", PERGIDAU_REFUSED, {{0}}, 0, 4},
+    {"x=1", PERGIDAU_INVALID, {{0}}, 0, 0},
+    {"[a]\nx\n", PERGIDAU_INVALID, {{0}}, 0, 4},
+    {"[a]\nx=1\n [b", PERGIDAU_INVALID, {{0}}, 0, 9},
+    {"[a]\nx=\xff", PERGIDAU_INVALID, {{0}}, 0, 4},
     /* Its first 8 bytes are a document, but not where they stand: the pair goes to its line's end. */
-    {"[a]\nx=ab\xff\n", PERGIDAU_REFUSED, {{0}}, 0, 4},
+    {"[a]\nx=ab\xff\n", PERGIDAU_INVALID, {{0}}, 0, 4},
 };
 
 static void test_document(size_t i)
@@ -318,7 +319,7 @@ static void test_document(size_t i)
          documents[i].code);
     same("the entries", row, (long long)out.entries, (long long)count);
     same("the bytes", row, (long long)out.text, (long long)bytes);
-    same("the place", row, (long long)out.place, (long long)documents[i].place);
+    same("the place", row, (long long)out.error_offset, (long long)documents[i].place);
     for (size_t k = 0; k < count; k++) {
         shown(row, text, entries[k].key, documents[i].entries[k][0]);
         shown(row, text, entries[k].value, documents[i].entries[k][1]);
@@ -330,13 +331,13 @@ static void test_document(size_t i)
     if (count > 0) {
         same("no entry", row,
              pergidau_ini_document(input, length, text, bytes, entries, count - 1, &out),
-             PERGIDAU_TOO_SMALL);
+             PERGIDAU_BUFFER_TOO_SMALL);
         same("wanted entries", row, (long long)out.entries, (long long)count);
     }
     if (bytes > 0) {
         same("no byte", row,
              pergidau_ini_document(input, length, text, bytes - 1, entries, count, &out),
-             PERGIDAU_TOO_SMALL);
+             PERGIDAU_BUFFER_TOO_SMALL);
         same("wanted bytes", row, (long long)out.text, (long long)bytes);
     }
     free(entries);
@@ -369,7 +370,7 @@ static void test_documents(void)
                                (size_t)PTRDIFF_MAX / sizeof *entries + 1, &out),
          PERGIDAU_TOO_LONG);
     same("no room", "document", pergidau_ini_document(bytes, 3, NULL, 0, NULL, 0, &out),
-         PERGIDAU_TOO_SMALL);
+         PERGIDAU_BUFFER_TOO_SMALL);
     same("nothing", "document", pergidau_ini_document(NULL, 0, NULL, 0, NULL, 0, &out),
          PERGIDAU_DONE);
 }
@@ -437,9 +438,9 @@ static void test_heads(void)
         if (fields == NULL) {
             exit(2);
         }
-        for (int in_pieces = 0; in_pieces < 2; in_pieces++) {
+        for (int is_partial = 0; is_partial < 2; is_partial++) {
             same("http_head", row,
-                 (in_pieces ? pergidau_http_head_in_pieces : pergidau_http_head)(
+                 (is_partial ? pergidau_http_head_partial : pergidau_http_head)(
                      text, length, fields, count, &out),
                  PERGIDAU_DONE);
             shown(row, text, out.method, heads[i].method);
@@ -456,15 +457,15 @@ static void test_heads(void)
         /* Each buffer that is too small, and each beginning. */
         for (size_t room = 0; room < count; room++) {
             same("too small", row, pergidau_http_head(text, length, fields, room, &out),
-                 PERGIDAU_TOO_SMALL);
+                 PERGIDAU_BUFFER_TOO_SMALL);
             same("wanted", row, (long long)out.fields, (long long)count);
         }
         for (size_t end = 0; end + heads[i].rest < length; end++) {
             uint8_t *front = copied(row, end);
             same("a beginning", row, pergidau_http_head(front, end, fields, count, &out),
-                 PERGIDAU_REFUSED);
-            same("its end", row, (long long)out.place, (long long)end);
-            same("a piece", row, pergidau_http_head_in_pieces(front, end, fields, count, &out),
+                 PERGIDAU_INVALID);
+            same("its end", row, (long long)out.error_offset, (long long)end);
+            same("a piece", row, pergidau_http_head_partial(front, end, fields, count, &out),
                  PERGIDAU_INCOMPLETE);
             free(front);
         }
@@ -477,11 +478,11 @@ static void test_heads(void)
         size_t place = strlen(no_heads[i][0]);
         size_t length = (size_t)snprintf(row, sizeof row, "%s%s", no_heads[i][0], no_heads[i][1]);
         uint8_t *text = copied(row, length);
-        same("no head", row, pergidau_http_head(text, length, fields, 4, &out), PERGIDAU_REFUSED);
-        same("the place", row, (long long)out.place, (long long)place);
-        same("no head", row, pergidau_http_head_in_pieces(text, length, fields, 4, &out),
-             PERGIDAU_REFUSED);
-        same("the place", row, (long long)out.place, (long long)place);
+        same("no head", row, pergidau_http_head(text, length, fields, 4, &out), PERGIDAU_INVALID);
+        same("the place", row, (long long)out.error_offset, (long long)place);
+        same("no head", row, pergidau_http_head_partial(text, length, fields, 4, &out),
+             PERGIDAU_INVALID);
+        same("the place", row, (long long)out.error_offset, (long long)place);
         free(text);
     }
 }
@@ -537,7 +538,7 @@ static void test_record(size_t i)
     same("the length", row, (long long)out.length, (long long)(length - records[i].rest));
     same("the fields", row, (long long)out.fields, (long long)count);
     same("the bytes", row, (long long)out.text, (long long)bytes);
-    same("no place", row, (long long)out.place, 0);
+    same("no place", row, (long long)out.error_offset, 0);
     for (size_t k = 0; k < count; k++) {
         shown(row, text, places[k], records[i].fields[k]);
         same("the place", row, (long long)places[k].offset, (long long)sum);
@@ -545,12 +546,12 @@ static void test_record(size_t i)
     }
     same("no entry", row,
          pergidau_csv_record(input, length, line_feeds, text, bytes, places, count - 1, &out),
-         PERGIDAU_TOO_SMALL);
+         PERGIDAU_BUFFER_TOO_SMALL);
     same("wanted entries", row, (long long)out.fields, (long long)count);
     if (bytes > 0) {
         same("no byte", row,
              pergidau_csv_record(input, length, line_feeds, text, bytes - 1, places, count, &out),
-             PERGIDAU_TOO_SMALL);
+             PERGIDAU_BUFFER_TOO_SMALL);
         same("wanted bytes", row, (long long)out.text, (long long)bytes);
     }
     /* In pieces it is one once its line end is there. */
@@ -559,7 +560,7 @@ static void test_record(size_t i)
     for (size_t room = 0; room <= end; room++) {
         uint8_t *piece = copied(row, room);
         same("a piece", row,
-             pergidau_csv_record_in_pieces(piece, room, line_feeds, text, bytes, places, count,
+             pergidau_csv_record_partial(piece, room, line_feeds, text, bytes, places, count,
                                            &out),
              ended && room == end ? PERGIDAU_DONE : PERGIDAU_INCOMPLETE);
         free(piece);
@@ -585,16 +586,16 @@ static void test_records(void)
         same("no record", row,
              pergidau_csv_record(input, length, line_feeds, text, sizeof text, places, MOST_CSV,
                                  &out),
-             PERGIDAU_REFUSED);
-        same("the place", row, (long long)out.place, (long long)no_records[i].begins);
+             PERGIDAU_INVALID);
+        same("the place", row, (long long)out.error_offset, (long long)no_records[i].begins);
         free(input);
         for (size_t room = 0; room <= length; room++) {
             uint8_t *piece = copied(row, room);
             same("no record of a piece", row,
-                 pergidau_csv_record_in_pieces(piece, room, line_feeds, text, sizeof text, places,
+                 pergidau_csv_record_partial(piece, room, line_feeds, text, sizeof text, places,
                                                MOST_CSV, &out),
-                 room > no_records[i].begins ? PERGIDAU_REFUSED : PERGIDAU_INCOMPLETE);
-            same("the place in a piece", row, (long long)out.place,
+                 room > no_records[i].begins ? PERGIDAU_INVALID : PERGIDAU_INCOMPLETE);
+            same("the place in a piece", row, (long long)out.error_offset,
                  room > no_records[i].begins ? (long long)no_records[i].begins : 0);
             free(piece);
         }
@@ -603,7 +604,7 @@ static void test_records(void)
 
 static const struct {
     const char *bytes;
-    size_t levels, kind;
+    size_t max_depth, kind;
     long long number;
     size_t elements;
     const char *text;
@@ -635,41 +636,41 @@ static void test_replies(void)
     struct pergidau_reply out;
     for (size_t i = 0; i < sizeof replies / sizeof *replies; i++) {
         const char *row = replies[i].bytes;
-        size_t length = strlen(row), levels = replies[i].levels;
+        size_t length = strlen(row), max_depth = replies[i].max_depth;
         for (size_t end = 0; end <= length; end++) {
             bool whole = end >= length - replies[i].rest;
             uint8_t *bytes = copied(row, end);
-            same("a piece", row, pergidau_resp_reply_in_pieces(bytes, end, levels, &out),
+            same("a piece", row, pergidau_resp_reply_partial(bytes, end, max_depth, &out),
                  whole ? PERGIDAU_DONE : PERGIDAU_INCOMPLETE);
-            same("resp_reply", row, pergidau_resp_reply(bytes, end, levels, &out),
-                 whole ? PERGIDAU_DONE : PERGIDAU_REFUSED);
+            same("resp_reply", row, pergidau_resp_reply(bytes, end, max_depth, &out),
+                 whole ? PERGIDAU_DONE : PERGIDAU_INVALID);
             if (whole) {
                 same("the kind", row, (long long)out.kind, (long long)replies[i].kind);
                 same("the number", row, out.number, replies[i].number);
                 same("the elements", row, (long long)out.elements, (long long)replies[i].elements);
                 same("the length", row, (long long)out.length,
                      (long long)(length - replies[i].rest));
-                shown(row, bytes, out.place, replies[i].text);
+                shown(row, bytes, out.span, replies[i].text);
             }
             free(bytes);
         }
-        if (levels > 0) {
+        if (max_depth > 0) {
             same("fewer levels", row,
-                 pergidau_resp_reply((const uint8_t *)row, length, levels - 1, &out),
-                 PERGIDAU_REFUSED);
+                 pergidau_resp_reply((const uint8_t *)row, length, max_depth - 1, &out),
+                 PERGIDAU_INVALID);
         }
     }
     for (size_t i = 0; i < sizeof no_replies / sizeof *no_replies; i++) {
         size_t length = strlen(no_replies[i]);
         uint8_t *bytes = copied(no_replies[i], length);
         same("no reply", no_replies[i], pergidau_resp_reply(bytes, length, 0, &out),
-             PERGIDAU_REFUSED);
-        same("no reply", no_replies[i], pergidau_resp_reply_in_pieces(bytes, length, 0, &out),
-             PERGIDAU_REFUSED);
+             PERGIDAU_INVALID);
+        same("no reply", no_replies[i], pergidau_resp_reply_partial(bytes, length, 0, &out),
+             PERGIDAU_INVALID);
         free(bytes);
     }
     /* As many arrays in one another as may be asked for. */
-    size_t most = PERGIDAU_MOST_LEVELS;
+    size_t most = PERGIDAU_MAX_DEPTH;
     uint8_t *deep = malloc(4 * most + 3);
     if (deep == NULL) {
         exit(2);
@@ -681,23 +682,23 @@ static void test_replies(void)
     same("resp_reply", "deep arrays", pergidau_resp_reply(deep, 4 * most + 3, most, &out),
          PERGIDAU_DONE);
     same("resp_reply", "deeper arrays", pergidau_resp_reply(deep, 4 * most + 3, most - 1, &out),
-         PERGIDAU_REFUSED);
+         PERGIDAU_INVALID);
     free(deep);
     const uint8_t *bytes = (const uint8_t *)"+\r\n";
     same("null", "reply", pergidau_resp_reply(NULL, 1, 0, &out), PERGIDAU_NULL);
     same("null", "reply", pergidau_resp_reply(bytes, 3, 0, NULL), PERGIDAU_NULL);
     same("too long", "reply", pergidau_resp_reply(bytes, (size_t)PTRDIFF_MAX + 1, 0, &out),
          PERGIDAU_TOO_LONG);
-    same("too deep", "reply", pergidau_resp_reply(bytes, 3, PERGIDAU_MOST_LEVELS + 1, &out),
-         PERGIDAU_TOO_DEEP);
-    same("nothing", "reply", pergidau_resp_reply(NULL, 0, 0, &out), PERGIDAU_REFUSED);
-    same("nothing", "reply", pergidau_resp_reply_in_pieces(NULL, 0, 0, &out), PERGIDAU_INCOMPLETE);
+    same("too deep", "reply", pergidau_resp_reply(bytes, 3, PERGIDAU_MAX_DEPTH + 1, &out),
+         PERGIDAU_MAX_DEPTH_TOO_LARGE);
+    same("nothing", "reply", pergidau_resp_reply(NULL, 0, 0, &out), PERGIDAU_INVALID);
+    same("nothing", "reply", pergidau_resp_reply_partial(NULL, 0, 0, &out), PERGIDAU_INCOMPLETE);
 }
 
 /* Calls in turn, each with so many bytes more: where the reply ends, or what the last one answers. */
 static enum pergidau_code extent_in_pieces(const char *row, size_t length, size_t step, size_t *end)
 {
-    struct pergidau_resp_extent state = {0};
+    struct pergidau_resp_reply_state state = {0};
     enum pergidau_code code = PERGIDAU_INCOMPLETE;
     for (size_t have = 0; code == PERGIDAU_INCOMPLETE && have <= length;
          have += length - have < step && have < length ? length - have : step) {
@@ -729,7 +730,7 @@ static void test_extents(void)
             same("its end", row, (long long)end, (long long)whole);
         }
         for (size_t cut = 0; cut < whole; cut++) {
-            struct pergidau_resp_extent state = {0};
+            struct pergidau_resp_reply_state state = {0};
             uint8_t *bytes = copied(row, cut);
             same("a part", row, pergidau_resp_extent(&state, bytes, cut, &end),
                  PERGIDAU_INCOMPLETE);
@@ -743,11 +744,11 @@ static void test_extents(void)
         const char *row = no_extents[i].bytes;
         size_t length = strlen(row), begins = no_extents[i].begins;
         for (size_t step = 1; step <= length; step++) {
-            same("no extent", row, extent_in_pieces(row, length, step, &end), PERGIDAU_REFUSED);
+            same("no extent", row, extent_in_pieces(row, length, step, &end), PERGIDAU_INVALID);
             same("no end", row, (long long)end, 0);
         }
         same("it begins", row, extent_in_pieces(row, begins, 1, &end), PERGIDAU_INCOMPLETE);
-        same("it is refused", row, extent_in_pieces(row, begins + 1, 1, &end), PERGIDAU_REFUSED);
+        same("it is refused", row, extent_in_pieces(row, begins + 1, 1, &end), PERGIDAU_INVALID);
     }
     /* More replies are due than 64 bits count: two arrays of as many as a size may say. */
     const char *many = "*2\r\n*9223372036854775807\r\n*9223372036854775807\r\n"
@@ -756,7 +757,7 @@ static void test_extents(void)
         same("an extent", many, extent_in_pieces(many, strlen(many), step, &end),
              PERGIDAU_INCOMPLETE);
     }
-    struct pergidau_resp_extent state = {0};
+    struct pergidau_resp_reply_state state = {0};
     same("an extent", many, pergidau_resp_extent(&state, (const uint8_t *)many, strlen(many), &end),
          PERGIDAU_INCOMPLETE);
     /* One, two and three times 2^63 - 1 were due, and the lines of five are passed. */
@@ -768,15 +769,15 @@ static void test_extents(void)
     same("null", "extent", pergidau_resp_extent(&state, bytes, 3, NULL), PERGIDAU_NULL);
     same("too long", "extent",
          pergidau_resp_extent(&state, bytes, (size_t)PTRDIFF_MAX + 1, &end), PERGIDAU_TOO_LONG);
-    state = (struct pergidau_resp_extent){0};
+    state = (struct pergidau_resp_reply_state){0};
     same("nothing", "extent", pergidau_resp_extent(&state, NULL, 0, &end), PERGIDAU_INCOMPLETE);
     same("a state that went on", "extent", pergidau_resp_extent(&state, bytes, 3, &end),
          PERGIDAU_DONE);
     /* Of numbers that no call left, it may say anything, and reads the bytes alone. */
-    state = (struct pergidau_resp_extent){SIZE_MAX, SIZE_MAX, SIZE_MAX,
+    state = (struct pergidau_resp_reply_state){SIZE_MAX, SIZE_MAX, SIZE_MAX,
                                           SIZE_MAX, SIZE_MAX, SIZE_MAX};
     (void)pergidau_resp_extent(&state, bytes, 3, &end);
-    state = (struct pergidau_resp_extent){1, 1, SIZE_MAX, 0, 0, 0};
+    state = (struct pergidau_resp_reply_state){1, 1, SIZE_MAX, 0, 0, 0};
     (void)pergidau_resp_extent(&state, bytes, 3, &end);
 }
 
@@ -786,7 +787,7 @@ struct decoded {
     char content[64], trailers[64];
     size_t data, fields, taken;
     enum pergidau_code code;
-    size_t fault;
+    size_t error;
 };
 
 static struct decoded decode(struct pergidau_chunked_state state, const char *row, size_t length,
@@ -799,17 +800,17 @@ static struct decoded decode(struct pergidau_chunked_state state, const char *ro
         uint8_t *bytes = copied(row + made.taken, have - made.taken);
         made.code = pergidau_http_chunked(&state, bytes, have - made.taken, &step);
         if (made.code == PERGIDAU_DONE && step.kind == PERGIDAU_CHUNKED_DATA) {
-            memcpy(made.content + made.data, bytes + step.place.offset, step.place.length);
-            made.data += step.place.length;
+            memcpy(made.content + made.data, bytes + step.span.offset, step.span.length);
+            made.data += step.span.length;
         } else if (made.code == PERGIDAU_DONE) {
             same("its kind", row, (long long)step.kind, PERGIDAU_CHUNKED_TRAILERS);
-            memcpy(made.trailers + made.fields, bytes + step.place.offset, step.place.length);
-            made.fields += step.place.length;
+            memcpy(made.trailers + made.fields, bytes + step.span.offset, step.span.length);
+            made.fields += step.span.length;
         } else {
-            same("nothing is given", row, (long long)(step.place.length + step.kind), 0);
+            same("nothing is given", row, (long long)(step.span.length + step.kind), 0);
         }
         made.taken += step.taken;
-        made.fault = step.fault;
+        made.error = step.error;
         free(bytes);
         if (made.code == PERGIDAU_INCOMPLETE && have < length) {
             have += length - have < piece ? length - have : piece;
@@ -835,15 +836,15 @@ static const struct {
 static const struct {
     const char *bytes;
     size_t begins;
-    enum pergidau_chunked_fault fault;
+    enum pergidau_chunked_error error;
 } no_bodies[] = {
-    {"\r\n", 0, PERGIDAU_CHUNKED_FAULT_SIZE},
-    {"1\n", 1, PERGIDAU_CHUNKED_FAULT_SIZE_LINE},
-    {"1;a b\r\n", 4, PERGIDAU_CHUNKED_FAULT_SIZE_LINE},
-    {"10000000000000000\r\n", 16, PERGIDAU_CHUNKED_FAULT_SIZE_TOO_LARGE},
-    {"1\r\nab\r\n", 4, PERGIDAU_CHUNKED_FAULT_DATA_END},
-    {"0\r\nA b\r\n\r\n", 4, PERGIDAU_CHUNKED_FAULT_TRAILERS},
-    {"0\r\n\rx", 4, PERGIDAU_CHUNKED_FAULT_TRAILERS},
+    {"\r\n", 0, PERGIDAU_CHUNKED_ERROR_SIZE},
+    {"1\n", 1, PERGIDAU_CHUNKED_ERROR_SIZE_LINE},
+    {"1;a b\r\n", 4, PERGIDAU_CHUNKED_ERROR_SIZE_LINE},
+    {"10000000000000000\r\n", 16, PERGIDAU_CHUNKED_ERROR_SIZE_TOO_LARGE},
+    {"1\r\nab\r\n", 4, PERGIDAU_CHUNKED_ERROR_DATA_END},
+    {"0\r\nA b\r\n\r\n", 4, PERGIDAU_CHUNKED_ERROR_TRAILERS},
+    {"0\r\n\rx", 4, PERGIDAU_CHUNKED_ERROR_TRAILERS},
 };
 
 static void test_limits(void)
@@ -851,12 +852,12 @@ static void test_limits(void)
     struct pergidau_chunked_state state = {1, 0, 0, 3, 2, 3, 2};
     const char *line = "0;ab\r\n", *fields = "0\r\nA:\r\n";
     struct decoded made = decode(state, line, strlen(line), 1);
-    same("its limit", line, made.code, PERGIDAU_REFUSED);
-    same("the limit", line, (long long)made.fault, PERGIDAU_CHUNKED_FAULT_SIZE_LINE_TOO_LONG);
+    same("its limit", line, made.code, PERGIDAU_INVALID);
+    same("the limit", line, (long long)made.error, PERGIDAU_CHUNKED_ERROR_SIZE_LINE_TOO_LONG);
     same("the place", line, (long long)made.taken, 3);
     made = decode(state, fields, strlen(fields), 4);
-    same("its limit", fields, made.code, PERGIDAU_REFUSED);
-    same("the limit", fields, (long long)made.fault, PERGIDAU_CHUNKED_FAULT_TRAILERS_TOO_LONG);
+    same("its limit", fields, made.code, PERGIDAU_INVALID);
+    same("the limit", fields, (long long)made.error, PERGIDAU_CHUNKED_ERROR_TRAILERS_TOO_LONG);
     same("the place", fields, (long long)made.taken, 5);
 }
 
@@ -883,9 +884,9 @@ static void test_bodies(void)
         const char *row = no_bodies[i].bytes;
         for (size_t piece = 1; piece <= strlen(row); piece++) {
             struct decoded made = decode(zeros, row, strlen(row), piece);
-            same("no body", row, made.code, PERGIDAU_REFUSED);
+            same("no body", row, made.code, PERGIDAU_INVALID);
             same("the place", row, (long long)made.taken, (long long)no_bodies[i].begins);
-            same("why", row, (long long)made.fault, no_bodies[i].fault);
+            same("why", row, (long long)made.error, no_bodies[i].error);
         }
     }
     test_limits();
@@ -954,10 +955,10 @@ static void test_wrong_records(void)
                              &out),
          PERGIDAU_TOO_LONG);
     same("nothing", "record", pergidau_csv_record(NULL, 0, 0, NULL, 0, NULL, 0, &out),
-         PERGIDAU_REFUSED);
+         PERGIDAU_INVALID);
     same("no room", "record", pergidau_csv_record(bytes, 1, 0, NULL, 0, NULL, 0, &out),
-         PERGIDAU_TOO_SMALL);
-    same("nothing", "record", pergidau_csv_record_in_pieces(NULL, 0, 0, NULL, 0, NULL, 0, &out),
+         PERGIDAU_BUFFER_TOO_SMALL);
+    same("nothing", "record", pergidau_csv_record_partial(NULL, 0, 0, NULL, 0, NULL, 0, &out),
          PERGIDAU_INCOMPLETE);
 }
 
@@ -975,18 +976,18 @@ static void test_wrong_use(void)
     same("too long", "calc", pergidau_calc_value(bytes, far, &number), PERGIDAU_TOO_LONG);
     same("too long", "calc", pergidau_calc_value(bytes, SIZE_MAX, &number), PERGIDAU_TOO_LONG);
     same("kept", "calc", number.value, 5);
-    same("nothing", "calc", pergidau_calc_value(NULL, 0, &number), PERGIDAU_REFUSED);
+    same("nothing", "calc", pergidau_calc_value(NULL, 0, &number), PERGIDAU_INVALID);
     same("null", "pair", pergidau_ini_pair(NULL, 1, &pair), PERGIDAU_NULL);
     same("null", "pair", pergidau_ini_pair(bytes, 1, NULL), PERGIDAU_NULL);
     same("too long", "pair", pergidau_ini_pair(bytes, far, &pair), PERGIDAU_TOO_LONG);
     same("null", "check", pergidau_json_check(NULL, 1, 1), PERGIDAU_NULL);
     same("too long", "check", pergidau_json_check(bytes, far, 1), PERGIDAU_TOO_LONG);
-    same("nothing", "check", pergidau_json_check(NULL, 0, 1), PERGIDAU_REFUSED);
+    same("nothing", "check", pergidau_json_check(NULL, 0, 1), PERGIDAU_INVALID);
     same("null", "value", pergidau_json_value(NULL, 1, 1, &length), PERGIDAU_NULL);
     same("null", "value", pergidau_json_value(bytes, 1, 1, NULL), PERGIDAU_NULL);
     same("too long", "value", pergidau_json_value(bytes, far, 1, &length), PERGIDAU_TOO_LONG);
     same("too deep", "value", pergidau_json_value(bytes, 1, SIZE_MAX, &length),
-         PERGIDAU_TOO_DEEP);
+         PERGIDAU_MAX_DEPTH_TOO_LARGE);
     same("null", "head", pergidau_http_head(NULL, 1, fields, 1, &head), PERGIDAU_NULL);
     same("null", "head", pergidau_http_head(bytes, 1, NULL, 1, &head), PERGIDAU_NULL);
     same("null", "head", pergidau_http_head(bytes, 1, fields, 1, NULL), PERGIDAU_NULL);
@@ -995,9 +996,9 @@ static void test_wrong_use(void)
          PERGIDAU_TOO_LONG);
     same("no room", "head",
          pergidau_http_head((const uint8_t *)hello, sizeof hello - 1, NULL, 0, &head),
-         PERGIDAU_TOO_SMALL);
+         PERGIDAU_BUFFER_TOO_SMALL);
     same("wanted", "head", (long long)head.fields, 3);
-    same("nothing", "head", pergidau_http_head_in_pieces(NULL, 0, NULL, 0, &head),
+    same("nothing", "head", pergidau_http_head_partial(NULL, 0, NULL, 0, &head),
          PERGIDAU_INCOMPLETE);
     test_wrong_records();
 }
@@ -1014,20 +1015,20 @@ static void test_library(void)
     same("is proved", "the library", pergidau_is_proved(), IS_PROVED);
 #endif
     static const char *const messages[] = {
-        "the bytes were read, and what was found is written",
-        "the bytes are not what is read",
-        "the bytes are not yet what is read, and with more after them they may be",
-        "a request for memory was refused",
-        "the bytes are no UTF-8, where text is asked for",
-        "the buffer has too few entries",
-        "more levels are asked for than PERGIDAU_MOST_LEVELS",
-        "a pointer is null where something is to be read or written",
-        "a length is more than PTRDIFF_MAX bytes",
-        "nothing more is told: what stands there is said at the function",
-        "the number is no integer, or does not fit as many bits as are asked for",
-        "this is no code of Pergidau",
+        "success",
+        "invalid input",
+        "incomplete input: more bytes are needed",
+        "memory allocation failed",
+        "input is not valid UTF-8",
+        "buffer too small",
+        "depth limit too large: at most 512 levels are supported",
+        "null pointer",
+        "length too large: at most PTRDIFF_MAX bytes are supported",
+        "no more items",
+        "number is not an integer or out of range",
+        "unknown code",
     };
-    for (int code = 0; code <= PERGIDAU_NO_INTEGER + 1; code++) {
+    for (int code = 0; code <= PERGIDAU_NOT_AN_INTEGER + 1; code++) {
         const char *message = pergidau_message((enum pergidau_code)code);
         same("the message", messages[code], strcmp(message, messages[code]), 0);
     }
@@ -1035,9 +1036,9 @@ static void test_library(void)
     same("kinds", "JSON", PERGIDAU_JSON_OBJECT, 6);
     same("kinds", "RESP", PERGIDAU_RESP_NULL_ARRAY, 6);
     same("kinds", "a chunked body", PERGIDAU_CHUNKED_TRAILERS, 1);
-    same("faults", "a chunked body", PERGIDAU_CHUNKED_FAULT_TRAILERS_TOO_LONG, 6);
+    same("faults", "a chunked body", PERGIDAU_CHUNKED_ERROR_TRAILERS_TOO_LONG, 6);
     same("kinds", "INI", PERGIDAU_INI_MORE, 3);
-    same("faults", "INI", PERGIDAU_INI_FAULT_NO_DELIMITER, 5);
+    same("faults", "INI", PERGIDAU_INI_ERROR_MISSING_DELIMITER, 5);
     struct pergidau_json_item item;
     struct pergidau_reply reply;
     same("the size of a kind", "JSON", sizeof item.kind, sizeof(size_t));

@@ -39,24 +39,24 @@ static void look_at_joins(const uint8_t *bytes, size_t length,
 
 static void read_toml(const uint8_t *bytes, size_t length)
 {
-    struct pergidau_toml_document out;
-    size_t levels = below(4);
+    struct pergidau_toml_result out;
+    size_t max_depth = below(4);
     enum pergidau_code code =
-        pergidau_toml_document(bytes, length, levels, NULL, 0, NULL, 0, &out);
-    if (code != PERGIDAU_TOO_SMALL) {
-        HOLDS(code == PERGIDAU_REFUSED || code == PERGIDAU_NO_TEXT);
-        HOLDS(out.place <= length && out.nodes == 0 && out.text == 0);
-        HOLDS((out.fault > 0) == (code == PERGIDAU_REFUSED));
+        pergidau_toml_document(bytes, length, max_depth, NULL, 0, NULL, 0, &out);
+    if (code != PERGIDAU_BUFFER_TOO_SMALL) {
+        HOLDS(code == PERGIDAU_INVALID || code == PERGIDAU_INVALID_UTF8);
+        HOLDS(out.error_offset <= length && out.nodes == 0 && out.text == 0);
+        HOLDS((out.error > 0) == (code == PERGIDAU_INVALID));
         return;
     }
-    HOLDS(out.nodes > 0 && out.place == 0 && out.fault == 0);
+    HOLDS(out.nodes > 0 && out.error_offset == 0 && out.error == 0);
     size_t count = out.nodes, size = out.text;
     uint8_t *text = buffer(size);
     struct pergidau_toml_node *nodes = malloc(count * sizeof *nodes);
     if (nodes == NULL) {
         exit(2);
     }
-    code = pergidau_toml_document(bytes, length, levels, text, size, nodes, count, &out);
+    code = pergidau_toml_document(bytes, length, max_depth, text, size, nodes, count, &out);
     HOLDS(code == PERGIDAU_DONE && out.nodes == count && out.text == size);
     for (size_t i = 0; i < count; i++) {
         look_at_node(bytes, length, i, nodes, count, size);

@@ -28,24 +28,24 @@ static const struct {
 
 static const struct {
     const char *text;
-    size_t place, fault;
+    size_t place, error;
 } refused_of_toml[] = {
-    {"a = 1\nb 2", 8, PERGIDAU_TOML_FAULT_EQUALS_SIGN},
-    {"= 1", 0, PERGIDAU_TOML_FAULT_KEY},
-    {"a = ", 4, PERGIDAU_TOML_FAULT_VALUE},
-    {"[]", 1, PERGIDAU_TOML_FAULT_TABLE_NAME},
-    {"[a", 2, PERGIDAU_TOML_FAULT_CLOSING_BRACKET},
-    {"a = 1 b = 2", 6, PERGIDAU_TOML_FAULT_LINE_END},
-    {"a = 1\na = 2\n", 6, PERGIDAU_TOML_FAULT_DEFINED},
-    {"a = 1\na.b = 2\n", 6, PERGIDAU_TOML_FAULT_NO_TABLE},
-    {"a = {}\n[a.b]\n", 7, PERGIDAU_TOML_FAULT_CLOSED},
-    {"[a]\n[[a]]\n", 4, PERGIDAU_TOML_FAULT_NO_TABLES},
+    {"a = 1\nb 2", 8, PERGIDAU_TOML_ERROR_EQUALS_SIGN},
+    {"= 1", 0, PERGIDAU_TOML_ERROR_KEY},
+    {"a = ", 4, PERGIDAU_TOML_ERROR_VALUE},
+    {"[]", 1, PERGIDAU_TOML_ERROR_TABLE_NAME},
+    {"[a", 2, PERGIDAU_TOML_ERROR_CLOSING_BRACKET},
+    {"a = 1 b = 2", 6, PERGIDAU_TOML_ERROR_LINE_END},
+    {"a = 1\na = 2\n", 6, PERGIDAU_TOML_ERROR_DEFINED},
+    {"a = 1\na.b = 2\n", 6, PERGIDAU_TOML_ERROR_NOT_A_TABLE},
+    {"a = {}\n[a.b]\n", 7, PERGIDAU_TOML_ERROR_CLOSED},
+    {"[a]\n[[a]]\n", 4, PERGIDAU_TOML_ERROR_NOT_AN_ARRAY_OF_TABLES},
 };
 
 enum { MOST_NODES_OF_TOML = 32, MOST_TEXT_OF_TOML = 64 };
 
 struct toml {
-    struct pergidau_toml_document found;
+    struct pergidau_toml_result found;
     uint8_t text[MOST_TEXT_OF_TOML];
     struct pergidau_toml_node nodes[MOST_NODES_OF_TOML];
 };
@@ -128,13 +128,13 @@ static void say_document(char *into, const struct toml *it)
     }
 }
 
-static enum pergidau_code read_toml(const char *text, size_t levels, size_t room, size_t count,
+static enum pergidau_code read_toml(const char *text, size_t max_depth, size_t room, size_t count,
                                     struct toml *it)
 {
     size_t length = strlen(text);
     uint8_t *bytes = copied(text, length);
     memset(it, 0x5a, sizeof *it);
-    enum pergidau_code code = pergidau_toml_document(bytes, length, levels, it->text, room, it->nodes,
+    enum pergidau_code code = pergidau_toml_document(bytes, length, max_depth, it->text, room, it->nodes,
                                                      count, &it->found);
     free(bytes);
     return code;
@@ -150,7 +150,7 @@ static void test_toml_buffers(const char *text, const struct toml *whole)
         }
         enum pergidau_code code =
             read_toml(text, 8, few ? bytes - 1 : bytes, few ? nodes : nodes - 1, &it);
-        same("too small", text, code, PERGIDAU_TOO_SMALL);
+        same("too small", text, code, PERGIDAU_BUFFER_TOO_SMALL);
         same("nodes that are wanted", text, (long long)it.found.nodes, (long long)nodes);
         same("bytes that are wanted", text, (long long)it.found.text, (long long)bytes);
         same("the buffers", text, it.text[0] == 0x5a && it.nodes[0].parent == it.nodes[0].first, 1);
@@ -173,23 +173,24 @@ static void test_toml(void)
                 printf("%s is said as %s\n", text, said);
                 wrong = 1;
             }
-            same("the place", text, it.found.place == 0 && it.found.fault == 0, 1);
+            same("the place", text, it.found.error_offset == 0 && it.found.error == 0, 1);
             test_toml_buffers(text, &it);
         }
     }
     for (size_t i = 0; i < sizeof refused_of_toml / sizeof *refused_of_toml; i++) {
         const char *text = refused_of_toml[i].text;
-        same("no document", text, read_toml(text, 8, 0, 0, &it), PERGIDAU_REFUSED);
-        same("the place", text, (long long)it.found.place, (long long)refused_of_toml[i].place);
-        same("the fault", text, (long long)it.found.fault, (long long)refused_of_toml[i].fault);
+        same("no document", text, read_toml(text, 8, 0, 0, &it), PERGIDAU_INVALID);
+        same("the place", text, (long long)it.found.error_offset,
+             (long long)refused_of_toml[i].place);
+        same("the error", text, (long long)it.found.error, (long long)refused_of_toml[i].error);
         same("the nodes", text, it.found.nodes == 0 && it.found.text == 0, 1);
     }
-    same("no text", "a = '\\xe9'", read_toml("a = '\xe9'", 8, 0, 0, &it), PERGIDAU_NO_TEXT);
-    same("the place", "a = '\\xe9'", (long long)it.found.place, 5);
-    same("levels", "[[]]", read_toml("a = [[]]", 1, 64, 8, &it), PERGIDAU_REFUSED);
+    same("no text", "a = '\\xe9'", read_toml("a = '\xe9'", 8, 0, 0, &it), PERGIDAU_INVALID_UTF8);
+    same("the place", "a = '\\xe9'", (long long)it.found.error_offset, 5);
+    same("levels", "[[]]", read_toml("a = [[]]", 1, 64, 8, &it), PERGIDAU_INVALID);
     same("levels", "[[]]", read_toml("a = [[]]", 2, 64, 8, &it), PERGIDAU_DONE);
     same("levels", "512", read_toml("a = 1", 512, 64, 8, &it), PERGIDAU_DONE);
-    same("levels", "513", read_toml("a = 1", 513, 64, 8, &it), PERGIDAU_TOO_DEEP);
+    same("levels", "513", read_toml("a = 1", 513, 64, 8, &it), PERGIDAU_MAX_DEPTH_TOO_LARGE);
     const uint8_t *a = (const uint8_t *)"a=1";
     same("null", "bytes", pergidau_toml_document(NULL, 3, 1, NULL, 0, NULL, 0, &it.found),
          PERGIDAU_NULL);

@@ -1,4 +1,4 @@
-"""The files of definitions and lemmas: what they declare, and what each declaration names."""
+"""The files of definitions and lemmas: their declarations, and the names in each declaration."""
 import re
 
 from registry.common import CRATES, read
@@ -10,12 +10,12 @@ SIGNED = re.compile(MODIFIERS + r"([^\s(){}:=|]+)(?:\s+\{[^}:]*\})*\s+:\s")
 BLOCK = re.compile(r"(module\s|mutual$)")
 CHAIN = re.compile(r"[^\s(){}\[\],;.|\"⟦⟧«»]+(?:\.[^\s(){}\[\],;.|\"⟦⟧«»]+)*")
 CONSTRUCTORS = re.compile(r"^\s+((?:[^\s(){}:=]+\s+)+):\s", re.MULTILINE)
-# Files of which the names are those of a function's goals.
+# Files whose names are those of a function's goals.
 GOALS = {"Answers", "Invariants", "Proof"}
 
 
 class Item:
-    """A declaration: where it stands, and its text."""
+    """A declaration: its position and its text."""
 
     def __init__(self, file, line, name, kind="", module=""):
         self.file, self.line, self.name, self.kind = file, line, name, kind
@@ -30,8 +30,8 @@ def without_comments(text):
 
 
 def statements(text):
-    """What begins at the margin of a file or of a part of it: the line, the text, and the heads of
-    the parts that it stands in."""
+    """Returns the statements at the margin of a file or of a block: the line, the text, and the
+    heads of the enclosing blocks."""
     parts, begun, lines, around = [(0, "")], 0, [], ""
     head, is_head, is_new = "", False, False
     for number, line in enumerate(without_comments(text).splitlines(), 1):
@@ -65,7 +65,7 @@ def statements(text):
 
 
 def imports(path):
-    """The names that an import brings, each with the path of what it names."""
+    """Returns the names that an import brings into scope, each with the path that it denotes."""
     path = " ".join(path.split())
     inner = re.match(r"(.*?)\.?\{(.*)\}", path)
     if not inner:
@@ -80,7 +80,7 @@ def imports(path):
 
 
 class Module:
-    """A file, whose scope is what its names mean: a module, or one and a name in it."""
+    """A file. Its scope maps a name to a module, or to a module and a name in it."""
 
     def __init__(self, path):
         self.file = path
@@ -134,24 +134,24 @@ class Module:
         item.around = around
 
     def is_answer(self, name, text):
-        """Whether this is what a goal asks for: it names the goal, or is an invariant."""
+        """Returns whether this proves a goal: it names the goal, or is an invariant."""
         return self.file.stem != "Answers" or " goal" in text or name.startswith("invariant")
 
     def clause_of(self, text):
-        """The declaration of which a text is a clause: the one that its first name is, or the one
+        """Returns the declaration of a clause: the one named by its first word, otherwise the one
         before."""
         if "ruleset" in text.split("=")[0] or re.match(r"infix|syntax|open ", text):
             return None
         return self.own.get(text.split()[0]) or (self.items[-1] if self.items else None)
 
     def cited(self, item, scope, known):
-        """The declarations that a declaration names, but for itself."""
+        """Returns the declarations that a declaration names, except itself."""
         found = names_in(" ".join([*item.texts, item.around]), scope, known)
         return found - {item}
 
 
 def names_in(text, scope, known):
-    """The declarations that a text names."""
+    """Returns the declarations that a text names."""
     found = set()
     operators = {part: it for name, it in scope.items() if "◌" in name for part in name.split("◌")}
     for chain in set(CHAIN.findall(text)):
@@ -168,7 +168,7 @@ def names_in(text, scope, known):
 
 
 def resolve(known, path, name):
-    """What a path means, through what modules pass on: a declaration, or a module's own path."""
+    """Resolves a path through re-exports: to a declaration, or to a module's own path."""
     place = home(known, path)
     if name is None or place is None:
         return place
@@ -181,7 +181,7 @@ def resolve(known, path, name):
 
 
 def home(known, path):
-    """The path of the file of a module."""
+    """Returns the path of the file of a module."""
     if path in known:
         return path
     folder, _, last = path.rpartition(".")

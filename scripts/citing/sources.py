@@ -1,4 +1,4 @@
-"""The files of code: what their clauses name, and the laws that they declare or call."""
+"""The files of code: the names in their clauses, and the laws that they declare or call."""
 import re
 
 from citing.logic import Item, imports, names_in, resolve
@@ -11,7 +11,7 @@ NAMED = re.compile(r"(?:using|unfolding)\(([^)]*)\)")
 
 
 class Source:
-    """A file, whole; of a file of laws each law is by itself."""
+    """A file of code as one item; in a file of laws, each law is an item."""
 
     def __init__(self, path):
         text = re.sub(r"(?m)//.*$", "", read(path))
@@ -36,11 +36,11 @@ class Source:
 
     @property
     def laws(self):
-        """The laws, each by the path by which its goals are found."""
+        """Returns the laws, by the paths under which their goals are found."""
         return {item.path: item for item in self.items if item.is_law}
 
     def cited(self, item, scope, known, laws):
-        """The declarations that its clauses and attributes name, and the laws that it calls."""
+        """Returns the declarations named in its clauses and attributes, and the laws it calls."""
         text = " ".join(item.texts)
         found = names_in(text, scope, known)
         for several in NAMED.findall(text):

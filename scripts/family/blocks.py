@@ -1,4 +1,4 @@
-"""The blocks that make types parsers, as the sources have them."""
+"""The impl blocks of parsers, read from the sources."""
 import collections
 import re
 
@@ -8,7 +8,7 @@ from registry.parsers import closing
 
 # Parsers that call a function of one stream, or whose parts have laws of their own.
 LEFT = {"Func<F>", "Expression<I, O, P, Pre, Post, Pix, F, G, H, E, A>", "AltParser<A, I, O, E>", "OperandPlace<P, R>", "OperatorPlace<P, R>"}
-# What a value that is a parser of itself is called in a law.
+# The names in laws of values that are parsers themselves.
 NAMES = {
     "&'t [u8]": "bytes",
     "&'t [u8; N]": "array",
@@ -34,7 +34,7 @@ def snake(name):
 
 
 class Block:
-    """A block that makes a type a parser."""
+    """An impl of `Parser` or `Alt` for a type."""
 
     def __init__(self, path, text):
         self.path = path
@@ -57,7 +57,7 @@ class Block:
             self.over_bytes()
 
     def over_bytes(self):
-        """Bits are those of bytes: a bound at bits of any stream is not stated."""
+        """Replaces the stream below bits with bytes: laws have no bounds on bits of any stream."""
         byte = lambda text: re.sub(r"(?<![\w:'])I\b(?!::)", "&'i [u8]", text).replace("I::Slice", "&'i [u8]")
         self.meaning = self.meaning.replace("I.reading", "bytes_reading")
         self.parameters = [("'i", "")] + [(x, byte(b)) for x, b in self.parameters if x != "I"]
@@ -94,7 +94,7 @@ def mentions(text, names):
 
 
 def public(path, name, base):
-    """Where a name of a crate is public, if a module above makes it so."""
+    """Returns the public path of a crate's name, or `base` if no module re-exports it."""
     src = CRATES / path.relative_to(CRATES).parts[0] / "src"
     for file in sorted(src.rglob("*.rt"), key=lambda it: (len(it.parts), it)):
         for it in re.findall(r"^pub use ([^;]*);", file.read_text(encoding="utf-8"), re.MULTILINE):
@@ -104,7 +104,7 @@ def public(path, name, base):
 
 
 def used(text, blocks, ghost):
-    """The imports of names that a text has, as the files of the blocks have them."""
+    """Returns the imports of the names in a text, as the blocks' files import them."""
     found = {}
     for block in blocks:
         crate = "::".join(["crate", *block.path.relative_to(TOP).with_suffix("").parts[3:]])

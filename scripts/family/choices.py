@@ -1,5 +1,5 @@
-"""Choices among the members of a tuple, with their laws, in the crate `winnow_comb`."""
-from family.common import MOST, NUMBER, conjunction, rust_tuple, upto, write
+"""Choices between the members of a tuple, with their laws, in the crate `winnow_comb`."""
+from family.common import MOST, NUMBER, conjunction, documented, rust_tuple, upto, write
 from family.stable import choice_block
 
 
@@ -24,7 +24,7 @@ def choice_meaning(n, first=1):
 
 
 def choice_ends(n):
-    """That the runs of n branches leave an end."""
+    """Returns the proof that a choice between n branches leaves a suffix of its input."""
     term = "(P%d.leaves_ends form)" % n
     for k in range(n - 1, 0, -1):
         rest = choice_meaning(n, k + 1)
@@ -33,12 +33,12 @@ def choice_ends(n):
 
 
 def place(n, k):
-    """Where the branch k of n stands in a state, which is pairs nested to the right."""
+    """Returns the projection of branch k of n from a state of pairs nested to the right."""
     return ".1" * (k - 1) + (".0" if k < n else "")
 
 
 def of_branches(n, member):
-    """The member `claim`, `claimed`, `says` or `said` of a choice among n, made of its branches'."""
+    """Returns the member `claim`, `claimed`, `says` or `said` of a choice between n branches."""
     if n == 1:
         return "P1.%s" % member
     made = nested(
@@ -89,7 +89,7 @@ def choice_impl(n):
     return "\n".join(lines)
 
 
-CHOICE_IMPLS = """//! Tuples as branches.
+CHOICE_IMPLS = """//! Tuples as the branches of `alt`.
 //!
 //! {head}
 ghost use Rattle.stream_errors.specs.Form.{{modal}};
@@ -109,7 +109,7 @@ use winnow_core::stable::Stable;
 """
 
 def law_run(n, k):
-    """The run of the branch k of n, between the states that the nested pairs have for it."""
+    """Returns the runs of branch k of n, between its states in the nested pairs."""
     return "(λ x a y. run%d s%s x a t%s y)" % (k, place(n, k), place(n, k))
 
 
@@ -118,7 +118,7 @@ def law_spec(n):
     runs = " → ".join("Runs S%d T O" % k for k in upto(n))
     states = nested(lambda k: "S%d" % k, n, product)
     lines = [
-        "-- the choices are the first of %s branches that does not backtrack" % NUMBER[n],
+        "-- Every result of a choice is that of the first of %s branches that does not backtrack." % NUMBER[n],
         "abbrev pub ChoosesFirst%d : {%s : Type 0} → %s → Runs (%s) T O → Type 0" % (n, " ".join(names), runs, states),
         "ChoosesFirst%d %s %s chooses =" % (n, " ".join("{%s}" % x for x in names), " ".join("run%d" % k for k in upto(n))),
         "    (s : %s) (i : Input T) (answer : Answer O) (t : %s) (j : Input T) → chooses s i answer t j → AnswersAsFirst i.left (%s ∷ []) i answer j"
@@ -144,12 +144,12 @@ def law_lemma(n):
 
 
 def attempt(step, k):
-    """The name of what is known behind the attempt k."""
+    """Returns the name of the facts that hold after attempt k."""
     return "c.%s" % step + ("" if k == 1 else "-attempt" if k == 2 else "-attempt-%d" % (k - 1))
 
 
 def choice_answer(n, answering):
-    """That the run of a choice among n is one where `answering` answers, behind those that backtracked."""
+    """Returns the proof of the clause `ran` where branch `answering` of n gives the result."""
     form = "g.E.HasKind.form"
     goal = "returns-clause-ran" if answering == n else "returns-in-Some-attempt-%d-clause-ran" % (answering - 1)
 
@@ -182,7 +182,7 @@ use Rattle.winnow_comb.proofs.combinator.impls.alt.tuples.Tuple{n}Alt.choice.Goa
 """
 
 
-LAW_SPECS = """-- Choices answer as the first of their branches that does not backtrack.
+LAW_SPECS = """-- Choices return the result of their first branch that does not backtrack.
 -- {head}
 use Rattle.std.specs.Prelude.{{[], ◌∷◌}}
 use Rattle.streams.specs.Input.{{Input}}
@@ -193,7 +193,7 @@ use Rattle.winnow_comb.specs.Laws.{{AnswersAsFirst}}
 {family}
 """
 
-LAW_LEMMAS = """-- Choices answer as the first of their branches that does not backtrack.
+LAW_LEMMAS = """-- Choices return the result of their first branch that does not backtrack.
 -- {head}
 use Rattle.std.proofs.Common.{{inl, inr}}
 use Rattle.winnow_core.specs.Runs.{{Runs}}
@@ -210,8 +210,7 @@ def law_function(n):
     meanings = " ".join("(P%d.meaning E.form)" % k for k in upto(n))
     return "\n".join(
         [
-            "/// A choice of %s answers as the first branch that does not backtrack, or as the last one, and" % NUMBER[n],
-            "/// each is run from the same place.",
+            documented("`alt` of %s parsers returns the result of the first branch that does not backtrack, or of the last branch. Every branch runs at the same offset." % NUMBER[n]),
             "pub fn alt_of_%s_answers_as_the_first<%s, I: Stream, O, E: ParserError<I>>()" % (NUMBER[n], types),
             "    ensures { ChoosesFirst%d %s (⟦<%s as Alt<I, O, E>>⟧.meaning E.form) }" % (n, meanings, parsers),
             "{",
@@ -220,7 +219,7 @@ def law_function(n):
     )
 
 
-LAW_FUNCTIONS = """//! Laws of choices among the members of a tuple.
+LAW_FUNCTIONS = """//! Laws of `alt` over tuples.
 //!
 //! {head}
 ghost use Rattle.winnow_comb.specs.ChoiceLaws.{{{laws}}};
@@ -248,7 +247,7 @@ def write_choices():
     impls = comb + "src/combinator/impls/alt/"
     family = "\n\n".join("%s\n\n%s" % (choice_impl(n), choice_block(n)) for n in upto(MOST))
     write(impls + "tuples.rt", CHOICE_IMPLS, family=family)
-    # what the prover does not find: choices behind three branches that backtracked
+    # Proofs that the prover does not find: results after three branches that backtracked.
     for n in range(4, MOST + 1):
         answers = "\n\n".join(choice_answer(n, k) for k in range(4, n + 1))
         common = "sym, ap" if n == 4 else "refl, sym, ap, inl"

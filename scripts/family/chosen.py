@@ -1,14 +1,14 @@
-"""The parsers of integers whose bytes stand in an order that is chosen, in `winnow_binary`."""
+"""The parsers of integers whose byte order is an argument, in `winnow_binary`."""
 from family.common import camel, documented, write
 from family.integer_claims import chosen_claims
-from family.integers import IMPORTS, WIDTHS, Integer
+from family.integers import FAILS, IMPORTS, WIDTHS, Integer
 from family.stable import integer_block
 
 CHOSEN = "crates/winnow_binary/"
 
 
 def chosen():
-    """The integers of which the order is chosen, each by its name."""
+    """Returns the integers whose byte order is an argument, by name."""
     return {"%s%d" % (sign, bits): Integer(sign, bits) for sign in "ui" for bits in WIDTHS if bits != 8}
 
 
@@ -17,9 +17,9 @@ def chosen_function(name, one):
     own = camel(name)
     return "\n".join(
         [
-            documented("A parser of %s of %s, which stand in the order `endian`." % (one.kind().lower(), one.bytes())),
+            documented("Returns a parser of %s in the byte order `endian`." % one.words()),
             "///",
-            documented("Where fewer are left it fails, and consumes nothing; on a cut input it is incomplete: the need is how many bytes are missing."),
+            documented(FAILS),
             "///",
             "/// ```",
             '/// let input = b"%s;".as_slice();' % row,
@@ -43,7 +43,7 @@ def chosen_function(name, one):
     )
 
 
-CHOSEN_FUNCTIONS = """//! Parsers of integers whose bytes stand in an order that is chosen.
+CHOSEN_FUNCTIONS = """//! Parsers of integers whose byte order is an argument.
 //!
 //! {head}
 ghost use Rattle.std.specs.Prelude.{{◌≡◌}};
@@ -81,7 +81,7 @@ use std::marker::PhantomData;
     + IMPORTS
     + """use winnow_integers::binary::{{Endianness, be_{name}, le_{name}}};
 
-/// The parser that [`{name}`](crate::binary::{name}) makes.
+/// The parser that [`{name}`](crate::binary::{name}) returns.
 ///
 /// ```
 /// let mut parser: {kind}<_, _> = {name}(Endianness::Big);
@@ -125,7 +125,7 @@ impl<I: StreamIsPartial + ByteStream, E: ParserError<I>> Parser<I, {type}, E> fo
 """
 )
 
-CHOSEN_SPECS = """-- Integers whose bytes stand in an order that is chosen.
+CHOSEN_SPECS = """-- Integers whose byte order is an argument.
 -- {head}
 use Rattle.std.specs.Prelude.{{ℕ, List}}
 use Rattle.streams.specs.Reading.{{Reading}}
@@ -135,14 +135,13 @@ use Rattle.winnow_integers.specs.Integer.{{IntegerRuns}}
 use Rattle.winnow_integers.specs.declared.binary.endianness.Endianness.{{Endianness}}
 {uses}
 
--- A run of the parser of an integer of that many bytes, each list of which has a value in each order;
--- the order that is chosen stays.
+-- The calls of a parser of a `width`-byte integer with the value `value order bytes`; the order stays.
 abbrev pub ChosenRuns : {{S O : Type 0}} → ℕ → (Endianness → List ℕ → O) → Reading ℕ S → ErrorForm
     → Runs Endianness ℕ O
 ChosenRuns width value reading form =
     Keeps (λ order. IntegerRuns width (value order) reading form)
 
--- the order in which the bytes stand
+-- The byte orders of the parsers.
 {projections}
 """
 
@@ -158,7 +157,7 @@ def write_chosen():
     for name, one in rows.items():
         row, number = one.sample()
         kind = camel(name)
-        text = "%s of %s, which stand in an order that is chosen." % (one.kind(), one.bytes())
+        text = "%s in a byte order that is an argument." % (one.words()[0].upper() + one.words()[1:])
         stable = integer_block(one, kind + "<I, E>", "x", "(%s x)" % one.value)
         parts = {"kind": kind, "own": kind + "<I, E>", "stable": stable}
         parts |= chosen_claims(one) | vars(one)

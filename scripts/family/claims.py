@@ -1,4 +1,4 @@
-"""What tuples of two to six parsers claim, in the crate `winnow_core`."""
+"""The specifications (claims) of tuples of two to six parsers, in the crate `winnow_core`."""
 from family.common import MOST, NEVER_TAKES, NUMBER
 from family.common import conjunction, record, tuple_type, write
 from family.exact import LARGE, WORDS, numbered, prefix, spaced, sums, whole, word
@@ -7,7 +7,7 @@ SIZES = range(2, MOST + 1)
 
 
 def claim(n):
-    """The claim of a tuple of n, of those of its members."""
+    """Returns the claim of a tuple of n, computed from those of its members."""
     fields = {
         "premise": conjunction(numbered("c#.premise", n)),
         "backtracks": conjunction(numbered("c#.backtracks", n)),
@@ -28,7 +28,7 @@ def claim(n):
 
 
 def either_way(n):
-    """That one of n members takes tokens."""
+    """Returns the proof that one of n members consumes tokens."""
     text, *others = numbered("(h#.takes is.@)", n)
     for other in others:
         text = "(either_way %s %s)" % (text, other)
@@ -36,7 +36,7 @@ def either_way(n):
 
 
 def claimed_kind(n):
-    """Where n members keep their claims, the tuple keeps its own."""
+    """Returns the statement that a tuple of n satisfies its claim if its members satisfy theirs."""
     parameters = [
         "{%s T L %s : Type 0}" % (spaced("S#", n), spaced("O#", n)),
         spaced("{c# : Claim T O#}", n),
@@ -53,7 +53,7 @@ def claimed_kind(n):
 
 
 def claimed(n):
-    """That a tuple of n keeps its claim, where its members keep theirs."""
+    """Returns the lemma that a tuple of n satisfies its claim if its members satisfy theirs."""
     name, exact = prefix(n), spaced("(h#.exact form is.@)", n)
     output = "(%s) " % whole(n) if n < 4 else ""
     part = "(fails_as (λ b. b.@) (λ m. m.@) (h#.fails form is.@))"
@@ -72,16 +72,16 @@ def claimed(n):
     return "\n".join([*lines, *("  %s = %s;" % field for field in fields.items()), "}"])
 
 
-# What decides them follows from what they say.
+# Determinism follows from the relation that the parser says.
 DECIDED = "λ form is. decided_of I.reading (%s) (%s) form is"
 
 
 def ends(n):
-    """That a tuple of n leaves an end, where its members do."""
+    """Returns the proof that a tuple of n leaves a suffix of its input if its members do."""
     return "λ form. sequence%d_ends I.reading %s" % (n, spaced("(P#.meaning form)", n)) + " " + spaced("(P#.leaves_ends form)", n)
 
 
-# Of a tuple of no members, and of one.
+# The claims of tuples of no members and of one.
 NOTHING_CLAIMS = {
     "claim": record(
         "claim",
@@ -126,7 +126,7 @@ ONE_CLAIMS = {
 
 
 def member_claims(n):
-    """The ghost members of a tuple of n parsers by which it says and claims what theirs do."""
+    """Returns the ghost members `says`, `said`, `claim` and `claimed` of a tuple of n parsers."""
     word = "one" if n == 1 else "sequence%d" % n
     says, said = ("%s_%s %s" % (word, it, spaced("(P#.%s s.@)" % it, n)) for it in ("says", "said"))
     member = "    ghost %s = { λ s. %s };"
@@ -138,7 +138,7 @@ def member_claims(n):
     return members | {"claim": member % ("claim", claim), "claimed": member % ("claimed", claimed)}
 
 
-CLAIMS = """-- What tuples of two to six parsers claim: what their members do, one behind the other.
+CLAIMS = """-- The claims of tuples of two to six parsers: those of their members in sequence.
 -- {head}
 use Rattle.std.specs.Prelude.{{◌⊎◌}}
 use Rattle.grammars.specs.Grammar.{{Both, Three}}
@@ -161,7 +161,7 @@ use Rattle.winnow_core.specs.Sequence.{{{runs}}}
 
 
 LAWS = "use Rattle.winnow_core.specs.Sequence.Exact.{tuple%d_exact, tuple%d_fails, tuple%d_takes}"
-FAMILY = "-- %s\n%s\n\n-- that is kept\n%s"
+FAMILY = "-- Tuples of %s.\n%s\n\n%s"
 
 
 def write_claims():

@@ -1,25 +1,25 @@
-"""The parsers of classes of ASCII characters, in the crate `winnow_ascii`."""
+"""The parsers of ASCII character classes, in the crate `winnow_ascii`."""
 from family.common import NEVER_TAKES, camel, documented, record, write
 from family.stable import class_block
 
 CLASSES = [
-    ("alpha", "ASCII letters", "letter", "Letters", "IsAlpha", "ab", "1"),
-    ("digit", "ASCII digits", "digit", "DecimalDigits", "IsDecDigit", "12", ";"),
-    ("hex_digit", "hexadecimal digits, in either case", "such digit", "HexadecimalDigits", "IsHexDigit", "1fA", "g"),
-    ("oct_digit", "octal digits", "such digit", "OctalDigits", "IsOctDigit", "17", "8"),
-    ("alphanumeric", "ASCII letters and digits", "letter or digit", "Alphanumerics", "IsAlphanum", "a1", ";"),
-    ("space", "spaces and tabs", "such character", "Spaces", "IsSpace", " \\t", "a"),
-    ("multispace", "spaces, tabs, carriage returns and line feeds", "such character", "Multispaces", "IsMultispace", " \\n", "a"),
+    ("alpha", "ASCII letters", "a letter", "Letters", "IsAlpha", "ab", "1"),
+    ("digit", "ASCII digits", "a digit", "DecimalDigits", "IsDecDigit", "12", ";"),
+    ("hex_digit", "hexadecimal digits in either case", "a hexadecimal digit", "HexadecimalDigits", "IsHexDigit", "1fA", "g"),
+    ("oct_digit", "octal digits", "an octal digit", "OctalDigits", "IsOctDigit", "17", "8"),
+    ("alphanumeric", "ASCII letters and digits", "a letter or a digit", "Alphanumerics", "IsAlphanum", "a1", ";"),
+    ("space", "spaces and tabs", "a space or a tab", "Spaces", "IsSpace", " \\t", "a"),
+    ("multispace", "spaces, tabs, carriage returns and line feeds", "such a character", "Multispaces", "IsMultispace", " \\n", "a"),
 ]
 
 
 def class_parsers():
-    """Each class with its least number of members."""
+    """Returns each class with its minimum number of members."""
     return [(*row, least) for row in CLASSES for least in (0, 1)]
 
 
 def example(call, text, front, rest):
-    """The lines of an example of a call that answers."""
+    """Returns the lines of an example of a call that succeeds."""
     return [
         'let mut input = "%s";' % text,
         'assert_eq!(rt; %s(&mut input), Ok::<_, EmptyError>("%s"));' % (call, front),
@@ -30,18 +30,18 @@ def example(call, text, front, rest):
 def class_function(name, members, one, chars, is_member, front, rest, least):
     call = "%s%d" % (name, least)
     if least:
-        fails = "It backtracks, and consumes nothing, where no %s stands first. On a cut input it is incomplete" % one
+        fails = "Backtracks without consuming input if the input does not start with %s." % one
         other = [
             'let answer: Result<_, ErrMode<EmptyError>> = %s(&mut "%s");' % (call, rest),
             "assert!(rt; matches!(answer, Err(ErrMode::Backtrack(_))));",
         ]
     else:
-        fails = "It never backtracks on a whole input. On a cut input it is incomplete"
+        fails = "Never backtracks on complete input."
         other = ['assert_eq!(rt; %s(&mut "%s"), Ok::<_, EmptyError>(""));' % (call, rest)]
-    fails += ", and consumes nothing, where nothing is left or all that is left is taken: the need is 1 unit."
+    fails += " On partial input it returns `Incomplete` with a need of 1, without consuming input, if all remaining input (possibly none) matches."
     return "\n".join(
         [
-            documented("The longest beginning of %s, %s; the output is the slice of the input." % (members, "at least one" if least else "none too")),
+            documented("Parses %s %s and returns their slice." % ("one or more" if least else "zero or more", members)),
             "///",
             documented(fails),
             "///",
@@ -64,7 +64,7 @@ def class_function(name, members, one, chars, is_member, front, rest, least):
     )
 
 
-CLASS_FUNCTIONS = """//! Parsers of ASCII's classes of characters.
+CLASS_FUNCTIONS = """//! Parsers of ASCII character classes.
 //!
 //! {head}
 ghost use Rattle.stream_errors.specs.Form.{{answer_by}};
@@ -83,7 +83,7 @@ use streams::stream::StreamIsPartial;
 
 
 def class_claims(is_member, least):
-    """What a take of a class claims, and that it is kept."""
+    """Returns the claim of a parser of a class, and its proof."""
     parts = "%s %d I.Token.code I.seen_as I.reading" % (is_member, least)
     claim = {
         "premise": "SeesApart I.seen_as",
@@ -175,7 +175,7 @@ def write_classes():
     write(ascii_crate + "src/ascii/classes.rt", CLASS_FUNCTIONS, family=functions, **parts)
     for name, members, one, chars, is_member, front, rest, least in rows:
         call = "%s%d" % (name, least)
-        about = "The longest beginning of %s, %s." % (members, "at least one" if least else "none too")
+        about = "%s %s." % ("One or more" if least else "Zero or more", members)
         blocks = {
             "stable": class_block(camel(call), least),
             "laws": ("class_takes, one_is_some, " if least else "") + "class_ends",

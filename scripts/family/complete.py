@@ -1,5 +1,5 @@
-"""That each parser means over `Partial<I>` what it means over `I`: a law of each crate's parsers,
-read off the blocks that make them parsers."""
+"""The laws that each parser has the same meaning over `Partial<I>` as over `I`, for each crate,
+generated from the parsers' impl blocks."""
 import collections
 import re
 import shutil
@@ -10,9 +10,9 @@ from family.common import documented, write
 from registry.common import CRATES
 
 SAME = "Rattle.winnow_core.specs.SameMeaning"
-# Parsers of one type of errors, which a closure or a conversion takes.
+# Parsers with one type of errors, the argument of a closure or a conversion.
 ONE_ERROR = {"MapErr", "MapErrKept", "ErrInto", "AndThen"}
-# The parser that a closure makes is of one type, and is a parser over both streams.
+# The parser that a closure returns has one type, and is a parser over both streams.
 MADE = ("⟦<H as Parser<I, O2, E>>⟧", "⟦<H as Parser<Partial<I>, O2, QE>>⟧")
 MAKES_CLAUSE = """    ensures flat_map { (f : F.State → QF.State) → SameMeaning f F.meaning QF.meaning
         → (h : HERE.State → THERE.State)
@@ -29,7 +29,7 @@ MAKES_ANSWER = (
 
 
 class Law:
-    """What a block's parser means over both streams."""
+    """The law of a block's parser over both streams."""
 
     def __init__(self, block):
         self.block = block
@@ -50,7 +50,7 @@ class Law:
         self.parts = [x for x, b in block.parameters if x in self.twice and b.startswith("Parser<")]
 
     def letters(self):
-        """The names of one letter that longer ones get."""
+        """Returns the one-letter names that replace longer ones."""
         used = {name for name, _ in self.block.parameters} | {"I"}
         free = iter([it for it in "QRSTUWXYZJKLMNBCDFGHV" if it not in used])
         names = [name for name, _ in self.block.parameters]
@@ -60,7 +60,7 @@ class Law:
     def short(self, text):
         for name, letter in self.letters().items():
             text = re.sub(r"\b%s\b" % name, letter, text)
-        # A type is one line.
+        # A type that is too long for a line gets a second one.
         last = text.rpartition("\n")[2]
         if len(last) > 100 and text.endswith(" }"):
             front, _, end = text.rpartition(", ")
@@ -75,7 +75,7 @@ class Law:
         return text
 
     def lives(self, name):
-        """How long what a parser borrows lives."""
+        """Returns the lifetime bound of a type that a parser borrows."""
         for lifetime, kind, borrowed in ("'p", "ByRef<", "P"), ("'a", "AltParser<&'a", "P"), ("'b", "Fill<", "O"):
             if self.block.kind.startswith(kind) and name == borrowed:
                 return " + " + lifetime
@@ -95,7 +95,7 @@ class Law:
         return lines
 
     def mapped(self, kind, at):
-        """What the map of states does with the part of a state at a path."""
+        """Returns the image of the part of a state at a path under the map of states."""
         if kind.startswith("record { 0 : "):
             return "record { 0 = %s }" % self.mapped(kind[len("record { 0 : ") : -2], at + ".0")
         parts = products(kind)
@@ -134,7 +134,7 @@ class Law:
         return "    ensures %s { %s }" % (self.block.name, "\n        ".join(lines))
 
     def made(self, prefix):
-        """The meaning, with variables for those of the parts."""
+        """Returns the meaning, with variables for the meanings of the parts."""
         text = self.block.meaning
         for name in self.parts:
             text = re.sub(r"\b%s\.meaning\b" % name, prefix + name.lower(), text)
@@ -155,7 +155,7 @@ class Law:
         return re.sub(r"(?<![\w.])([A-Z]\w*)\.(\w+)", member, text)
 
     def base(self):
-        """Why a meaning is one with itself: also where the states are lists."""
+        """Returns the lemma that a meaning is equal to itself, also if the states are lists."""
         if "List" not in self.block.state_type:
             return "same_refl"
         return "same_map" if "×" not in self.block.state_type else "same_map_beside"
@@ -172,7 +172,7 @@ class Law:
 
 
 def products(text):
-    """The parts of a product, those in brackets whole."""
+    """Returns the factors of a product; brackets are not split."""
     depth, parts = 0, [""]
     for sign in text:
         depth += (sign in "({") - (sign in ")}")
@@ -214,19 +214,19 @@ def law_groups(crate, module):
 
 
 def title(laws):
-    """What a law is named after: its parsers, or the first of them."""
+    """Returns the names of a law's parsers, or the name of the first one."""
     names = [it.block.name for it in laws]
     whole = "_and_".join(names)
     return whole if len(whole) < 32 else names[0] + "_and_its_like"
 
 
 def file_of(block):
-    """The file of laws in which a block's stands."""
+    """Returns the name of the file with a block's law."""
     return "complete" if block.kind[0].isupper() and "Caseless" not in block.kind else "complete_values"
 
 
 def drop_others(folder, names):
-    """Drops the proofs of laws that have another name now."""
+    """Deletes the proofs of laws that have been renamed."""
     for it in folder.glob("*"):
         if it.name not in names:
             shutil.rmtree(it)
@@ -237,11 +237,11 @@ def write_crate(crate, module):
     for (parameters, where, has_parts), laws in law_groups(crate, module).items():
         name = title(laws) + "_over_a_complete_stream"
         names.append(name)
-        parts = ", where its parts do" if has_parts else ""
-        said = "Over a partial stream `%s` means what it means over the plain one%s." % (laws[0].block.name, parts)
+        parts = ", if its parts do" if has_parts else ""
+        said = "`%s` has the same meaning over a partial stream as over the plain one%s." % (laws[0].block.name, parts)
         if len(laws) > 1:
             listed = ", ".join("`%s`" % it.block.name for it in laws)
-            said = "Over a partial stream each of these means what it means over the plain one%s: %s." % (parts, listed)
+            said = "Each of these has the same meaning over a partial stream as over the plain one%s: %s." % (parts, listed)
         lines = [documented(said)]
         lines += ["pub fn %s<%s>()" % (name, ", ".join(parameters))]
         lines += ["where", "    " + where + ","] if where else []
@@ -275,7 +275,7 @@ def write_crate(crate, module):
     imports = "".join("use %s::%s;\n" % (base, names[0]) if len(names) == 1 else "use %s::{%s};\n" % (base, ", ".join(names)) for base, names in sorted(uses.items()))
     words = ", ".join((["◌≡◌"] if "≡" in body else []) + (["map"] if "(map " in body else []))
     prelude = "ghost use Rattle.std.specs.Prelude.{%s};\n" % words if words else ""
-    text = "//! Laws of parsers over two streams, each proved by a function that does nothing.\n//!\n//! {head}\n%sghost use %s.{SameMeaning};\n\n%s\n%s\n" % (prelude, SAME, imports, body)
+    text = "//! Laws of parsers over two streams, each the contract of a function with an empty body.\n//!\n//! {head}\n%sghost use %s.{SameMeaning};\n\n%s\n%s\n" % (prelude, SAME, imports, body)
     write("crates/%s/src/laws/%s.rt" % (crate, module), text.replace("{", "{{").replace("}", "}}").replace("{{head}}", "{head}"))
 
 

@@ -1,4 +1,4 @@
-"""What tuples of four to six parsers read: the words of their grammars, and the lemmas."""
+"""The grammars of tuples of four to six parsers, and their lemmas."""
 from family.common import BETWEEN, MOST, NUMBER, conjunction, tuple_type, tuple_value, upto, write
 
 CORE = "crates/winnow_core/"
@@ -8,7 +8,7 @@ LARGE = range(4, MOST + 1)
 
 
 def numbered(form, n):
-    """A text for each of n members, with its number and its place in the tuple."""
+    """Returns a text for each of n members, with its number and its index in the tuple."""
     return [form.replace("#", str(k)).replace("@", str(k - 1)) for k in upto(n)]
 
 
@@ -17,22 +17,22 @@ def spaced(form, n):
 
 
 def whole(n):
-    """The output of a tuple of n, as a function."""
+    """Returns the function from n outputs to their tuple."""
     return "λ %s. %s" % (spaced("o#", n), tuple_value(numbered("o#", n)))
 
 
 def word(n):
-    """The word for what n parsers read, with what makes its output where it has a choice."""
+    """Returns the name of the grammar of n parsers, with its output function if it takes one."""
     return "%s (%s)" % (WORDS[n], whole(n)) if n < 4 else WORDS[n]
 
 
 def run_word(n):
-    """The runs of n parsers, so as the lemma for them says it."""
+    """Returns the relation of the runs of n parsers, as their lemma states it."""
     return {2: "BothRuns (%s)" % whole(2), 3: "ThreeRuns (%s)" % whole(3)}.get(n, "SequenceRuns%d" % n)
 
 
 def stands(n):
-    """That n outputs stand one behind the other."""
+    """Returns the statement that the encodings of n outputs are consecutive."""
     parts = ["(o%d : O%d)" % (k, k) for k in upto(n)]
     parts += ["(%s : List T)" % BETWEEN[k - 1] for k in upto(n - 1)]
     for k in upto(n):
@@ -47,7 +47,7 @@ def word_spec(n):
     grammars = " → ".join(numbered("Grammar T O#", n))
     return "\n".join(
         [
-            "-- %s outputs stand, one behind the other." % NUMBER[n].capitalize(),
+            "-- The tokens start with %s consecutive encodings, followed by `rest`." % NUMBER[n],
             "unfoldable pub %s : {T %s : Type 0} → %s → Grammar T (%s)" % (WORDS[n], types, grammars, tuple_type(numbered("O#", n))),
             "%s {T} %s %s tokens o rest =" % (WORDS[n], spaced("{O#}", n), spaced("g#", n)),
             "    %s" % stands(n),
@@ -55,7 +55,7 @@ def word_spec(n):
     )
 
 
-WORD_SPECS = """-- What tuples of four to six parsers read.
+WORD_SPECS = """-- The grammars of tuples of four to six parsers.
 -- {head}
 use Rattle.std.specs.Prelude.{{◌≡◌, List}}
 use Rattle.grammars.specs.Grammar.{{Grammar}}
@@ -65,7 +65,7 @@ use Rattle.grammars.specs.Grammar.{{Grammar}}
 
 
 def joined(n):
-    """The output of n of that of the first and the last."""
+    """Returns the function from the first outputs and the last one to the tuple of n."""
     front = ["front.%d" % (k - 1) for k in upto(n - 1)]
     return "(λ (front : %s) (last : O%d). %s)" % (tuple_type(numbered("O#", n - 1)), n, tuple_value(front + ["last"]))
 
@@ -86,7 +86,7 @@ def same_lemma(n):
     name = "same%d" % n
     return "\n".join(
         [
-            "-- %s are %s and one" % (NUMBER[n], NUMBER[n - 1]),
+            "-- A sequence of %s is a sequence of %s, followed by the last one." % (NUMBER[n], NUMBER[n - 1]),
             "%s : {T %s : Type 0} %s → Same (Both %s (%s %s) g%d) (%s %s)" % (name, types, grammars, joined(n), word(n - 1), spaced("g#", n - 1), n, word(n), spaced("g#", n)),
             "unfolding %s" % " ".join(sorted({"Both", WORDS[n - 1], WORDS[n]})),
             "%s {O1 = O1} %s %s = record {" % (name, " ".join("{O%d}" % k for k in range(2, n)), spaced("g#", n)),
@@ -98,13 +98,13 @@ def same_lemma(n):
 
 
 def chosen(k, n, inner):
-    """The k-th of n cases of a sum, the first being its success."""
+    """Returns the k-th of n cases of a sum; the first case is success."""
     body = "(%s)" % inner if k == n - 1 else "inl (%s)" % inner
     return "inr (" * (k - 1) + "inr %s" % (body if k == n - 1 else "(%s)" % body) + ")" * (k - 1) if k else body
 
 
 def there_case(n, failing):
-    """A case of a run of n children, and the same as one of n - 1 and the last."""
+    """Returns a case of a run of n children, and its form as n - 1 children and the last."""
     ran = failing or n
     succeeding = ran - 1 if failing else n
     outputs = numbered("o#", succeeding)
@@ -142,7 +142,7 @@ def there_lemma(n):
 
 
 def split(state, n):
-    """The state of n as that of n - 1 and the last."""
+    """Returns the state of n children as that of n - 1 and the last."""
     return "(%s, %s.%d)" % (tuple_value(["%s.%d" % (state, k - 1) for k in upto(n - 1)]), state, n - 1)
 
 
@@ -188,7 +188,7 @@ def exact_lemmas(n):
 
 
 def sums(form, n):
-    """A sum of n, nested to the left."""
+    """Returns a sum of n, nested to the left."""
     text, *others = numbered(form, n)
     for k, other in enumerate(others):
         text = "%s ⊎ %s" % ("(%s)" % text if k else text, other)
@@ -216,7 +216,7 @@ def takes_lemma(n):
     )
 
 
-LEMMAS = """-- What tuples of four to six parsers read: what all but the last read, and then what that reads.
+LEMMAS = """-- The grammar of a tuple of four to six parsers: that of all but the last, then that of the last.
 -- {head}
 use Rattle.std.specs.Prelude.{{◌⊎◌}}
 use Rattle.std.proofs.Common.{{refl, ap, inl, inr, ◌∙◌}}

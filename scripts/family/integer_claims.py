@@ -1,10 +1,10 @@
-"""What integers as bytes say and claim."""
+"""The claims of the parsers of integers as bytes."""
 from family.common import record
 
 
 def integer_claims(one, order, by, state):
-    """What an integer whose bytes stand in the order says and claims, and that it is kept: its value
-    by a state, and the state."""
+    """Returns what the parser of an integer in a byte order says and claims, with the proofs. `by`
+    computes its value from a state, and `state` is the state."""
     value = "(%s %s)" % (one.value, order)
     laws = "%d %s I.reading form %s" % (one.width, by, state)
     ends = "(integer_leaves %d %s I.reading)" % (one.width, by)
@@ -35,11 +35,11 @@ def integer_claims(one, order, by, state):
 
 
 def fixed_claims(one):
-    """Of an integer of an order: its state is nothing."""
+    """Returns the claims of an integer in a fixed byte order, whose state is the unit value."""
     order = one.constructor
     return integer_claims(one, order, "(λ (_ : ⊤). %s %s)" % (one.value, order), "tt")
 
 
 def chosen_claims(one):
-    """Of an integer of which the order is chosen: it is the state."""
+    """Returns the claims of an integer whose byte order is an argument: the state is the order."""
     return integer_claims(one, "s", one.value, "s")

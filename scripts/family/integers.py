@@ -5,28 +5,26 @@ from family.stable import integer_block
 
 FIXED = "crates/winnow_integers/"
 WIDTHS = {8: 1, 16: 2, 24: 3, 32: 4, 64: 8, 128: 16}
-ORDERS = {"be": ("Big", "highest"), "le": ("Little", "lowest")}
+ORDERS = {"be": ("Big", "big-endian"), "le": ("Little", "little-endian")}
 FILES = {"be": "big_endian", "le": "little_endian"}
 
 
 class Integer:
-    """An integer: the bits that it has, whether it is signed, and the order of its bytes."""
+    """An integer: its sign, its number of bits, and its byte order."""
 
     def __init__(self, sign, bits, order="be"):
         self.sign, self.bits, self.order = sign, bits, order
         self.width = WIDTHS[bits]
         self.type = "%s%d" % (sign, 32 if bits == 24 else bits)
         self.value = "signed_value" if sign == "i" else "unsigned_value"
-        self.constructor, self.first = ORDERS[order]
+        self.constructor, self.endian = ORDERS[order]
 
-    def kind(self):
-        return "A signed integer" if self.sign == "i" else "An unsigned integer"
-
-    def bytes(self):
-        return "%d byte%s" % (self.width, "" if self.width == 1 else "s")
+    def words(self, endian=""):
+        sign = "a signed" if self.sign == "i" else "an unsigned"
+        return "%s %d-byte%s integer" % (sign, self.width, endian and " " + endian)
 
     def number(self):
-        """The body's last expression, of the bytes that were taken."""
+        """Returns the body's last expression, computed from `bytes`."""
         if self.bits != 24:
             return "%s::from_%s_bytes(bytes)" % (self.type, self.order)
         if self.sign == "i":
@@ -35,8 +33,8 @@ class Integer:
         return "u32::from_%s_bytes([%s])" % (self.order, row)
 
     def sample(self):
-        """Bytes, as a text of Rust, and their value: -2 with a sign, and 258, or 2 where there is one
-        byte."""
+        """Returns bytes as a Rust literal, and their value: -2 if signed, otherwise 258, or 2 if
+        there is one byte."""
         if self.sign == "i":
             row, number = [0xFF] * (self.width - 1) + [0xFE], -2
         else:
@@ -46,24 +44,25 @@ class Integer:
 
 
 def fixed():
-    """The integers of an order, each by its name."""
+    """Returns the integers of fixed byte orders, by name."""
     found = {"%s_%s%d" % (order, sign, bits): Integer(sign, bits, order) for order in ORDERS for sign in "ui" for bits in WIDTHS}
     return found | {"u8": Integer("u", 8), "i8": Integer("i", 8)}
 
 
 def about(one):
-    return one.kind() + " of " + one.bytes() + (", of which the %s stands first" % one.first if one.width > 1 else "") + "."
+    """Returns the words for an integer, with an article."""
+    return one.words(one.endian if one.width > 1 else "")
 
 
-FAILS = "Where fewer are left it fails, and consumes nothing; on a cut input it is incomplete: the need is how many bytes are missing."
-FAILS_ONE = "Where none is left it fails; on a cut input it is incomplete: the need is 1 byte."
+FAILS = "Fails without consuming input if fewer bytes remain. On partial input it then returns `Incomplete`; the need is the number of missing bytes."
+FAILS_ONE = "Fails if no bytes remain. On partial input it then returns `Incomplete` with a need of 1."
 
 
 def function(name, one):
     row, number = one.sample()
     return "\n".join(
         [
-            documented(about(one)),
+            documented("Parses %s." % about(one)),
             "///",
             documented(FAILS_ONE if one.width == 1 else FAILS),
             "///",
@@ -87,7 +86,7 @@ def function(name, one):
     )
 
 
-FUNCTIONS = """//! Parsers of integers whose {first} byte stands first{others}.
+FUNCTIONS = """//! Parsers of {first} integers{others}.
 //!
 //! {head}
 #![tactic(auto, using(crate::specs::Integer::Std::integers))]
@@ -104,7 +103,7 @@ use streams::stream::StreamIsPartial;
 {family}
 """
 
-# What the proof of a function of a width of std takes, by its sign: what std reads is the value.
+# The proof of a function whose width std has, by sign: the value is the one that std computes.
 ANSWERS = """-- {head}
 use Rattle.std.proofs.Common.{{{rules}}}
 use Rattle.std.specs.Int.{{w{bits}}}
@@ -190,7 +189,7 @@ impl<I: StreamIsPartial + ByteStream, E: ParserError<I>> Parser<I, {type}, E> fo
 )
 
 
-LAWS = """//! Laws of integers, each proved by a function that does nothing.
+LAWS = """//! Laws of integers, each the contract of a function with an empty body.
 //!
 //! {head}
 ghost use Rattle.winnow_integers.specs.IntegerLaws.{{ReadsReversed}};
@@ -203,9 +202,10 @@ use streams::byte_stream::ByteStream;
 use streams::stream::StreamIsPartial;
 use winnow_core::parser::Parser;
 
-/// A little endian integer is the big endian one of the reversed bytes: where that many bytes are
-/// left, the one parser answers and leaves what the other does where these are left in the other
-/// order.
+/// A little-endian integer is the big-endian integer of the reversed bytes.
+///
+/// If enough bytes remain, the little-endian parser returns the same value and the same rest as the
+/// big-endian parser does on the input whose first bytes are reversed.
 pub fn little_endian_is_big_endian_of_the_reversed_bytes<I, E>()
 where
     I: StreamIsPartial + ByteStream,
@@ -216,7 +216,7 @@ where
 
 
 def law_clause(one):
-    """What the law says of an integer of the two orders."""
+    """Returns the law's clause for an integer in both byte orders."""
     name = "%s%d" % (one.sign, one.bits)
     meanings = ["(⟦<%s%s as Parser<I, %s, E>>⟧.meaning E.form)" % (order, name.capitalize(), one.type) for order in ("Le", "Be")]
     return "    ensures %s%d { ReadsReversed %d %s }" % ("signed_" if one.sign == "i" else "unsigned_", one.bits, one.width, " ".join(meanings))
@@ -234,7 +234,7 @@ LAW_ANSWER = """pub {0} : goal.{0}
 
 
 def law_answer(one):
-    """What answers the clause of an integer of the two orders."""
+    """Returns the proof of the clause for an integer in both byte orders."""
     sign, value = ("signed", "signed_of") if one.sign == "i" else ("unsigned", "value_of")
     return LAW_ANSWER.format("returns-clause-%s_%d" % (sign, one.bits), one.width, value)
 
@@ -248,7 +248,7 @@ def write_laws():
     write(FIXED + "proofs/laws/%s/Answers.antt" % law, LAW_ANSWERS, law=law, answers=answers)
 
 
-# What gives up soon where the clause is not so.
+# A search that gives up soon if the clause is false.
 STRUCT_ANSWERS = """-- {head}
 use Rattle.std.proofs.Common.{{rules}}
 use Rattle.winnow_integers.proofs.binary.impls.{at}.Goals as goal
@@ -259,7 +259,7 @@ returns-clause-ran g c = search rules depth 1
 
 
 def struct_path(name, one):
-    """Where the proofs of a struct's `parse_next` stand."""
+    """Returns the path of the proofs of a struct's `parse_next`."""
     kind = "" if camel(name) == camel(one.type) else camel(one.type)
     return [name, camel(name) + "Parser" + kind, "parse_next"]
 
@@ -269,7 +269,7 @@ def write_fixed():
     for order, file in FILES.items():
         family = "\n\n".join(function(name, one) for name, one in rows.items() if one.order == order)
         constructor, first = ORDERS[order]
-        others = ", and those of one byte" if order == "be" else ""
+        others = " and of 1-byte integers" if order == "be" else ""
         write(FIXED + "src/binary/%s.rt" % file, FUNCTIONS, family=family, constructor=constructor, first=first, others=others)
     for name, one in rows.items():
         row, number = one.sample()
@@ -277,7 +277,8 @@ def write_fixed():
         stable = integer_block(one, own, "_", "(%s %s)" % (one.value, one.constructor))
         parts = {"own": own, "stable": stable}
         parts |= fixed_claims(one) | vars(one)
-        write(FIXED + "src/binary/impls/%s.rt" % name, STRUCT, about=about(one), name=name, row=row, number=number, **parts)
+        text = about(one)[0].upper() + about(one)[1:] + "."
+        write(FIXED + "src/binary/impls/%s.rt" % name, STRUCT, about=text, name=name, row=row, number=number, **parts)
         path = struct_path(name, one)
         answers = FIXED + "proofs/binary/impls/%s/Answers.antt" % "/".join(path)
         write(answers, STRUCT_ANSWERS, at=".".join(path))

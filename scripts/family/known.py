@@ -1,14 +1,14 @@
-"""What a caller knows of one run of a sequence that answered, in the crate `winnow_core`."""
+"""Inversion lemmas of sequences, for their callers, in the crate `winnow_core`."""
 from family.common import BETWEEN, NUMBER, conjunction, tuple_type, upto, write
 
 
 def inputs_of(k, n):
-    """The inputs before and behind the child k of n that ran, but for those of the sequence."""
+    """Returns the inputs before and after the child k of n, without those of the sequence."""
     return ([BETWEEN[k - 2]] if k > 1 else []) + ([BETWEEN[k - 1]] if k < n else [])
 
 
 def relations(n):
-    """What the runs of n children relate: an output or a kind, and the inputs between them."""
+    """Returns the relations of n children: of an output or an error kind and the inputs between."""
     groups = []
     for k in upto(n):
         groups.append((["Ran%d" % k], " → ".join(["O%d" % k] + ["Input T"] * len(inputs_of(k, n)) + ["Type 0"])))
@@ -23,7 +23,8 @@ def names(n):
 
 
 def case(n, failing, kind="l"):
-    """The parts of the case in which one of n children fails, or none: bound, and what holds."""
+    """Returns the bound variables and the facts of the case in which one of n children fails, or
+    none of them."""
     last = failing or n
     bound = ["(o%d : O%d)" % (k, k) for k in upto(last - 1 if failing else n)]
     bound += ["(%s : Kind)" % kind] if failing and kind == "l" else []
@@ -35,14 +36,14 @@ def case(n, failing, kind="l"):
 
 
 def choice(cases):
-    """Some cases, nested to the right."""
+    """Returns cases, nested to the right."""
     if len(cases) == 1:
         return "(%s)" % cases[0]
     return "(%s) ⊎ (%s)" % (cases[0], choice(cases[1:])) if len(cases) > 2 else "(%s) ⊎ (%s)" % (cases[0], cases[1])
 
 
 def injected(k, n, text):
-    """The case k of the cases 0 to n."""
+    """Returns the case k of the cases 0 to n."""
     text = "(%s)" % text
     if k < n:
         text = "(inl %s)" % text
@@ -52,7 +53,7 @@ def injected(k, n, text):
 
 
 def pattern(n, failing):
-    """A run of the case in which a child fails, or none."""
+    """Returns the pattern of a run in which the given child fails, or none."""
     bound, holds = case(n, failing)
     parts = [part[1:].split(" ")[0] for part in bound] + ["h%d" % k for k in range(len(holds))] + ["is"]
     return injected(failing, n, ", ".join(parts))
@@ -65,7 +66,7 @@ def known_cases(n):
         bound, holds = case(n, failing)
         told = "(answer ≡ Err l)" if failing else "(answer ≡ Ok (%s))" % ", ".join("o%d" % k for k in upto(n))
         cases.append(conjunction(bound + holds + [told]))
-    lines = ["-- %s children" % NUMBER[n]]
+    lines = ["-- The cases of %s children." % NUMBER[n]]
     head = " → ".join(kind if kind == "Type 0" else "(%s)" % kind for group, kind in relations(n) for _ in group)
     lines.append("abbrev pub SequenceCases%d : {T %s : Type 0} → %s → Answer (%s) → Type 0" % (n, " ".join(outputs), head, tuple_type(outputs)))
     lines.append("SequenceCases%d {T} %s %s answer = %s" % (n, " ".join("{%s}" % o for o in outputs), " ".join(names(n)), choice(cases)))
@@ -83,7 +84,7 @@ def known_lemma(n, way, variable, result):
 
 
 def known_ok(n):
-    """Where a sequence succeeds, all of its children do."""
+    """Returns the lemma that if a sequence succeeds, all of its children do."""
     inputs = BETWEEN[: n - 1]
     outputs = tuple_type(["O%d" % k for k in upto(n)])
 
@@ -107,7 +108,7 @@ def known_ok(n):
 
 
 def known_err(n):
-    """Where a sequence fails, one child does, and those before it succeeded."""
+    """Returns the lemma that if a sequence fails, one child fails and those before it succeed."""
     cases = []
     for failing in upto(n):
         bound, holds = case(n, failing, "k")
@@ -127,10 +128,10 @@ def known_err(n):
     return "\n".join(lines)
 
 
-# Lemmas stand for the lengths that something cites.
-CITED = (3, 4, 5)
+# The lengths whose lemmas are cited.
+CITED = (3, 4)
 
-SEQUENCE_CASES = """-- The runs of sequences by what they relate: an output or a kind, and the inputs between the children. A caller's run is found by these, whatever its children are. That the children which did not run keep their states is Kept.
+SEQUENCE_CASES = """-- The cases of a sequence's run, for any relations of its children. `Ran` relates an output to the inputs before and after, `Failed` an error kind to the input before. `Kept` states that a child that did not run keeps its state.
 -- {head}
 use Rattle.std.specs.Prelude.{{◌≡◌, Ok, Err, ◌⊎◌}}
 use Rattle.streams.specs.Input.{{Input}}
@@ -140,7 +141,7 @@ use Rattle.stream_errors.specs.Form.{{Answer}}
 {family}
 """
 
-SEQUENCE_KNOWN = """-- What a caller knows of one run of a sequence that answered: where it succeeded all children did, each where the one before it stopped; where it failed one did, by that kind, and those before it succeeded.
+SEQUENCE_KNOWN = """-- Inversion lemmas of sequences. If a sequence succeeds, all children do, each on the rest of the one before. If it fails, one child fails with the same error kind, and those before it succeed.
 -- {head}
 use Rattle.std.specs.Prelude.{{Ok, Err, ◌⊎◌}}
 use Rattle.std.proofs.Common.{{refl, inl, inr}}
@@ -165,5 +166,5 @@ def write_known():
         core + "Known.antt",
         SEQUENCE_KNOWN,
         names=", ".join("SequenceCases%d" % n for n in some),
-        family="\n\n".join("-- %s children\n%s\n\n%s" % (NUMBER[n], known_ok(n), known_err(n)) for n in some),
+        family="\n\n".join("-- Sequences of %s.\n%s\n\n%s" % (NUMBER[n], known_ok(n), known_err(n)) for n in some),
     )

@@ -1,4 +1,4 @@
-"""What tuples of two to six parsers say that they do, in the crate `winnow_core`."""
+"""The relations that tuples of two to six parsers say, in the crate `winnow_core`."""
 from family.common import BETWEEN, MOST, NUMBER, conjunction, tuple_type, tuple_value, upto, write
 from family.exact import LARGE, numbered, spaced
 
@@ -13,7 +13,7 @@ def alike_spec(n):
     alike = conjunction(numbered("alike# x.@ y.@", n))
     return "\n".join(
         [
-            "-- All %s parts are alike." % NUMBER[n],
+            "-- All %s members are equivalent." % NUMBER[n],
             "abbrev pub %s : {%s : Type 0} → %s → %s → %s → Type 0" % (ALIKE[n], types, relations, whole_type, whole_type),
             "%s %s x y = %s" % (ALIKE[n], spaced("alike#", n), alike),
         ]
@@ -27,7 +27,7 @@ def says_kind(n):
 
 
 def said_kind(n):
-    """That the runs of a tuple of n do what is said, where those of its members do."""
+    """Returns the statement that a tuple of n does what it says if its members do."""
     parameters = [
         "{%s T %s : Type 0}" % (spaced("S#", n), spaced("O#", n)),
         spaced("{p# : Says T O#}", n),
@@ -40,7 +40,7 @@ def said_kind(n):
 
 
 def named(n):
-    """What is said of two or three, and that it is so, by the words for children in order."""
+    """Returns what tuples of two or three say, and the proof, by the definitions of `InOrder`."""
     word = {2: "both", 3: "three"}[n]
     outputs = numbered("o#", n)
     output = "(λ %s. %s)" % (" ".join(outputs), tuple_value(outputs))
@@ -60,7 +60,7 @@ def named(n):
 
 
 def does(n):
-    """One member after another, and their outputs make the tuple."""
+    """Returns the relation that runs the members in sequence and makes the tuple of their outputs."""
     text = "takes %s" % tuple_value(numbered("o#", n))
     for k in range(n, 1, -1):
         text = "and_then p%d.does (where_took (λ o%d. %s))" % (k, k, text)
@@ -68,7 +68,7 @@ def does(n):
 
 
 def nested(form, n):
-    """The first of n, and the others so nested."""
+    """Returns n texts as pairs nested to the right."""
     *parts, text = numbered(form, n)
     for part in reversed(parts):
         text = "(%s, %s)" % (part, text)
@@ -83,7 +83,7 @@ def nested_type(n):
 
 
 def turns_case(n, failing):
-    """A case of a run of n, and the same as turns."""
+    """Returns a case of a run of n, and its form as nested turns."""
     ran = failing or n
     succeeding = ran - 1 if failing else n
     names = numbered("o#", succeeding) + (["k"] if failing else [])
@@ -104,7 +104,7 @@ def turns_case(n, failing):
 
 
 def turns(n):
-    """The runs of the members as turns, to the last one."""
+    """Returns the runs of the members as nested turns."""
     text = "LastRuns run%d (λ o%d. %s)" % (n, n, tuple_value(numbered("o#", n)))
     for k in range(n - 1, 0, -1):
         text = "TurnRuns run%d (λ o%d. %s)" % (k, k, text)
@@ -137,7 +137,7 @@ def turns_lemma(n):
 
 
 def turns_do(n):
-    """That the runs do so."""
+    """Returns the proof that the turns do what the tuple says."""
     text = "last_does (λ o%d. %s) (d%d.runs is.%d)" % (n, tuple_value(numbered("o#", n)), n, n - 1)
     for k in range(n - 1, 0, -1):
         text = "turn_does (d%d.runs is.%d) (λ o%d. %s)" % (k, k - 1, k, text)
@@ -157,7 +157,7 @@ def law(n):
 
 
 def flat(n):
-    """The parts of nested states, each by its place."""
+    """Returns the tuple of the parts of nested states."""
     places = ["x" + ".1" * k + ".0" for k in range(n - 1)] + ["x" + ".1" * (n - 1)]
     return tuple_value(places)
 
@@ -191,7 +191,7 @@ def large(n):
     )
 
 
-SAYS = """-- What tuples of two to six parsers say that they do: one member after another, to the first that fails.
+SAYS = """-- The relations that tuples of two to six parsers say: the members run in sequence, up to the first that fails.
 -- {head}
 use Rattle.std.proofs.Common.{{ap, inl, inr}}
 use Rattle.stream_errors.specs.Form.{{Answer}}
@@ -219,5 +219,5 @@ def write_says():
         SAYS,
         runs=", ".join("SequenceRuns%d" % n for n in SIZES),
         alike="\n\n".join(alike_spec(n) for n in LARGE),
-        family="\n\n".join("-- %s\n%s" % (NUMBER[n], named(n) if n < 4 else large(n)) for n in SIZES),
+        family="\n\n".join("-- Tuples of %s.\n%s" % (NUMBER[n], named(n) if n < 4 else large(n)) for n in SIZES),
     )

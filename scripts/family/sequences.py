@@ -16,7 +16,7 @@ from family.claims import NOTHING_CLAIMS, member_claims
 
 
 def sequence_case(n, failing):
-    """All of n children succeed, or all before the failing one do."""
+    """Returns the case in which all of n children succeed, or all before the failing one."""
     ran = failing or n
     succeeding = ran - 1 if failing else n
     parts = ["(o%d : O%d)" % (k, k) for k in upto(succeeding)]
@@ -45,7 +45,7 @@ def sequence_spec(n):
     cases += [("it fails" if n == 1 else "the %s fails" % ORDINAL[k], sequence_case(n, k)) for k in upto(n)]
     return "\n".join(
         [
-            "-- %s" % ("one child" if n == 1 else "%s children" % NUMBER[n]),
+            "-- The runs of a sequence of %s." % NUMBER[n],
             "abbrev pub SequenceRuns%d : {%s : Type 0} → %s → %s" % (n, " ".join(names), runs, kinds),
             "SequenceRuns%d %s %s s i answer t j =" % (n, " ".join("{%s}" % x for x in names), " ".join("run%d" % k for k in upto(n))),
             disjunction(cases),
@@ -53,7 +53,7 @@ def sequence_spec(n):
     )
 
 
-SEQUENCE_SPECS = """-- Sequences: one run of each child in order, each where the one before it ended, to the first that fails.
+SEQUENCE_SPECS = """-- Sequences: each child runs once, in order, on the rest of the one before, up to the first that fails.
 -- {head}
 use Rattle.std.specs.Prelude.{{◌≡◌, ⊤, Ok, Err, ◌⊎◌}}
 use Rattle.streams.specs.Input.{{Input}}
@@ -70,7 +70,7 @@ pub mod Laws
 pub mod Says
 pub mod Small
 
--- no children: nothing is taken
+-- The runs of an empty sequence, which consumes no input.
 abbrev pub SequenceRuns0 : {{T : Type 0}} → Runs ⊤ T ⊤
 SequenceRuns0 s i answer t j = (answer ≡ Ok tt) × (j ≡ i)
 
@@ -79,14 +79,14 @@ SequenceRuns0 s i answer t j = (answer ≡ Ok tt) × (j ≡ i)
 
 
 def end_chain(steps):
-    """That the end of these steps, the last one first, is an end of their start."""
+    """Returns the proof that these steps, the last one first, lead to a suffix of their start."""
     if len(steps) == 1:
         return steps[0]
     return "is_end_of_trans%s %s" % ("" if len(steps) == 2 else len(steps), " ".join("(%s)" % step for step in steps))
 
 
 def sequence_end_case(n, failing):
-    """That a run of n children that all succeed, or of which one fails, leaves an end."""
+    """Returns the proof that a run of n children leaves a suffix; one of them may fail."""
     ran = failing or n
     succeeding = ran - 1 if failing else n
     names = ["o%d" % k for k in upto(succeeding)] + (["k"] if failing else [])
@@ -102,7 +102,7 @@ def sequence_end_case(n, failing):
 
 
 def sequence_ends_law(n):
-    """The law that a sequence of n children leaves an end where they do."""
+    """Returns the law that a sequence of n children leaves a suffix of its input if they do."""
     types = ["S%d" % k for k in upto(n)] + ["T", "L"] + ["O%d" % k for k in upto(n)]
     runs = " ".join("(run%d : Runs S%d T O%d)" % (k, k, k) for k in upto(n))
     laws = " → ".join("LeaveEnds reading run%d" % k for k in upto(n))
@@ -116,7 +116,7 @@ def sequence_ends_law(n):
     return "\n".join(lines)
 
 
-SEQUENCE_ENDS = """-- What holds of the runs of sequences: they leave an end of their input, where those of their children do.
+SEQUENCE_ENDS = """-- Properties of sequences: they leave a suffix of their input if their children do.
 -- {head}
 use Rattle.std.specs.Prelude.{{Ok, Err}}
 use Rattle.std.proofs.Common.{{inl, inr}}
@@ -134,7 +134,7 @@ def bounds(n, output):
 
 
 def output_name(n, k):
-    """What the k-th output of n is called."""
+    """Returns the name of the k-th output of n."""
     return "only" if n == 1 else ORDINAL[k]
 
 
@@ -173,7 +173,7 @@ def sequence_impl(n):
     return "\n".join(lines)
 
 
-SEQUENCE_IMPLS = """//! Tuples: their members run in order, and the first failure is handed on.
+SEQUENCE_IMPLS = """//! Tuples as parsers: their members run in order, and the first error is returned unchanged.
 //!
 //! {head}
 ghost use Rattle.std.specs.Prelude.{{◌≡◌, ⊤}};
@@ -197,7 +197,7 @@ use crate::parser::Parser;
 use stream_errors::parser_error::ParserError;
 use streams::stream::Stream;
 
-/// Nothing is run, and nothing taken.
+/// Succeeds without consuming input.
 impl<I: Stream, E: ParserError<I>> Parser<I, (), E> for () {{
     ghost State = {{ ⊤ }};
 
@@ -226,7 +226,7 @@ impl<I: Stream, E: ParserError<I>> Parser<I, (), E> for () {{
 
 
 def injected(case, cases, term):
-    """The term as the case of so many nested cases."""
+    """Returns the term as one of `cases` nested cases."""
     term = "inl (%s)" % term if case < cases - 1 else term
     for _ in range(case):
         term = "inr (%s)" % term
@@ -234,7 +234,7 @@ def injected(case, cases, term):
 
 
 def sequence_ran(n, failing):
-    """What answers the clause `ran` at a return of n children."""
+    """Returns the proof of the clause `ran` at a return of n children."""
     ran = failing or n
     succeeding = ran - 1 if failing else n
     parts = ["_"] * succeeding
@@ -251,7 +251,7 @@ def sequence_ran(n, failing):
 
 
 def sequence_ends(n, failing):
-    """What answers the clause `ends` at a return of n children."""
+    """Returns the proof of the clause `ends` at a return of n children."""
     ran = failing or n
     last = "c.in_%s-%s.ensures.ends" % ("err" if failing else "ok", output_name(n, ran))
     steps = [last] + ["c.in_ok-%s.ensures.ends" % output_name(n, k) for k in range(ran - 1, 0, -1)]
@@ -261,12 +261,12 @@ def sequence_ends(n, failing):
 
 
 def trans(steps):
-    """The lemma by which an end of an end, so many steps far, is an end."""
+    """Returns the lemma that the relation to a suffix is transitive over `steps` steps."""
     return "is_end_of_trans%s" % (steps if steps > 2 else "")
 
 
 def sequence_answers(n):
-    """The answers of all clauses of n children, at each failure and behind the last success."""
+    """Returns the proofs of all clauses of n children, at each failure and at the success."""
     returns = [*upto(n), 0]
     return [sequence_ran(n, k) for k in returns] + [sequence_ends(n, k) for k in returns]
 

@@ -1,4 +1,4 @@
-"""Sets that are tuples of sets, in the crate `stream_sets`."""
+"""Tuples of sets, in the crate `stream_sets`."""
 from family.common import MOST, conjunction, rust_tuple, upto, write
 
 
@@ -7,12 +7,12 @@ def tells(k):
 
 
 def tells_from(k, n):
-    """What the sets from k to n tell of a token, asked in order."""
+    """Returns the relation of the sets from k to n, which are tested in order."""
     return tells(n) if k == n else "(EitherTells %s %s)" % (tells(k), tells_from(k + 1, n))
 
 
 def once_from(k, n):
-    """That the sets from k to n tell one thing of a token, where each does."""
+    """Returns the proof that the sets from k to n are functions of the token if each one is."""
     one = "(S%d.once s.%d is%s)" % (k, k - 1, ".%d" % (k - 1) if n > 1 else "")
     if k == n:
         return one
@@ -42,7 +42,7 @@ def set_impl(n):
     return "\n".join(lines)
 
 
-SET_IMPLS = """//! Tuples of sets: a token is a member where one of the sets has it, which are asked in order.
+SET_IMPLS = """//! Tuples of sets: their unions. The sets are tested in order.
 //!
 //! {head}
 ghost use Rattle.stream_sets.specs.Once.{{either_once}};

@@ -1,9 +1,9 @@
-"""That parsers of families are stable where their children are: the lemmas and the blocks."""
+"""Lemmas and impls of `Stable` for families of parsers whose children are stable."""
 from family.common import BETWEEN, MOST, block, rust_tuple, upto, write
 
-# The lemmas of larger tuples stand in a file of their own.
+# The lemmas of larger tuples are in a file of their own.
 SMALL = 4
-# What a combinator takes of the child P.
+# The argument of a combinator's lemma for the child P.
 CHILD = "(grows (P%d.leaves_ends modal) P%d.stable)"
 
 
@@ -16,8 +16,8 @@ def longer(x):
 
 
 def case_name(n, failing):
-    """The pattern of a run of n children that all succeed, or of which one fails, and the parts
-    that the longer run has in its place."""
+    """Returns the pattern of a run of n children, of whom one may fail, and the parts of the same
+    run on longer input."""
     ran = failing or n
     outputs = ["o%d" % k for k in upto(ran - 1 if failing else n)] + (["k"] if failing else [])
     between = list(BETWEEN[: ran - 1])
@@ -28,7 +28,7 @@ def case_name(n, failing):
 
 
 def injected(parts, place, last):
-    """A case as a nested choice among so many."""
+    """Returns a case of a nested sum."""
     term = "(%s)" % parts
     if place < last:
         term = "(inl %s)" % term
@@ -38,7 +38,7 @@ def injected(parts, place, last):
 
 
 def case(n, failing):
-    """That a run of n children grows that all succeed, or of which one fails."""
+    """Returns the proof that a run of n children, of whom one may fail, grows."""
     ran = failing or n
     was, now = case_name(n, failing)
     head = "sequence%d_grows %s more flag s i answer t j may final" % (n, " ".join("c%d" % k for k in upto(n)))
@@ -67,7 +67,7 @@ def sequence_lemma(n):
     return "\n".join([head, *(case(n, failing) for failing in range(n + 1))])
 
 
-SEQUENCES = """-- Sequences grow where their children do.
+SEQUENCES = """-- Sequences satisfy `Grows` if their children do.
 -- {head}
 use Rattle.std.specs.Prelude.{{Ok, Err}}
 use Rattle.std.proofs.Common.{{inl, inr}}
@@ -85,7 +85,7 @@ NONE = """  pub sequence0_grows : Grows following SequenceRuns0
   sequence0_grows more flag s i answer t j may final (e, same) =
       let (again, last) = same_grows flag may same in ((e, again), last)"""
 
-TUPLES = """//! Tuples are stable where their members are.
+TUPLES = """//! Impls of `Stable` for tuples: they are stable if their members are.
 //!
 //! {head}
 ghost use Rattle.stream_errors.specs.Form.{{modal}};
@@ -108,8 +108,8 @@ impl<I: Stream, E: ParserError<I>> Stable<I, (), E> for () {{
 
 
 def member(law):
-    """That a block is stable by the law. With the function of no effect in it the block is proved
-    much sooner than by the trait's own."""
+    """Returns the members of an impl of `Stable` by the law. An empty function in the impl is proved
+    much sooner than the trait's own."""
     return "    ghost stable = { %s };\n\n    fn stay() {}" % law
 
 
@@ -132,7 +132,7 @@ def choice_block(n):
 
 
 def class_block(kind, least):
-    """A take of a class of characters, of so many at least."""
+    """Returns the impl of `Stable` for a parser of a class of characters."""
     law = "leaf_stays I.following _ (λ _. take_while_stays I.reading _ (from_to %d None))" % least
     bounds = ["I: StreamIsPartial", "E: ParserError<I>"]
     where = "\nwhere\n    I::Token: AsChar,\n{"
@@ -140,7 +140,7 @@ def class_block(kind, least):
 
 
 def integer_block(one, kind, order, value):
-    """An integer by the name of its order: none, or the parser's state."""
+    """Returns the impl of `Stable` for an integer. `order` is the pattern of the parser's state."""
     law = "leaf_stays I.following _ (λ %s. integer_stays %d %s I.reading)" % (order, one.width, value)
     bounds = ["I: StreamIsPartial + ByteStream", "E: ParserError<I>"]
     return block(bounds, "Stable<I, %s, E>" % one.type, kind, "", member(law))

@@ -1,8 +1,9 @@
-"""CSV beside Python's `csv`, in dialects of four delimiters, two quotes and three line ends.
+"""CSV compared with Python's `csv`, in dialects of four delimiters, two quotes and three line
+endings.
 
-Python's strict reader takes carriage returns and line feeds for ends of lines each, and reads what
-stands behind a quote in the middle of a field. So it is given the lines of a text as they are cut
-here, and a text where no such one stands outside of quotes.
+Python's strict reader treats both carriage returns and line feeds as line endings, and accepts a
+quote in the middle of a field. So texts are split into lines here, and texts with such a quote, or
+with another line ending outside of quotes, are left out.
 """
 import csv
 import io
@@ -10,12 +11,12 @@ import io
 from peers.harness import Comparison, each, often_changed, some
 
 DELIMITERS, QUOTES = ",;\t|", "\"'"
-# Carriage returns with line feeds, line feeds, and either.
+# CRLF, LF, and either.
 ENDS = (("\r\n",), ("\n",), ("\r\n", "\n"))
 
 
 def field(rng, delimiter, quote, end):
-    """The text of a field."""
+    """Returns the text of a field."""
     sizes = (0, 1, 1, 2, 5)
     if rng.random() < 0.5:
         return some(rng, [it for it in "ab \t\0\x7f\xe9" if it != delimiter], sizes)
@@ -24,7 +25,7 @@ def field(rng, delimiter, quote, end):
 
 
 def document(rng, delimiter, quote, ends):
-    """A document, the last of whose lines may have no end."""
+    """Returns a document, whose last line may have no line ending."""
     text, count = "", rng.choice((0, 1, 1, 2, 3, 5))
     for line in range(count):
         end = rng.choice(ends)
@@ -35,7 +36,7 @@ def document(rng, delimiter, quote, ends):
 
 
 def texts(rng, count, kinds=2, delimiters=",", quotes='"'):
-    """Which line ends, the delimiter, the quote, and a text."""
+    """Returns the kind of line endings, the delimiter, the quote, and a text."""
     for _ in range(count):
         which, delimiter, quote = rng.randrange(kinds), rng.choice(delimiters), rng.choice(quotes)
         parts = [*"\r\n \t\0\x7f\xe9ab", delimiter, quote, "\r\n", quote * 2, quote + delimiter]
@@ -50,8 +51,8 @@ def in_dialects(rng, count):
 
 
 def cut(text, delimiter, quote, ends):
-    """The lines of a text, where quotes hide line ends; or none, where outside of quotes stands a
-    quote in the middle of a field, or what ends a line for Python alone."""
+    """Returns the lines of a text; line endings in quotes do not count. Returns None if, outside of
+    quotes, there is a quote in the middle of a field, or a line ending only for Python."""
     lines, start, at, within = [], 0, 0, False
     while at < len(text):
         end = next((it for it in ends if text.startswith(it, at)), None)
@@ -74,7 +75,7 @@ def cut(text, delimiter, quote, ends):
 
 
 def records(row):
-    """The records that Python reads, or none."""
+    """Returns the records that Python reads, or None."""
     which, delimiter, quote, text = row
     lines, found = cut(text, delimiter, quote, ENDS[which]), []
     form = {"delimiter": delimiter, "quotechar": quote, "strict": True}
@@ -88,7 +89,7 @@ def records(row):
 
 
 def told(row):
-    """What Python says of a text."""
+    """Returns Python's result for a text."""
     found = records(row)
     if found is None:
         return "none"
@@ -97,8 +98,8 @@ def told(row):
 
 
 def told_and_written(row):
-    """The same, and what Python writes of it: it quotes what has a byte of its line end, and here
-    both bytes are quoted in each dialect."""
+    """Returns Python's result for a text, and the text that Python writes for it. Python quotes
+    fields with a byte of its line ending, and here both bytes are quoted in each dialect."""
     which, delimiter, quote, _ = row
     said, again = told(row), ""
     if said == "none":

@@ -1,23 +1,23 @@
-"""DNS beside a decoder in Python, written from RFC 1035.
+"""DNS compared with a decoder in Python, written from RFC 1035.
 
-Of each message it is said which questions and records it has, with their names as text, their data
-and the places after them, or which entry of which section is not there, why and where.
+Both return the questions and records of each message, with their names as text, their data and the
+offsets after them; or the section and entry of the error, with its reason and offset.
 """
 import struct
 
 from peers.dns_messages import messages
 from peers.harness import Comparison, each, summed
 
-# How many pointers are followed, one after the other.
+# The maximum number of consecutive pointers that are followed.
 LEVEL = 2
 
 
 class Refused(Exception):
-    """Why a message is none."""
+    """The reason why a message is invalid."""
 
 
 def decoded_name(message, place):
-    """The labels at a place, and the place behind them."""
+    """Returns the labels at an offset, and the offset after them."""
     labels, octets, behind = [], 1, None
     begin = at = place
     followed = 0
@@ -49,7 +49,7 @@ def decoded_name(message, place):
 
 
 def shown(labels):
-    """A name in the form of master files."""
+    """Returns a name in the form of master files."""
     def byte(code):
         if chr(code) in '"().;\\@$':
             return "\\" + chr(code)
@@ -58,7 +58,7 @@ def shown(labels):
 
 
 def last_name(data, place):
-    """The name that the data end with, as text."""
+    """Returns the name at the end of the data, as text."""
     labels, behind = decoded_name(data, place)
     if behind < len(data):
         raise Refused(f"Trailing({behind})")
@@ -66,14 +66,14 @@ def last_name(data, place):
 
 
 def numbers(data, place, form):
-    """Numbers in the data at a place, as text."""
+    """Returns numbers in the data at an offset, as text."""
     if place + struct.calcsize(form) > len(data):
         raise Refused(f"Ends({place})")
     return "".join(f"{number} " for number in struct.unpack_from(form, data, place))
 
 
 def address(data, place, size):
-    """The octets of an address, which the data have from a place on."""
+    """Returns the octets of an address, which the data have from an offset on."""
     if len(data) < place + size:
         raise Refused(f"Ends({place})")
     if len(data) > place + size:
@@ -82,7 +82,8 @@ def address(data, place, size):
 
 
 def decoded_data(data, place, kind, kind_class):
-    """The data from a place on, by their type: the message is given as far as they go."""
+    """Returns the data from an offset on, by their type. The message is truncated after the
+    data."""
     if place == len(data) and kind_class in (254, 255):
         return summed(b"")
     if kind in (2, 5, 12):
@@ -112,7 +113,7 @@ def decoded_data(data, place, kind, kind_class):
 
 
 def decoded_record(message, place):
-    """The record at a place, as text, and the place behind it."""
+    """Returns the record at an offset, as text, and the offset after it."""
     labels, behind = decoded_name(message, place)
     if behind + 10 > len(message):
         raise Refused(f"Ends({behind})")
@@ -125,7 +126,7 @@ def decoded_record(message, place):
 
 
 def decoded_question(message, place):
-    """The question at a place, as text, and the place behind it."""
+    """Returns the question at an offset, as text, and the offset after it."""
     labels, behind = decoded_name(message, place)
     if behind + 4 > len(message):
         raise Refused(f"Ends({behind})")
@@ -134,7 +135,7 @@ def decoded_question(message, place):
 
 
 def decoded(message):
-    """What the decoder says of a message."""
+    """Returns the decoder's result for a message."""
     if len(message) < 12:
         return "Header 0: Ends(0)"
     counts = struct.unpack_from(">4H", message, 4)
@@ -155,7 +156,7 @@ def decoded(message):
 
 
 def kind(row, ours, theirs):
-    """Read, or why not."""
+    """Returns `read`, or the reason of the error."""
     return theirs.partition(": ")[2].partition("(")[0] if theirs[-1] == ")" else "read"
 
 

@@ -1,15 +1,15 @@
-"""Messages of DNS: a header, questions, and records of each type, whose names are compressed or
-not; many are then changed in a few bytes, or cut."""
+"""DNS messages: a header, questions, and records of each type, with compressed and other names.
+Many are then changed in a few bytes, or truncated."""
 import struct
 
 SIGNS = b"abcXYZ-09.\\\" \0\xff"
 KINDS = (1, 2, 5, 6, 12, 15, 16, 28, 33, 10, 41, 65535)
-# What changes put into a message: what lengths and pointers begin with, and what they do not.
+# The bytes that changes insert: first bytes of lengths and pointers, and others.
 ODD = (0, 1, 12, 63, 64, 128, 191, 192, 193, 255)
 
 
 class Writer:
-    """What makes a message, and where its names stand, by their labels."""
+    """A writer of a message, with the offsets of its names by labels."""
 
     def __init__(self, rng):
         self.rng, self.known = rng, {}
@@ -27,7 +27,7 @@ class Writer:
         return bytes(self.rng.choices(SIGNS, k=size))
 
     def name(self):
-        """A name, whose end a pointer may stand for."""
+        """Writes a name, which may end with a pointer."""
         name = tuple(self.label() for _ in range(self.rng.choice((0, 1, 2, 3, 4, 5))))
         if self.known and self.rng.randrange(3):
             name = name[:2] + self.rng.choice(list(self.known))
@@ -43,7 +43,7 @@ class Writer:
         self.message += self.rng.randbytes(size)
 
     def data(self, kind):
-        """The data of a type."""
+        """Writes the data of a type."""
         if kind in (1, 28):
             self.some(4 if kind == 1 else 16)
         elif kind in (2, 5, 12):
@@ -64,7 +64,7 @@ class Writer:
             self.some(self.rng.choice((0, 1, 2, 4, 16)))
 
     def record(self):
-        """A record, whose length may be one too small or too large."""
+        """Writes a record, whose length may be one too small or too large."""
         kind, kind_class = self.rng.choice(KINDS), self.rng.choice((1, 1, 1, 1, 3, 254, 255))
         self.name()
         self.message += struct.pack(">HHI", kind, kind_class, self.rng.choice((0, 3600, 2**32 - 1)))
@@ -77,7 +77,7 @@ class Writer:
 
 
 def broken(rng, message):
-    """The message, changed in a few bytes, or cut."""
+    """Returns the message, changed in a few bytes, or truncated."""
     made = bytearray(message)
     for _ in range(rng.choice((0, 0, 1, 1, 2))):
         made[rng.randrange(len(made))] = rng.choice((*ODD, rng.randrange(256)))

@@ -1,8 +1,8 @@
-"""What comparisons share: making and changing texts, running our side, asking the peer, comparing,
-counting, and saying what came of it.
+"""The shared functions of comparisons: they generate and change texts, run both sides, compare and
+count the results, and print a summary.
 
-A format's module has `COMPARISONS`, of which each is a row: what is made, by whom it is read, and
-what differs on purpose. `scripts/beside` runs them.
+A format's module has a list `COMPARISONS` of rows: the inputs, the peer, and the intended
+differences. `scripts/beside` runs them.
 """
 import dataclasses
 import pathlib
@@ -18,42 +18,42 @@ from laid import lay
 from registry.common import TOP, read
 
 PROGRAMS = pathlib.Path(__file__).resolve().parent / "programs"
-# No more differences than this are written out.
+# The maximum number of differences that are printed.
 MOST_SHOWN = 200
 
 
 class NoPeer(Exception):
-    """That a peer is not there, and why."""
+    """An error: the peer is not available."""
 
 
 def install(*packages):
-    """Installs packages of Debian."""
+    """Installs Debian packages."""
     ran = ["apt-get", "install", "-y", "-q", *packages]
     if subprocess.run(ran, capture_output=True, check=False).returncode:
-        raise NoPeer(f"{' '.join(packages)} is not installed, and cannot be")
+        raise NoPeer(f"cannot install {' '.join(packages)}")
 
 
 def is_alike(row, ours, theirs):
-    """Whether both say the same, where nothing differs on purpose."""
+    """Returns whether both results are equal, for rows without intended differences."""
     return ours == theirs
 
 
 def is_read(row, ours, theirs):
-    """What a text is counted as."""
+    """Returns the kind that a text is counted as."""
     return "none" if theirs == "none" else "read"
 
 
 @dataclasses.dataclass
 class Comparison:
-    """A row. `rows` makes inputs of a source of random numbers and a count; `given` are the bytes
-    that the program reads of one, and it says a line of each. `peer` is given all of them, and says
-    what the other one reads of each. `judge` is given an input and both answers: it is true where
-    they agree, false where they differ, a text that says why where they do so on purpose, and None
-    where there is nothing to compare. `kind` says as what an input is counted."""
+    """A comparison. `rows` generates inputs from a random number generator and a count. `given`
+    encodes an input for the program, which prints a line for each one. `peer` takes all inputs and
+    returns the peer's results. `judge` takes an input and both results. It returns True if they
+    agree, False if they differ, a text with the reason if they differ as intended, and None if
+    there is nothing to compare. `kind` returns the kind that an input is counted as."""
 
     name: str
     beside: str
-    # The crates that the program names, and the files of `programs/` that it is made of.
+    # The crates that the program uses, and its files in `programs/`.
     crates: str
     program: str
     rows: Callable
@@ -68,13 +68,13 @@ class Comparison:
 # ---- texts
 
 def some(rng, options, sizes):
-    """A text of some of these, of one of these sizes."""
+    """Returns a random concatenation of these options, of one of these sizes."""
     return "".join(rng.choices(options, k=rng.choice(sizes)))
 
 
 def changed(rng, text, parts):
-    """A text, or bytes, with one change: a piece is gone, stands twice, or has one of these parts
-    before it, in its place, or behind the whole; or the text ends there."""
+    """Returns a text, or bytes, with one change: a piece is removed, doubled or replaced by one of
+    these parts, or a part is inserted or appended; or the text is truncated."""
     at = rng.randint(0, len(text))
     to = min(len(text), at + rng.choice((0, 1, 1, 1, 2, 5)))
     part = rng.choice(parts)
@@ -89,32 +89,32 @@ def changed(rng, text, parts):
 
 
 def often_changed(rng, text, parts, times=(0, 0, 1, 1, 2, 3)):
-    """A text with as many changes as one of these numbers says."""
+    """Returns a text with a random number of changes."""
     for _ in range(rng.choice(times)):
         text = changed(rng, text, parts)
     return text
 
 
 def codes(data):
-    """Bytes as the programs write them."""
+    """Returns bytes as the programs print them."""
     return str(list(data))
 
 
 def summed(data):
-    """Bytes as programs write long ones: how many there are, and a sum."""
+    """Returns long bytes as the programs print them: their number and a checksum."""
     return f"{len(data)}:{int.from_bytes(data, 'big') % 65521} "
 
 
 def each(read):
-    """A peer that reads one input at a time."""
+    """Returns a peer that reads one input at a time."""
     return lambda rows: [read(row) for row in rows]
 
 
 # ---- our side
 
 class Room:
-    """A folder with the library and the programs of some comparisons, which are built there at
-    their first run, with no proof."""
+    """A folder with the library and the programs of some comparisons, which are built there,
+    unproved, when they are first run."""
 
     def __init__(self, folder, comparisons):
         self.folder = pathlib.Path(folder)
@@ -129,7 +129,7 @@ class Room:
         shutil.copyfile(TOP / "scripts/run", self.folder / "run")
 
     def answers(self, comparison, rows):
-        """What the program says of each input, which it is given behind its length."""
+        """Returns the program's results. Each input is preceded by its length."""
         given = [comparison.given(row) for row in rows]
         ran = subprocess.run(
             [sys.executable, self.folder / "run", crate_of(comparison)],
@@ -141,20 +141,20 @@ class Room:
         said = ran.stdout.decode(errors="replace").splitlines()
         if ran.returncode or len(said) != len(rows):
             print("\n".join(said[-5:]))
-            sys.exit(f"{comparison.name}: {len(rows)} inputs, and {len(said)} answers")
+            sys.exit(f"{comparison.name}: {len(rows)} inputs, but {len(said)} results")
         return said
 
 
 def crate_of(comparison):
-    """The crate of a comparison's program; those with one program share it."""
+    """Returns the crate of a comparison's program; comparisons may share a program."""
     return "beside_" + comparison.program.replace(" ", "_")
 
 
 # ---- comparing
 
 def compare(comparison, room, seed=None, count=None):
-    """Runs one comparison, says what came of it, and returns how many inputs differ, or 1 where it
-    cannot be run."""
+    """Runs one comparison and prints the results. Returns the number of inputs that differ, or 1 if
+    it cannot be run."""
     rng = random.Random(comparison.seed if seed is None else seed)
     try:
         rows = [*comparison.rows(rng, comparison.count if count is None else count)]
@@ -173,8 +173,8 @@ def compare(comparison, room, seed=None, count=None):
     told = ", ".join(f"{number} {kind}" for kind, number in kinds.most_common())
     agree, differ, left = (reasons.pop(it, 0) for it in (True, False, None))
     out = f", {left} not compared" if left else ""
-    print(f"{comparison.name} beside {comparison.beside}: {len(rows)} inputs ({told})")
-    print(f"  {agree} agree, {differ} differ, {sum(reasons.values())} on purpose{out}")
+    print(f"{comparison.name} compared with {comparison.beside}: {len(rows)} inputs ({told})")
+    print(f"  {agree} agree, {differ} differ, {sum(reasons.values())} differ as intended{out}")
     for why, number in reasons.most_common():
         print(f"    {number}: {why}")
     sys.stdout.flush()

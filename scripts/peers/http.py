@@ -1,15 +1,15 @@
-"""HTTP/1.1 beside Python's `http.server` and `http.client`, and beside llhttp and httparse.
+"""HTTP/1.1 compared with Python's `http.server` and `http.client`, and with llhttp and httparse.
 
-Python takes more than the standard lets: several spaces, line feeds alone, names that are no
-tokens, lines that go on. So only where a head is read here must Python read it too, with the same
-words and fields, and find the same length of a response's body. It does not read lists of lengths
-and of codings as lists, which are left out where they are refused here, and passes over responses
-of status 100. Of reasons the white space around them is left out.
+Python accepts more than the standard: several spaces, single line feeds, names that are not tokens,
+folded lines. So the results are compared only if a head is accepted here: Python must then return
+the same words and fields, and the same length of a response's body. Python does not parse lists of
+lengths and codings, which are left out if they are rejected here, and skips responses of status
+100. Whitespace around reasons is ignored.
 
-Responses come in pieces too, a byte more each time: Python must have taken as many bytes as are
-there where one is read, and where none is, no whole reader may find one. Chunked bodies are taken
-in pieces of three bytes, with the decoder's state as numbers between them: Python must read the
-same content and trailers, and leave as many bytes.
+Responses are also parsed incrementally, byte by byte: when a response is complete, Python must have
+consumed the same number of bytes; if none is found, the parser of complete input must not find one
+either. Chunked bodies are decoded in chunks of three bytes, with the decoder's state as numbers
+between them: Python must return the same content and trailers, and leave as many bytes.
 """
 import http.client
 import io
@@ -24,7 +24,7 @@ FAULTS = (http.client.HTTPException, OSError, ValueError)
 
 
 class Server(BaseHTTPRequestHandler):
-    """Python's reader of a request, over bytes alone."""
+    """Python's reader of a request, over bytes."""
 
     def __init__(self, head):
         self.rfile, self.wfile = io.BytesIO(head), io.BytesIO()
@@ -32,22 +32,22 @@ class Server(BaseHTTPRequestHandler):
         self.raw_requestline = self.rfile.readline(65537)
 
     def log_message(self, *words):
-        """Writes nothing."""
+        """Ignores the message."""
 
 
 class Kept(io.BytesIO):
-    """Bytes that can be read behind what Python has closed."""
+    """Bytes that can be read after Python closes them."""
 
     def close(self):
-        """Closes nothing."""
+        """Does nothing."""
 
     def makefile(self, mode):
-        """The bytes: these are the socket, too."""
+        """Returns itself, so that it also serves as the socket."""
         return self
 
 
 class Response(http.client.HTTPResponse):
-    """One whose trailers are kept."""
+    """A response that keeps its trailers."""
 
     trailers = ()
 
@@ -56,13 +56,13 @@ class Response(http.client.HTTPResponse):
 
 
 def shown(*words, fields):
-    """Words and fields as the programs write them."""
+    """Returns words and fields as the programs print them."""
     pairs = [part.encode("latin-1") for field in fields for part in field]
     return " ".join([*words, *(codes(it.strip(b" \t")) for it in pairs)])
 
 
 def request_by_python(text):
-    """The head that Python reads, without the length of its body; or none."""
+    """Returns the head that Python reads, without the length of its body; or `none`."""
     server = Server(text)
     if not server.parse_request():
         return "none"
@@ -72,7 +72,7 @@ def request_by_python(text):
 
 
 def response_of(text):
-    """The head of a response that Python reads, and how many bytes it took; or none."""
+    """Returns the response head that Python reads, and the number of bytes it consumed; or None."""
     kept = Kept(text)
     found = http.client.HTTPResponse(kept, method="GET")
     try:
@@ -84,7 +84,7 @@ def response_of(text):
 
 
 def response_by_python(text):
-    """The head of a response, with how long its body is; or none."""
+    """Returns the head of a response, with the length of its body; or `none`."""
     if not (read := response_of(text)):
         return "none"
     found, _, said = read
@@ -95,13 +95,13 @@ def response_by_python(text):
 
 
 def piece_by_python(text):
-    """The same, with how many bytes Python took for it, and no length of a body."""
+    """Returns the head of a response, with the number of bytes that Python consumed."""
     read = response_of(text)
     return f"{read[1]} {read[2]}" if read else "none"
 
 
 def body_by_python(text):
-    """The chunked body that Python reads; or none."""
+    """Returns the chunked body that Python reads; or `none`."""
     kept = Kept(b"HTTP/1.1 200 OK\r\nTransfer-Encoding: chunked\r\n\r\n" + text)
     found = Response(kept, method="GET")
     try:
@@ -113,7 +113,7 @@ def body_by_python(text):
 
 
 def trimmed(answer):
-    """What the program says of a response, its reason without the white space around it."""
+    """Returns the program's result for a response, without whitespace around the reason."""
     length, status, rest = answer.split(" ", 2)
     reason, end, parts = rest.partition("]")
     data = bytes(int(code) for code in re.findall(r"\d+", reason))

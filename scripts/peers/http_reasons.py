@@ -1,4 +1,4 @@
-"""The table of differences of heads in `docs/READERS.md`, and how each row is seen in a text."""
+"""The table of differences of heads in `docs/READERS.md`, and a test for each row."""
 import functools
 import json
 import re
@@ -6,39 +6,40 @@ import subprocess
 
 REQUEST, RESPONSE = 1, 2
 
-# The rows of the table: which kind, the text, and who takes it of here, httparse and llhttp.
+# The rows of the table: the kind, the text, and which of this library, httparse and llhttp accept
+# it.
 ROWS = {
-    "a line feed alone as a line end": (REQUEST, "GET / HTTP/1.1\nA: b\n\n", "nyn"),
+    "a single line feed as a line ending": (REQUEST, "GET / HTTP/1.1\nA: b\n\n", "nyn"),
     "empty lines before the first line": (REQUEST, "\r\n\r\nGET / HTTP/1.1\r\n\r\n", "nyy"),
-    "a method of its own": (REQUEST, "BREW / HTTP/1.1\r\n\r\n", "yyn"),
+    "an unregistered method": (REQUEST, "BREW / HTTP/1.1\r\n\r\n", "yyn"),
     "a target in UTF-8": (REQUEST, "GET /\xc3\xa9 HTTP/1.1\r\n\r\n", "nnn"),
     "a target with <": (REQUEST, "GET /< HTTP/1.1\r\n\r\n", "yny"),
-    "a target that is no URI": (REQUEST, "GET a HTTP/1.1\r\n\r\n", "yyn"),
+    "a target that is not a URI": (REQUEST, "GET a HTTP/1.1\r\n\r\n", "yyn"),
     "two spaces between words": (REQUEST, "GET  / HTTP/1.1\r\n\r\n", "nny"),
     "no version": (REQUEST, "GET /\r\n\r\n", "nny"),
     "version 1.2": (REQUEST, "GET / HTTP/1.2\r\n\r\n", "ynn"),
     "version 2.0": (REQUEST, "GET / HTTP/2.0\r\n\r\n", "yny"),
     "no reason and no space before it": (RESPONSE, "HTTP/1.1 200\r\nA: b\r\n\r\n", "yyy"),
-    "a reason with bytes of 128 and above": (RESPONSE, "HTTP/1.1 200 \xe9\r\n\r\n", "yyy"),
+    "a reason with bytes from 128 up": (RESPONSE, "HTTP/1.1 200 \xe9\r\n\r\n", "yyy"),
     "a reason with a byte of 127": (RESPONSE, "HTTP/1.1 200 \x7f\r\n\r\n", "nny"),
     "a reason with a byte of 0": (RESPONSE, "HTTP/1.1 200 \0\r\n\r\n", "nny"),
     "a carriage return before a status line": (RESPONSE, "\rHTTP/1.1 200 \r\n\r\n", "nny"),
     "a status line that ends in two": (RESPONSE, "HTTP/1.1 200 \r\rA: b\r\n\r\n", "nny"),
-    "lengths where there is no body": (
+    "lengths of a response without a body": (
         RESPONSE, "HTTP/1.1 304 \r\nContent-Length: a\r\n\r\n", "yyn"),
-    "a line that goes on after white space": (
+    "a folded line": (
         REQUEST, "GET / HTTP/1.1\r\nA: b\r\n c\r\n\r\n", "nnn"),
-    "white space before a colon": (REQUEST, "GET / HTTP/1.1\r\nA : b\r\n\r\n", "nnn"),
-    "Transfer-Encoding beside Content-Length": (
+    "whitespace before a colon": (REQUEST, "GET / HTTP/1.1\r\nA : b\r\n\r\n", "nnn"),
+    "Transfer-Encoding with Content-Length": (
         REQUEST, "POST / HTTP/1.1\r\nContent-Length: 1\r\nTransfer-Encoding: chunked\r\n\r\n",
         "nyn"),
     "two Content-Length fields of one number": (
         REQUEST, "POST / HTTP/1.1\r\nContent-Length: 1\r\nContent-Length: 1\r\n\r\n", "yyn"),
     "Content-Length as a list": (
         REQUEST, "POST / HTTP/1.1\r\nContent-Length: 42, 42\r\n\r\n", "yyn"),
-    "a tab behind Content-Length": (
+    "a tab after Content-Length": (
         REQUEST, "POST / HTTP/1.1\r\nContent-Length: 1\t\r\n\r\n", "yyn"),
-    "Transfer-Encoding with no coding": (
+    "Transfer-Encoding without a coding": (
         REQUEST, "GET / HTTP/1.1\r\nTransfer-Encoding:\r\n\r\n", "nyy"),
     "a space before the method": (REQUEST, " GET / HTTP/1.1\r\n\r\n", "nyn"),
     "Transfer-Encoding before version 1.1": (
@@ -47,56 +48,56 @@ ROWS = {
 
 
 def fields_of(text):
-    """The names, in small letters, and values of field lines."""
+    """Returns the lower-case names and the values of field lines."""
     lines = text.split(b"\n")[1:]
     pairs = (line.partition(b":") for line in lines if b":" in line)
     return [(name.lower(), value.strip(b" \t\r")) for name, _, value in pairs]
 
 
 def lengths_of(text):
-    """The values of the Content-Length fields."""
+    """Returns the values of the Content-Length fields."""
     return [value for name, value in fields_of(text) if name == b"content-length"]
 
 
 def codings_of(text):
-    """The values of the Transfer-Encoding fields."""
+    """Returns the values of the Transfer-Encoding fields."""
     return [value for name, value in fields_of(text) if name == b"transfer-encoding"]
 
 
 def words(text):
-    """The words of the first line."""
+    """Returns the words of the first line."""
     return text.lstrip(b"\r\n").split(b"\n")[0].strip(b"\r").split(b" ")
 
 
 def version_of(text):
-    """The version in the first line."""
+    """Returns the version in the first line."""
     found = re.search(rb"HTTP/(\d\.\d)", text)
     return found.group(1) if found else b""
 
 
 def has_no_body(text):
-    """Whether a response has a status that has no body."""
+    """Returns whether a response has a status without a body."""
     return bool(re.match(rb"HTTP/\d\.\d (1\d\d|204|304)", text))
 
 
 @functools.cache
 def methods():
-    """The methods that llhttp knows."""
+    """Returns the methods that llhttp knows."""
     said = subprocess.run(["node", "--no-deprecation", "-p",
                            "JSON.stringify(process.binding('http_parser').allMethods)"],
                           stdout=subprocess.PIPE, check=True)
     return json.loads(said.stdout)
 
 
-# What llhttp takes for no length, though white space may stand behind a value.
+# A length that llhttp rejects, though whitespace may follow a value.
 TAB_BEHIND = re.compile(rb"(?im)^content-length:[ \t]*\d+ *\t")
 
-# Why one takes a head that the other refuses: a row of the table of differences, and what is so of
-# the text then. First those for which this library takes it.
+# The reasons why one accepts a head that the other rejects: a row of the table of differences, and
+# a test of the text. First the reasons why only this library accepts it.
 COUNTED = {
     "two Content-Length fields": lambda text: len(lengths_of(text)) > 1,
     "Content-Length as a list": lambda text: any(b"," in it for it in lengths_of(text)),
-    "a tab behind Content-Length": lambda text: bool(TAB_BEHIND.search(text)),
+    "a tab after Content-Length": lambda text: bool(TAB_BEHIND.search(text)),
 }
 LLHTTP_REFUSES = {
     REQUEST: COUNTED | {
@@ -106,14 +107,14 @@ LLHTTP_REFUSES = {
     },
     RESPONSE: COUNTED | {
         "the version": lambda text: version_of(text) not in (b"0.9", b"1.0", b"1.1", b"2.0"),
-        "lengths where there is no body": has_no_body,
+        "lengths of a response without a body": has_no_body,
     },
 }
 EMPTY_LINES = {"empty lines": lambda text: text[:1] in (b"\r", b"\n")}
 OLD_CODING = {
     "Transfer-Encoding before version 1.1": lambda text:
         bool(codings_of(text)) and version_of(text) < b"1.1",
-    "Transfer-Encoding with no coding": lambda text: b"" in codings_of(text),
+    "Transfer-Encoding without a coding": lambda text: b"" in codings_of(text),
 }
 LLHTTP_TAKES = {
     REQUEST: EMPTY_LINES | OLD_CODING | {
@@ -133,7 +134,7 @@ HTTPARSE_REFUSES = {
     RESPONSE: {"the version": lambda text: version_of(text) not in (b"1.0", b"1.1")},
 }
 ENDS = EMPTY_LINES | {
-    "a line feed alone": lambda text: bool(re.search(rb"(^|[^\r])\n", text)),
+    "a single line feed": lambda text: bool(re.search(rb"(^|[^\r])\n", text)),
 }
 HTTPARSE_TAKES = {
     REQUEST: ENDS | {

@@ -1,9 +1,8 @@
-"""INI beside Python's `configparser`: small documents in many dialects, and the files of this
-machine that are named as such files are, each in the dialect of Python and in one with keys without
-values.
+"""INI compared with Python's `configparser`: small documents in many dialects, and the files of
+this machine with names of INI files, each in Python's dialect and in one with keys without values.
 
-A `RawConfigParser` with the same marks, that lets sections and keys come twice, says which values
-there are. Where the two differ for a reason that the table in `format_ini` has, it is counted.
+The values are those of a `RawConfigParser` with the same marks, which accepts duplicate sections
+and keys. Differences for a reason in the table of `format_ini` are counted.
 """
 import configparser
 import os
@@ -12,21 +11,21 @@ import re
 
 from peers.harness import Comparison, each, often_changed, some
 
-# Files past this size are not read, and no more texts of files than these.
+# The maximum size of files, and the maximum number of their texts.
 MOST, FILES = 100000, 4000
 DELIMITERS = (("=",), (":",), ("=", ":"))
 MARKS = ((), ("#",), (";",), ("#", ";"))
 NAMES = (".ini", ".cfg", ".desktop", ".conf")
 APART = ("/proc", "/sys", "/dev", "/tmp", "/work")
 PARTS = ("", "[", "]", "=", ":", " #", ";", "\n", "\n ", "\r", "\t", "\x0c", "\x0b")
-# What Python takes for white space and `format_ini` does not.
+# Characters that are whitespace for Python, but not for `format_ini`.
 OTHER_BLANKS = re.compile(
     "[\x0b\x1c-\x1f\x85\xa0\u1680\u2000-\u200a\u2028\u2029\u202f\u205f\u3000]"
 )
 
 
 def line(rng, delimiters, marks, inline):
-    """A line of one kind or another."""
+    """Returns a line of a random kind."""
     word = lambda: some(rng, "ab. -é\"'$", (1, 1, 2, 4))
     blanks = rng.choice(("", "", "", " ", "  ", "\t"))
     mark = rng.choice(delimiters + ("=", ":"))
@@ -45,7 +44,7 @@ def line(rng, delimiters, marks, inline):
 
 
 def texts(rng, count):
-    """A dialect, as six small numbers, and a document of a few lines."""
+    """Returns dialects, as six small numbers, and documents of a few lines."""
     for _ in range(count):
         flags = [rng.randrange(it) for it in (3, 4, 4, 3, 2)] + [0]
         marks = DELIMITERS[flags[0]], MARKS[flags[1]], MARKS[flags[2]]
@@ -57,7 +56,7 @@ def texts(rng, count):
 
 
 def text_of(path):
-    """The text of a file, or none where it is too large, or no text of UTF-8."""
+    """Returns the text of a file, or None if it is too large or not UTF-8."""
     try:
         data = path.read_bytes()
         return None if len(data) > MOST else data.decode("utf-8-sig")
@@ -66,7 +65,7 @@ def text_of(path):
 
 
 def files(rng, count):
-    """The texts of the files that are named so, each once and in both dialects."""
+    """Returns the texts of the files with such names, each once and in both dialects."""
     found = {}
     for top, folders, names in os.walk("/", onerror=lambda e: None):
         folders[:] = [it for it in sorted(folders) if os.path.join(top, it) not in APART]
@@ -80,11 +79,11 @@ def files(rng, count):
 
 
 def told(row):
-    """What Python says of a text: its sections with their values, or the kind of its refusal."""
+    """Returns Python's result for a text: its sections with their values, or the kind of error."""
     flags, text = row
     lines = text.split("\n")
     if flags[3] == 0:
-        # Python has no such dialect: with no line indented, none goes on.
+        # Python has no such dialect: without indented lines there are no continuations.
         lines = [it.lstrip() for it in lines]
     parser = configparser.RawConfigParser(
         delimiters=DELIMITERS[flags[0]],
@@ -104,7 +103,7 @@ def told(row):
 
 
 def shown(answer):
-    """What the program says, as Python does: sections with their values, or the refusal."""
+    """Returns the program's result in the form of Python's: sections with values, or the error."""
     words = re.findall(r"[SPM]\[[^\]]*\](?:=\[[^\]]*\]|-)?|none .*", answer)
     if not answer.startswith("some"):
         return words[0].split()[2] if words else answer
@@ -127,22 +126,22 @@ def shown(answer):
 
 
 def judge(row, answer, python):
-    """Whether both say the same, or why they do not."""
+    """Returns whether both results are equal, or the reason why they differ."""
     flags, text = row
     ours = shown(answer)
     if ours == python or isinstance(ours, str) and isinstance(python, str):
         return True
     if OTHER_BLANKS.search(text):
-        return "white space that is none of ASCII's"
+        return "whitespace outside of ASCII"
     if flags[2] == 3 and any("#" in it and ";" in it for it in text.split("\n")):
         return "two inline comments in a line"
     if ours in ("TextBehindSection", "OpenSection", "EmptySection"):
         return ours
-    return "a key without a value is gone on" if python == "AttributeError" else False
+    return "a continued key without a value" if python == "AttributeError" else False
 
 
 def kind(row, answer, python):
-    return "read" if isinstance(python, dict) else "refused by Python"
+    return "read" if isinstance(python, dict) else "rejected by Python"
 
 
 WITH = {

@@ -1,8 +1,8 @@
-"""JSON beside Python's `json`, which is to refuse `NaN` and `Infinity`, which are not JSON, and
-strings with a surrogate alone, which no character is.
+"""JSON compared with Python's `json`, which is set to reject `NaN` and `Infinity`, which are not
+JSON, and strings with an unpaired surrogate, which is not a character.
 
-Values are written one way by both: numbers as they stand, strings as the numbers of their
-characters, members in order.
+Both print values in the same way: numbers unchanged, strings as the numbers of their characters,
+members in order.
 """
 import json
 
@@ -10,7 +10,7 @@ from peers.harness import Comparison, each, often_changed
 from peers.json_descent import kind_of, place
 from peers.json_texts import texts, wide_texts
 
-# Bytes that are no UTF-8 alone, and what begins or ends a character.
+# Bytes that are not valid UTF-8, and parts of characters.
 ODD = [
     b"\x80", b"\xbf", b"\xc0\xaf", b"\xc3", b"\xe2\x82", b"\xed\xa0\x80", b"\xf4\x90\x80\x80",
 ]
@@ -18,7 +18,7 @@ GOES_ON = "0123456789.eE"
 
 
 class Number(str):
-    """A number as it stands."""
+    """The text of a number."""
 
 
 def refuse(name):
@@ -31,7 +31,7 @@ DECODER = json.JSONDecoder(
 
 
 def levels_of(it):
-    """How many arrays and objects stand in one another."""
+    """Returns the nesting depth of arrays and objects."""
     if isinstance(it, list):
         return 1 + max(map(levels_of, it), default=0)
     if isinstance(it, tuple):
@@ -40,7 +40,7 @@ def levels_of(it):
 
 
 def written(it):
-    """A value as the program writes it; it is refused where a surrogate stands alone."""
+    """Returns a value as the program prints it; fails if it has an unpaired surrogate."""
     if it is None or isinstance(it, bool):
         return {None: "null", True: "true", False: "false"}[it]
     if isinstance(it, Number):
@@ -55,7 +55,7 @@ def written(it):
 
 
 def whole(level, text):
-    """The value that all of a text is, or none."""
+    """Returns the value of a complete text, or `none`."""
     try:
         found = DECODER.decode(text)
         return written(found) if levels_of(found) <= level else "none"
@@ -64,7 +64,7 @@ def whole(level, text):
 
 
 def first(level, text):
-    """The value that a text begins with, as it is and as it is written, and its end; or none."""
+    """Returns the value at the start of a text, the printed value, and its end; or None."""
     try:
         found, end = DECODER.raw_decode(text)
         return (found, written(found), end) if levels_of(found) <= level else None
@@ -75,7 +75,7 @@ def first(level, text):
 # ---- extents and values
 
 def extent(row):
-    """Whether a text is JSON, how long the value is that stands first, and how much is left."""
+    """Returns whether a text is JSON, the length of its first value, and the length of the rest."""
     level, text = row
     found = first(level, text)
     end = found[2] if found else "none"
@@ -84,7 +84,7 @@ def extent(row):
 
 
 def values(row):
-    """Which value a text is, with which it begins, and how much is left."""
+    """Returns the value of a text, the value at its start, and the length of the rest."""
     level, text = row
     found = first(level, text)
     begins = f"{found[1]} {len(text[found[2]:].encode())}" if found else "none"
@@ -97,18 +97,18 @@ def kind(row, ours, theirs):
     return "JSON"
 
 
-# ---- bytes, whole and in pieces
+# ---- bytes, complete and partial
 
 def odd_bytes(rng, count):
-    """Levels and texts as bytes, some of which are no UTF-8."""
+    """Returns depths and texts as bytes, some of them not valid UTF-8."""
     for level, text in wide_texts(rng, count):
         yield level, often_changed(rng, text.encode(), ODD, (0, 0, 0, 1, 2))
 
 
 def first_bytes(level, given):
-    """What may be said of the value that stands first, and of the same where more may come: a
-    number with which bytes begin is none where a digit, a point or an E is behind it, and more may
-    go on with one."""
+    """Returns the possible results for the value at the start, on complete and on partial input. A
+    number followed by a digit, a point or an E is not a value, and more input may continue a
+    number."""
     text = given.decode("utf-8", "surrogateescape")
     found = first(level, text)
     if found is None:
@@ -118,13 +118,13 @@ def first_bytes(level, given):
     if is_number and text[end : end + 1] in [*GOES_ON]:
         return "none", {"none", "asks"}
     said = f"{shown} {len(text[end:].encode('utf-8', 'surrogateescape'))}"
-    # Behind a number more is asked for until a byte is there that numbers have not.
+    # After a number the result is `Incomplete` until a byte follows that numbers do not have.
     asks = is_number and not text[end:].lstrip(GOES_ON + "+-")
     return said, {"asks"} if asks else {said}
 
 
 def pieces(row):
-    """What may be answered of bytes."""
+    """Returns the possible results for bytes."""
     level, given = row
     try:
         all_of_it = whole(level, given.decode())
@@ -142,10 +142,10 @@ def kind_of_pieces(row, ours, theirs):
     return "none" if ours.startswith("none ") else "JSON"
 
 
-# ---- places of faults
+# ---- offsets of errors
 
 def refused(rng, count):
-    """Texts that Python refuses."""
+    """Returns texts that Python rejects."""
     found = 0
     for _, text in wide_texts(rng, 100 * count):
         if found < count and isinstance(fault(text), json.JSONDecodeError):
@@ -154,7 +154,7 @@ def refused(rng, count):
 
 
 def fault(text):
-    """The error with which Python refuses a text, or none."""
+    """Returns Python's error for a text, or None."""
     try:
         DECODER.decode(text)
     except ValueError as error:
@@ -163,8 +163,8 @@ def fault(text):
 
 
 def in_place(text, ours, error):
-    """Whether the fault is told at the first place at which no text goes on; why Python tells
-    another one."""
+    """Returns whether the error is at the first offset where the text cannot be continued, or the
+    reason why Python reports another offset."""
     at = place(text)
     if not ours.isdigit() or len(text.encode()[: int(ours)].decode()) != at:
         return False
@@ -193,6 +193,6 @@ COMPARISONS = [
     ),
     Comparison(
         "json/faults", "a reader by descent, and Python's json", "format_json", "json_faults",
-        refused, str.encode, each(fault), in_place, lambda *_: "refused", seed=7159, count=2000,
+        refused, str.encode, each(fault), in_place, lambda *_: "rejected", seed=7159, count=2000,
     ),
 ]

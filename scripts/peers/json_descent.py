@@ -1,35 +1,35 @@
-"""Where a text stops being JSON: the first place at which no text goes on, by recursive descent,
-and why Python's `json` tells another one.
+"""The offset of the first error in a JSON text, by recursive descent, and the reasons why Python's
+`json` reports another offset.
 
-Python's place is the same where it says what it expects and where it finds more than one text.
-Elsewhere it tells where a token begins, and the fault is later, in the token; or it goes on behind
-half of a surrogate pair, by which no character is meant.
+Python reports the same offset if it expects something or finds more than one text. Otherwise it
+reports the start of a token, and the error is later in the token; or it accepts half of a surrogate
+pair, which is not a character.
 """
 HEX = "0123456789abcdefABCDEF"
 DIGITS = "0123456789"
 WORDS = {"n": "null", "t": "true", "f": "false"}
-# Python's place is the beginning of a token, or of an escape, and the fault is a later character of
-# it: what stands before that may still go on to JSON.
+# Python reports the start of a token or an escape, and the error is a later character in it: the
+# text up to that character can be continued to JSON.
 KINDS = [
     ("a word that breaks off", "Expecting value"),
     ("a number that breaks off", "Expecting value"),
     ("a number that breaks off", "Extra data"),
     ("a number that breaks off", "Expecting ',' delimiter"),
     ("a string with no end", "Unterminated string starting at"),
-    ("an escape that is none", "Invalid \\escape"),
-    ("an escape that is none", "Invalid \\uXXXX escape"),
+    ("an invalid escape", "Invalid \\escape"),
+    ("an invalid escape", "Invalid \\uXXXX escape"),
     ("an item after a last comma", "Illegal trailing comma before end of array"),
     ("an item after a last comma", "Illegal trailing comma before end of object"),
 ]
 
 
 class Stop(Exception):
-    """The first place at which no text goes on."""
+    """The first offset where a text cannot be continued to JSON."""
 
 
 class Reader:
-    """A reader of JSON by recursive descent: one character decides what is next, so the first that
-    it cannot take is the first with which no text goes on."""
+    """A recursive-descent parser of JSON. It needs one character of lookahead, so the first
+    character that it rejects is the first that cannot be continued to JSON."""
 
     def __init__(self, text, halves=False):
         self.text, self.at, self.halves = text, 0, halves
@@ -38,7 +38,7 @@ class Reader:
         return self.text[self.at : self.at + 1]
 
     def take(self, among):
-        """The next character, which is to be one of these."""
+        """Returns the next character, which must be one of `among`."""
         c = self.here()
         if not c or c not in among:
             raise Stop(self.at)
@@ -54,8 +54,8 @@ class Reader:
             self.take(HEX)
 
     def unicode(self):
-        """What is behind the letter u: four digits, and a second half behind a first; any four
-        where half of a surrogate pair may stand alone."""
+        """Parses the rest of a Unicode escape: four digits, and a second half after a first half;
+        any four digits if unpaired halves are accepted."""
         if self.halves:
             return self.hexes(4)
         if self.take(HEX) not in "dD":
@@ -139,7 +139,7 @@ class Reader:
 
 
 def place(text, halves=False):
-    """The first place at which no text goes on; none where the text is one."""
+    """Returns the first offset where the text cannot be continued, or None if it is JSON."""
     reader = Reader(text, halves)
     try:
         reader.value()
@@ -150,9 +150,9 @@ def place(text, halves=False):
 
 
 def kind_of(error, text, at):
-    """Why Python tells another place, where it is for a reason that is named."""
+    """Returns the reason why Python reports another offset, or None."""
     if place(text, halves=True) != at:
-        return "half of a surrogate pair alone, which Python reads"
+        return "an unpaired surrogate, which Python accepts"
     before = text[error.pos : at]
     for name, message in KINDS:
         if not error.msg.startswith(message):

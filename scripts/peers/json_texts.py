@@ -1,8 +1,8 @@
-"""Texts of JSON: hard cases, and others by the grammar of RFC 8259, most of them changed in a few
-places."""
+"""JSON texts: hard cases, and others by the grammar of RFC 8259, most of them changed in a few
+positions."""
 from peers.harness import often_changed, some
 
-# Cases that parsers of JSON are known to differ at: white space, ends, signs, escapes, names.
+# Cases for which JSON parsers are known to differ: whitespace, ends, signs, escapes, names.
 HARD = [
     "", " ", "\ufeff1", "\ufeff[]", "[1]\x00", "\x00", "\x0c1", "\xa01", "\u2028[1]", "[\u30001]",
     "[1,]", "[,1]", "[1,,2]", "[,]", "[", "]", "[]]", "[[]", "[1", "[1,", "[\"a", "[\"a\"", "[}",
@@ -25,7 +25,7 @@ HARD = [
     "[\x851]", "[" * 9 + "]" * 9, "[" * 9 + "]" * 8, "[" * 10 + "]" * 10,
     "{\"a\":" * 9 + "0" + "}" * 9, "[{}]", "[[],[[]],{\"a\":[[]]}]",
 ]
-# What changes put into a text.
+# The parts that changes insert.
 PARTS = list("[]{},:\"\\/.-+eE0123456789 \t\n\rabfntu'\0\x0b\x0c\x1f\x7f\x85\xa0\xe9\xfe") + [
     "null", "true", "false", "NaN", "Infinity", "\\u00e9", "\\ud800", "\\u12", "[]", "{}", "\"\"",
     "[[]]", "{\"a\":[]}", "1e5", "-0", "01", "1.", ".5", ",,", "\"a\":", "// x\n",
@@ -33,7 +33,7 @@ PARTS = list("[]{},:\"\\/.-+eE0123456789 \t\n\rabfntu'\0\x0b\x0c\x1f\x7f\x85\xa0
 
 
 def gap(rng):
-    """White space, mostly none."""
+    """Returns whitespace, mostly empty."""
     return some(rng, " \t\n\r", (0, 0, 0, 1, 1, 3))
 
 
@@ -52,14 +52,14 @@ def string(rng):
     pieces = ("a", "b]", " ", ",", "}", "\x7f", "\xe9", "\\\"", "\\\\", "\\/", "\\b", "\\f", "\\n")
     pieces += ("\\r", "\\t", "\\u005C", "\\ud834\\udd1e", "\\uDBFF\\uDfFf", "\\uD7ff", "\\uE000")
     pieces += ("\\u0000",)
-    # Surrogates that are mostly alone.
+    # Mostly unpaired surrogates.
     if rng.random() < 0.1:
         pieces += ("\\ud800", "\\uDBff", "\\uDC00", "\\udead", "\\uDFFF", "u", "\\u")
     return '"' + "".join(rng.choices(pieces, k=rng.choice((0, 1, 1, 2, 4)))) + '"'
 
 
 def value(rng, levels):
-    """A value with no more than so many levels."""
+    """Returns a value of at most this nesting depth."""
     kind = rng.randrange(8 if levels else 4)
     if kind == 0:
         return rng.choice(("null", "true", "false"))
@@ -76,14 +76,14 @@ def value(rng, levels):
 
 
 def texts(rng, count):
-    """Levels and texts, in which no character is above 255."""
+    """Returns depths and texts of characters up to 255."""
     for _ in range(count):
         text = gap(rng) * rng.randint(0, 1) + value(rng, rng.choice((0, 1, 2, 3, 5))) + gap(rng)
         yield rng.choice((0, 1, 2, 3, 9)), often_changed(rng, text, PARTS)
 
 
 def wide_texts(rng, count):
-    """Levels and texts, the hard cases first, with characters of one to four bytes."""
+    """Returns depths and texts, the hard cases first, with characters of one to four bytes."""
     for text in HARD:
         yield 9, text
     for level, text in texts(rng, count):

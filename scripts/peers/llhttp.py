@@ -1,10 +1,10 @@
-"""Heads of HTTP/1.1 beside llhttp, as `node` has it, with no lenient flag, and beside httparse, as
-Debian packages it, by its default configuration.
+"""Heads of HTTP/1.1 compared with llhttp, from `node` without lenient flags, and with httparse,
+from Debian's package in its default configuration.
 
-Where one takes what the other refuses, there must be a reason: a row of the table of differences in
-`docs/READERS.md`, found in the text itself. Where both take a text, the method, the target, the
-status and the fields must be the same, and how long the body is, of which httparse tells nothing.
-The rows of the table come first, each by a text of its own.
+If only one accepts a text, there must be a reason: a row of the table of differences in
+`docs/READERS.md` that applies to the text. If both accept it, the method, the target, the status,
+the fields and the length of the body must be the same; httparse does not report the length. The
+texts of the table's rows come first.
 """
 import atexit
 import functools
@@ -33,15 +33,15 @@ CARGO = '[package]\nname = "heads"\nversion = "0.1.0"\nedition = "2021"\n' \
         '[dependencies]\nhttparse = "1"\n'
 SOURCE = '[source.crates-io]\nreplace-with = "debian"\n[source.debian]\n' \
          'directory = "/usr/share/cargo/registry"\n'
-# A head, with the empty lines before it; and what is given to llhttp behind it.
+# A head with the empty lines before it; and the input for llhttp after it.
 HEAD = re.compile(rb"(?:\r?\n)*.*?\r\n\r\n", re.DOTALL)
 MORE = "0\r\n\r\n" + "x" * 95
 MADE = {REQUEST: known_request, RESPONSE: response}
 
 
 def rows_of(kind):
-    """What makes the texts of a kind, first those of the table: each with what the table says of
-    who takes it, of here, httparse and llhttp, if it stands there."""
+    """Returns a generator of inputs of a kind, first those of the table, each with the table's cells
+    for this library, httparse and llhttp, or without cells."""
 
     def rows(rng, count):
         for of, text, cells in ROWS.values():
@@ -54,7 +54,7 @@ def rows_of(kind):
 
 
 def by_llhttp(kind):
-    """What llhttp says of each text."""
+    """Returns a peer with llhttp's results."""
 
     def peer(rows):
         heads = [(HEAD.match(text) or [text])[0].decode("latin-1") for text, _ in rows]
@@ -71,7 +71,7 @@ def by_llhttp(kind):
 
 @functools.cache
 def httparse():
-    """The program over httparse, which is built."""
+    """Builds the program that uses httparse."""
     if subprocess.run(["dpkg", "-s", PACKAGE], capture_output=True, check=False).returncode:
         install(PACKAGE)
     room = pathlib.Path(tempfile.mkdtemp(prefix="httparse-"))
@@ -87,7 +87,7 @@ def httparse():
 
 
 def by_httparse(kind):
-    """What httparse says of each text."""
+    """Returns a peer with httparse's results."""
 
     def peer(rows):
         given = b"".join(struct.pack(">I", len(text)) + text for text, _ in rows)
@@ -99,13 +99,14 @@ def by_httparse(kind):
 
 
 def parts(answer):
-    """The parts that were written as lists of numbers."""
+    """Returns the parts that were printed as lists of numbers."""
     return [bytes(int(code) for code in it.split(", ") if code)
             for it in re.findall(r"\[([^\]]*)\]", answer)]
 
 
 def llhttp_takes(said):
-    """Whether llhttp takes the head; that the last coding is not `chunked` it says after it."""
+    """Returns whether llhttp accepts the head. It reports a last coding other than `chunked` only
+    after the head."""
     return said["head"] and said.get("fault") != "HPE_INVALID_TRANSFER_ENCODING"
 
 
@@ -114,20 +115,20 @@ def httparse_takes(said):
 
 
 def is_read(answer):
-    """Whether a head is read."""
+    """Returns whether a head is accepted."""
     return answer != "none"
 
 
 def is_framed(answer):
-    """Whether a head is read, and its body has a length."""
+    """Returns whether a head is accepted, and its body has a length."""
     return is_read(answer) and not answer.startswith("refused ")
 
 
 def alike_llhttp(kind, answer, said):
-    """Whether llhttp read of a head what is read here, and found as long a body."""
+    """Returns whether llhttp's head and length of the body are the same as here."""
     length, found = answer.partition(" ")[0].replace("none", "0"), parts(answer)
     pairs = [it.encode("latin-1") for it in said["fields"]]
-    # Of an informational response that it does not know it reads a body.
+    # It expects a body after unknown informational responses.
     is_unknown = kind == RESPONSE and 103 < said["status"] < 200
     is_long = length.isdigit() and int(length) > len(MORE)
     if length not in ("tunnel", length_by(said)) and not (is_unknown or is_long):
@@ -139,15 +140,15 @@ def alike_llhttp(kind, answer, said):
 
 
 def length_by(said):
-    """How long the body is, by what llhttp did with the bytes that stand behind the head."""
+    """Returns the length of the body, from llhttp's result for the bytes after the head."""
     if said["done"] and said["body"] == 0 and said["more"]:
         return "chunked"
     return str(said["body"]) if said["done"] else "close"
 
 
 def alike_httparse(kind, answer, said):
-    """Whether httparse read of a head what is read here; of a reason with bytes of 128 and above it
-    keeps nothing."""
+    """Returns whether httparse's head is the same as here. It drops a reason with bytes from 128
+    up."""
     here, there = parts(answer), parts(said)
     if kind == RESPONSE:
         here.insert(0, answer.split(" ")[1].encode())
@@ -156,8 +157,8 @@ def alike_httparse(kind, answer, said):
 
 
 def judged(kind, column, is_taken, takes, alike, refuses, takes_more):
-    """Whether both take a head, and read the same of it, or why one refuses it. `column` is that of
-    the peer in the table."""
+    """Returns a judge of whether both accept a head with the same result, or why one rejects it.
+    `column` is the peer's column in the table."""
 
     def judge(row, answer, said):
         text, cells = row
@@ -177,7 +178,7 @@ def kind_of(row, ours, theirs):
 
 
 def comparison(kind, peer):
-    """The row of a kind of heads and one of the two."""
+    """Returns the comparison of a kind of heads with one of the two peers."""
     name = {REQUEST: "requests", RESPONSE: "responses"}[kind]
     if peer == "llhttp":
         said = by_llhttp(kind)

@@ -1,12 +1,15 @@
-"""RESP2 and RESP3 beside a server of Redis, and a decoder in Python written from the protocol.
+"""RESP2 and RESP3 compared with a Redis server, and with a decoder in Python written from the
+protocol.
 
-A server on a free port of this machine's own is sent commands that answer replies of each kind,
-and as many random ones as the count says: in RESP2, and in RESP3, which `HELLO 3` asks for, in
-which the server also sends messages and invalidations of its own. Of each reply as it was sent,
-with another after it, the program says what `read_reply` reads and what it leaves; whether `write_reply` writes
-the bytes that were sent; and of how many of its beginnings, cut at each place of short replies and
-at some of long ones, it answers anything but that more is wanted, which must be none. Of RESP2 it
-also says after how many bytes `Extent` finds the end, given the same pieces.
+A local server on a free port gets commands with replies of each kind, and a number of random
+commands: in RESP2, and in RESP3 after `HELLO 3`, in which the server also sends messages and
+invalidations. For each reply, followed by another one, the program prints
+
+- the result and the rest of `read_reply`;
+- whether `write_reply` writes the same bytes;
+- the number of its prefixes for which the result is not `Incomplete`, which must be 0. They are all
+  prefixes of short replies, and some of long ones;
+- for RESP2, the number of bytes after which `Extent` finds the end, given the same chunks.
 """
 import contextlib
 import re
@@ -20,9 +23,9 @@ import time
 from peers.harness import Comparison, NoPeer, install, summed
 from peers.resp_commands import ONLY_PUSHED, commands
 
-# What stands after each reply.
+# The bytes after each reply.
 NEXT = b"+NEXT\r\n"
-# At how many places a long reply is cut, and from how many bytes on a reply is long.
+# The number of prefixes of a long reply, and the minimum length of a long reply.
 CUTS, LONG = 12, 64
 # A double: [<+|->]<integral>[.<fractional>][<E|e>[sign]<exponent>], or one of four words.
 DOUBLE = re.compile(rb"-?inf|-?nan|[+-]?[0-9]+(\.[0-9]+)?([Ee][+-]?[0-9]+)?")
@@ -31,7 +34,7 @@ BIG_NUMBER = re.compile(rb"[+-]?[0-9]+")
 
 @contextlib.contextmanager
 def server():
-    """A server, as a socket to it."""
+    """Starts a server, and returns a socket to it."""
     if not shutil.which("redis-server"):
         install("redis-server", "redis-tools")
     with socket.socket() as free:
@@ -58,7 +61,7 @@ def server():
 
 
 class Replies:
-    """What a server sends, reply by reply."""
+    """The replies of a server."""
 
     def __init__(self, found, version):
         self.file = found.makefile("rb")
@@ -66,21 +69,21 @@ class Replies:
         self.raw = b""
 
     def bytes(self, count):
-        """That many bytes, and the end of a line."""
+        """Reads `count` bytes and a line ending."""
         data = self.file.read(count + 2)
         self.raw += data
         assert len(data) == count + 2 and data.endswith(b"\r\n"), data
         return data[:-2]
 
     def line(self):
-        """The mark of a line, and what stands after it."""
+        """Reads a line, and returns its mark and the text after it."""
         data = self.file.readline()
         self.raw += data
         assert data.endswith(b"\r\n") and b"\r" not in data[:-2], data
         return data[:1].decode(), data[1:-2]
 
     def reply(self):
-        """One more reply, as the program writes it."""
+        """Reads a reply, and returns it as the program prints it."""
         mark, text = self.line()
         assert mark in ("+-:$*" if self.version == 2 else "+-:$*_#,(!=%~>|"), mark
         if mark in "+-":
@@ -102,7 +105,7 @@ class Replies:
         return f"{mark}{count} " + "".join(self.reply() for _ in range(count))
 
     def third_line(self, mark, text):
-        """What a line says that only RESP3 has."""
+        """Returns the value of a line that only RESP3 has."""
         if mark == "_":
             assert text == b"", text
             return "_ "
@@ -112,13 +115,13 @@ class Replies:
         return mark + summed(text)
 
     def next(self):
-        """One more reply as it was sent, and as the program writes it."""
+        """Reads a reply, and returns its bytes and its form as the program prints it."""
         self.raw = b""
         said = self.reply()
         return self.raw, said
 
     def answers(self, parts):
-        """What the server sends until a command is answered: pushes, and a reply to it."""
+        """Returns the server's pushes and its reply to a command."""
         left = len(parts) - 1 if parts[0] in ONLY_PUSHED else 0
         while True:
             raw, said = self.next()
@@ -130,13 +133,13 @@ class Replies:
 
 
 def sent(parts):
-    """The bytes of a command."""
+    """Returns the bytes of a command."""
     return b"*%d\r\n" % len(parts) + b"".join(b"$%d\r\n%s\r\n" % (len(it), it) for it in parts)
 
 
 def replies(version):
-    """What asks a server for replies in one version of the protocol: each as it was sent, with what
-    the decoder says of it."""
+    """Returns a generator of a server's replies in one version of the protocol, each with its bytes
+    and the decoder's result."""
 
     def rows(rng, count):
         with server() as found:
@@ -149,20 +152,20 @@ def replies(version):
 
 
 def given(row):
-    """A reply behind its length and how many bytes stand between two places at which it is cut."""
+    """Returns a reply after its length and the distance between two prefixes."""
     raw, _ = row
     step = 1 if len(raw) <= LONG else len(raw) // CUTS
     return struct.pack(">II", len(raw), step) + raw + NEXT
 
 
 def kind(row, ours, theirs):
-    """The mark of the reply, and whether it is a null."""
+    """Returns the mark of the reply, and whether it is a null."""
     raw, said = row
     return said[: 3 if raw[1:3] == b"-1" and raw[:1] in b"$*" else 1]
 
 
 def comparison(version):
-    """The row of a version."""
+    """Returns the comparison of a version."""
 
     def peer(rows):
         ends = [f" end {len(raw)}" if version == 2 else "" for raw, _ in rows]

@@ -1,5 +1,5 @@
-"""Commands that a server of Redis answers by replies of each kind, and random ones."""
-# Commands in turn, as words between spaces.
+"""Commands for a Redis server with replies of each kind, and random commands."""
+# Commands in order, as words between spaces.
 COMMANDS = """\
 PING|ECHO hello|SET word value|GET word|GET nothing|APPEND word more|STRLEN word|INCR word
 SET number 41|INCR number|DECRBY number 100|INCRBYFLOAT number 2.5|SETRANGE word 20 x|GET word
@@ -30,7 +30,7 @@ DEBUG PROTOCOL attrib|DEBUG PROTOCOL verbatim|DEBUG PROTOCOL true|DEBUG PROTOCOL
 DEBUG PROTOCOL bignum
 """.replace("\n", "|").strip("|").split("|")
 
-# Commands in turn that are sent in RESP3 alone: of them the server answers some by pushes.
+# Commands in order that are sent only in RESP3; the server responds to some with pushes.
 PUSHED = """\
 HELLO 3 SETNAME me|DEBUG PROTOCOL push|ZMSCORE sorted one none|ZINCRBY sorted 1e300 one
 ZADD sorted INCR 0.1 two|ZRANDMEMBER sorted 2 WITHSCORES|HRANDFIELD hash 2 WITHVALUES|SINTER set set
@@ -41,10 +41,10 @@ UNSUBSCRIBE news|PUNSUBSCRIBE n*|UNSUBSCRIBE more others|PUBLISH news none|LATEN
 CLIENT KILL TYPE pubsub|HELLO|ZADD sorted -inf least inf most 1e-9 little|ZRANGE sorted 0 -1
 ZRANGE sorted 0 -1 WITHSCORES|ZPOPMAX sorted|XADD stream 9-1 f v|XREAD COUNT 1 STREAMS stream 0
 """.replace("\n", "|").strip("|").split("|")
-# Those of them that nothing answers but a push for each of their words.
+# Those of them whose only response is a push for each of their words.
 ONLY_PUSHED = (b"SUBSCRIBE", b"UNSUBSCRIBE", b"PSUBSCRIBE", b"PUNSUBSCRIBE")
 
-# What programs that the server runs return.
+# The programs that the server runs.
 PROGRAMS = [
     "return 1", "return -9007199254740992", "return 'text'", "return {1, {2, {3, {}}}, 'x'}",
     "return nil", "return false", "return true", "return {1, nil, 3}", "return {false, 1}",
@@ -64,7 +64,7 @@ PROGRAMS = [
 
 
 def random_commands(rng, count):
-    """Commands with random bytes."""
+    """Returns commands with random bytes."""
     for _ in range(count):
         key = rng.choice((b"k1", b"k2", b"k3", b"h", b"l", b"s"))
         value = bytes(rng.choices(b"\r\n\0:$*+-1ab\xff", k=rng.choice((0, 1, 2, 5, 40))))
@@ -81,7 +81,7 @@ def random_commands(rng, count):
 
 
 def commands(rng, version, count):
-    """Commands of all kinds, as their parts."""
+    """Returns commands of all kinds, as their parts."""
     yield [b"HELLO", str(version).encode()]
     yield [b"FLUSHALL"]
     for line in COMMANDS:

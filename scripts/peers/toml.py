@@ -1,10 +1,10 @@
-"""TOML beside Python's `tomllib`: texts that are made, and the manifests of Cargo and of Python
-that this machine has.
+"""TOML compared with Python's `tomllib`: generated texts, and the Cargo and Python manifests of
+this machine.
 
-Where `format_toml` reads lines `tomllib` reads the same tables and values, or says that they say
-something again; and where it refuses, `tomllib` does too, or the text has what `format_toml` leaves
-out, which patterns say: integers of more than 64 bits, or arrays and tables deeper than the level.
-Seconds of 60 and a year of 0 are read here, by RFC 3339, and not by `tomllib`.
+If `format_toml` accepts the lines, `tomllib` returns the same tables and values, or reports a
+duplicate. If it rejects them, so does `tomllib`, or the text has something that `format_toml` does
+not support, found by patterns: integers of more than 64 bits, or too deeply nested arrays and
+tables. Seconds of 60 and a year of 0 are accepted here, by RFC 3339, and not by `tomllib`.
 """
 import datetime
 import pathlib
@@ -17,12 +17,12 @@ from peers.toml_texts import texts
 LEFT_OUT = re.compile(
     "[0-9](_?[0-9]){18}|0x([0-9a-fA-F]_?){16}|0o([0-7]_?){21}|0b([01]_?){64}"
 )
-# What tomllib leaves out of dates and times.
+# Dates and times that tomllib does not support.
 MORE = re.compile(":[0-9]{2}:60|(?<![0-9])0000-")
 
 
 def written(it):
-    """A value as the program writes it, with tables as dictionaries."""
+    """Returns a value as the program prints it, with tables as dictionaries."""
     if isinstance(it, bool):
         return "true" if it else "false"
     if isinstance(it, int):
@@ -39,7 +39,8 @@ def written(it):
 
 
 def written_moment(it):
-    """A date, a time or both, with six digits of a fraction, and with minutes of an offset."""
+    """Returns a date, a time or both as text, with six fraction digits, and with the offset in
+    minutes."""
     day = f"{it.year}-{it.month}-{it.day}" if isinstance(it, datetime.date) else ""
     has_time = isinstance(it, (datetime.datetime, datetime.time))
     clock = f"T{it.hour}:{it.minute}:{it.second}.{it.microsecond:06}" if has_time else ""
@@ -49,14 +50,15 @@ def written_moment(it):
 
 
 def read_moment(text, at):
-    """The same that the program wrote, and the place behind it."""
+    """Parses a date or time that the program printed, and returns it with the offset after it."""
     found = re.compile(r"@([0-9-]*)(T[0-9:]+\.)?([0-9]*)(\+-?[0-9]+)?").match(text, at)
     day, clock, fraction, offset = found.groups(default="")
     return f"@{day}{clock}" + ((fraction + "000000")[:6] if clock else "") + offset, found.end()
 
 
 def read_key(text, at):
-    """The names of a key that the program wrote, and the place behind it."""
+    """Parses the names of a key that the program printed, and returns them with the offset after
+    them."""
     names = []
     while text[at] == "~":
         end = text.index("'", at)
@@ -66,7 +68,8 @@ def read_key(text, at):
 
 
 def put(table, names, value):
-    """Puts a value into a table, or into the last tables of those that its names say."""
+    """Puts a value into a table at the path of its names, which may lead through the last elements
+    of arrays of tables."""
     for one in names[:-1]:
         table = table.setdefault(one, {})
         table = table[-1] if isinstance(table, list) else table
@@ -78,7 +81,7 @@ def put(table, names, value):
 
 
 def read_value(text, at):
-    """A value that the program wrote, and the place behind it."""
+    """Parses a value that the program printed, and returns it with the offset after it."""
     if text[at] == "[":
         items, at = [], at + 1
         while text[at] != "]":
@@ -107,7 +110,7 @@ def read_value(text, at):
 
 
 def tables(answer):
-    """The tables of an answer."""
+    """Returns the tables of a result."""
     top = {}
     at = top
     for item in answer.split(" ")[1:]:
@@ -125,7 +128,7 @@ def tables(answer):
 
 
 def depth(it):
-    """How many arrays and inline tables stand in one another at most, or more."""
+    """Returns an upper bound of the nesting depth of arrays and inline tables."""
     if isinstance(it, dict):
         return 1 + max(map(depth, it.values()), default=0)
     if isinstance(it, list):
@@ -134,7 +137,7 @@ def depth(it):
 
 
 def told(row):
-    """What `tomllib` reads, or its error."""
+    """Returns the result of `tomllib`, or its error."""
     try:
         return tomllib.loads(row[1])
     except tomllib.TOMLDecodeError as error:
@@ -142,12 +145,12 @@ def told(row):
 
 
 def judge(row, answer, theirs):
-    """Whether both read the same, or why they do not."""
+    """Returns whether both results are equal, or the reason why they differ."""
     level, text = row
     is_read = answer != "row none"
     if isinstance(theirs, Exception):
         if is_read and re.match("Cannot|Duplicate", str(theirs)):
-            return "something is said again"
+            return "a duplicate key or table"
         if is_read and MORE.search(text):
             return "a second of 60, or a year of 0"
         return not is_read
@@ -155,8 +158,8 @@ def judge(row, answer, theirs):
         if LEFT_OUT.search(text):
             return "an integer of more than 64 bits"
         deep = max(map(depth, theirs.values()), default=0) > level
-        return "deeper than the level" if deep else False
-    # tomllib takes a carriage return and a line feed for a line feed
+        return "nested deeper than the limit" if deep else False
+    # tomllib replaces CRLF by a line feed.
     return written(theirs) == tables(answer)
 
 
@@ -165,7 +168,7 @@ def kind(row, answer, theirs):
 
 
 def files(rng, count):
-    """The texts of the manifests of Cargo and of Python that this machine has, each at a level."""
+    """Returns the texts of the Cargo and Python manifests of this machine, each with a depth."""
     for pattern in ("Cargo.toml", "pyproject.toml"):
         for place in (pathlib.Path.home(), pathlib.Path("/usr"), pathlib.Path("/opt")):
             for path in sorted(place.rglob(pattern)):

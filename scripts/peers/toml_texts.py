@@ -1,8 +1,8 @@
-"""Texts of TOML: hard cases, and others by the grammar of TOML 1.0, of what `format_toml` reads and
-of what it leaves out, most of them changed in a few places."""
+"""TOML texts: hard cases, and others by the grammar of TOML 1.0, with and without parts that
+`format_toml` supports, most of them changed in a few positions."""
 from peers.harness import often_changed
 
-# Cases that parsers of TOML are known to differ at: ends, keys, strings, numbers, arrays, tables.
+# Cases for which TOML parsers are known to differ: ends, keys, strings, numbers, arrays, tables.
 HARD = [
     "", " ", "\t", "\n", "\r\n", "\r", "\n\r", "\ufeffa=1", "\x00", "\x0c", "\x0b", "\xa0", "#",
     "# a", "#\x00", "#\x1f", "#\x7f", "#\x80", "#\t", "#\r", "#\r\n", "#a\rb", "# \U0010ffff",
@@ -41,7 +41,7 @@ HARD = [
     "[[a]", "[a b]", "[a\n]", "[\na]", "[a.b]", "[\"a\"]", "['a']", "[1]", "[-]", "[a,b]",
     "[a]\n\n[b]\n", "a=1\n\n\nb=2\n\n", "a=1\r\nb=2\r\n", "a=1\rb=2", "a=1\n\rb=2", "a=1\r\r\n",
 ]
-# And at dates and times.
+# The same for dates and times.
 MOMENTS = [
     "1979-05-27", "1979-05-27T07:32:00", "1979-05-27t07:32:00z", "1979-05-27 07:32:00Z", "07:32:00",
     "1979-05-27  07:32:00", "1979-05-27\t07:32:00", "1979-05-27 ", "1979-05-27 # 07:32:00",
@@ -57,7 +57,7 @@ MOMENTS = [
     "1979-05-27 07:32:00 08:00:00", "1979-05-27 1979-05-27", "1 07:32:00", "1979-05-27x",
     "+1979-05-27", "1979-05-27T07:32:00x", "1979-05-27.5", "\uff11979-05-27",
 ]
-# What changes put into a text.
+# The parts that changes insert.
 PARTS = [*"\"'#=[], \t\r\n0a-_.\\\x00\x7fé", "\r\n"]
 
 
@@ -66,7 +66,7 @@ def of(rng, options):
 
 
 def key(rng):
-    """One name, or two with a point between them, bare or in quotes."""
+    """Returns one name, or two separated by a point, bare or quoted."""
     point = of(rng, [".", ".", " . ", ". "])
     return point.join(name(rng) for _ in range(rng.choice((1, 1, 1, 1, 2))))
 
@@ -93,7 +93,7 @@ def string(rng):
 
 
 def long_string(rng):
-    """A string over lines, or what is nearly one, with marks and escaped line ends in it."""
+    """Returns a multi-line string, possibly invalid, with marks and escaped line endings."""
     mark = of(rng, '"\'')
     parts = ["a", "b c", " ", "\t", "\n", "\n", "\r\n", mark, mark, mark * 2, '"', "'", "#", "["]
     parts += ["é", "\U0001d11e"]
@@ -108,7 +108,7 @@ def long_string(rng):
 
 
 def number(rng):
-    """An integer with underscores or of another base, or what is nearly one."""
+    """Returns an integer with underscores or in another base, possibly invalid."""
     sign = of(rng, ["", "", "", "-", "+"])
     front = of(rng, ["", "", "", "0x", "0o", "0b", "0X"])
     digits = "".join(of(rng, "0011_7f9aF") for _ in range(rng.choice((1, 2, 3, 5, 8))))
@@ -116,7 +116,7 @@ def number(rng):
 
 
 def real(rng):
-    """A text like a float."""
+    """Returns a float, possibly invalid."""
     sign = of(rng, ["", "", "-", "+", "+-"] if rng.random() < 0.2 else ["", "-", "+"])
     if rng.random() < 0.1:
         return sign + of(rng, ["inf", "nan", "Inf", "in", "nann"])
@@ -129,7 +129,7 @@ def real(rng):
 
 
 def moment(rng):
-    """A date, a time or both, or what is nearly one."""
+    """Returns a date, a time or both, possibly invalid."""
     if rng.random() < 0.1:
         return of(rng, MOMENTS)
     year = of(rng, [1, 1900, 1979, 2000, 2024, 9999])
@@ -188,7 +188,7 @@ def line(rng, depth):
 
 
 def texts(rng, count):
-    """Levels and texts."""
+    """Returns depths and texts."""
     for text in HARD:
         yield 9, text
     for text in MOMENTS:

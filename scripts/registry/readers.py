@@ -1,5 +1,5 @@
-"""Writes two tables of the readers of formats: the one of README.md, which is short, and the one of
-docs/READERS.md, with how long each reader is and all that is proved of it."""
+"""Writes two tables of the parsers of formats: the short one of README.md, and the one of
+docs/READERS.md, with their lengths and what is proved."""
 import re
 
 from .common import CRATES, HEAD, TOP, read, write
@@ -7,97 +7,65 @@ from .common import CRATES, HEAD, TOP, read, write
 FIRST = f"<!-- {HEAD} -->\n"
 LAST = "<!-- End. -->\n"
 README, COUNTED = TOP / "README.md", TOP / "docs/READERS.md"
-GUARANTEES = TOP / "docs/GUARANTEES.md"
-# Formats, the crate of the reader, whether it is made of grammars, and what is proved of it.
+# Formats, the crate of the parser, whether it is made of grammars, and what is proved, in 12 words.
 READERS = [
-    ("settings, a line each", "examples/settings_file", "yes",
-        "`Ok` exactly where the bytes are these settings"),
-    ("versions", "examples/version", "yes", "`Ok` exactly where the bytes are this version"),
-    ("colors", "examples/color", "yes", "`Ok` exactly where the bytes are this color"),
-    ("lines of one letter", "examples/lines", "yes",
-        "`Ok` exactly where the bytes are these lines; they read back"),
-    ("trees of numbers in brackets", "examples/nested", "yes",
-        "the tree to a level that bytes begin with, and none where none stands"),
-    ("options in brackets", "examples/options", "yes",
-        "the options that bytes begin with, whole and in pieces, by one composition"),
-    ("lines of settings and flags", "examples/assignments", "yes",
-        "`Ok` exactly where the bytes are these lines; at which byte a value lacks, or what is no "
-        "line begins"),
-    ("CSV (RFC 4180)", "format_csv", "yes",
-        "`Ok` exactly where the bytes are a document of these records, or a table; one record, "
-        "whole and in pieces"),
+    ("settings, a line each", "examples/settings_file", "yes", "exactly"),
+    ("versions", "examples/version", "yes", "exactly"),
+    ("colors", "examples/color", "yes", "exactly"),
+    ("lines of one letter", "examples/lines", "yes", "exactly; reads back"),
+    ("trees of numbers in brackets", "examples/nested", "yes", "the first tree"),
+    ("options in brackets", "examples/options", "yes", "the first options; `Incomplete`"),
+    ("lines of settings and flags", "examples/assignments", "yes", "exactly; error offsets"),
+    ("CSV (RFC 4180)", "format_csv", "yes", "exactly, also for tables"),
     ("CSV in any dialect", "format_csv_records", "no",
-        "the record that bytes begin with, in one buffer, or the first byte at which none goes on; "
-        "where it ends, by one pass over pieces; the text of a record, which reads back"),
-    ("CSV from a reader", "format_csv_reader", "no",
-        "record by record, what stands first of all bytes that are to come: a record, or the first "
-        "byte of the table at which none goes on"),
+        "the first record or invalid byte; written records read back"),
+    ("CSV from a reader", "format_csv_reader", "no", "each record, or the first invalid byte"),
     ("INI files, in any dialect", "format_ini", "no",
-        "`Ok` exactly where the text is lines of the dialect, with what they say; else the first "
-        "line that says nothing of it, and why"),
-    ("RESP2, RESP3", "format_resp", "yes",
-        "the reply that bytes begin with, of each type and nested to a level, whole and in pieces; "
-        "where one of RESP2 ends, by one pass over pieces; the text of a reply or a command, which "
-        "reads back"),
+        "all lines, if valid, or the first invalid one"),
+    ("RESP2, RESP3", "format_resp", "yes", "the first reply; written replies read back"),
     ("JSON (RFC 8259): numbers, strings, words", "format_json_scalars", "yes",
-        "the number, string or word that a text begins with, its escapes undone"),
-    ("JSON: values", "format_json_values", "yes",
-        "`Ok` exactly where the text is one of this value, nested to a level"),
+        "the first number, string or word, unescaped"),
+    ("JSON: values", "format_json_values", "yes", "exactly"),
     ("JSON: values from bytes", "format_json_pieces", "no",
-        "the value whose text the bytes begin with, whole and in pieces, one by one; `Ok` exactly "
-        "where the bytes are a text of this value"),
-    ("JSON: written", "format_json_writer", "no",
-        "the text of a value, exactly where it has one, nested to a level; it reads back"),
+        "the first value, or that of all bytes"),
+    ("JSON: written", "format_json_writer", "no", "the text of a value; reads back"),
     ("JSON: numbers as decimals", "format_json_decimals", "no",
-        "the one sign, digits and power of ten that a number is equal to, or which does not fit"),
-    ("JSON: extents", "format_json_extents", "no", "where a value ends, and whether bytes are a text"),
-    ("JSON: by one entry", "format_json", "no",
-        "`Ok` exactly where the text or the bytes are one of this value; else a place "
-        "after which no text goes on, and what may stand there; the text of a value, over lines too"),
-    ("TOML 1.0", "format_toml", "yes",
-        "`Ok` exactly where the text is lines of this document; what the first one lacks that is no "
-        "line"),
-    ("TOML: trees", "format_toml_tree", "no",
-        "the tree that lines give, or the first line that the standard refuses, and why"),
+        "the only decimal of a number, if it fits"),
+    ("JSON: extents", "format_json_extents", "no",
+        "where a value ends, and whether bytes are JSON"),
+    ("JSON: by one entry", "format_json", "no", "exactly; error offsets"),
+    ("TOML 1.0", "format_toml", "yes", "exactly; error positions"),
+    ("TOML: trees", "format_toml_tree", "no", "the tree, or the first rejected line"),
     ("TOML: by one entry", "format_toml_document", "no",
-        "the tree of the lines that a text or bytes are; else where and what the first lacks that is "
-        "none, or where the first begins that the standard refuses, and why"),
-    ("TOML: nodes", "format_toml_nodes", "no",
-        "the nodes of a tree in two buffers: each at a path of the document, and no other path"),
+        "the tree, or an error's position and reason"),
+    ("TOML: nodes", "format_toml_nodes", "no", "one node for each path"),
     ("HTTP/1.1 heads (RFC 9112)", "format_http/heads", "yes",
-        "the request line, field line and head that bytes begin with"),
-    ("HTTP/1.1 lengths of bodies", "format_http/bodies", "no",
-        "how long the body of a message is, or why the message is refused, by the standard's rules"),
+        "the first request line, field line or head"),
+    ("HTTP/1.1 lengths of bodies", "format_http/bodies", "no", "the length, or why it is rejected"),
     ("HTTP/1.1 heads of responses", "format_http/responses", "yes",
-        "the status line and the head of a response that bytes begin with"),
-    ("HTTP/1.1 size lines of chunks", "format_http/chunks", "yes",
-        "the size line that bytes begin with, with its extensions, whole and in pieces"),
-    ("HTTP/1.1 heads, in pieces", "format_http/pieces", "no",
-        "request lines, status lines, field lines and heads in pieces, and when more bytes are asked for"),
-    ("HTTP/1.1 chunked bodies, in pieces", "format_http_chunked", "no",
-        "the content and the trailers of the body that the bytes of all calls begin, where it ends, "
-        "or the first byte with which none goes on"),
-    ("HTTP/1.1 heads, as places", "format_http_places", "no",
-        "the places of the parts of the head of a request or of a response, or where none goes on, or "
-        "that the bytes end within one; where that of a request ends, by one pass over pieces"),
-    ("DNS: headers, compressed names, questions, records, messages", "format_dns", "names",
-        "`Ok` exactly where the bytes begin with a message, else which entry of which section is not "
-        "there, why and where; the header, and which part is missing; the name at a place, "
-        "questions, and records with their data by types, or why and where none is"),
-    ("INI", "readers", "no", "`Ok` exactly where the bytes are a document of these sections"),
-    ("formulas", "format_calculator", "no", "`Ok(v)` exactly where the one tree has this value"),
+        "the first status line or head"),
+    ("HTTP/1.1 size lines of chunks", "format_http/chunks", "yes", "the first size line"),
+    ("HTTP/1.1 heads, partial input", "format_http/pieces", "no",
+        "the first line or head; `Incomplete`"),
+    ("HTTP/1.1 chunked bodies, partial input", "format_http_chunked", "no",
+        "content, trailers, or the first invalid byte"),
+    ("HTTP/1.1 heads, as offsets", "format_http_places", "no",
+        "offsets of a head's parts, or the first invalid byte"),
+    ("DNS messages", "format_dns", "names", "the message, or the invalid entry and the reason"),
+    ("INI", "readers", "no", "exactly"),
+    ("formulas", "format_calculator", "no", "exactly"),
 ]
 # What README.md says of formats: the crates of their readers, and what is proved, in the words that
 # it explains.
 BRIEF = [
-    ("CSV (RFC 4180)", ["format_csv", "format_csv_records"], "exactly; first, in pieces"),
+    ("CSV (RFC 4180)", ["format_csv", "format_csv_records"], "exactly; first, incremental"),
     ("DNS", ["format_dns"], "messages"),
     ("formulas", ["format_calculator"], "exactly"),
-    ("HTTP/1.1 heads, chunked bodies", ["format_http", "format_http_chunked"], "first, in pieces"),
+    ("HTTP/1.1 heads, chunked bodies", ["format_http", "format_http_chunked"], "first, incremental"),
     ("INI", ["readers", "format_ini"], "exactly"),
-    ("JSON", ["format_json"], "exactly; first, in pieces; written values read back"),
+    ("JSON", ["format_json"], "exactly; first, incremental; written values read back"),
     ("JSON extents", ["format_json_extents"], "where the first value ends"),
-    ("RESP2, RESP3", ["format_resp"], "first, in pieces"),
+    ("RESP2, RESP3", ["format_resp"], "first, incremental"),
     ("TOML 1.0", ["format_toml", "format_toml_tree"], "exactly"),
 ]
 
@@ -122,13 +90,8 @@ def exported():
 
 
 def page(crate):
-    """The part of docs/GUARANTEES.md whose heading, or what stands above its table, names a crate."""
-    for part in read(GUARANTEES).split("\n## "):
-        if f"`{crate}`" in part.partition("\n|")[0]:
-            heading = part.partition("\n")[0]
-            anchor = re.sub(r"[^\w -]", "", heading.lower()).replace(" ", "-")
-            return f"[{re.sub(r' .*', '', heading)}](docs/GUARANTEES.md#{anchor})"
-    raise SystemExit(f"no heading of docs/GUARANTEES.md names {crate}")
+    """The link to the theorems of a crate, on its page."""
+    return f"[theorems](crates/{crate}/README.md#theorems)"
 
 
 def put(path, heads, rows):

@@ -1,4 +1,4 @@
-//! What these tests share: streams made of bytes, and comparisons that name their bytes.
+//! Common helpers: streams made of bytes, and comparisons whose messages name the bytes.
 use std::fmt::Debug;
 use std::process::Abort;
 use stream_errors::parser_error::ParserError;
@@ -40,7 +40,7 @@ impl<I: OfBytes> OfBytes for LocatingSlice<I> {
     }
 }
 
-/// What was got at some bytes is what the row says.
+/// Checks a result of `name` at `bytes`.
 pub(crate) fn agree<T: PartialEq + Debug + Drop>(
     rt: &impl Abort,
     name: &str,
@@ -51,7 +51,7 @@ pub(crate) fn agree<T: PartialEq + Debug + Drop>(
     assert_eq!(rt; got, want, "{name} at {bytes:?}");
 }
 
-/// A run of a parser on bytes answers so, and leaves so many of them, whole and cut.
+/// Checks that a parser returns `want` and leaves `left` bytes, on complete and on partial input.
 pub(crate) fn answers<I, O, E, P>(
     rt: &impl Abort,
     name: &str,
@@ -94,8 +94,9 @@ where
     agree(rt, name, bytes, ending_of::<I, O, E, P>(parser, input), want);
 }
 
-/// Each beginning of a sample, from no byte on, ends so where it is whole, and so where it is cut;
-/// cut it is incomplete, or ends as the whole sample does.
+/// Checks how a parser ends on every prefix of `sample`, the empty one included: by its row, as
+/// complete and as partial input. On partial input it returns `Incomplete` or ends as on the whole
+/// sample.
 pub(crate) fn sweep<I, O, E, P>(
     rt: &impl Abort,
     name: &str,
@@ -118,7 +119,7 @@ where
     }
 }
 
-/// The end of a run that fails by this kind behind so many bytes.
+/// The ending of a call that fails with `kind` after `taken` bytes.
 pub(crate) fn fails_behind(kind: Kind, taken: usize) -> Ending {
     Ending::Fails(kind, taken)
 }

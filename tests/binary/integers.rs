@@ -1,4 +1,4 @@
-//! Integers. What bytes stand for is what Python's `int.from_bytes` says of them.
+//! Integer parsers. The expected values are those of Python's `int.from_bytes`.
 use crate::common::{OfBytes, agree, answers, ends, fails_behind, sweep};
 use std::fmt::Debug;
 use std::process::Abort;
@@ -24,8 +24,8 @@ use winnow_integers::binary::impls::{
 use winnow_token::token::impls::Take;
 use winnow_token::token::take;
 
-/// The values of an integer, each with its bytes and others behind them, of which the first has
-/// one; and how it ends where the bytes of the first are cut off.
+/// Checks the values of an integer parser, each with its bytes and one or more bytes that follow
+/// (the first row has one), and how the parser ends on the proper prefixes of the first integer.
 fn integer<I, O, E, P>(rt: &impl Abort, name: &str, mut parser: P, rows: &[(&'static [u8], O)])
 where
     I: OfBytes,
@@ -297,7 +297,7 @@ fn integers(rt: HostRuntime) {
     signed_little::<Partial<LocatingSlice<&[u8]>>, Modal>(&rt);
 }
 
-/// What the project's documents have of integers.
+/// The integer examples of the project's documents.
 fn integers_of_rows<I: OfBytes, E: ParserError<I>>(rt: &impl Abort) {
     integer::<I, _, E, _>(rt, "le_u16", LeU16, &[(b"ab;".as_slice(), 25185)]);
     integer::<I, _, E, _>(rt, "be_u16", BeU16, &[(b"ab;".as_slice(), 24930)]);
@@ -315,7 +315,7 @@ fn integers_as_documented(rt: HostRuntime) {
     at_bytes!(rt; integers_of_rows);
 }
 
-/// A sequence at each beginning of a sample, and where its last part is another.
+/// A sequence on every prefix of a sample, and with a different last part.
 fn sequence<I, S, E>(rt: &impl Abort)
 where
     I: OfBytes + Compare<&'static str> + Stream<Slice = S>,

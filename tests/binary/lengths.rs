@@ -1,4 +1,4 @@
-//! Data behind its length.
+//! Length-prefixed data.
 use crate::common::{AtBytes, Bytes, OfBytes, agree, ends, fails_behind, sweep};
 use std::alloc::{Allocator, Global};
 use std::fmt::Debug;
@@ -25,12 +25,12 @@ use winnow_integers::binary::impls::{BeU16, BeU64, U8};
 use winnow_numbers::ascii::impls::DecUint;
 use winnow_token::token::impls::{Any, Rest};
 
-/// The end of a run that needs so many units more behind so many.
+/// The ending of a call that needs `units` more units after `taken` bytes.
 fn lacks_behind(units: usize, taken: usize) -> Ending {
     fails_behind(Incomplete(Needed::new(units)), taken)
 }
 
-/// A count of 0, of what is there, of more, and near the greatest `usize`.
+/// Counts of 0, of the available bytes, of more, and near `usize::MAX`.
 fn takes_of_bytes<I: OfBytes, E: ParserError<I>>(rt: &impl Abort) {
     let name = "length_take(u8)";
     let mut parser = binary::length_take::<I, u8, E, U8>(U8);
@@ -82,8 +82,8 @@ fn length_take(rt: HostRuntime) {
 /// Text that may get more.
 type Text = Partial<&'static str>;
 
-/// Counts of characters of a text that may get more: what is answered, and what is left. A count
-/// that ends the text may go on, and how many bytes take the characters that lack is not known.
+/// Counts of characters of partial text: the results, and the remaining input. A character at the
+/// end of partial text may be incomplete, and the number of missing bytes is unknown.
 #[test]
 fn length_take_of_cut_text(rt: HostRuntime) {
     let one = Incomplete(Needed::new(1));
@@ -135,7 +135,7 @@ fn length_repeat_of_cut_text(rt: HostRuntime) {
     }
 }
 
-/// A parser on so many bytes alone.
+/// The second parser sees only the bytes that the length gives it.
 fn thens_of_bytes<I: OfBytes + UpdateSlice + Copy, E: ParserError<I>>(rt: &impl Abort) {
     let name = "length_and_then(u8, any)";
     let mut parser = binary::length_and_then::<I, u8, u8, E, U8, Any>(U8, Any);
@@ -166,7 +166,7 @@ fn thens_of_bytes<I: OfBytes + UpdateSlice + Copy, E: ParserError<I>>(rt: &impl 
     ends::<I, _, E, _>(rt, name, &mut parser, b"\x03ABCD", longer, longer);
 }
 
-/// Each kind of error of the second parser, behind the bytes that it is given.
+/// Every error kind of the second parser, after the bytes that it is given.
 fn thens_that_fail<I: OfBytes + UpdateSlice + Copy>(rt: &impl Abort) {
     for (kind, want) in [
         (Backtrack, Backtrack),
@@ -201,7 +201,7 @@ fn length_and_then(rt: HostRuntime) {
         let got = outcome_of::<Bytes, Bytes, AtBytes, _>(&mut parser, bytes);
         agree(&rt, name, bytes, got, (want, rest));
     }
-    // On a cut input the bytes taken are whole, and the length is not.
+    // On partial input the taken bytes are complete input, and the length is partial input.
     let mut parser = binary::length_and_then::<Partial<Bytes>, Bytes, u8, Modal, U8, Digit1>(
         U8,
         Digit1,
@@ -213,7 +213,7 @@ fn length_and_then(rt: HostRuntime) {
         let got = outcome_of::<_, Bytes, Modal, _>(&mut parser, Partial::new(bytes));
         agree(&rt, name, bytes, got, (want, Partial::new(rest)));
     }
-    // The bytes taken stand where they stood.
+    // The taken bytes keep their offsets.
     type Located = LocatingSlice<Bytes>;
     let mut parser = binary::length_and_then::<Located, _, u8, Modal, U8, _>(
         U8,
@@ -300,7 +300,7 @@ fn length_repeat(rt: HostRuntime) {
     ] {
         ends::<Bytes, _, AtBytes, _>(&rt, "length_repeat(u8, empty)", &mut parser, bytes, end, end);
     }
-    // The items' errors are handed on.
+    // The items' errors are returned unchanged.
     for kind in [Backtrack, Cut, Incomplete(Needed::new(3)), Memory] {
         let mut parser: LengthRepeat<U8, Failing, Bytes, u8, u8, usize, AtBytes, Global> =
             binary::length_repeat(rt.alloc(), U8, Failing(kind));

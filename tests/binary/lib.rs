@@ -1,5 +1,5 @@
-//! The tests of the parsers of binary data. A file has the name of what it tests, and a test, or a
-//! row's label, that of the parser.
+//! Tests of the binary parsers. A file is named after the module that it tests, and a test, or the
+//! label of a row, after the parser.
 #![tactic(auto)]
 
 #[cfg(test)]

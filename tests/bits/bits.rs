@@ -25,12 +25,13 @@ fn cut(bytes: &'static [u8]) -> Partial<&'static [u8]> {
     Partial::new(bytes)
 }
 
-/// A need of so many units.
+/// A need of `units` units.
 fn lacks(units: usize) -> Kind {
     Kind::Incomplete(Needed::new(units))
 }
 
-/// Takes of each count from each place of two bytes, against the number of the word that they are.
+/// `take` of every count at every offset of two bytes, compared with the number that the bytes
+/// encode.
 #[test]
 fn take(rt: HostRuntime) {
     let bytes = b"\xAB\xCD".as_slice();
@@ -60,8 +61,8 @@ fn take(rt: HostRuntime) {
     }
 }
 
-/// Takes of each count from each place of four bytes of which no two are alike, over a stream that
-/// counts its place and over one that is marked complete, against the number that they are.
+/// `take` of every count at every offset of four distinct bytes, over a stream that counts its
+/// offset and over one that is marked complete, compared with the number that the bytes encode.
 #[test]
 fn take_over_other_streams(rt: HostRuntime) {
     let bytes = b"\x12\x8F\x63\xD4".as_slice();
@@ -171,7 +172,7 @@ fn bool(rt: HostRuntime) {
     same(&rt, "bool", "nothing yet", got, (Err(lacks(1)), none));
 }
 
-/// A run of `bits` on bytes answers and leaves so.
+/// Checks the result of `bits` on bytes, and the rest.
 fn bits_ends<I, O, P>(rt: &impl Abort, row: &str, parser: P, input: I, want: Result<O, Kind>, rest: I)
 where
     I: ByteStream + StreamIsPartial + Copy + PartialEq + Debug,
@@ -202,7 +203,7 @@ fn bits_of_bytes(rt: HostRuntime) {
     bits_ends::<_, (bool, u16), _>(&rt, "cut AB", after_some, few, Err(lacks(2)), few);
 }
 
-/// A run of `bytes` on bits answers and leaves so.
+/// Checks the result of `bytes` on bits, and the rest.
 fn bytes_ends<I, O, P>(
     rt: &impl Abort,
     row: &str,

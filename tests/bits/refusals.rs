@@ -1,4 +1,4 @@
-//! How the parsers of bits refuse: kinds that are kept, needs that are converted, and the same
+//! Errors of the bit parsers: kinds that are kept, needs that are converted, and the same parsers
 //! under plain errors.
 use stream_bits::bits::Bits;
 use stream_errors::empty::EmptyError;
@@ -13,7 +13,7 @@ use winnow_core::parser::Func;
 use winnow_token::token;
 use winnow_token::token::impls::Any;
 
-/// A need of so many units.
+/// A need of `units` units.
 fn lacks(units: usize) -> Kind {
     Kind::Incomplete(Needed::new(units))
 }
@@ -57,7 +57,7 @@ fn bits_need_a_byte(rt: HostRuntime) {
     same(&rt, "bits", "cut nothing, a bit", got, (Err(lacks(1)), none));
 }
 
-/// Under plain errors an assert error, and what a cut input lacks, is a backtrack.
+/// Under plain errors an assert error is a backtrack, and so is a need of partial input.
 #[test]
 fn plain_errors_of_bits(rt: HostRuntime) {
     let few = Bits(Partial::new(b"\xAB".as_slice()), 0);

@@ -18,7 +18,7 @@ use winnow_core::combinator::impls::Eof;
 use winnow_token::token::impls::Any;
 use winnow_token::token::take;
 
-/// Two bytes, of which the bits are 1010 1011 1100 1101.
+/// Two bytes with the bits 1010 1011 1100 1101.
 const BYTES: [u8; 2] = [0xAB, 0xCD];
 
 /// Whether bit `place` of the two bytes is 1, the greatest being bit 0.
@@ -26,7 +26,7 @@ fn bit(place: usize) -> bool {
     (0xABCD_u16 >> (15 - place)) % 2 == 1
 }
 
-/// The bits from each place on, one by one and as an iterator.
+/// The bits from every offset on, one by one and as an iterator.
 #[test]
 fn tokens_of_bits(rt: HostRuntime) {
     for read in 0..8 {
@@ -159,7 +159,8 @@ fn bits_in_wrappers(rt: HostRuntime) {
     assert_eq!(rt; recovers, false);
 }
 
-/// Bits of a stream that counts its place, and of one that may be cut, are those from its first.
+/// Conversions to bits of a stream that counts its offset, and of a partial stream, start at the
+/// first bit.
 #[test]
 fn inputs_of_bits(rt: HostRuntime) {
     let cut = Partial::new(BYTES.as_slice());

@@ -87,7 +87,7 @@ fn cond(rt: HostRuntime) {
     );
 }
 
-/// A look ahead for what is there: the input stays.
+/// In every row the input is reset.
 #[test]
 fn peek(rt: HostRuntime) {
     let rows = [
@@ -113,7 +113,7 @@ fn not_a_letter<I: OfText + Stream<Token = char>, E: ParserError<I>>(rt: &impl A
     ends_each::<I, (), E, _>(rt, "not", parser, &rows);
 }
 
-/// A look ahead for what is not there: the input stays.
+/// In every row the input is reset.
 #[test]
 fn not(rt: HostRuntime) {
     let rows = [
@@ -131,7 +131,7 @@ fn not(rt: HostRuntime) {
     like_ends::<&str, Partial<&str>, (), Modal, _, _>(&rt, "not", "aba;", both, BACKTRACKS);
 }
 
-/// The kinds that a change to cuts makes of the four.
+/// The result for each of the four error kinds.
 #[test]
 fn cut_err(rt: HostRuntime) {
     for (kind, want) in [
@@ -147,7 +147,7 @@ fn cut_err(rt: HostRuntime) {
     answers::<Bytes, u8, AtBytes, _>(&rt, "cut_err", byte, "ab", Ok(b'a'), "b");
 }
 
-/// The kinds that a change to backtracks makes of the four.
+/// The result for each of the four error kinds.
 #[test]
 fn backtrack_err(rt: HostRuntime) {
     let incomplete = Kind::Incomplete(Needed::Unknown);
@@ -168,7 +168,7 @@ fn empty_at<I: OfText, E: ParserError<I>>(rt: &impl Abort) {
     ends::<I, (), E, _>(rt, "empty", Empty, ("a", Takes(0), Takes(0)));
 }
 
-/// A success that takes nothing.
+/// Succeeds without consuming input.
 #[test]
 fn empty(rt: HostRuntime) {
     let behind = (b'a', Empty);
@@ -178,7 +178,7 @@ fn empty(rt: HostRuntime) {
     like_ends::<&str, Partial<&str>, (), Modal, _, _>(&rt, "empty", "aba;", both, Takes(0));
 }
 
-/// A failure that takes nothing.
+/// Fails without consuming input.
 #[test]
 fn fail(rt: HostRuntime) {
     let behind = (b'a', Fail);

@@ -1,4 +1,4 @@
-//! What these tests share.
+//! Common helpers.
 use stream_errors::input_error::InputError;
 use stream_errors::parser_error::ParserError;
 use stream_sets::range::Range;

@@ -15,10 +15,11 @@ type Plain = InputError<Bytes>;
 
 type AtBytes = ModalAt<Bytes>;
 
-/// The kinds of errors by which a control refuses: its own error keeps none of them apart.
+/// The error kinds of a control that does not match. The control's error type does not distinguish
+/// them.
 const REFUSALS: [Kind; 3] = [Backtrack, Cut, Incomplete(Needed::Unknown)];
 
-/// The end of a run that needs more behind so many units; it is not known how much.
+/// The ending of a call that needs an unknown number of units after `taken` units.
 fn lacks_behind(taken: usize) -> Ending {
     Fails(Incomplete(Needed::Unknown), taken)
 }

@@ -1,4 +1,4 @@
-//! At which byte a value lacks, or what is no line begins.
+//! The offset of a missing value, or of the first invalid line.
 use examples::assignments::check_assignments;
 use winnow::error::ParseFault;
 

@@ -1,4 +1,4 @@
-//! Formulas, their values and what they leave.
+//! Formulas, their values and the remaining input.
 use std::process::Abort;
 use stream_errors::empty::EmptyError;
 use stream_errors::parser_error::ParserError;
@@ -6,7 +6,7 @@ use test_support::refusing::Refusing;
 use example_booleans::booleans::truth;
 use example_booleans::statements::{formula, statement};
 
-/// A formula has this value, or none, and so much of it is left.
+/// A formula, its value or `None`, and the rest of the input.
 const ROWS: &[(&str, Option<bool>, &str)] = &[
     ("t", Some(true), ""),
     ("f", Some(false), ""),
@@ -26,7 +26,7 @@ const ROWS: &[(&str, Option<bool>, &str)] = &[
     // equalities are not joined
     ("t=t=f", Some(true), "=f"),
     ("f=t&t=t", Some(false), "=t"),
-    // what is behind a formula is left
+    // with input after the formula
     ("tt", Some(true), "t"),
     ("t!f", Some(true), "!f"),
     ("t x", Some(true), " x"),
@@ -39,7 +39,7 @@ const ROWS: &[(&str, Option<bool>, &str)] = &[
     ("t=&", None, "&"),
 ];
 
-/// What an answer says, where it is no want of memory.
+/// Returns the value, or `None` after an error. The error must not be out of memory.
 fn said(rt: &impl Abort, text: &str, answer: Result<bool, EmptyError>) -> Option<bool> {
     match answer {
         Ok(value) => Some(value),
@@ -60,7 +60,8 @@ fn truth_of_formulas(rt: HostRuntime) {
     }
 }
 
-/// A formula of operands and postfixes takes no memory, and the others answer where it is refused.
+/// A formula of operands and postfixes does not allocate; the others return an error if their
+/// allocation fails.
 #[test]
 fn truth_wants_memory(rt: HostRuntime) {
     let heap = Refusing::always_from(rt.alloc(), 0);
@@ -89,7 +90,8 @@ fn truth_wants_memory(rt: HostRuntime) {
     assert!(rt; n > 1);
 }
 
-/// A formula as a rule reads what a formula is, and a statement is one with a semicolon behind it.
+/// The rule `formula` accepts the same formulas; `statement` accepts a formula followed by a
+/// semicolon.
 #[test]
 fn statements_are_formulas(rt: HostRuntime) {
     for (text, want, left) in ROWS {
@@ -104,7 +106,7 @@ fn statements_are_formulas(rt: HostRuntime) {
         ("!t|t&f'=t;f", Some(true), "f"),
         ("t", None, ""),
         ("t,", None, ""),
-        // a second equality is behind the formula, where the semicolon is due
+        // the formula ends before the second equality sign, where a semicolon is expected
         ("t=t=f;", None, ""),
         (";", None, ""),
     ];

@@ -5,8 +5,8 @@ use test_support::refusing::Refusing;
 use winnow::error::{ErrMode, ParserError};
 use winnow::stream::{Partial, StreamIsPartial};
 
-/// A text, a level, and how many brackets are read with how many bytes left; or none, where none
-/// stand first.
+/// A text, a nesting depth, and the numbers of parsed brackets and of remaining bytes; or `None` if
+/// the text does not start with brackets.
 const ROWS: &[(&[u8], usize, Option<(usize, usize)>)] = &[
     (b"[]", 1, Some((1, 0))),
     (b"[]", 0, None),
@@ -69,7 +69,8 @@ fn read_brackets_at_every_cut(rt: HostRuntime) {
     }
 }
 
-/// What no more bytes mend is refused where it stands, and not asked for.
+/// Invalid input is rejected at its offset, without `Incomplete`, if no further bytes can make it
+/// valid.
 #[test]
 fn read_brackets_refuses_at_once(rt: HostRuntime) {
     for text in [b"]".as_slice(), b"[x", b"[[]x", b"[[[", b"[[][[", b"x"] {

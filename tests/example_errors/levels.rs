@@ -1,5 +1,5 @@
-//! What is said of a line's level: which it is, what is missing, which letter is none, and that
-//! memory was wanted; and how the errors of two branches are joined.
+//! Errors of a line's level: its name, the missing part, the invalid letter, or out of memory; and
+//! how the errors of two branches are merged.
 
 use std::alloc::Global;
 use std::process::Abort;
@@ -37,7 +37,7 @@ fn refusals(rt: HostRuntime) {
     assert_eq!(rt; read_colon(rt.alloc(), &mut b":".as_slice()), Ok(b':'));
 }
 
-/// Whether an error is want of memory, and whether another branch may be tried.
+/// Returns whether an error is out of memory, and whether another branch may be tried.
 fn kinds(error: LineError) -> (bool, bool) {
     let memory = ParserError::<&[u8]>::is_memory(&error);
     (memory, ParserError::<&[u8]>::is_backtrack(&error))
@@ -68,7 +68,7 @@ fn joins(rt: HostRuntime) {
     assert_eq!(rt; joined(LineError::Other, expected), expected);
 }
 
-/// What a context makes of an error.
+/// Checks the error that a context is added to.
 fn told(rt: &impl Abort, alloc: Global, error: LineError, want: LineError) {
     let input = b"a".as_slice();
     let got = error.add_context(alloc, &input, &input.checkpoint(), Part::Level);

@@ -1,11 +1,11 @@
-//! Sizes, their values and what they leave.
+//! Sizes, their values and the remaining input.
 use std::process::Abort;
 use test_support::refusing::Refusing;
 use example_formulas::sizes::read_size;
 use winnow::error::ParserError;
 
-/// A size has this value, and so much of the bytes is left. The values are those that Python
-/// computes with 1024 and 1048576 for the units.
+/// A size, its value, and the rest of the input. The values are computed with Python, with 1024 and
+/// 1048576 for the units.
 const ROWS: &[(&str, u32, &str)] = &[
     ("7", 7, ""),
     ("0", 0, ""),
@@ -23,11 +23,11 @@ const ROWS: &[(&str, u32, &str)] = &[
     ("65535*65537", 4294967295, ""),
     ("7 k", 7, " k"),
     ("12k)", 12288, ")"),
-    // a '0' is a number alone
+    // a leading '0' is a complete number
     ("07", 0, "7"),
 ];
 
-/// What no size begins with, or one that does not fit in 32 bits.
+/// Texts that do not start with a size, or whose size does not fit in 32 bits.
 const REFUSED: &[&str] = &[
     "", "k", "+1", "1+", "1+k", "1**2", "4294967296", "4096m", "4294967295+1", "65536*65536",
 ];
@@ -46,7 +46,7 @@ fn read_size_of_sizes(rt: HostRuntime) {
     }
 }
 
-/// A sign asks for memory, and a refused request is an error of its own.
+/// An operator allocates, and a failed allocation has an error of its own.
 #[test]
 fn read_size_wants_memory(rt: HostRuntime) {
     let heap: Refusing<std::alloc::Global> = Refusing::once(rt.alloc(), 0);

@@ -1,4 +1,4 @@
-//! Frames in pieces.
+//! Frames that arrive in chunks.
 use std::alloc::{Allocator, Global};
 use std::fmt::Debug;
 use std::io;
@@ -120,7 +120,7 @@ fn same<T: PartialEq + Debug + Drop>(rt: &impl Abort, row: &[u8], got: T, want: 
     assert_eq!(rt; got, want, "{row:?}");
 }
 
-/// What a source gives: the end, the payloads and what is held then.
+/// Checks the frames of a source: how it ends, the payloads, and the bytes that are then held.
 fn check<A: Allocator + Copy>(
     rt: &impl Abort,
     alloc: A,
@@ -162,7 +162,7 @@ fn read_frames_of_pieces(rt: HostRuntime) {
     }
 }
 
-/// A frame that does not fit is refused behind its length, of which not more is read.
+/// A frame that is too long is rejected after its length field; nothing more is read.
 #[test]
 fn read_frames_too_long(rt: HostRuntime) {
     let stream = b"\x00\x01a\x00\x03bcd";
@@ -193,7 +193,7 @@ fn read_frames_too_long(rt: HostRuntime) {
     same(&rt, stream, source.bytes, stream.as_slice());
 }
 
-/// A source that fails in mid-frame, and goes on later.
+/// A source that fails within a frame and resumes later.
 #[test]
 fn fill_goes_on_behind_a_fault(rt: HostRuntime) {
     let stream = b"\x00\x03abcrest";
@@ -259,12 +259,12 @@ fn fill_goes_on_over_a_socket_byte_by_byte(rt: HostRuntime) {
         }
     }
     same(&rt, stream, found, payloads.len());
-    // each byte but the last has a read behind it that would block
+    // a read that would block follows each byte but the last
     same(&rt, stream, blocked, stream.len());
     same(&rt, stream, buffer.held(), b"".as_slice());
 }
 
-/// Nothing behind a frame is read with it.
+/// No bytes after a frame are read with it.
 #[test]
 fn fill_reads_no_more_than_a_frame(rt: HostRuntime) {
     let mut room = [0u8; 8];
@@ -289,7 +289,7 @@ fn first_frame_says_what_is_missing(rt: HostRuntime) {
     }
 }
 
-/// Each request for memory is refused in turn; the frame whose payload was not kept is held.
+/// Every allocation fails in turn; the frame whose payload could not be kept is held.
 #[test]
 fn read_frames_wants_memory(rt: HostRuntime) {
     let stream = b"\x00\x01a\x00\x02bc";

@@ -1,4 +1,4 @@
-//! Memory that is refused.
+//! Allocation failures.
 use std::alloc::Global;
 use test_support::refusing::Refusing;
 use examples::nested::read_tree;

@@ -1,11 +1,11 @@
-//! Trees, by the level that is asked for.
+//! Trees by maximum nesting depth.
 use std::alloc::Global;
 use std::fmt::Debug;
 use std::process::Abort;
 use examples::nested::{Tree, read_tree};
 
-/// A text, a level, and what is read: the numbers in order and how many brackets are open at most,
-/// with what is left.
+/// A text, a nesting depth, and the result: the numbers in order, the greatest number of open
+/// brackets, and the rest.
 const ROWS: &[(&[u8], usize, Option<(&[u32], usize, &[u8])>)] = &[
     (b"12", 0, Some((&[12], 0, b""))),
     (b"12,3", 5, Some((&[12], 0, b",3"))),
@@ -36,7 +36,7 @@ fn same<T: PartialEq + Debug + Drop>(rt: &impl Abort, row: &[u8], got: T, want: 
     assert_eq!(rt; got, want, "{row:?}");
 }
 
-/// Puts the numbers behind the others, and answers how many brackets are open at most.
+/// Appends the numbers of `tree` to `numbers`, and returns the greatest number of open brackets.
 fn gather(tree: &Tree<Global>, numbers: &mut Vec<u32>) -> Result<usize, std::alloc::AllocError> {
     match tree {
         Tree::Leaf(number) => {

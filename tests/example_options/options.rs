@@ -1,11 +1,11 @@
-//! Options on whole inputs.
+//! Options on complete input.
 use std::alloc::Allocator;
 use std::process::Abort;
 use examples::options::read_options;
 use winnow::error::ErrMode;
 
-/// A text, how it is written again with a space behind each option, and how many bytes are left;
-/// or none, where no options stand first.
+/// A text, its options written with a space after each, and the number of remaining bytes; or
+/// `None` if the text does not start with options.
 pub const ROWS: &[(&[u8], Option<(&[u8], usize)>)] = &[
     (b"[]", Some((b"", 0))),
     (b"[]]", Some((b"", 1))),
@@ -38,7 +38,7 @@ fn push<A: Allocator>(rt: &impl Abort, into: &mut Vec<u8, A>, bytes: &[u8]) {
     }
 }
 
-/// Options written again, each with a space behind it.
+/// Checks options by writing them with a space after each.
 fn written<A: Allocator>(
     rt: &impl Abort,
     options: &[(&[u8], Option<&[u8]>)],

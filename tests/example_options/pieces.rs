@@ -1,5 +1,5 @@
-//! Options at every cut: an answer is that of the whole text, and more is asked for where it is
-//! not yet known.
+//! Options on every prefix: a result other than `Incomplete` is that of the whole text, and
+//! `Incomplete` is returned as long as the result is not known.
 use crate::options::ROWS;
 use examples::options::read_options_in_pieces;
 use winnow::error::ErrMode;

@@ -1,4 +1,4 @@
-//! Settings, a line each, with faults among them.
+//! Settings, one on each line, with errors between them.
 
 use std::alloc::Global;
 use std::process::Abort;
@@ -45,7 +45,7 @@ fn settings(rt: HostRuntime) {
     reads(&rt, rt.alloc(), "a = 1\nb = x\nc = 3\n", &one, &[true]);
     let two = [None, None, Some(("c", 3))];
     reads(&rt, rt.alloc(), "1 = a\nb = \nc = 3\n", &two, &[false, true]);
-    // The last line has no end, so it is left.
+    // The last line has no line ending, so it remains.
     reads(&rt, rt.alloc(), "a = 1\nb", &[Some(("a", 1))], &[false]);
     reads(&rt, rt.alloc(), "1\nb", &[None], &[false, false]);
 }
@@ -64,7 +64,7 @@ fn lines_alone(rt: HostRuntime) {
     assert_eq!(rt; fault.ok(), Some(None));
     let (left, errors) = input.into_parts();
     assert_eq!(rt; (left, errors.len()), ("a = 1\n", 1));
-    // A stream that records nothing answers the error.
+    // A stream that records no errors returns the error.
     let line = terminated(separated_pair(Alpha1, " = ", DecUint), '\n');
     let skip = (take_till(Range::from(0..), '\n'), '\n').void();
     let plain: Result<Option<(&str, u32)>, Error> = line_or_fault(line, skip, &mut "?\n");

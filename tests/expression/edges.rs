@@ -66,8 +66,8 @@ fn operators_as_parsers(rt: HostRuntime) {
     same(&rt, "Infix", "a", (is_it, rest), (Ok(true), "a"));
 }
 
-/// Operators of two characters, of which a text that may get more has one: what lacks is handed on
-/// from the place of a postfix, and from that of an infix.
+/// Operators of two characters on partial text that ends after their first character: `Incomplete`
+/// is returned unchanged, at the offset of a postfix and at that of an infix.
 #[test]
 fn expression_on_cut_operators(rt: HostRuntime) {
     for (text, want, rest) in [

@@ -1,4 +1,4 @@
-//! All texts of up to seven items over three tables, beside a search of their trees.
+//! All texts of up to seven items over three tables, compared with a search of their trees.
 use crate::grammar::Operator::{Left, Neither, Postfix, Prefix, Right};
 use crate::grammar::{Table, read};
 use crate::search::{reading_of, search};
@@ -9,8 +9,8 @@ use test_support::outcomes::Kind::Backtrack;
 /// The most items of a text.
 const LONGEST: usize = 7;
 
-/// An expression reads the one tree over its reading that keeps the powers; where none does it
-/// backtracks where the reading ended. The characters are a digit and the table's.
+/// Checks that an expression returns the only tree of its items that respects precedence. If there
+/// is none, it must backtrack where the items end. The characters are a digit and the table's.
 fn reads_the_one_tree(
     rt: &impl Abort,
     alloc: Global,

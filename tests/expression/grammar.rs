@@ -112,7 +112,7 @@ pub(crate) fn infix_of(table: Table, symbol: char) -> Option<Infix<Writes>> {
     None
 }
 
-/// What an expression of a table and a level comes to, with its tree as it is written.
+/// Parses an expression of a table at a level, and returns the tree as it is written.
 pub(crate) fn read<I: StreamIsPartial<Token = char>, A: Allocator + Copy>(
     alloc: A,
     table: Table,

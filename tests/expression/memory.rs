@@ -8,7 +8,6 @@ use test_support::rows::same;
 
 const TABLE: Table = &[Prefix('-', 12), Postfix('!', 13), Left('+', 5), Left('*', 7)];
 
-/// Each request for memory refused in turn.
 #[test]
 fn expression_wants_memory(rt: HostRuntime) {
     refused_in_turn(
@@ -23,8 +22,8 @@ fn expression_wants_memory(rt: HostRuntime) {
     );
 }
 
-/// A run that accepts no prefix and no infix takes no memory; one that does stands behind it where
-/// it was refused.
+/// A call that accepts no prefix and no infix does not allocate; other calls leave the input after
+/// the operator whose allocation failed.
 #[test]
 fn expression_takes_memory_for_open_operators(rt: HostRuntime) {
     let heap = Refusing::always_from(rt.alloc(), 0);

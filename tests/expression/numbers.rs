@@ -9,7 +9,7 @@ use winnow_core::parser::Parser;
 use winnow_expression::combinator::{FoldBinary, FoldUnary, Infix, Prefix, expression};
 use winnow_token::token::impls::Any;
 
-/// What an operator does with numbers.
+/// An operator on numbers.
 #[derive(Clone, Copy)]
 struct Symbol(char);
 
@@ -66,7 +66,7 @@ fn infix_of(symbol: char) -> Option<Infix<Symbol>> {
     }
 }
 
-/// What a text comes to.
+/// The result for a text.
 pub(crate) fn value<A: Allocator + Copy>(
     alloc: A,
     text: &'static str,

@@ -1,9 +1,10 @@
-//! A search of all trees over what a text reads, by the conditions that a tree keeps the powers.
+//! A search of all trees over the items of a text, by the conditions under which a tree respects
+//! precedence.
 use crate::grammar::{Operator, Table};
 use crate::shape::Shape;
 use std::alloc::{AllocError, Allocator};
 
-/// What is read at a place.
+/// An item of a text.
 #[derive(Clone, Copy, PartialEq)]
 pub(crate) enum Item {
     Operand(char),
@@ -13,7 +14,7 @@ pub(crate) enum Item {
     Infix(char, i128, i128, bool),
 }
 
-/// A tree, by the places of its operands in the list of all trees.
+/// A tree; its operands are indices into the list of all trees.
 #[derive(Clone, Copy)]
 enum Tree {
     Leaf(char),
@@ -25,8 +26,8 @@ enum Tree {
 /// The most items of a text.
 const MOST: usize = 8;
 
-/// What a text reads: its items, and whether the reading came to its end where an operator may
-/// stand, and else ended where an operand is missing.
+/// The items of a text, and whether they end where an operator is allowed. Otherwise they end where
+/// an operand is missing.
 #[derive(Clone, Copy)]
 pub(crate) struct Reading {
     items: [Item; MOST],
@@ -73,7 +74,7 @@ fn is_infix(table: Table, symbol: char) -> Option<Item> {
     None
 }
 
-/// What a text of one character an item reads.
+/// Reads the items of a text, each of one character.
 pub(crate) fn reading_of(table: Table, text: &str) -> Reading {
     let mut reading = Reading {
         items: [Item::Operand('\0'); MOST],
@@ -110,8 +111,8 @@ pub(crate) fn reading_of(table: Table, text: &str) -> Reading {
     reading
 }
 
-/// What the search finds: how many trees keep the powers, and of the last one found what it is and
-/// how many items it has.
+/// The result of the search: the number of trees that respect precedence, and the last of them with
+/// its number of items.
 #[derive(Clone, Copy)]
 pub(crate) struct Found {
     pub(crate) count: usize,
@@ -126,7 +127,7 @@ struct Search<A: Allocator> {
     trees: Vec<Tree, A>,
 }
 
-/// Searches the trees over each beginning of what a text reads.
+/// Searches the trees over each prefix of the items.
 pub(crate) fn search<A: Allocator + Copy>(
     alloc: A,
     reading: &Reading,
@@ -289,7 +290,7 @@ impl<A: Allocator + Copy> Search<A> {
         }
     }
 
-    /// Whether a tree keeps the powers at a level.
+    /// Returns whether a tree respects precedence at a level.
     fn keeps(&self, tree: usize, level: i128, next: Option<Item>) -> bool {
         self.binds(tree) && self.reaches(tree, level) && self.ends(tree, level, next)
     }

@@ -12,7 +12,7 @@ use winnow_core::parser::Parser;
 use winnow_expression::combinator::expression;
 use winnow_token::token::impls::Any;
 
-/// A table, a level, a text, the tree as it is written, and what is left.
+/// A table, a level, a text, the tree as it is written, and the rest.
 type Row = (Table, i64, &'static str, &'static str, &'static str);
 
 const ROWS: &[Row] = &[

@@ -1,4 +1,4 @@
-//! With which kind parsers fail, and what they leave, as winnow's documentation has it.
+//! The error kinds of parsers and the remaining input, as in winnow's documentation.
 use std::process::Abort;
 use winnow::ascii::impls::{Alpha1, Digit1};
 use winnow::combinator::{alt, cut_err, repeat};
@@ -7,7 +7,7 @@ use winnow::exact::Fails;
 use winnow::stream::Range;
 use winnow::Parser;
 
-/// What is seen of a call: whether it reads, backtracks or cuts, and how many bytes are left.
+/// The observed result of a call, success, backtrack or cut, with the number of remaining bytes.
 #[derive(Clone, Copy, Debug, PartialEq, Eq)]
 enum Seen {
     Reads(usize),
@@ -18,7 +18,7 @@ enum Seen {
 
 use Seen::{Backs, Cuts, Reads};
 
-/// What a call of a parser shows on each text.
+/// Checks the observed results of a parser on each text.
 fn check<O: Drop, P: Fails<&'static [u8], O, ErrMode<EmptyError>> + Drop>(
     rt: &impl Abort,
     mut parser: P,
@@ -104,7 +104,7 @@ fn repetitions(rt: HostRuntime) {
     check::<(), _>(&rt, repeat(rt.alloc(), Range::from(2..=3), (b'a', b'b')), rows);
 }
 
-/// At which place a whole parse has its fault: where what is left begins.
+/// The offset of the error of a whole parse: where the remaining input starts.
 #[test]
 fn places(rt: HostRuntime) {
     let rows: &[(&[u8], Option<usize>)] = &[

@@ -1,4 +1,4 @@
-//! The tests of how parsers fail: kinds of errors, what they leave, and places of faults.
+//! Tests of how parsers fail: error kinds, the remaining input, and offsets of errors.
 #![tactic(auto)]
 
 #[cfg(test)]

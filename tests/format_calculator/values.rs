@@ -1,4 +1,4 @@
-//! Formulas, their values and the places of refusals.
+//! Formulas, their values and the offsets of errors.
 use format_calculator::calc::value;
 use format_calculator::fault::Fault;
 use test_support::refusing::Refusing;
@@ -51,7 +51,7 @@ fn value_of_formulas(rt: HostRuntime) {
     }
 }
 
-/// Each request for memory is refused in turn, and the fault is then want of memory.
+/// Every allocation fails in turn; the error is then out of memory.
 #[test]
 fn value_wants_memory(rt: HostRuntime) {
     let mut met = true;

@@ -5,9 +5,10 @@ use std::process::Abort;
 use format_csv::{LineEnd, Record, parse_document};
 use winnow::error::ParseFault;
 
-/// A document and the bytes of its records' fields. The first eight are of RFC 4180, section 2. The
-/// others Python's strict `csv.reader` reads so too, but for a line with no bytes, of which it makes
-/// a record with no field; the grammar of the standard has one field there, which is empty.
+/// A document and the bytes of its records' fields. The first eight are from RFC 4180, section 2.
+/// Python's strict `csv.reader` reads the others likewise, except for an empty line, which it reads
+/// as a record without fields. By the grammar of the standard that line has one field, which is
+/// empty.
 const DOCUMENTS: &[(&[u8], &[&[&[u8]]])] = &[
     (b"aaa,bbb,ccc\r\nzzz,yyy,xxx\r\n", &[&[b"aaa", b"bbb", b"ccc"], &[b"zzz", b"yyy", b"xxx"]]),
     (b"aaa,bbb,ccc\r\nzzz,yyy,xxx", &[&[b"aaa", b"bbb", b"ccc"], &[b"zzz", b"yyy", b"xxx"]]),
@@ -40,7 +41,7 @@ const DOCUMENTS: &[(&[u8], &[&[&[u8]]])] = &[
     (b"a\r\nb,c,d\r\ne,f", &[&[b"a"], &[b"b", b"c", b"d"], &[b"e", b"f"]]),
 ];
 
-/// A text that is no document, and how many bytes the records take that stand in it first.
+/// An invalid document, and the length in bytes of the records before the error.
 const NO_DOCUMENTS: &[(&[u8], usize)] = &[
     (b"\"", 0),
     (b"a\n", 0),

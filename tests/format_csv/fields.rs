@@ -3,9 +3,9 @@ use std::fmt::Debug;
 use std::process::Abort;
 use format_csv::{LineEnd, read_record};
 
-/// A text, the bytes of the first field of the record that it begins with,
-/// how many fields the record has, and what is left. The fields are as Python's `csv.writer` writes
-/// them, with as few quotes as it can and with all, and its strict reader reads them back.
+/// A text, the bytes of the first field of its first record, the number of fields of the record,
+/// and the rest. The fields are as Python's `csv.writer` writes them, with as few quotes as
+/// possible and with all. Python's strict reader reads them back.
 const RECORDS: &[(&[u8], &[u8], usize, &[u8])] = &[
     (b",next", b"", 2, b""),
     (b"\r\n", b"", 1, b""),
@@ -33,13 +33,13 @@ const RECORDS: &[(&[u8], &[u8], usize, &[u8])] = &[
     (b"\",\"\r\nx", b",", 1, b"x"),
     (b"\"\n\"", b"\n", 1, b""),
     (b"\"\r\"", b"\r", 1, b""),
-    // What the standard has no word for.
+    // Bytes that the standard does not mention.
     (b"\x01\x7f\x00,", b"\x01\x7f\x00", 2, b""),
     (b"\"\x01\x7f\x00\"", b"\x01\x7f\x00", 1, b""),
 ];
 
-/// Texts that begin with no record: a quote that is not closed or stands in the middle, a byte behind
-/// a closing quote, a lone line feed or carriage return outside of quotes, no bytes.
+/// Texts that do not start with a record: an unclosed quote, a quote in the middle, a byte after a
+/// closing quote, a lone line feed or carriage return outside of quotes, no bytes.
 const NO_RECORDS: &[&[u8]] = &[
     b"",
     b"\"",
@@ -61,8 +61,8 @@ const NO_RECORDS: &[&[u8]] = &[
     b"a,b\"c\r\n",
 ];
 
-/// A text and what is left of it where line feeds alone end lines, or where it begins with no such
-/// record.
+/// A text and the rest if only line feeds end lines, or `None` if the text does not start with such
+/// a record.
 const BY_LINE_FEEDS: &[(&[u8], Option<&[u8]>)] = &[
     (b"a,b\nc", Some(b"c")),
     (b"\n\n", Some(b"\n")),

@@ -6,8 +6,8 @@ use format_csv::pieces::read_record_in_pieces;
 use winnow::error::ErrMode;
 use winnow::stream::{Partial, StreamIsPartial};
 
-/// Texts that begin with a record and its line end, and how many bytes that takes: the line end is
-/// a carriage return and a line feed. What is behind it is of no concern.
+/// Texts that start with a record and its CRLF, and the length of both in bytes. The rest does not
+/// matter.
 const LINES: &[(&[u8], usize)] = &[
     (b"a,b\r\nc,d", 5),
     (b"\r\n", 2),
@@ -16,7 +16,7 @@ const LINES: &[(&[u8], usize)] = &[
     (b"\"\"\r\n\r\n", 4),
 ];
 
-/// The same, where the line end is a line feed alone.
+/// The same if only line feeds end lines.
 const BY_LINE_FEEDS: &[(&[u8], usize)] = &[
     (b"a,b\nc,d", 4),
     (b"\n\n", 1),
@@ -24,8 +24,8 @@ const BY_LINE_FEEDS: &[(&[u8], usize)] = &[
     (b"\"\"\n\r\n", 3),
 ];
 
-/// Texts that begin with no record, and with how many of their bytes one can begin: at the byte
-/// behind these the standard's grammar goes on nowhere.
+/// Texts that do not start with a record, and the length of their longest prefix that a record can
+/// start with: the standard's grammar allows no continuation with the next byte.
 const NONE: &[(&[u8], usize)] = &[
     (b"x\"y,z", 1),
     (b"\"x\"y,z", 3),
@@ -36,7 +36,7 @@ const NONE: &[(&[u8], usize)] = &[
     (b"\n", 0),
 ];
 
-/// The same, where the line end is a line feed alone.
+/// The same if only line feeds end lines.
 const NONE_BY_LINE_FEEDS: &[(&[u8], usize)] = &[
     (b"x\"\n", 1),
     (b"\"x\"\"\"y\n", 5),
@@ -45,12 +45,12 @@ const NONE_BY_LINE_FEEDS: &[(&[u8], usize)] = &[
     (b"\r", 0),
 ];
 
-/// What is answered of a piece.
+/// The result for a prefix.
 #[derive(Clone, Copy, Debug, PartialEq, Eq)]
 enum Answered {
-    /// A record of so many bytes, with its line end.
+    /// A record of this length in bytes, line ending included.
     Taken(usize),
-    /// More is asked for.
+    /// The result is `Incomplete`.
     Asks,
     /// No longer input begins with a record.
     Never,

@@ -1,4 +1,4 @@
-//! Tables, and what is none.
+//! Tables, and invalid tables.
 use std::alloc::{Allocator, Global};
 use std::fmt::Debug;
 use std::process::Abort;
@@ -7,8 +7,8 @@ use format_csv::{LineEnd, Record};
 use format_csv::table::{Ragged, Table, TableFault, parse_table};
 use winnow::error::{ParseFault, ParserError};
 
-/// A document with a header, the fields of the header, and those of the records behind it. The
-/// first two are of RFC 4180, section 2, items 3 and 4.
+/// A document with a header, the fields of the header, and the fields of the following records. The
+/// first two are from RFC 4180, section 2, items 3 and 4.
 const TABLES: &[(&[u8], &[&[u8]], &[&[&[u8]]])] = &[
     (
         b"field_name,field_name,field_name\r\naaa,bbb,ccc\r\nzzz,yyy,xxx\r\n",
@@ -24,8 +24,8 @@ const TABLES: &[(&[u8], &[&[u8]], &[&[&[u8]]])] = &[
     (b"\"a,b\",c\r\n1,\"2,3\"\r\n", &[b"a,b", b"c"], &[&[b"1", b"2,3"]]),
 ];
 
-/// A document, its first record that the header does not fit, counted from 1 behind the header, how
-/// many fields that has, and how many the header has.
+/// A document, the number of its first record that does not fit the header (counted from 1 after
+/// the header), the number of fields of that record, and that of the header.
 const RAGGED: &[(&[u8], usize, usize, usize)] = &[
     (b"a,b\r\n1", 1, 1, 2),
     (b"a,b\r\n1,2,3", 1, 3, 2),
@@ -38,7 +38,7 @@ const RAGGED: &[(&[u8], usize, usize, usize)] = &[
     (b"\r\na,b", 1, 2, 1),
 ];
 
-/// A text that is no document, and how many bytes the records take that stand in it first.
+/// An invalid document, and the length in bytes of the records before the error.
 const NO_DOCUMENTS: &[(&[u8], usize)] = &[
     (b"\"", 0),
     (b"a,b\r\n1,2\n", 5),

@@ -1,4 +1,4 @@
-//! Where a table is refused, and what is left after a failure.
+//! The offsets at which tables are rejected, and the remaining input after an error.
 use crate::pieces::Pieces;
 use crate::tables::show;
 use format_csv_reader::error::ReadError;
@@ -8,7 +8,8 @@ use format_csv_records::read::Refusal;
 use format_csv_records::record::ByteRecord;
 use std::io::ErrorKind;
 
-/// A line end, a table, and the byte at which it is refused, and why: told by hand, from RFC 4180.
+/// A line ending, a table, the offset of the first invalid byte, and the reason. The offsets are
+/// determined by hand from RFC 4180.
 const REFUSED: &[(LineEnds, &[u8], u64, Refusal)] = &[
     (LineEnds::CrLf, b"a,b\r\nc\"\r\n", 6, Refusal::QuoteInField),
     (LineEnds::CrLf, b"a\r\n\"b\"c\r\n", 6, Refusal::ByteBehindQuote),

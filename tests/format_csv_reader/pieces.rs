@@ -1,7 +1,8 @@
 //! Readers that give few bytes at a time, that are interrupted, and that fail.
 use std::io::{self, ErrorKind, Read};
 
-/// It is interrupted before each read, gives at most `step` bytes, and fails after so many reads.
+/// A reader that is interrupted before each read, returns at most `step` bytes, and fails after a
+/// given number of reads.
 #[derive(Drop)]
 pub struct Pieces<'a> {
     pub bytes: &'a [u8],

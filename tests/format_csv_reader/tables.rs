@@ -1,4 +1,4 @@
-//! Tables, whole and in pieces, with and without a byte order mark.
+//! Tables, whole and in chunks, with and without a byte order mark.
 use std::alloc::Allocator;
 use std::io::Read;
 use std::process::Abort;
@@ -9,7 +9,7 @@ use format_csv_records::dialect::{Dialect, LineEnds};
 use format_csv_records::record::ByteRecord;
 
 /// The examples of RFC 4180, section 2, items 1 to 7, and records of other shapes: a table, and its
-/// records. A bar stands between two fields, and a slash behind each record.
+/// records. A bar separates two fields, and a slash follows each record.
 pub const STANDARD: &[(&[u8], &[u8])] = &[
     (b"aaa,bbb,ccc\r\nzzz,yyy,xxx\r\n", b"aaa|bbb|ccc/zzz|yyy|xxx/"),
     (b"aaa,bbb,ccc\r\nzzz,yyy,xxx", b"aaa|bbb|ccc/zzz|yyy|xxx/"),

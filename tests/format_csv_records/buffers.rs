@@ -47,8 +47,8 @@ fn a_size_is_refused_where_no_record_can_go_on(rt: HostRuntime) {
     }
 }
 
-/// Bytes, how many fields and bytes of fields their first record has, its length, and whether its
-/// line end is there.
+/// Bytes, the numbers of fields and of bytes of fields in their first record, the record's length,
+/// and whether its line ending is present.
 const SIZES: &[(&[u8], usize, usize, usize, bool)] = &[
     (b"\n", 1, 0, 1, true),
     (b",\n,", 2, 0, 2, true),

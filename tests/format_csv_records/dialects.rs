@@ -1,7 +1,7 @@
 //! Dialects that there are, and those that there are not.
 use format_csv_records::dialect::{Dialect, DialectFault, LineEnds};
 
-/// A delimiter, a quote, and what is wrong with them.
+/// A delimiter, a quote, and why they are invalid.
 const IMPOSSIBLE: &[(u8, u8, DialectFault)] = &[
     (b',', b',', DialectFault::DelimiterIsQuote),
     (b'\n', b'\n', DialectFault::DelimiterIsQuote),

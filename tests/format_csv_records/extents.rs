@@ -6,7 +6,8 @@ use format_csv_records::dialect::{Dialect, LineEnds};
 use format_csv_records::extent::{RecordExtent, RecordPlace};
 use format_csv_records::read::RecordFault;
 
-/// What a call told: fields, bytes of fields, bytes, and whether the line end is there; or nothing.
+/// The result of a call: the numbers of fields, of bytes of fields and of bytes, and whether the
+/// line ending is present; or nothing.
 type Told = Result<Option<(usize, usize, usize, bool)>, RecordFault>;
 
 fn told(answer: Result<Option<RecordSize>, RecordFault>) -> Told {
@@ -17,7 +18,8 @@ fn told(answer: Result<Option<RecordSize>, RecordFault>) -> Told {
     }
 }
 
-/// A line end, bytes, and the size of the record that they begin with whatever follows.
+/// A line ending, bytes, and the size of the record that they start with regardless of what
+/// follows.
 const WHOLE: &[(LineEnds, &[u8], (usize, usize, usize))] = &[
     (LineEnds::Lf, b"\n", (1, 0, 1)),
     (LineEnds::Lf, b",\n,", (2, 0, 2)),

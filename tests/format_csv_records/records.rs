@@ -1,4 +1,4 @@
-//! Records and documents: fields, what is left, and where no record can go on.
+//! Records and documents: fields, the rest, and the first byte that cannot continue a record.
 use std::process::Abort;
 use format_csv_records::dialect::{Dialect, LineEnds};
 use format_csv_records::read::{RecordError, RecordFault, Refusal, read_record_into};
@@ -12,8 +12,8 @@ pub fn dialect(delimiter: u8, ends: LineEnds, rt: &impl Abort) -> Dialect {
     }
 }
 
-/// The examples of RFC 4180, section 2, items 1 to 7: a document, and its records. A bar stands
-/// between two fields, and a slash behind each record.
+/// The examples of RFC 4180, section 2, items 1 to 7: a document, and its records. A bar separates
+/// two fields, and a slash follows each record.
 pub const STANDARD: &[(&[u8], &[u8])] = &[
     (b"aaa,bbb,ccc\r\nzzz,yyy,xxx\r\n", b"aaa|bbb|ccc/zzz|yyy|xxx/"),
     (b"aaa,bbb,ccc\r\nzzz,yyy,xxx", b"aaa|bbb|ccc/zzz|yyy|xxx/"),
@@ -57,8 +57,8 @@ fn the_examples_of_the_standard(rt: HostRuntime) {
     }
 }
 
-/// A line end, bytes that begin with no record, and where and why. The places are told by hand: the
-/// first byte with which what is before it begins no record.
+/// A line ending, bytes that do not start with a record, the offset of the error, and the reason.
+/// The offsets are determined by hand: the first byte that cannot continue a record.
 pub const REFUSED: &[(LineEnds, &[u8], usize, Refusal)] = &[
     (LineEnds::Lf, b"a\"", 1, Refusal::QuoteInField),
     (LineEnds::Lf, b"a,b\"c\n", 3, Refusal::QuoteInField),

@@ -1,4 +1,4 @@
-//! Memory that is refused, and how little is asked for.
+//! Allocation failures, and how few allocations are made.
 use std::alloc::Global;
 use test_support::refusing::Refusing;
 use format_csv_records::dialect::{Dialect, LineEnds};

@@ -1,5 +1,5 @@
-//! Records that are written. The texts are those of Python's `csv.writer` with as few quotes as it
-//! can (`QUOTE_MINIMAL`), which leaves a field as it is also where the standard asks for no quotes.
+//! Written records. The texts are those of Python's `csv.writer` with as few quotes as possible
+//! (`QUOTE_MINIMAL`), which also leaves a field unquoted where the standard requires no quotes.
 use format_csv_records::dialect::{Dialect, LineEnds};
 use format_csv_records::read::read_record_into;
 use format_csv_records::record::ByteRecord;

@@ -3,8 +3,8 @@ use format_dns::data::Data;
 use format_dns::fault::{Fault, MessageFault, Section};
 use format_dns::message::read_message;
 
-/// What a server says of the mail of `ISI.ARPA`: one question, two answers, a name server, and the
-/// address of a mail exchange; each name but the first is by a pointer.
+/// A response about the mail of `ISI.ARPA`: one question, two answer records, a name server, and
+/// the address of a mail exchange. Each name but the first ends in a pointer.
 const MESSAGE: &[u8] = b"\xbe\xef\x81\x80\0\x01\0\x02\0\x01\0\x01\
 \x03ISI\x04ARPA\0\0\x0f\0\x01\
 \xc0\x0c\0\x0f\0\x01\0\0\x0e\x10\0\x06\0\x0a\x01F\xc0\x0c\
@@ -26,14 +26,17 @@ const CUTS: &[(usize, Section, usize, usize)] = &[
     (93, Section::Additional, 0, 90),
 ];
 
-/// A byte of the message, what stands there in its place, and which entry is not there, and why.
+/// The offset of a changed byte of the message, its new value, and the invalid entry with its
+/// error.
 const CHANGES: &[(usize, u8, Section, usize, Fault)] = &[
-    // Another question is counted: the first answer has a name, a type and a class too. The first
-    // byte of its time to live is then the root, and a length of 18112 stands before place 43.
+    // The header counts another question: the first answer is also read as a name, a type and a
+    // class. The first byte of its time to live is then the root, and a length of 18112 precedes
+    // offset 43.
     (5, 2, Section::Answer, 0, Fault::Ends(43)),
     // The question is not counted, so it is read as a record: with one octet of a mail exchange.
     (5, 0, Section::Answer, 0, Fault::Ends(32)),
-    // Another answer, and so on: records of all sections are alike, so the last one is not there.
+    // The header counts one more answer, or one more record of a later section: records of all
+    // sections have the same form, so the last one is missing.
     (7, 3, Section::Additional, 0, Fault::Ends(94)),
     (9, 2, Section::Additional, 0, Fault::Ends(94)),
     (11, 2, Section::Additional, 1, Fault::Ends(94)),
@@ -72,7 +75,6 @@ fn read_message_of_a_server(rt: HostRuntime) {
     assert!(rt; matches!(deeper, Err(got) if got == fault));
 }
 
-/// What stands after the last record is not read.
 #[test]
 fn read_message_before_more(rt: HostRuntime) {
     let mut bytes = Vec::new(rt.alloc());

@@ -1,4 +1,4 @@
-//! Memory that is refused, and faults as text.
+//! Allocation failures, and errors as text.
 use format_dns::fault::{Fault, MessageFault, Section};
 use format_dns::message::read_message;
 use std::alloc::Global;
@@ -15,7 +15,7 @@ const MESSAGE: &[u8] = b"\0\0\0\0\0\x02\0\x02\0\x02\0\x02\
 \xc0\x0c\0\x01\0\x01\0\0\0\0\0\x04\x7f\0\0\x01\
 \xc0\x0c\0\x01\0\x01\0\0\0\0\0\x04\x7f\0\0\x01";
 
-/// How many entries of such a message stand before that of a fault.
+/// Returns the number of entries of the message before that of the error.
 fn entries_before(fault: MessageFault) -> usize {
     let sections = match fault.section {
         Section::Header => 9,
@@ -27,7 +27,7 @@ fn entries_before(fault: MessageFault) -> usize {
     2 * sections + fault.entry
 }
 
-/// Each entry wants memory, and where it is refused is told by the first that it was refused for.
+/// Each entry allocates; the error names the first entry whose allocation failed.
 #[test]
 fn read_message_refused_memory(rt: HostRuntime) {
     let mut met = true;
@@ -51,7 +51,7 @@ fn read_message_refused_memory(rt: HostRuntime) {
     assert_eq!(rt; before, 7);
 }
 
-/// A header that counts 65,535 entries in each section asks for no memory.
+/// A header that counts 65,535 entries in each section does not allocate.
 #[test]
 fn read_message_that_counts_too_many(rt: HostRuntime) {
     let header = b"\0\0\0\0\xff\xff\xff\xff\xff\xff\xff\xff".as_slice();
@@ -66,27 +66,27 @@ fn read_message_that_counts_too_many(rt: HostRuntime) {
 const SAID: &[(MessageFault, &str)] = &[
     (
         MessageFault { section: Section::Header, entry: 0, why: Fault::Ends(0) },
-        "entry 0 of the header section: the message or the data end within what begins at byte 0",
+        "entry 0 of the header section: incomplete element at offset 0",
     ),
     (
         MessageFault { section: Section::Question, entry: 1, why: Fault::TooLong(12) },
-        "entry 1 of the question section: a name too long by the labels at byte 12",
+        "entry 1 of the question section: name too long at offset 12",
     ),
     (
         MessageFault { section: Section::Answer, entry: 2, why: Fault::TooMany(42) },
-        "entry 2 of the answer section: a pointer more than are followed at byte 42",
+        "entry 2 of the answer section: too many compression pointers at offset 42",
     ),
     (
         MessageFault { section: Section::Authority, entry: 0, why: Fault::NotPrior(9) },
-        "entry 0 of the authority section: a pointer to no prior place at byte 9",
+        "entry 0 of the authority section: compression pointer without a prior target at offset 9",
     ),
     (
         MessageFault { section: Section::Additional, entry: 3, why: Fault::Reserved(78) },
-        "entry 3 of the additional section: a label of a reserved kind at byte 78",
+        "entry 3 of the additional section: reserved label type at offset 78",
     ),
     (
         MessageFault { section: Section::Answer, entry: 0, why: Fault::Trailing(30) },
-        "entry 0 of the answer section: octets of the data are left from here on, at byte 30",
+        "entry 0 of the answer section: unexpected trailing data at offset 30",
     ),
     (
         MessageFault { section: Section::Answer, entry: 0, why: Fault::NoMemory },

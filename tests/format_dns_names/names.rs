@@ -9,7 +9,7 @@ const EXAMPLE: &[u8] = b"\0\0\0\0\0\0\0\0\0\0\0\0\0\0\0\0\0\0\0\0\
 \x01F\x03ISI\x04ARPA\0\0\0\0\0\0\0\0\0\x03FOO\xc0\x14\0\0\0\0\0\0\0\0\0\0\0\0\0\0\0\0\0\0\
 \xc0\x1a\0\0\0\0\0\0\0\0\0\0\0\0\0\0\0\0\0\0\0\0\0\0\0\0\0\0\0";
 
-/// A place in the example, a level, the labels there and the place behind them.
+/// An offset in the example, a limit of pointers, the labels there and the offset after the name.
 const NAMES: &[(usize, usize, &[&[u8]], usize)] = &[
     (20, 0, &[b"F", b"ISI", b"ARPA"], 32),
     (40, 1, &[b"FOO", b"F", b"ISI", b"ARPA"], 46),
@@ -30,7 +30,7 @@ const FAULTS: &[(&[u8], usize, usize, Fault)] = &[
     (b"\x01a\x40", 0, 3, Fault::Reserved(2)),
     (b"\x01a\x80\0", 0, 3, Fault::Reserved(2)),
     (b"\xbf\0", 0, 3, Fault::Reserved(0)),
-    // A pointer to itself, to what is behind it, to the labels before it, and two in a circle.
+    // A pointer to itself, to a later offset, to the labels before it, and two in a cycle.
     (b"\xc0\0", 0, 3, Fault::NotPrior(0)),
     (b"\xc0\x02\0", 0, 3, Fault::NotPrior(0)),
     (b"\x01a\xc0\0", 0, 3, Fault::NotPrior(2)),

@@ -2,7 +2,7 @@
 use format_dns::fault::Fault;
 use format_dns::question::read_questions;
 
-/// Of a question its name, its type, its class, and the place behind it.
+/// The name, the type and the class of a question, and the offset after it.
 type Row = (&'static str, u16, u16, usize);
 
 /// Three questions from place 12 on: `a.com` for A, `b.com` by a pointer to `com` for MX, and the
@@ -18,9 +18,9 @@ const ROWS: &[Row] = &[
     (".", 2, 3, 36),
 ];
 
-/// So many bytes of the message, how many questions are asked for, and why there are not.
+/// The length of a prefix of the message, the number of questions to read, and the error.
 const FAULTS: &[(usize, u16, Fault)] = &[
-    // The fourth, of which the message has nothing.
+    // The fourth question, which is wholly missing.
     (36, 4, Fault::Ends(36)),
     // Cut in the class, in the type and in the name of the third, and in the pointer of the second.
     (35, 3, Fault::Ends(32)),

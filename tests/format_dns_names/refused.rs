@@ -1,4 +1,4 @@
-//! Memory that is refused.
+//! Allocation failures.
 use format_dns::fault::Fault;
 use format_dns::name::read_name;
 use format_dns::question::read_questions;

@@ -26,7 +26,7 @@ const PAIRS: &[(&[u8], &[u8], bool)] = &[
     (b"\x01a\x01b\0", b"\x01a\0", false),
     (b"\x01a\x01b\0", b"\x03a\x01b\0", false),
     (b"\x02ab\0", b"\x01a\x01b\0", false),
-    // Bytes beside the letters, 32 apart: no letters.
+    // Bytes next to the letters, 32 apart, are not letters.
     (b"\x01@\0", b"\x01`\0", false),
     (b"\x01[\0", b"\x01{\0", false),
     (b"\x01Z\0", b"\x01z\0", true),
@@ -60,7 +60,7 @@ fn names_in_other_letters(rt: HostRuntime) {
     }
 }
 
-/// Labels of so many bytes each, from a place on; the place behind them.
+/// Writes labels of the given sizes from `place` on, and returns the offset after them.
 fn put_labels(message: &mut [u8], place: usize, sizes: &[usize]) -> usize {
     let mut at = place;
     for size in sizes {

@@ -8,15 +8,15 @@ use std::process::Abort;
 /// `a.b` at 0; then records at 5.
 const NAME: &[u8] = b"\x01a\x01b\0";
 
-/// What is behind the name of a record, and how its type, its class, its time to live and its data
-/// are written.
+/// The bytes after the name of a record, and the record as text: its type, class, time to live and
+/// data.
 const ROWS: &[(&[u8], &str)] = &[
     (b"\0\x01\0\x01\0\0\x0e\x10\0\x04\xc0\0\x02\x01", "1 1 3600 192 0 2 1"),
     (
         b"\0\x1c\0\x01\xff\xff\xff\xff\0\x10\x20\x01\x0d\xb8\0\0\0\0\0\0\0\0\0\x05\xfe\xdc",
         "28 1 4294967295 8193 3512 0 0 0 0 5 65244",
     ),
-    // A name by a pointer, a name of a label and a pointer, and a whole one.
+    // A pointer, a label and a pointer, and a name without pointers.
     (b"\0\x02\0\x01\0\0\0\x01\0\x02\xc0\0", "2 1 1 a.b."),
     (b"\0\x05\0\x01\0\0\0\x01\0\x04\x01c\xc0\x02", "5 1 1 c.b."),
     (b"\0\x0c\0\x03\0\0\0\x01\0\x03\x01c\0", "12 3 1 c."),
@@ -44,8 +44,8 @@ const ROWS: &[(&[u8], &str)] = &[
     (b"\0\x0f\0\xfe\0\0\0\0\0\x04\0\x0a\xc0\0", "15 254 0 10 a.b."),
 ];
 
-/// What is behind the name of a record, and why none is there. The name is at 5, its end at 7, the
-/// data at 17.
+/// The bytes after the name of an invalid record, and its error. The name is at offset 5 and ends
+/// at 7; the data are at 17.
 const FAULTS: &[(&[u8], Fault)] = &[
     // Fewer octets than a type has, and more.
     (b"\0\x01\0\x01\0\0\0\0\0\x03\x01\x02\x03", Fault::Ends(17)),
@@ -63,7 +63,7 @@ const FAULTS: &[(&[u8], Fault)] = &[
     (b"\0\x0f\0\x01\0\0\0\0\0\x01\0", Fault::Ends(17)),
     (b"\0\x0f\0\x01\0\0\0\0\0\x02\0\x01\0", Fault::Ends(19)),
     (b"\0\x0f\0\x01\0\0\0\0\0\x04\0\x01\0\0", Fault::Trailing(20)),
-    // No character string, one that is cut off, and one behind another.
+    // No character string, a truncated one, and two.
     (b"\0\x10\0\x01\0\0\0\0\0\0", Fault::Ends(17)),
     (b"\0\x10\0\x01\0\0\0\0\0\x02\x02ab", Fault::Ends(17)),
     (b"\0\x10\0\x01\0\0\0\0\0\x04\x01a\x02b", Fault::Ends(19)),
@@ -152,7 +152,7 @@ fn records_of_each_type(rt: HostRuntime) {
     }
 }
 
-/// The fault of a record that is none.
+/// The error of an invalid record.
 fn fault_of<'m, A: Allocator>(read: Result<Record<'m, A>, Fault>) -> Option<Fault> {
     match read {
         Ok(_) => None,

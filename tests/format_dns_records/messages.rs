@@ -3,8 +3,8 @@ use format_dns::data::Data;
 use format_dns::fault::Fault;
 use format_dns::record::read_records;
 
-/// What a server says of the mail of `ISI.ARPA`: one question, two answers, a name server, and the
-/// address of a mail exchange; each name but the first is by a pointer.
+/// A response about the mail of `ISI.ARPA`: one question, two answer records, a name server, and
+/// the address of a mail exchange. Each name but the first ends in a pointer.
 const MESSAGE: &[u8] = b"\xbe\xef\x81\x80\0\x01\0\x02\0\x01\0\x01\
 \x03ISI\x04ARPA\0\0\x0f\0\x01\
 \xc0\x0c\0\x0f\0\x01\0\0\x0e\x10\0\x06\0\x0a\x01F\xc0\x0c\

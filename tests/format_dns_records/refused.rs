@@ -1,4 +1,4 @@
-//! Memory that is refused.
+//! Allocation failures.
 use format_dns::fault::Fault;
 use format_dns::record::read_records;
 use std::alloc::Global;

@@ -3,12 +3,13 @@ use format_http_chunked::decoder::{Decoder, Fault, Limits, SAFE_LIMITS, Step};
 use std::alloc::{AllocError, Allocator};
 use std::process::Abort;
 
-/// What was decoded of pieces.
+/// The result of decoding pieces of a body.
 #[derive(Drop)]
 pub(crate) struct Decoded<A: Allocator> {
     pub(crate) content: Vec<u8, A>,
     pub(crate) trailers: Vec<u8, A>,
-    /// How many bytes were taken, and what came last: the end, or why a byte was refused.
+    /// The number of consumed bytes. The fields below give the last step: the end, or why a byte
+    /// was rejected.
     pub(crate) taken: usize,
     pub(crate) ended: bool,
     pub(crate) fault: Option<Fault>,
@@ -22,7 +23,7 @@ fn take_piece<A: Allocator>(
     let mut input = piece;
     let mut goes_on = true;
     while goes_on {
-        // As numbers it goes on from the same place.
+        // A decoder restored from its state as numbers resumes where it stopped.
         let mut decoder = Decoder::of_state(kept.state());
         let said = decoder.advance(&mut input);
         *kept = decoder;
@@ -44,7 +45,7 @@ fn take_piece<A: Allocator>(
     Ok(())
 }
 
-/// What is decoded of pieces, up to the end or a refusal.
+/// Decodes pieces up to the end of the body or an error.
 pub(crate) fn decode<A: Allocator + Copy>(
     alloc: A,
     limits: Limits,
@@ -66,7 +67,7 @@ pub(crate) fn decode<A: Allocator + Copy>(
     Ok(decoded)
 }
 
-/// Bodies, their content, their trailers, and how many bytes are behind them.
+/// Bodies, their content, their trailers, and the number of bytes after them.
 const BODIES: &[(&[u8], &[u8], &[u8], usize)] = &[
     (b"0\r\n\r\n", b"", b"", 0),
     (b"00000\r\n\r\n", b"", b"", 0),
@@ -112,7 +113,7 @@ fn advance_at_every_pair_of_cuts(rt: HostRuntime) {
     }
 }
 
-/// Before the end more is asked for, and behind it the end is said again.
+/// Before the end more input is needed; after it every call returns the end again.
 #[test]
 fn advance_asks_for_more_up_to_the_end(rt: HostRuntime) {
     for (text, content, _, behind) in BODIES {

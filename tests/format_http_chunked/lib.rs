@@ -1,4 +1,4 @@
-//! The tests of chunked bodies that come in pieces.
+//! Tests of incremental decoding of chunked bodies.
 #![tactic(auto)]
 
 #[cfg(test)]

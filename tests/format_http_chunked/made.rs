@@ -18,7 +18,7 @@ impl Numbers {
     }
 }
 
-/// Size lines behind the digits, by the grammar of extensions.
+/// Size lines after the digits, by the grammar of extensions.
 const EXTENSIONS: &[&[u8]] = &[
     b"\r\n", b"\r\n", b"\r\n", b";a\r\n", b" ; a = b\r\n", b";a=\"\\\"\";b\r\n", b"\t;~=\"0;\"\r\n",
     b";q=\"\"\r\n",

@@ -1,10 +1,11 @@
-//! Bytes that no body begins with, at the first byte with which none does, and limits.
+//! Invalid bodies, with the first byte that cannot continue a body, and limits.
 use crate::bodies::decode;
 use format_http_chunked::decoder::{Fault, Limits, SAFE_LIMITS};
 use std::alloc::Allocator;
 use std::process::Abort;
 
-/// Bytes, how many of them begin a body, and why the next one is refused.
+/// Bytes, the length of their longest prefix that can start a body, and why the next byte is
+/// rejected.
 const REFUSED: &[(&[u8], usize, Fault)] = &[
     (b"\r\n", 0, Fault::Size),
     (b"g\r\n", 0, Fault::Size),
@@ -72,7 +73,7 @@ fn advance_refuses_the_first_byte(rt: HostRuntime) {
     }
 }
 
-/// The largest size is none that is refused.
+/// The largest size is accepted.
 #[test]
 fn advance_takes_a_size_of_64_bits(rt: HostRuntime) {
     match decode(rt.alloc(), SAFE_LIMITS, &[b"ffffffffffffffff\r\nabc"]) {

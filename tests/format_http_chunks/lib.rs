@@ -1,4 +1,4 @@
-//! The tests of size lines of chunks, and of which requests are refused.
+//! Tests of the size lines of chunks, and of rejected requests.
 #![tactic(auto)]
 
 #[cfg(test)]

@@ -1,4 +1,4 @@
-//! Size lines where memory is refused.
+//! Size lines with allocation failures.
 use format_http::chunks::size_line::read_size_line;
 use std::alloc::Global;
 use test_support::refusing::Refusing;
@@ -24,7 +24,7 @@ fn read_size_line_refused_memory(rt: HostRuntime) {
     assert!(rt; n > 1);
 }
 
-/// No memory is asked for where no extension stands.
+/// A size line without extensions does not allocate.
 #[test]
 fn read_size_line_asks_for_none(rt: HostRuntime) {
     let heap: Refusing<Global> = Refusing::once(rt.alloc(), 0);

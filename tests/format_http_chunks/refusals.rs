@@ -1,11 +1,11 @@
-//! Requests that a server must refuse, by their heads.
+//! Requests that a server must reject, by their heads.
 use format_http::heads::field_line::read_field_line;
 use format_http::chunks::refusals::{Refusal, refusal_of};
 use format_http::heads::head::read_head;
 use std::alloc::Global;
 use std::process::Abort;
 
-/// Heads, and why each is refused (RFC 9112, section 3.2, whose examples are the first rows).
+/// Heads, and why each is rejected (RFC 9112, section 3.2, whose examples are the first rows).
 const HEADS: &[(&[u8], Option<Refusal>)] = &[
     (b"GET /where?q=now HTTP/1.1\r\nHost: www.example.org\r\n\r\n", None),
     (b"OPTIONS * HTTP/1.1\r\nHost: www.example.org:8001\r\n\r\n", None),
@@ -28,12 +28,14 @@ const BESIDE: Option<Refusal> = Some(Refusal::LengthBesideCoding);
 
 const NOT_CHUNKED: Option<Refusal> = Some(Refusal::NotChunked);
 
+const NOT_LAST: Option<Refusal> = Some(Refusal::ChunkedNotLast);
+
 const DIFFER: Option<Refusal> = Some(Refusal::LengthsDiffer);
 
 const NO_NUMBER: Option<Refusal> = Some(Refusal::LengthIsNoNumber);
 
-/// Fields behind a Host field of a request of HTTP/1.1, and why it is refused (RFC 9112, sections
-/// 6.1 and 6.3, and RFC 9110, section 8.6).
+/// Fields after a Host field of an HTTP/1.1 request, and why the request is rejected (RFC 9112,
+/// sections 6.1 and 6.3, and RFC 9110, section 8.6).
 const FRAMINGS: &[(&[u8], Option<Refusal>)] = &[
     (b"", None),
     (b"Content-Length: 42\r\n", None),
@@ -50,6 +52,9 @@ const FRAMINGS: &[(&[u8], Option<Refusal>)] = &[
     (b"Content-Length: -1\r\n", NO_NUMBER),
     (b"Content-Length: 0x2a\r\n", NO_NUMBER),
     (b"Content-Length: 4 2\r\n", NO_NUMBER),
+    (b"Content-Length: ,4\r\n", NO_NUMBER),
+    (b"Content-Length: 4,\r\n", NO_NUMBER),
+    (b"Content-Length: 4,,4\r\n", NO_NUMBER),
     (b"Content-Length: a\r\nContent-Length: a\r\n", NO_NUMBER),
     (b"Transfer-Encoding: chunked\r\n", None),
     (b"Transfer-Encoding: gzip, chunked\r\n", None),
@@ -59,8 +64,12 @@ const FRAMINGS: &[(&[u8], Option<Refusal>)] = &[
     (b"Transfer-Encoding: ,chunked, ,\r\nTransfer-Encoding: ,\r\n", None),
     (b"Transfer-Encoding: a;b=\"c, d\", chunked\r\n", None),
     (b"Transfer-Encoding: gzip\r\n", NOT_CHUNKED),
-    (b"Transfer-Encoding: chunked, gzip\r\n", NOT_CHUNKED),
-    (b"Transfer-Encoding: chunked\r\nX: y\r\nTransfer-Encoding: gzip\r\n", NOT_CHUNKED),
+    (b"Transfer-Encoding: chunked, chunked\r\n", NOT_LAST),
+    (b"Transfer-Encoding: chunked\r\nX: y\r\ntransfer-encoding: CHUNKED\r\n", NOT_LAST),
+    (b"Transfer-Encoding: chunked, gzip\r\n", NOT_LAST),
+    (b"Transfer-Encoding: chunked, gzip, chunked\r\n", NOT_LAST),
+    (b"Transfer-Encoding: chunked ; a=b, chunked\r\n", NOT_LAST),
+    (b"Transfer-Encoding: chunked\r\nX: y\r\nTransfer-Encoding: gzip\r\n", NOT_LAST),
     (b"Transfer-Encoding: identity\r\n", NOT_CHUNKED),
     (b"Transfer-Encoding: xchunked\r\n", NOT_CHUNKED),
     (b"Transfer-Encoding: x chunked\r\n", NOT_CHUNKED),
@@ -95,7 +104,7 @@ fn refusal_of_heads(rt: HostRuntime) {
     }
 }
 
-/// Whether the request of a head is refused so.
+/// Checks the reason for which the request of a head is rejected.
 fn refuses(rt: &impl Abort, alloc: Global, text: &[u8], want: Option<Refusal>) {
     let mut input = text;
     let head = read_head(alloc, &mut input);

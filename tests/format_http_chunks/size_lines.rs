@@ -1,11 +1,11 @@
-//! Size lines on whole inputs.
+//! Size lines on complete input.
 use format_http::chunks::size_line::{Size, SizeLine, read_size_line};
 use std::alloc::Allocator;
 use std::process::Abort;
 use winnow::error::ErrMode;
 
-/// A text; and the size of the size line that it begins with, the extensions, written again with a
-/// space behind each, and how many bytes are left; or none, where no size line stands first.
+/// A text; and the size of its size line, the extensions written with a space after each, and the
+/// number of remaining bytes; or `None` if the text does not start with a size line.
 pub type Row = (&'static [u8], Option<(Size, &'static [u8], usize)>);
 
 /// Written by hand, by the rules of RFC 9112, section 7.1.1, and RFC 9110, section 5.6.
@@ -77,7 +77,7 @@ fn push<A: Allocator>(rt: &impl Abort, into: &mut Vec<u8, A>, bytes: &[u8]) {
     }
 }
 
-/// Extensions written again, each with a space behind it.
+/// Checks extensions by writing them with a space after each.
 fn written<A: Allocator>(
     rt: &impl Abort,
     extensions: &[(&[u8], Option<&[u8]>)],

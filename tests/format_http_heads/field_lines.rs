@@ -4,8 +4,8 @@ use std::process::Abort;
 use format_http::heads::field_line::{Field, read_field_line, trimmed};
 use winnow::error::ErrMode;
 
-/// A text, the name and the value of the field line that it begins with, and what is left. The
-/// fields are those of the examples of RFC 9110 and RFC 9112, and some at the edges of the grammar.
+/// A text, the name and the value of its first field line, and the rest. The fields are those of
+/// the examples of RFC 9110 and RFC 9112, and some at the edges of the grammar.
 const LINES: &[(&[u8], &[u8], &[u8], &[u8])] = &[
     (b"Host: www.example.org\r\n", b"Host", b"www.example.org", b""),
     (b"Content-Length: 51\r\n\r\n", b"Content-Length", b"51", b"\r\n"),
@@ -22,8 +22,8 @@ const LINES: &[(&[u8], &[u8], &[u8], &[u8])] = &[
     (b"!#$%&'*+-.^_`|~09azAZ: a:b\r\n", b"!#$%&'*+-.^_`|~09azAZ", b"a:b", b""),
 ];
 
-/// Texts that begin with no field line: no name, white space before the colon, no colon, a control
-/// in the value, a line feed or a carriage return alone.
+/// Texts that do not start with a field line: no name, whitespace before the colon, no colon, a
+/// control in the value, a lone line feed or carriage return.
 const NO_LINES: &[&[u8]] = &[
     b"\r\n",
     b": a\r\n",
@@ -38,7 +38,7 @@ const NO_LINES: &[&[u8]] = &[
     b"Ho(st: a\r\n",
 ];
 
-/// A text, and what is left of it without the white space at its end (RFC 9110, section 5.5).
+/// A text, and the text without its trailing whitespace (RFC 9110, section 5.5).
 const TRIMMED: &[(&[u8], &[u8])] = &[
     (b"", b""),
     (b" \t ", b""),

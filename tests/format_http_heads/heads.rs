@@ -7,7 +7,7 @@ use format_http::heads::field_line::Field;
 use format_http::heads::head::{Head, read_head};
 use winnow::error::{EmptyError, ErrMode, ParserError};
 
-/// A text, the method and the target of the head that it begins with, its fields, and what is left.
+/// A text, the method and the target of its head, its fields, and the rest.
 type Row = (
     &'static [u8],
     &'static [u8],
@@ -48,8 +48,8 @@ const HEADS: &[Row] = &[
     ),
 ];
 
-/// Texts that begin with no head: a line that is none, white space before a name, or a line end
-/// that is none.
+/// Texts that do not start with a head: an invalid line, whitespace before a name, or an invalid
+/// line ending.
 const NO_HEADS: &[&[u8]] = &[
     b"\r\nA b HTTP/1.1\r\n\r\n",
     b"A  b HTTP/1.1\r\n\r\n",
@@ -69,7 +69,7 @@ fn same<T: PartialEq + Debug + Drop>(rt: &impl Abort, row: &[u8], got: T, want: 
     assert_eq!(rt; got, want, "{row:?}");
 }
 
-/// A reader answered the head of the row.
+/// Checks that a reader returned the head of the row.
 fn is_head(rt: &impl Abort, row: &Row, answer: Result<Head<'_, Global>, ErrMode<EmptyError>>) {
     let (text, method, target, fields, _) = row;
     match answer {
@@ -119,7 +119,7 @@ fn read_head_of_each_beginning(rt: HostRuntime) {
     }
 }
 
-/// Whether a reader was refused memory.
+/// Returns whether a reader failed with out of memory.
 fn was_refused<T>(answer: &Result<T, ErrMode<EmptyError>>) -> bool {
     matches!(answer, Err(error) if ParserError::<&[u8]>::is_memory(error))
 }

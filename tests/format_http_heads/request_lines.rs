@@ -4,8 +4,7 @@ use std::process::Abort;
 use format_http::heads::request_line::{RequestLine, read_request_line};
 use winnow::error::ErrMode;
 
-/// A text, the method, the target and the two numbers of the version of the request line that it
-/// begins with, and what is left.
+/// A text, the method, the target and the two version numbers of its request line, and the rest.
 type Row = (&'static [u8], &'static [u8], &'static [u8], (u8, u8), &'static [u8]);
 
 /// The lines of the examples of RFC 9112, section 3.2, and some at the edges of the grammar.
@@ -32,8 +31,8 @@ const LINES: &[Row] = &[
     (b"M ~\" HTTP/9.9\r\n\r\n", b"M", b"~\"", (9, 9), b"\r\n"),
 ];
 
-/// Texts that begin with no request line: a part is lacking, or there are other spaces, bytes,
-/// digits or line ends than there may be.
+/// Texts that do not start with a request line: a part is missing, or spaces, bytes, digits or line
+/// endings differ from those allowed.
 const NO_LINES: &[&[u8]] = &[
     b"\r\n",
     b" GET / HTTP/1.1\r\n",

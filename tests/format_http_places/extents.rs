@@ -70,7 +70,7 @@ fn agree(rt: &impl Abort, text: &[u8], cut: usize) {
     }
 }
 
-/// Heads of which some bytes are replaced, at random, and cut.
+/// Heads with some bytes replaced at random, and random prefixes of them.
 #[test]
 fn advance_as_heads_are_read(rt: HostRuntime) {
     let bytes = b"\r\n \t:aG/1.\x7f\x00\xff,H".as_slice();
@@ -114,5 +114,5 @@ fn advance_of_many_pieces(rt: HostRuntime) {
 #[test]
 fn refused_is_shown(rt: HostRuntime) {
     let shown = format!(in rt.alloc(); "{}", Refused { place: 20 });
-    assert!(rt; matches!(shown, Ok(text) if text.as_str() == "no head goes on at byte 20"));
+    assert!(rt; matches!(shown, Ok(text) if text.as_str() == "invalid byte at offset 20"));
 }

@@ -5,7 +5,7 @@ use format_http::heads::head::read_head;
 use format_http_places::places::{Field, Head, Span};
 use format_http_places::read::{HeadError, read_head_into};
 
-/// A text, the method and the target of the head that it begins with, its fields, and what is left.
+/// A text, the method and the target of its head, its fields, and the rest.
 pub type Row = (
     &'static [u8],
     &'static [u8],
@@ -53,8 +53,9 @@ pub const HEADS: &[Row] = &[
     ),
 ];
 
-/// Texts that begin with no head: how many bytes of each begin one. The byte behind these is the
-/// first that the grammar of RFC 9112, sections 2.1 to 5.1, has not there.
+/// Texts that do not start with a head, and the length of the longest prefix of each that can start
+/// one. The next byte is the first that the grammar of RFC 9112, sections 2.1 to 5.1, does not
+/// allow there.
 pub const NO_HEADS: &[(&[u8], usize)] = &[
     (b"\r\nA b HTTP/1.1\r\n\r\n", 0),
     (b"A  b HTTP/1.1\r\n\r\n", 2),
@@ -93,7 +94,7 @@ pub fn same<T: PartialEq + Debug + Drop>(rt: &impl Abort, row: &[u8], got: T, wa
     assert_eq!(rt; got, want, "{row:?}");
 }
 
-/// The bytes at a place.
+/// Returns the bytes at a span.
 fn at(rt: &impl Abort, text: &'static [u8], place: Span) -> &'static [u8] {
     match text.get(place.offset..place.offset + place.length) {
         Some(bytes) => bytes,
@@ -142,7 +143,8 @@ fn read_head_into_of_none(rt: HostRuntime) {
         let mut entries = [NO_FIELD; 4];
         let answer = read_head_into(text, &mut entries);
         same(&rt, text, answer, Err(HeadError::Refused(*place)));
-        // So with the byte there alone behind it, and without that byte more is asked for.
+        // The text up to and including that byte gives the same error; without that byte the reader
+        // needs more input.
         let answer = read_head_into(&text[..*place + 1], &mut entries);
         same(&rt, text, answer, Err(HeadError::Refused(*place)));
         let answer = read_head_into(&text[..*place], &mut entries);
@@ -187,7 +189,7 @@ pub fn next(state: u32) -> u32 {
     state.wrapping_mul(1_664_525).wrapping_add(1_013_904_223)
 }
 
-/// Whether this reader answers as those that are made of parsers.
+/// Checks that this reader gives the same result as the readers composed of parsers.
 fn agree(rt: &impl Abort, alloc: std::alloc::Global, text: &[u8]) {
     let mut entries = [NO_FIELD; 8];
     let answer = read_head_into(text, &mut entries);
@@ -215,7 +217,7 @@ fn agree(rt: &impl Abort, alloc: std::alloc::Global, text: &[u8]) {
     }
 }
 
-/// Heads of which some bytes are replaced, at random, and cut.
+/// Heads with some bytes replaced at random, and random prefixes of them.
 #[test]
 fn read_head_into_as_parsers_do(rt: HostRuntime) {
     let bytes = b"\r\n \t:aG/1.\x7f\x00\xff,H".as_slice();

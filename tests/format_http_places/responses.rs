@@ -6,8 +6,8 @@ use format_http_places::places::{Field, ResponseHead, Span};
 use format_http_places::read::HeadError;
 use format_http_places::response::read_response_head_into;
 
-/// A text; the numbers of the version, the status code, and where the reason stands and how long
-/// it is, of the head that it begins with; its fields; and how many bytes are left.
+/// A text; the version numbers, the status code, and the offset and length of the reason of its
+/// head; its fields; and the number of remaining bytes.
 type Row = (
     &'static [u8],
     (u8, u8),
@@ -59,8 +59,9 @@ const HEADS: &[Row] = &[
     ),
 ];
 
-/// Texts that begin with no head: how many bytes of each begin one. The byte behind these is the
-/// first that the grammar of RFC 9112, sections 2.1 to 5.1, has not there.
+/// Texts that do not start with a head, and the length of the longest prefix of each that can start
+/// one. The next byte is the first that the grammar of RFC 9112, sections 2.1 to 5.1, does not
+/// allow there.
 const NO_HEADS: &[(&[u8], usize)] = &[
     (b"\r\nHTTP/1.1 200 OK\r\n\r\n", 0),
     (b"GET / HTTP/1.1\r\n\r\n", 0),
@@ -148,7 +149,8 @@ fn read_response_head_into_of_none(rt: HostRuntime) {
         let mut entries = [NO_FIELD; 4];
         let answer = read_response_head_into(text, &mut entries);
         same(&rt, text, answer, Err(HeadError::Refused(*place)));
-        // So with the byte there alone behind it, and without that byte more is asked for.
+        // The text up to and including that byte gives the same error; without that byte the reader
+        // needs more input.
         let answer = read_response_head_into(&text[..*place + 1], &mut entries);
         same(&rt, text, answer, Err(HeadError::Refused(*place)));
         let answer = read_response_head_into(&text[..*place], &mut entries);
@@ -156,7 +158,7 @@ fn read_response_head_into_of_none(rt: HostRuntime) {
     }
 }
 
-/// Whether this reader answers as those that are made of parsers.
+/// Checks that this reader gives the same result as the readers composed of parsers.
 fn agree(rt: &impl Abort, alloc: std::alloc::Global, text: &[u8]) {
     let mut entries = [NO_FIELD; 8];
     let answer = read_response_head_into(text, &mut entries);
@@ -187,7 +189,7 @@ fn agree(rt: &impl Abort, alloc: std::alloc::Global, text: &[u8]) {
     }
 }
 
-/// Heads of which some bytes are replaced, at random, and cut.
+/// Heads with some bytes replaced at random, and random prefixes of them.
 #[test]
 fn read_response_head_into_as_parsers_do(rt: HostRuntime) {
     let bytes = b"\r\n \t:2/1.\x7f\x00\xff,H".as_slice();

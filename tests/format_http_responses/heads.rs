@@ -1,4 +1,4 @@
-//! Heads of responses, and how long the bodies behind them are.
+//! Heads of responses, and the lengths of the bodies after them.
 use format_http::bodies::framing::{BodyLength, FramingFault};
 use format_http::responses::head::{read_response_head, response_body_length};
 

@@ -1,8 +1,8 @@
 //! Status lines (RFC 9112, section 4).
 use format_http::responses::status_line::read_status_line;
 
-/// A text; the numbers of the version, the status code and the reason of the status line that it
-/// begins with; and how many bytes are left.
+/// A text; the version numbers, the status code and the reason of its status line; and the number
+/// of remaining bytes.
 type Row = (&'static [u8], u8, u8, u16, &'static [u8], usize);
 
 const LINES: &[Row] = &[

@@ -1,4 +1,4 @@
-//! The tests of INI files by any dialect: what they say, and which lines are refused.
+//! Tests of INI files in any dialect: their entries, and invalid lines.
 #![tactic(auto)]
 
 #[cfg(test)]

@@ -1,4 +1,4 @@
-//! Entries of bytes with where they stand, call by call. The places are counted by hand.
+//! Entries of bytes with their offsets, call by call. The offsets are counted by hand.
 use format_ini::dialect::{Delimiters, Dialect};
 use format_ini::lines::{Entry, Places, Refusal};
 use format_ini::places::{Placed, Reading, Stop, next_placed};
@@ -33,7 +33,7 @@ fn stops(rt: &impl Abort, dialect: Dialect, bytes: &[u8], reading: &mut Reading,
     }
 }
 
-/// Checks that no entry is left.
+/// Checks that no entry remains.
 fn ends(rt: &impl Abort, dialect: Dialect, bytes: &[u8], reading: &mut Reading) {
     match next_placed(dialect, bytes, reading) {
         Ok(None) => {}

@@ -1,5 +1,5 @@
-//! Documents, and what their lines say. What each row must come to is what Python's `configparser`
-//! has for it, of which the first rows' texts keep the kinds of line that its documentation has
+//! Documents and their entries. The expected entries of each row are those of Python's
+//! `configparser`; the texts of the first rows contain the kinds of line of its documentation
 //! ("Supported INI File Structure").
 use format_ini::dialect::{Continued, Delimiters, Dialect, Marks};
 use format_ini::documents::read_document;
@@ -7,13 +7,13 @@ use format_ini::lines::Entry;
 use std::alloc::Global;
 use std::process::Abort;
 
-/// Adds a text behind another.
+/// Appends a text.
 fn put(rt: &impl Abort, shown: &mut Vec<u8, Global>, text: &str) {
     assert!(rt; shown.extend_from_slice(text.as_bytes()).is_ok());
 }
 
-/// Checks what a document says: a line for each entry, a section in brackets, a pair with `=`
-/// between, a key without a value alone, and a line that goes on behind `+`.
+/// Checks the entries of a document: one line for each entry, a section in brackets, a pair with
+/// `=` between, a key without a value by itself, and a continued line after `+`.
 fn says(rt: &impl Abort, alloc: Global, dialect: Dialect, text: &str, wanted: &str) {
     match read_document(alloc, dialect, text) {
         Ok(entries) => {
@@ -128,7 +128,7 @@ fn dialects_that_differ_in_one_thing(rt: HostRuntime) {
     says(&rt, rt.alloc(), before, "a = b\n[s]\nc = d\n", "a=b\n[s]\nc=d\n");
 }
 
-/// A desktop entry as its specification has it, shorter.
+/// A desktop entry as in its specification, shortened.
 #[test]
 fn a_desktop_entry(rt: HostRuntime) {
     let text = "[Desktop Entry]\nVersion=1.0\nName=Foo Viewer\nName[de]=Betrachter\n# see\n\n\

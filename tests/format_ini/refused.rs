@@ -1,11 +1,11 @@
-//! Texts that are no documents: where the first line begins that is refused, and why.
+//! Invalid documents: the offset of the first invalid line, and the reason.
 use format_ini::dialect::Dialect;
 use format_ini::documents::{Entries, Fault, IniError, read_document};
 use format_ini::lines::{Entry, Refusal};
 use text_positions::Position;
 
-/// A text, the bytes before the line that is refused, and why. Python's `configparser` refuses the
-/// same lines, but for what stands behind a section, and `[` at a key's start.
+/// A text, the number of bytes before the invalid line, and the reason. Python's `configparser`
+/// rejects the same lines, except for text after a section, and `[` at the start of a key.
 const REFUSED: &[(&str, usize, Refusal)] = &[
     ("a = b\n", 0, Refusal::NoSection),
     ("\n# c\na\n", 5, Refusal::NoSection),
@@ -33,7 +33,8 @@ fn lines_that_are_refused(rt: HostRuntime) {
     }
 }
 
-/// What stands before a line that is refused is read, and the line is refused again.
+/// The entries before an invalid line are returned, and the line is rejected again by the next
+/// call.
 #[test]
 fn entries_before_a_refusal(rt: HostRuntime) {
     let mut entries = Entries::new(Dialect::python(), "[s]\na = b\n\n= c\n");
@@ -48,7 +49,7 @@ fn entries_before_a_refusal(rt: HostRuntime) {
     assert!(rt; entries.next_entry() == Err(Refusal::NoKey));
 }
 
-/// Faults as they are shown, with the line and the column of the line that is refused.
+/// Errors as text, with the line and the column of the invalid line.
 #[test]
 fn faults_are_shown(rt: HostRuntime) {
     let text = "[gr\u{f6}\u{df}e]\n\n= b\n";
@@ -58,7 +59,7 @@ fn faults_are_shown(rt: HostRuntime) {
             assert_eq!(rt; fault.position(text), Some(position));
             match format!(in rt.alloc(); "{fault}") {
                 Ok(shown) => {
-                    let wanted = "no key before the delimiter in the line at byte 11";
+                    let wanted = "missing key before the delimiter in the line at offset 11";
                     assert_eq!(rt; shown.as_str(), wanted);
                 }
                 Err(_) => assert!(rt; false),

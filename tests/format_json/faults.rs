@@ -1,53 +1,53 @@
-//! Faults: where, and what is expected there, as people read it.
+//! Errors: the position and the expected item, as displayed.
 use format_json::{Fault, Location, Value, from_bytes, from_text};
 use std::alloc::Global;
 use std::process::Abort;
 use test_support::outcomes::Kind;
 use test_support::refusing::{Refusing, refused_in_turn};
 
-/// A text, and what is said of it.
+/// A text and its error message.
 const ROWS: &[(&str, &str)] = &[
-    ("", "line 1, column 1: unexpected end, expected a value"),
-    (" \n ", "line 2, column 2: unexpected end, expected a value"),
+    ("", "line 1, column 1: unexpected end of input, expected a value"),
+    (" \n ", "line 2, column 2: unexpected end of input, expected a value"),
     ("x", "line 1, column 1: expected a value"),
     ("\u{feff}1", "line 1, column 1: expected a value"),
-    ("[", "line 1, column 2: unexpected end, expected a value or `]`"),
+    ("[", "line 1, column 2: unexpected end of input, expected a value or `]`"),
     ("[}", "line 1, column 2: expected a value or `]`"),
-    ("[1", "line 1, column 3: unexpected end, expected a comma or `]`"),
+    ("[1", "line 1, column 3: unexpected end of input, expected a comma or `]`"),
     ("[1,\n 2 3]", "line 2, column 4: expected a comma or `]`"),
     ("[1,]", "line 1, column 4: expected a value"),
-    ("{", "line 1, column 2: unexpected end, expected a string or `}`"),
+    ("{", "line 1, column 2: unexpected end of input, expected a string or `}`"),
     ("{1:2}", "line 1, column 2: expected a string or `}`"),
     ("{\"a\" 1}", "line 1, column 6: expected a colon"),
     ("{\"a\":}", "line 1, column 6: expected a value"),
     ("{\"a\":1 \"b\":2}", "line 1, column 8: expected a comma or `}`"),
     ("{\"a\":1,}", "line 1, column 8: expected a string"),
     ("{\"\u{e9}\": x}", "line 1, column 7: expected a value"),
-    ("\"a", "line 1, column 3: unexpected end, expected a character of a string or its closing quote"),
+    ("\"a", "line 1, column 3: unexpected end of input, expected a character of a string or its closing quote"),
     ("\"\u{1d11e}\n\"", "line 1, column 3: expected a character of a string or its closing quote"),
     ("\"\\x\"", "line 1, column 3: expected an escape"),
     ("\"\\u00g0\"", "line 1, column 6: expected a hexadecimal digit"),
     ("\"\\udc00\"", "line 1, column 5: expected the first half of a surrogate pair"),
     ("\"\\ud800\"", "line 1, column 8: expected the second half of a surrogate pair"),
     ("\"\\ud800\\u0041\"", "line 1, column 10: expected the second half of a surrogate pair"),
-    ("-", "line 1, column 2: unexpected end, expected a digit"),
+    ("-", "line 1, column 2: unexpected end of input, expected a digit"),
     ("[-]", "line 1, column 3: expected a digit"),
-    ("1.", "line 1, column 3: unexpected end, expected a digit"),
-    ("1e", "line 1, column 3: unexpected end, expected a digit or a sign"),
-    ("1e+", "line 1, column 4: unexpected end, expected a digit"),
+    ("1.", "line 1, column 3: unexpected end of input, expected a digit"),
+    ("1e", "line 1, column 3: unexpected end of input, expected a digit or a sign"),
+    ("1e+", "line 1, column 4: unexpected end of input, expected a digit"),
     ("01", "line 1, column 2: expected the end of the text"),
     ("[01]", "line 1, column 3: expected a comma or `]`"),
     ("1 2", "line 1, column 3: expected the end of the text"),
     ("[1]]", "line 1, column 4: expected the end of the text"),
-    ("nul", "line 1, column 4: unexpected end, expected the letter `l`"),
+    ("nul", "line 1, column 4: unexpected end of input, expected the letter `l`"),
     ("nulL", "line 1, column 4: expected the letter `l`"),
     ("trve", "line 1, column 3: expected the letter `u`"),
     ("[fals]", "line 1, column 6: expected the letter `e`"),
-    ("[[[1]]]", "line 1, column 3: nested too deep for level 2"),
-    ("{\"a\": [{}]}", "line 1, column 8: nested too deep for level 2"),
+    ("[[[1]]]", "line 1, column 3: nested deeper than 2 levels"),
+    ("{\"a\": [{}]}", "line 1, column 8: nested deeper than 2 levels"),
 ];
 
-/// What a fault says.
+/// Returns the message of an error.
 fn said(alloc: Global, fault: Fault) -> Option<String<Global>> {
     format!(in alloc; "{fault}").ok()
 }
@@ -71,11 +71,11 @@ fn faults_of_texts(rt: HostRuntime) {
 #[test]
 fn bytes_that_are_no_utf8(rt: HostRuntime) {
     let rows: [(&[u8], usize, &str); 5] = [
-        (b"\"ab\xff\"", 3, "line 1, column 4: no UTF-8"),
-        (b"[\n\"\xc3\"]", 3, "line 2, column 2: no UTF-8"),
-        (b"\"\xed\xa0\x80\"", 1, "line 1, column 2: no UTF-8"),
+        (b"\"ab\xff\"", 3, "line 1, column 4: invalid UTF-8"),
+        (b"[\n\"\xc3\"]", 3, "line 2, column 2: invalid UTF-8"),
+        (b"\"\xed\xa0\x80\"", 1, "line 1, column 2: invalid UTF-8"),
         (b"x\xff", 0, "line 1, column 1: expected a value"),
-        (b"\xff", 0, "line 1, column 1: no UTF-8"),
+        (b"\xff", 0, "line 1, column 1: invalid UTF-8"),
     ];
     for row in rows {
         let (bytes, place, want) = row;
@@ -103,7 +103,7 @@ fn the_place_of_a_fault(rt: HostRuntime) {
     assert_eq!(rt; fault.and_then(|fault| fault.location()), Some(want));
 }
 
-/// What a read comes to.
+/// The outcome of a read.
 fn read(answer: Result<Value<&Refusing<Global>>, Fault>) -> (Result<(), Kind>, usize) {
     match answer {
         Ok(_) => (Ok(()), 0),

@@ -1,4 +1,4 @@
-//! The tests of JSON by one entry: what is read, where a text is refused, and what is written.
+//! Tests of JSON by one function: values, errors of invalid texts, and written texts.
 #![tactic(auto)]
 
 #[cfg(test)]

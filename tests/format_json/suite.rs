@@ -1,12 +1,12 @@
 //! The cases of JSONTestSuite (Nicolas Seriot, "Parsing JSON is a Minefield"), by their names:
-//! texts that each reader takes, texts that none may take, and those that are left open. Of a text
-//! that is refused the place stands beside it: the first byte that no text of JSON has there behind
-//! those before it, as a reader by recursive descent in Python finds it; or the first that is no
-//! UTF-8, as Python's decoder does.
+//! texts that every parser must accept, texts that it must reject, and texts that are left open.
+//! The offset of an error is that of the first byte that cannot continue a JSON text, as found by a
+//! recursive descent parser in Python. If the text is not UTF-8, it is the offset that Python's
+//! decoder reports.
 use format_json::{Fault, SAFE_LEVEL, from_bytes};
 use std::alloc::Global;
 
-/// What a text comes to.
+/// The result for a text.
 #[derive(Clone, Copy, Debug, PartialEq, Eq, Drop)]
 enum Answer {
     /// A value.
@@ -15,7 +15,7 @@ enum Answer {
     Unexpected(usize),
     /// The end of the text.
     End(usize),
-    /// A place where no UTF-8 stands.
+    /// The offset of the first byte that is not UTF-8.
     NotUtf8(usize),
     /// Anything else.
     Other,
@@ -139,7 +139,7 @@ const READ: &[(&str, &[u8])] = &[
     ("i_number_very_big_negative_int", b"[-237462374673276894279832749832423479823246327846]"),
 ];
 
-/// The texts that are refused, and where.
+/// The invalid texts, with their errors.
 const REFUSED: &[(&str, &[u8], Answer)] = &[
     ("i_object_key_lone_2nd_surrogate", b"{\"\\uDFAA\":0}", Answer::Unexpected(5)),
     ("i_string_1st_surrogate_but_2nd_missing", b"[\"\\uDADA\"]", Answer::Unexpected(8)),
@@ -369,7 +369,7 @@ const REFUSED: &[(&str, &[u8], Answer)] = &[
     ("n_structure_whitespace_formfeed", b"[\x0c]", Answer::Unexpected(1)),
 ];
 
-/// What a text comes to at the safe level.
+/// The result for a text at the safe level.
 fn answer(alloc: Global, bytes: &[u8]) -> Answer {
     match from_bytes(alloc, SAFE_LEVEL, bytes) {
         Ok(_) => Answer::Read,
@@ -396,7 +396,7 @@ fn texts_that_are_refused(rt: HostRuntime) {
     }
 }
 
-/// A text of so many beginnings, and as many ends.
+/// Repeats `first` `level` times, then `last` as often.
 fn nested(alloc: Global, first: &str, last: &str, level: usize) -> Option<String<Global>> {
     let mut text = String::new(alloc);
     for _ in 0..level {

@@ -1,4 +1,4 @@
-//! What is found in values.
+//! Lookups in values.
 use format_json::{SAFE_LEVEL, Step, Value, from_text};
 use std::alloc::Global;
 

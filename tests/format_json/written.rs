@@ -1,4 +1,4 @@
-//! Values as text: compact, and laid out over lines.
+//! Values as text: compact, and over several lines.
 use format_json::{SAFE_LEVEL, Value, WriteFault, from_text, to_text, to_text_pretty};
 use std::alloc::Global;
 

@@ -31,7 +31,7 @@ const STEPS: &[(Step, &[u8])] = &[
     (Step::EndObject, b"}"),
 ];
 
-/// Bytes where neither a bracket nor a value stands next.
+/// Bytes without a bracket or a value next.
 const NONE: &[&[u8]] = &[b"", b" \n", b",", b",,1", b"::1", b", nul", b"+1", b"\"a", b"\"\\x\""];
 
 #[test]

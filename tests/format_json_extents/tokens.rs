@@ -4,7 +4,7 @@ use std::process::Abort;
 use format_json_extents::number::read_number;
 use format_json_extents::string::read_string;
 
-/// A text, the longest number that it begins with by the grammar of section 6, and what is left.
+/// A text, the longest number at its start by the grammar of section 6, and the rest.
 const NUMBERS: &[(&[u8], &[u8], &[u8])] = &[
     (b"0", b"0", b""),
     (b"-0", b"-0", b""),
@@ -48,8 +48,7 @@ const NO_NUMBERS: &[&[u8]] = &[
     b"-Infinity", b"\xc2\xb2", b"\"1\"", b"/", b":",
 ];
 
-/// A text, what stands between the quotes of the string that it begins with by the grammar of
-/// section 7, and what is left.
+/// A text, the contents of the string at its start by the grammar of section 7, and the rest.
 const STRINGS: &[(&[u8], &[u8], &[u8])] = &[
     (b"\"\"", b"", b""),
     (b"\"\"\"", b"", b"\""),
@@ -91,8 +90,8 @@ const NO_STRINGS: &[&[u8]] = &[
     b"\"\\u00G0\"", b"\"\x00\"", b"\"\x1f\"", b"\"\n\"", b"\"\t\"", b"\"\r\"", b"\"\\\n\"",
 ];
 
-/// Texts with a surrogate that is escaped alone, by itself or before other text (RFC 8259, section
-/// 8.2), so that it means no character.
+/// Texts with an unpaired surrogate escape, by itself or before other text (RFC 8259, section 8.2).
+/// It encodes no character.
 const SURROGATES: &[&[u8]] = &[
     b"\"\\uD800\"", b"\"\\ud800\"", b"\"\\uDBFF\"", b"\"\\uDC00\"", b"\"\\uDEAD\"", b"\"\\udfff\"",
     b"\"\\uD834 \\uDD1E\"", b"\"\\uD834a\"", b"\"\\uD834\\n\"", b"\"\\uD834\\u0041\"",

@@ -1,7 +1,7 @@
-//! The texts of strings, as Python's `json.loads` answers them.
+//! The contents of strings, as returned by Python's `json.loads`.
 use format_json_extents::unescape::write_string;
 
-/// A string with what stands behind it, its text, and what is left.
+/// A string and what follows it, the string's contents, and the rest.
 const STRINGS: &[(&[u8], &[u8], &[u8])] = &[
     (b"\"\"", b"", b""),
     (b"\"role\": 1", b"role", b": 1"),

@@ -1,9 +1,10 @@
-//! Values and texts of JSON, by the grammar of RFC 8259.
+//! Values and JSON texts, by the grammar of RFC 8259.
 use std::fmt::Debug;
 use std::process::Abort;
 use format_json_extents::value::{is_text, read_value};
 
-/// A level, a text, the longest value with no more levels that it begins with, and what is left.
+/// A maximum nesting depth, a text, the longest value of at most that depth at its start, and the
+/// rest.
 const VALUES: &[(usize, &[u8], &[u8], &[u8])] = &[
     // Section 3.
     (0, b"null", b"null", b""),
@@ -136,7 +137,7 @@ const TEXTS: &[&[u8]] = &[
     b"\"\xff\"",
 ];
 
-/// Texts that are none.
+/// Invalid JSON texts.
 const NO_TEXTS: &[&[u8]] = &[
     b"",
     b" ",
@@ -160,7 +161,7 @@ const NO_TEXTS: &[&[u8]] = &[
     b"// a\n1",
     b"[[[]]]",
     b"[{\"a\":{}}]",
-    // A surrogate that is escaped alone means no character (section 8.2).
+    // An unpaired surrogate escape encodes no character (section 8.2).
     b"\"\\ud800\"",
     b"[\"\\udead\"]",
     b"{\"\\ud834\":1}",
@@ -199,7 +200,7 @@ fn is_text_of_texts(rt: HostRuntime) {
     }
 }
 
-/// A text of this many arrays, one in the other, is one at that level, and at none below.
+/// A JSON text of nested arrays is accepted at its nesting depth, and rejected at any smaller one.
 #[test]
 fn is_text_of_many_levels(rt: HostRuntime) {
     let mut text = [b'['; 600];

@@ -1,7 +1,7 @@
-//! The values in arrays and objects, one after the other, by the grammar of RFC 8259.
+//! The values in arrays and objects, in sequence, by the grammar of RFC 8259.
 use format_json_extents::walk::{Kind, is_end, kind_of, read_next};
 
-/// A level, bytes, the next value there and what it is, and what is left.
+/// A maximum nesting depth, bytes, the next value there with its kind, and the rest.
 const NEXT: &[(usize, &[u8], &[u8], Kind, &[u8])] = &[
     (0, b"null", b"null", Kind::Null, b""),
     (0, b" false]", b"false", Kind::False, b"]"),
@@ -15,7 +15,7 @@ const NEXT: &[(usize, &[u8], &[u8], Kind, &[u8])] = &[
     (2, b"{\"a\": [1]}]", b"{\"a\": [1]}", Kind::Object, b"]"),
 ];
 
-/// A level and bytes where no value stands next.
+/// A maximum nesting depth, and bytes without a next value.
 const NONE: &[(usize, &[u8])] = &[
     (9, b""),
     (9, b" "),
@@ -29,7 +29,7 @@ const NONE: &[(usize, &[u8])] = &[
     (1, b", [[]]"),
 ];
 
-/// Bytes that are the end of what an array or an object has in it, and bytes that are not.
+/// Bytes that are the end of the contents of an array or an object, and bytes that are not.
 const ENDS: &[&[u8]] = &[b"", b" \t\r\n", b"]", b"}", b" ],", b"\n}}"];
 const NO_ENDS: &[&[u8]] = &[b",", b"[", b" {", b"1", b", ]", b":", b"\""];
 

@@ -1,5 +1,5 @@
-//! More is asked for only where some longer bytes are answered a value: each cut text over a small
-//! alphabet that is asked for has an end with which it is read.
+//! `Incomplete` is returned only if some longer input starts with a value: every text over a small
+//! alphabet for which it is returned has a continuation with which it is parsed.
 use format_json_pieces::value::read_value_in_pieces;
 use std::alloc::Global;
 use std::process::Abort;
@@ -12,20 +12,20 @@ const ALPHABET: &[u8] = b"[]{},:\"\\ud01-.et \xc3\xa9";
 /// How many bytes a text has at most.
 const LONGEST: u32 = 4;
 
-/// What ends an item that was begun: a string, a word, a number, or nothing.
+/// The ends of an item that is incomplete: a string, a word, a number, or nothing.
 const ENDS: &[&[u8]] = &[
     b"", b"0", b"\"", b"\"\"", b"n\"", b"rue", b"ue", b"e", b"0000\"", b"000\"", b"00\"", b"0\"",
     b"\\udc00\"", b"udc00\"", b"dc00\"", b"c00\"", b"\xa9\"", b"000\\udc00\"", b"800\"",
     b"00\\udc00\"", b"0\\udc00\"",
 ];
 
-/// What stands behind it where it was a name, or not.
+/// The continuation if the item is a name, or if it is not.
 const VALUES: &[&[u8]] = &[b"", b":0"];
 
-/// What closes the brackets.
+/// The closing brackets.
 const CLOSES: &[&[u8]] = &[b"", b"]", b"}", b"]]", b"]}", b"}]", b"}}"];
 
-/// What a read of cut bytes comes to: whether more is asked for, or else a value was read.
+/// Returns whether a read of partial input needs more. If not, it must have read a value.
 fn asks(alloc: Global, level: usize, bytes: &[u8]) -> Result<bool, ()> {
     match read_value_in_pieces(alloc, level, &mut Partial::new(bytes)) {
         Ok(_) => Ok(false),
@@ -54,7 +54,8 @@ fn ends(rt: &impl Abort, alloc: Global, level: usize, bytes: &[u8]) -> bool {
     false
 }
 
-/// Sees that each text that goes on from these bytes, and is asked for, has an end.
+/// Checks that every text that starts with these bytes, and for which `Incomplete` is returned, can
+/// be completed.
 fn each_text(rt: &impl Abort, alloc: Global, level: usize, bytes: &[u8], more: u32) {
     if asks(alloc, level, bytes) != Ok(true) {
         return;

@@ -1,4 +1,4 @@
-//! The tests of values of JSON from bytes, whole and in pieces.
+//! Tests of JSON values from bytes, complete and partial.
 #![tactic(auto)]
 
 #[cfg(test)]

@@ -7,9 +7,9 @@ use test_json_support::shown::show;
 use winnow::error::ErrMode;
 use winnow::stream::{Partial, StreamIsPartial};
 
-/// A level, bytes, of how many the value is the text that they begin with, and the value as
-/// Python's `json` reads these: `'` round each string, a comma behind each item. What is behind the
-/// text is of no concern, but for numbers.
+/// A maximum nesting depth, bytes, the length of the value at their start, and the value as
+/// Python's `json` reads it: `'` around each string, a comma after each item. The bytes after the
+/// value do not matter, except after a number.
 const ROWS: &[(usize, &[u8], usize, &str)] = &[
     (0, b"null", 4, "null"),
     (0, b"true,", 4, "true"),
@@ -29,7 +29,7 @@ const ROWS: &[(usize, &[u8], usize, &str)] = &[
     (9, b"[[[[]]],[[2]]]", 14, "[[[[],],],[[2,],],]"),
 ];
 
-/// The same of numbers, with the number of bytes at which the value is answered.
+/// Likewise for numbers, with the number of bytes after which the value is returned.
 const NUMBERS: &[(&[u8], usize, usize, &str)] = &[
     (b"0 ", 1, 2, "0"),
     (b"-12,", 3, 4, "-12"),
@@ -42,8 +42,8 @@ const NUMBERS: &[(&[u8], usize, usize, &str)] = &[
     (b"12x", 2, 3, "12"),
 ];
 
-/// A level, bytes that begin with no value of it, whatever is behind them, and how many of them say
-/// so.
+/// A maximum nesting depth, bytes that do not start with a value of that depth regardless of what
+/// follows, and the length of the shortest prefix that is rejected.
 const NONE: &[(usize, &[u8], usize)] = &[
     (0, b" 1", 1),
     (0, b",", 1),
@@ -98,18 +98,18 @@ const NONE: &[(usize, &[u8], usize)] = &[
     (2, b"[{\"a\":[", 7),
 ];
 
-/// What a read comes to.
+/// The outcome of a read.
 #[derive(Drop)]
 enum Outcome {
     /// A value, and how many bytes it took.
     Reads(Value<Global>, usize),
-    /// More is asked for.
+    /// The result is `Incomplete`.
     Asks,
-    /// No value stands first.
+    /// The bytes do not start with a value.
     None,
 }
 
-/// What a read of bytes comes to, to which more may come, or not.
+/// Reads bytes, to which more may be added if `cut`.
 fn read(rt: &impl Abort, alloc: Global, level: usize, bytes: &[u8], cut: bool) -> Outcome {
     let mut input = Partial::new(bytes);
     input.restore_partial(cut);
@@ -128,7 +128,7 @@ fn read(rt: &impl Abort, alloc: Global, level: usize, bytes: &[u8], cut: bool) -
     }
 }
 
-/// Whether a read answers this value and takes so many bytes.
+/// Checks that a read returns this value and consumes `length` bytes.
 fn reads(rt: &impl Abort, alloc: Global, outcome: &Outcome, length: usize, want: &str) {
     match outcome {
         Outcome::Reads(value, taken) => {

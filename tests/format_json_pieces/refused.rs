@@ -1,4 +1,4 @@
-//! Memory that is refused.
+//! Allocation failures.
 use format_json_pieces::value::{parse_value_of_bytes, read_next_in_pieces, read_value_in_pieces};
 use test_json_support::refused::{TEXT, each_refused, read, read_whole};
 use winnow::stream::Partial;

@@ -6,8 +6,7 @@ use test_json_support::shown::show;
 use winnow::error::ErrMode;
 use winnow::stream::{Partial, StreamIsPartial};
 
-/// Bytes, and the values that stand in them one behind the other, as `show` has them, a bar behind
-/// each.
+/// Bytes, and their consecutive values, as written by `show` with a bar after each.
 const STREAMS: &[(&[u8], &str)] = &[
     (b"", ""),
     (b" \t\r\n", ""),
@@ -17,7 +16,7 @@ const STREAMS: &[(&[u8], &str)] = &[
     (b"\"\xe2\x82\xac\" 12", "'\u{20ac}'|12|"),
 ];
 
-/// Reads all values of bytes that come in two pieces, cut behind so many, and shows them.
+/// Reads all values of bytes that arrive in two pieces, the first of `cut` bytes, and writes them.
 fn show_all(rt: &impl Abort, alloc: Global, bytes: &[u8], cut: usize) -> String<Global> {
     let mut shown = String::new(alloc);
     let mut input = Partial::new(&bytes[..cut]);

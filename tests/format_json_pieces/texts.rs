@@ -4,7 +4,8 @@ use std::process::Abort;
 use test_json_support::shown::show;
 use winnow::error::ParseFault;
 
-/// A level, a text, and what Python's `json` reads: `'` round each string, a comma behind each item.
+/// A maximum nesting depth, a text, and its value as Python's `json` reads it: `'` around each
+/// string, a comma after each item.
 const ROWS: &[(usize, &[u8], &str)] = &[
     (0, b" \t\r\n-0.5e+07 \t\r\n", "-0.5e+07"),
     (1, b"[null,false, true ,1\t,\n\"\"]", "[null,false,true,1,'',]"),
@@ -13,8 +14,8 @@ const ROWS: &[(usize, &[u8], &str)] = &[
     (3, b"{\"a\":[{\"b\":0}]}", "{'a':[{'b':0,},],}"),
 ];
 
-/// Bytes that are no text of level 1, and the place that the fault names: that of the first byte
-/// that is in no character, or how far the text was read.
+/// Bytes that are not a JSON text nested at most one deep, and the offset in the error: that of the
+/// first byte that is not UTF-8, or how far the text was read.
 const NONE: &[(&[u8], usize)] = &[
     (b"", 0),
     (b" ", 1),

@@ -1,4 +1,4 @@
-//! The tests of texts of JSON that are read into values.
+//! Tests of JSON texts that are read into values.
 #![tactic(auto)]
 
 #[cfg(test)]

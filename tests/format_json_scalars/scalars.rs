@@ -3,7 +3,7 @@
 use format_json_scalars::scalar::read_scalar;
 use format_json_texts::value::Value;
 
-/// What a row expects of a value.
+/// The value that a row expects.
 #[derive(Drop)]
 enum Is {
     Null,
@@ -13,7 +13,7 @@ enum Is {
     Nothing,
 }
 
-/// Whether a value is what is expected.
+/// Returns whether a value is the expected one.
 fn is<A: std::alloc::Allocator>(value: &Value<A>, expected: &Is) -> bool {
     match (value, expected) {
         (Value::Null, Is::Null) => true,

@@ -1,9 +1,9 @@
-//! The safe level, on the stack that is said to suffice.
+//! The safe level, with the documented stack size.
 use format_json_values::value::{SAFE_LEVEL, parse_value};
 use std::alloc::Global;
 use std::thread::Builder;
 
-/// A text of so many beginnings, a value, and as many ends.
+/// Repeats `first` `level` times, then a value, then `last` as often.
 fn nested(alloc: Global, first: &str, last: &str, level: usize) -> Option<String<Global>> {
     let mut text = String::new(alloc);
     for _ in 0..level {

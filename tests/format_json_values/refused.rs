@@ -1,4 +1,4 @@
-//! Memory that is refused.
+//! Allocation failures.
 use format_json_values::value::{parse_value, read_value};
 use test_json_support::refused::{TEXT, each_refused, read, read_whole};
 

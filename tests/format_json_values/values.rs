@@ -45,7 +45,8 @@ const PLACES: &str = r#"[
         }
       ]"#;
 
-/// A level, a text, and what Python's `json` reads: `'` round each string, a comma behind each item.
+/// A maximum nesting depth, a text, and its value as Python's `json` reads it: `'` around each
+/// string, a comma after each item.
 const ROWS: &[(usize, &str, &str)] = &[
     (0, "\"Hello world!\"", "'Hello world!'"),
     (0, "42", "42"),
@@ -77,8 +78,8 @@ const ROWS: &[(usize, &str, &str)] = &[
     )),
 ];
 
-/// A text of no value, and how many bytes of it were read: for a value with no others in it those
-/// before what does not go on, for an array or an object those of the items that stand in it.
+/// An invalid text, and how many bytes of it were read. For a scalar, these are the bytes before
+/// the invalid token; for an array or an object, those with its valid items so far.
 const NONE: &[(&str, usize)] = &[
     ("", 0),
     (" ", 1),
@@ -113,7 +114,7 @@ fn same(rt: &impl Abort, row: &str, got: &str, want: &str) {
     assert_eq!(rt; got, want, "{row:?}");
 }
 
-/// Whether a value is shown as a row has it.
+/// Checks that a value is shown as in its row.
 fn same_value(rt: &impl Abort, row: &str, alloc: Global, value: &Value<Global>, want: &str) {
     let mut into = String::new(alloc);
     assert!(rt; show(value, &mut into).is_ok());

@@ -19,7 +19,7 @@ const NUMBERS: &[&str] = &[
     "123456789012345678901234567890",
 ];
 
-/// Texts that are none.
+/// Invalid JSON texts.
 const NONE: &[&str] = &[
     "", "-", "+1", "01", "-01", "00", "1.", ".5", "1.e1", "1e", "1e+", "1e1.5", "0x1", "1_0", "1,0",
     " 1", "1 ", "1\n", "--1", "1-1", "NaN", "Infinity", "-Infinity", "null", "1]", "\u{ff11}", "1\u{e9}",
@@ -75,7 +75,7 @@ fn to_text_refuses_what_is_no_number(rt: HostRuntime) {
     }
 }
 
-/// Of a number that is none and an array that is too deep the first is told.
+/// Of an invalid number and an array that is nested too deep, the first one is the error.
 #[test]
 fn to_text_tells_the_first(rt: HostRuntime) {
     let alloc = rt.alloc();

@@ -1,4 +1,4 @@
-//! Memory that is refused.
+//! Allocation failures.
 use format_json_values::value::parse_value;
 use format_json_writer::error::WriteError;
 use format_json_writer::value::{reads_back, to_text};

@@ -6,8 +6,8 @@ use format_json_writer::value::{reads_back, to_text, write_value};
 use std::alloc::Global;
 use std::process::Abort;
 
-/// The texts of section 13 of RFC 8259, and what Python's `json` writes for them with no white
-/// space (`separators=(",", ":")`), where each number stands as it was.
+/// The texts of section 13 of RFC 8259, and the texts that Python's `json` writes for them without
+/// whitespace (`separators=(",", ":")`), where each number is unchanged.
 const IMAGE: &str = r#"{
         "Image": {
             "Width":  800,
@@ -52,7 +52,7 @@ const PLACES_COMPACT: &str = concat!(
     r#""Address":"","City":"SUNNYVALE"}]"#
 );
 
-/// A level, a text of it, and the text of its value with no white space.
+/// A maximum nesting depth, a JSON text, and the text of its value without whitespace.
 const ROWS: &[(usize, &str, &str)] = &[
     (0, " null ", "null"),
     (0, "\ttrue", "true"),
@@ -99,7 +99,8 @@ fn to_text_of_what_was_read(rt: HostRuntime) {
     }
 }
 
-/// What has no white space, and no escape but those that are written, is written as it was.
+/// A text without whitespace, and without escapes other than the written ones, is written
+/// unchanged.
 #[test]
 fn to_text_of_what_it_wrote(rt: HostRuntime) {
     for (level, _, text) in ROWS {

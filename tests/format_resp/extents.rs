@@ -3,8 +3,8 @@ use crate::replies::{REPLIES, same};
 use std::alloc::{AllocError, Allocator};
 use format_resp::extent::{Extent, Refused};
 
-/// Bytes that begin no reply, and of how many of them that is told: of the whole of a line, and
-/// else of the first byte that can go on to none.
+/// Bytes that do not start a reply, and the length of the shortest prefix that is rejected: up to
+/// the end of an invalid line, otherwise up to the first byte that cannot continue a reply.
 const REFUSED: &[(&[u8], usize)] = &[
     (b"OK\r\n", 1),
     (b"\r\n", 1),
@@ -30,7 +30,7 @@ const REFUSED: &[(&[u8], usize)] = &[
     (b"*2\r\n:1\r\n:x\r\n", 12),
 ];
 
-/// Bytes that may go on to a reply, and are none.
+/// Proper prefixes of replies.
 const OPEN: &[&[u8]] = &[
     b"",
     b"*9223372036854775807\r\n*9223372036854775807\r\n*9223372036854775807\r\n:1\r\n",
@@ -70,7 +70,7 @@ fn advance_of_open_ones(rt: HostRuntime) {
     }
 }
 
-/// The head of an array of 100,000, and so many bulk strings of 20 bytes.
+/// The head of an array of 100,000 elements, and `count` bulk strings of 20 bytes.
 fn large_array<A: Allocator>(alloc: A, count: usize) -> Result<Vec<u8, A>, AllocError> {
     let mut bytes = Vec::new(alloc);
     bytes.extend_from_slice(b"*100000\r\n".as_slice())?;

@@ -1,4 +1,4 @@
-//! The safe level, on the stack that is said to suffice.
+//! The safe level, with the documented stack size.
 use std::alloc::Global;
 use std::thread::Builder;
 use format_resp::read::{SAFE_LEVEL, read_reply};

@@ -1,5 +1,5 @@
-//! Replies of Redis, of RESP2 and RESP3, whole and at every cut, how many bytes are asked for, and
-//! the texts of their numbers.
+//! Replies of Redis, in RESP2 and RESP3, on every prefix, how many bytes are needed, and the texts
+//! of their numbers.
 #![tactic(auto)]
 
 #[cfg(test)]

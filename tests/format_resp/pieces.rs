@@ -1,4 +1,4 @@
-//! Replies at every cut, and how much is asked for.
+//! Replies on every prefix, and how many bytes are needed.
 use crate::replies::{BOTH, NO_REPLIES, OF_RESP3, REPLIES, same};
 use format_resp::read::read_reply;
 use format_resp::reply::Protocol;
@@ -7,12 +7,12 @@ use std::process::Abort;
 use winnow::error::{ErrMode, Needed};
 use winnow::stream::{Partial, StreamIsPartial};
 
-/// What a piece is told.
+/// The result for a prefix.
 #[derive(Clone, Copy, Debug, PartialEq)]
 enum Told {
     /// A reply, and how many bytes it takes.
     Reply(usize),
-    /// More is asked for, and how much, where that is known.
+    /// More bytes are needed, and how many, if that is known.
     Asks(Option<usize>),
     /// There is none.
     None,
@@ -61,7 +61,7 @@ fn read_reply_at_every_cut(rt: HostRuntime) {
     }
 }
 
-/// The first byte of a reply is all that decides whether one may go on.
+/// The first byte of a reply decides whether more input is needed.
 #[test]
 fn read_reply_asks_for_a_mark_alone(rt: HostRuntime) {
     for protocol in BOTH {

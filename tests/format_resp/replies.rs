@@ -1,4 +1,4 @@
-//! Encodings of the protocol and what they are. The texts are those of its specification, and
+//! Encodings of the protocol with their replies. The texts are those of its specification, and
 //! others by its rules.
 use crate::shown::show;
 use format_resp::read::read_reply;
@@ -11,7 +11,7 @@ use winnow::stream::{Partial, StreamIsPartial};
 /// Both versions of the protocol.
 pub const BOTH: [Protocol; 2] = [Protocol::Resp2, Protocol::Resp3];
 
-/// A text of both versions, the reply that it begins with, and how many bytes are behind it.
+/// A text of both versions, its reply, and the number of remaining bytes.
 pub const REPLIES: &[(&[u8], &[u8], usize)] = &[
     (b"+OK\r\n", b"s[OK]", 0),
     (b"+\r\n", b"s[]", 0),
@@ -54,7 +54,7 @@ pub const REPLIES: &[(&[u8], &[u8], usize)] = &[
     (b"*1\r\n*1\r\n*-1\r\n", b"a[a[N]]", 0),
 ];
 
-/// The same of RESP3 alone.
+/// Likewise for RESP3 only.
 pub const OF_RESP3: &[(&[u8], &[u8], usize)] = &[
     (b"_\r\n", b"0", 0),
     (b"_\r\n_", b"0", 1),
@@ -118,7 +118,7 @@ pub const OF_RESP3: &[(&[u8], &[u8], usize)] = &[
     (b"*3\r\n$-1\r\n*-1\r\n_\r\n", b"a[nN0]", 0),
 ];
 
-/// Texts that begin with no reply of two levels at most, whatever follows.
+/// Texts that do not start with a reply nested at most two deep, regardless of what follows.
 pub const NO_REPLIES: &[&[u8]] = &[
     b"OK\r\n",
     b"\r\n",

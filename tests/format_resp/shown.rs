@@ -1,4 +1,4 @@
-//! What a reply is, in a line.
+//! Replies as one line of text.
 use format_resp::reply::{Reply, split_verbatim};
 use std::alloc::{AllocFailed, Allocator};
 

@@ -1,4 +1,5 @@
-//! What is written for replies and commands: the texts of the protocol's specification, and others by its rules.
+//! Encoded replies and commands: the texts of the protocol's specification, and others by its
+//! rules.
 use crate::replies::{BOTH, NO_REPLIES, OF_RESP3, REPLIES, same};
 use crate::shown::show;
 use format_resp::back::{command_reads_back, reads_back};
@@ -67,7 +68,7 @@ fn write_reply_of_what_is_read(rt: HostRuntime) {
     same(&rt, b"", NO_REPLIES.is_empty(), false);
 }
 
-/// What is written behind an `x` for a reply of a level.
+/// Checks the bytes that are appended to an `x` for a reply.
 fn written(rt: &impl Abort, alloc: Global, level: usize, reply: &Bytes, want: &[u8]) {
     let mut bytes = Vec::new(alloc);
     same(rt, want, bytes.push(b'x').is_ok(), true);
@@ -75,7 +76,7 @@ fn written(rt: &impl Abort, alloc: Global, level: usize, reply: &Bytes, want: &[
     same(rt, want, bytes.as_slice(), want);
 }
 
-/// That a reply of a level is not written.
+/// Checks that a reply is not written.
 fn refused(rt: &impl Abort, alloc: Global, level: usize, reply: &Bytes, error: WriteError) {
     let mut bytes = Vec::new(alloc);
     same(rt, b"", bytes.push(b'x').is_ok(), true);

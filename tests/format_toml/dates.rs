@@ -7,7 +7,7 @@ use format_toml::lines::parse_lines;
 use format_toml::values::read_value;
 use format_toml_tree::value::{Date, DateTime, Value};
 
-/// A case, its document, and what it says of its lines, with a bar behind each.
+/// A case, its document, and its lines as text, with a bar after each.
 const VALID: &[(&str, &str, &str)] = &[
     (
         "the standard, with an offset",
@@ -148,7 +148,7 @@ const INVALID: &[(&str, &str)] = &[
     ("local-time/no-secs", "no-secs = 17:45"),
     ("local-time/second-over", "d = 00:00:61"),
     ("local-time/time-no-leads", "d = 1:32:00"),
-    // Valid in a later version alone: valid/datetime/no-seconds.
+    // Valid only in a later version: valid/datetime/no-seconds.
     ("datetime/no-seconds", "without-seconds-1 = 13:37"),
     ("datetime/no-seconds", "without-seconds-2 = 1979-05-27 07:32Z"),
     ("datetime/no-seconds", "without-seconds-3 = 1979-05-27 07:32-07:00"),

@@ -8,8 +8,9 @@ use format_toml::values::read_value;
 use format_toml_tree::value::Value;
 use winnow::error::ParseFault;
 
-/// A level, a document of toml.io/en/v1.0.0 or one like it, and what it says of its lines, in order:
-/// `'` round each string, a comma behind each value of an array, a bar behind each line.
+/// A maximum nesting depth, a document of toml.io/en/v1.0.0 or a similar one, and its lines as
+/// text, in order: `'` around each string, a comma after each value of an array, a bar after each
+/// line.
 const ROWS: &[(usize, &str, &str)] = &[
     // Comment
     (
@@ -170,8 +171,8 @@ const ROWS: &[(usize, &str, &str)] = &[
     (0, "#", "|"),
 ];
 
-/// A document that is none, and how many bytes stand before the item or the line end that is not
-/// read. Those that say so are of the standard.
+/// An invalid document, and the number of bytes before the item or the line ending that is not
+/// read. The documents marked INVALID are from the standard.
 const NONE: &[(&str, usize)] = &[
     ("key = # INVALID", 0),
     ("first = \"Tom\" last = \"Preston-Werner\" # INVALID", 14),

@@ -1,10 +1,10 @@
 //! Floats: the examples of TOML 1.0 (Float), and the cases of toml-test (valid/float,
-//! invalid/float), by their names. What they say is what toml-test says.
+//! invalid/float), by their names. The expected values are those of toml-test.
 use crate::shown::show;
 use std::process::Abort;
 use format_toml::lines::parse_lines;
 
-/// A case, its document, and what it says of its lines, with a bar behind each.
+/// A case, its document, and its lines as text, with a bar after each.
 const VALID: &[(&str, &str, &str)] = &[
     (
         "the standard, fractional",

@@ -1,10 +1,10 @@
-//! Integers: the cases of toml-test (valid/integer, invalid/integer), by their names. What they say
-//! is what toml-test says, and Python's `tomllib`.
+//! Integers: the cases of toml-test (valid/integer, invalid/integer), by their names. The expected
+//! values are those of toml-test, and of Python's `tomllib`.
 use crate::shown::show;
 use std::process::Abort;
 use format_toml::lines::parse_lines;
 
-/// A case, its document, and what it says of its lines, with a bar behind each.
+/// A case, its document, and its lines as text, with a bar after each.
 const VALID: &[(&str, &str, &str)] = &[
     (
         "integer",

@@ -1,4 +1,4 @@
-//! The safe level, on the stack that is said to suffice.
+//! The safe level, with the documented stack size.
 use format_toml::lines::parse_lines;
 use format_toml::values::SAFE_LEVEL;
 use std::alloc::Global;

@@ -3,7 +3,8 @@ use std::alloc::Global;
 use format_toml::lines::parse_lines;
 use format_toml::messages::explain;
 
-/// What is said of a text of one level, or nothing where it is a document.
+/// Returns the error message for a text, with a maximum nesting depth of 1, or an empty text if it
+/// is a document.
 fn said(rt: &HostRuntime, text: &str) -> String<Global> {
     let alloc = rt.alloc();
     match parse_lines(alloc, 1, text) {

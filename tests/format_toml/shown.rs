@@ -53,7 +53,7 @@ fn show_date(date: &Date, into: &mut String<Global>) -> Result<(), AllocError> {
     show_three((date.year, date.month, date.day), "-", into)
 }
 
-/// Writes a time, and the digits of its fraction behind a point.
+/// Writes a time, and the digits of its fraction after a point.
 fn show_time<A: Allocator>(time: &Time<A>, into: &mut String<Global>) -> Result<(), AllocError> {
     show_three((u16::from(time.hour), time.minute, time.second), ":", into)?;
     if !time.fraction.is_empty() {
@@ -91,7 +91,7 @@ fn show_date_time<A: Allocator>(
     }
 }
 
-/// Writes a value with no white space, and a comma behind each of an array or an inline table.
+/// Writes a value without whitespace, with a comma after each value of an array or an inline table.
 fn show_value<A: Allocator>(
     value: &Value<A>,
     into: &mut String<Global>,
@@ -123,7 +123,7 @@ fn show_value<A: Allocator>(
     }
 }
 
-/// Writes what a line says, and a bar behind it.
+/// Writes the item of a line, and a bar after it.
 pub fn show<A: Allocator>(
     item: &Option<Item<A>>,
     into: &mut String<Global>,

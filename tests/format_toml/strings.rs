@@ -100,7 +100,7 @@ const ROWS: &[(&str, &str)] = &[
     ("'''\n\na'''", "\na"),
     // not white
     ("\"\"\"\n \t\n\"\"\"", " \t\n"),
-    // quotes beside escaped line ends
+    // quotes next to escaped line endings
     ("\"\"\"\"\"\\\n \"\"a\"\"\"", "\"\"\"\"a"),
     ("\"\"\"a\"\"\\\n\"\"\"\"\"", "a\"\"\"\""),
     ("\"\"\"\\\n\"\\\n\"\"\"\"\"", "\"\"\""),
@@ -116,7 +116,7 @@ const ROWS: &[(&str, &str)] = &[
     ("\"\"\"# a\n[b]\"\"\"", "# a\n[b]"),
 ];
 
-/// What is no string, and what `tomllib` refuses.
+/// Texts that are not strings, and that `tomllib` rejects.
 const NONE: &[&str] = &[
     // multiline-no-close
     "\"\"\"\nThis will fail\n",

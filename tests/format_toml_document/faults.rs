@@ -1,8 +1,9 @@
-//! What faults say, and what a tree has.
+//! The messages of errors, and the contents of a tree.
 use format_toml_document::{Document, Fault, Location, Refusal, from_bytes, from_text};
 use std::alloc::Global;
 
-/// What is said of a text of one level, or nothing where it is a document.
+/// Returns the error message for a text, with a maximum nesting depth of 1, or an empty text if it
+/// is a document.
 fn said(rt: &HostRuntime, text: &str) -> String<Global> {
     let alloc = rt.alloc();
     let mut document = Document::new(alloc);
@@ -20,11 +21,11 @@ fn from_text_says_where_and_why(rt: HostRuntime) {
         ("a = 1\n= 2\n", "line 2, column 1: expected a key or a table"),
         ("a = \"é\"\nb 2\n", "line 2, column 3: expected `=`"),
         ("a = [[1]]", "line 1, column 5: expected a value"),
-        ("a = 1\na = 2\n", "line 2, column 1: it is defined already"),
-        ("a = [\n1,\n2]\n\n# b\n[a]\n", "line 6, column 1: it is defined already"),
-        ("a = \"\"\"\n\n\"\"\"\r\n\na.b = 2", "line 5, column 1: it takes a value for a table"),
-        ("a = {}\n[a.b]", "line 2, column 1: it adds to a table that is closed"),
-        ("a = []\n  [[a]]", "line 2, column 1: it adds a table to what is no array of tables"),
+        ("a = 1\na = 2\n", "line 2, column 1: key is already defined"),
+        ("a = [\n1,\n2]\n\n# b\n[a]\n", "line 6, column 1: key is already defined"),
+        ("a = \"\"\"\n\n\"\"\"\r\n\na.b = 2", "line 5, column 1: key is not a table"),
+        ("a = {}\n[a.b]", "line 2, column 1: table cannot be extended"),
+        ("a = []\n  [[a]]", "line 2, column 1: key is not an array of tables"),
     ];
     for (text, wanted) in rows {
         assert_eq!(rt; said(&rt, text).as_str(), wanted);
@@ -72,9 +73,9 @@ fn shown_has_the_line_and_a_caret(rt: HostRuntime) {
         (b"a 1".as_slice(), "a 1\n  ^\nexpected `=`"),
         (
             b"a = [\n1]\na = 2".as_slice(),
-            "parse error at line 3, column 1\n  |\n3 | a = 2\n  | ^\nit is defined already",
+            "parse error at line 3, column 1\n  |\n3 | a = 2\n  | ^\nkey is already defined",
         ),
-        (b"a = '\xff'".as_slice(), "a = '\u{FFFD}'\n     ^\nno UTF-8"),
+        (b"a = '\xff'".as_slice(), "a = '\u{FFFD}'\n     ^\ninvalid UTF-8"),
     ];
     for (bytes, wanted) in rows {
         let mut document = Document::new(rt.alloc());

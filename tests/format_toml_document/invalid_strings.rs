@@ -1,6 +1,6 @@
 //! Texts that are no TOML 1.0, for a string or a character.
 
-/// The name that toml-test has for what is tried, and a text of it.
+/// The name of a toml-test case, and a text for it.
 pub const STRINGS: &[(&str, &str)] = &[
     (
         "control/bare-cr",

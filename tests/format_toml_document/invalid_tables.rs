@@ -1,6 +1,6 @@
 //! Texts that are no TOML 1.0, for a key or a table.
 
-/// The name that toml-test has for what is tried, and a text of it.
+/// The name of a toml-test case, and a text for it.
 pub const TABLES: &[(&str, &str)] = &[
     ("inline-table/bad-key-syntax", "tbl = { a = 1, [b] }\n"),
     ("inline-table/double-comma", "t = {x=3,,y=4}\n"),

@@ -1,6 +1,6 @@
 //! Texts that are no TOML 1.0, for a value.
 
-/// The name that toml-test has for what is tried, and a text of it.
+/// The name of a toml-test case, and a text for it.
 pub const VALUES: &[(&str, &str)] = &[
     ("array/double-comma-01", "double-comma = [1,,2]"),
     ("array/double-comma-02", "double-comma = [1,2,,]"),

@@ -1,11 +1,11 @@
 //! The cases of toml-test 1.5 that are named in these files, each written anew for its name: the
-//! valid ones are read, and the others refused. Python's `tomllib` takes and refuses the same.
+//! valid ones are accepted, the others rejected. Python's `tomllib` accepts and rejects the same.
 use crate::invalid_strings::STRINGS;
 use crate::{invalid_tables, invalid_values, valid_tables, valid_values};
 use format_toml_document::{Document, Fault, SAFE_LEVEL, from_bytes, from_text};
 use std::alloc::Global;
 
-/// Whether a text is read; `None` where it is neither read nor refused.
+/// Returns whether a text is accepted, or `None` if it is neither accepted nor rejected.
 fn is_read(alloc: Global, text: &str) -> Option<bool> {
     let mut document = Document::new(alloc);
     match from_text(alloc, SAFE_LEVEL, text, &mut document) {

@@ -1,6 +1,6 @@
 //! Documents of keys and tables that are TOML 1.0.
 
-/// The name that toml-test has for what is tried, and a document of it.
+/// The name of a toml-test case, and a document for it.
 pub const TABLES: &[(&str, &str)] = &[
     ("empty-crlf", "\r\n"),
     ("empty-lf", "\n"),

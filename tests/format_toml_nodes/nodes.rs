@@ -1,4 +1,4 @@
-//! Nodes beside the tree that they are of, and buffers that are too small.
+//! Nodes compared with the tree that they are written from, and buffers that are too small.
 use format_toml_document::{Document, Node, Tree, from_text};
 use format_toml_nodes::node::{NO_NODE, TOML_ARRAY, TOML_TABLE, TomlNode};
 use format_toml_nodes::nodes::{size_of, write_nodes};
@@ -14,7 +14,8 @@ const TEXTS: [&str; 6] = [
     "\"\" = \"\\u00e9\"\nx.y.z = 07:32:00\n",
 ];
 
-/// Checks a node and all that is in it beside the tree: entries and elements in the same order.
+/// Checks a node and its contents against the tree: the same entries and elements in the same
+/// order.
 fn same(rt: &impl Abort, node: Node<'_, '_, Global>, nodes: &[TomlNode], text: &[u8], at: usize) {
     let it = nodes[at];
     assert_eq!(rt; it.value.kind == TOML_TABLE, node.is_table());

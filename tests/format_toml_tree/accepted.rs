@@ -1,4 +1,4 @@
-//! Documents that have a tree, and what it holds.
+//! Documents that have a tree, and its contents.
 use super::lines::lines_of;
 use format_toml_tree::build::build;
 use format_toml_tree::node::Node;
@@ -174,7 +174,7 @@ const ROWS: &[(&str, &[(&str, i64)])] = &[
     ),
 ];
 
-/// What is at a path, which is written with a slash before each name or place.
+/// Returns the node at a path, which has a slash before each name or index.
 fn at<'d, 't>(root: Node<'d, 't, Global>, path: &str) -> Option<Node<'d, 't, Global>> {
     let mut node = root;
     for step in path.split('/') {

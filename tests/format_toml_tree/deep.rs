@@ -4,7 +4,7 @@ use format_toml_tree::build::build;
 use format_toml_tree::value::{Item, Key, Value};
 use std::alloc::Global;
 
-/// A key of so many names, the same but for the last.
+/// A key of `depth` names, all equal but the last.
 fn key_of(alloc: Global, depth: usize, last: usize) -> Result<Key<Global>, Wrong> {
     let mut names = Vec::new(alloc);
     for _ in 1..depth {

@@ -1,14 +1,14 @@
-//! Lines of TOML with bare keys, integers, arrays and inline tables, for the tests alone.
+//! Lines of TOML with bare keys, integers, arrays and inline tables, only for the tests.
 use std::alloc::{AllocError, AllocFailed, Global};
 use format_toml_tree::value::{Item, Key, Value};
 
-/// What is left of a line.
+/// The rest of a line.
 #[derive(Drop)]
 pub struct Rest<'t> {
     bytes: &'t [u8],
 }
 
-/// Why a line is none.
+/// The error of an invalid line.
 #[derive(Debug, Drop)]
 pub struct Wrong;
 
@@ -111,7 +111,7 @@ impl<'t> Rest<'t> {
         Ok(Value::Integer(number))
     }
 
-    /// What a line says.
+    /// Parses the item of a line.
     pub fn line(&mut self, alloc: Global) -> Result<Option<Item<Global>>, Wrong> {
         self.spaces();
         if self.bytes.is_empty() || self.first() == b'#' {
@@ -127,7 +127,7 @@ impl<'t> Rest<'t> {
     }
 }
 
-/// What the lines of a text say.
+/// Parses the lines of a text.
 pub fn lines_of(
     alloc: Global,
     text: &str,

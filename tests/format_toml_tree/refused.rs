@@ -1,12 +1,12 @@
-//! Documents that are refused.
+//! Rejected documents.
 use super::lines::lines_of;
 use format_toml_tree::build::{Fault, build};
 use format_toml_tree::roles::Refusal;
 
-/// A document, the first line that is refused, counted from 0, and why. The first are of
-/// toml.io/en/v1.0.0 (Keys to Array of Tables), those behind them of toml-test (invalid: table, array,
-/// inline-table, key), with integers for strings. Python's `tomllib` refuses the lines up to that
-/// one, and none before.
+/// A document, its first invalid line, counted from 0, and the reason. The first are from
+/// toml.io/en/v1.0.0 (Keys to Array of Tables), the following from toml-test (invalid: table,
+/// array, inline-table, key), with integers for strings. Python's `tomllib` rejects the text up to
+/// and including that line, and accepts the lines before it.
 const ROWS: &[(&str, usize, Refusal)] = &[
     ("name = 1\nname = 2", 1, Refusal::Defined),
     ("spelling = 1\nspelling = 2", 1, Refusal::Defined),
@@ -84,12 +84,12 @@ fn build_names_the_first_line(rt: HostRuntime) {
 fn faults_say_the_line_and_why(rt: HostRuntime) {
     let rows = [
         (Fault::OutOfMemory, "out of memory"),
-        (Fault::Refused { line: 0, why: Refusal::Defined }, "line 1: it is defined already"),
-        (Fault::Refused { line: 8, why: Refusal::NoTable }, "line 9: it takes a value for a table"),
-        (Fault::Refused { line: 1, why: Refusal::Closed }, "line 2: it adds to a table that is closed"),
+        (Fault::Refused { line: 0, why: Refusal::Defined }, "line 1: key is already defined"),
+        (Fault::Refused { line: 8, why: Refusal::NoTable }, "line 9: key is not a table"),
+        (Fault::Refused { line: 1, why: Refusal::Closed }, "line 2: table cannot be extended"),
         (
             Fault::Refused { line: 2, why: Refusal::NoTables },
-            "line 3: it adds a table to what is no array of tables",
+            "line 3: key is not an array of tables",
         ),
     ];
     for (fault, wanted) in rows {

@@ -1,14 +1,16 @@
-//! On which tokens of a cut input more is asked for, as each parser says it (`X/Says.antt`), in
-//! lists and by the grammars of the parts; it knows no parser.
+//! The tokens of partial input on which `Incomplete` is returned, as each parser specifies it
+//! (`X/Says.antt`), evaluated by lists and by the grammars of the parts. This module uses no
+//! parser.
 use crate::closures::{LENGTHS, decided, said};
 use crate::standing::{Ambiguous, Found, Standing, both, standing};
 use crate::tree::{Bounds, Leaf, One, Three, Tree, Two};
 use crate::words::first_place;
 
-/// Whether more is asked for.
+/// Whether `Incomplete` is returned.
 pub(crate) type Asked = Result<bool, Ambiguous>;
 
-/// Whether the tokens are begun.
+/// Returns whether a parser of `tree` returns `Incomplete` on `tokens` as partial input. The
+/// functions below use "incomplete" in this sense.
 pub(crate) fn is_begun(tree: &Tree, tokens: &[u8]) -> Asked {
     match tree {
         Tree::Leaf(leaf) => Ok(leaf_begun(*leaf, tokens)),
@@ -33,7 +35,7 @@ fn is_below(greatest: Option<usize>, count: usize) -> bool {
     }
 }
 
-/// Nothing is there, or a digit from 1 to 9 and behind it nothing but digits.
+/// No tokens; or a digit from 1 to 9 followed only by digits.
 fn digits_begun(tokens: &[u8]) -> bool {
     match tokens.first() {
         Some(first) => *first != b'0' && tokens.iter().all(|b| b.is_ascii_digit()),
@@ -46,14 +48,14 @@ fn is_short(text: &str, tokens: &[u8]) -> bool {
     tokens.len() < text.len() && text.as_bytes().starts_with(tokens)
 }
 
-/// The same, whatever the case.
+/// Like `is_short`, ignoring case.
 fn is_short_caseless(text: &str, tokens: &[u8]) -> bool {
     let bytes = text.as_bytes();
     tokens.len() < bytes.len() && bytes[..tokens.len()].eq_ignore_ascii_case(tokens)
 }
 
-/// Nothing that is sought stands anywhere; or too few tokens stand before it, and there is a
-/// greatest number. A range from two or more on has that of its type.
+/// The literal does not occur; or it occurs after too few tokens, and the range has an upper bound.
+/// A range from two or more has the upper bound of its type.
 fn before_begun(bounds: Bounds, text: &str, tokens: &[u8]) -> bool {
     let has_greatest = bounds.greatest.is_some() || bounds.least > 1;
     match first_place(tokens, &[text.as_bytes()]) {
@@ -62,7 +64,7 @@ fn before_begun(bounds: Bounds, text: &str, tokens: &[u8]) -> bool {
     }
 }
 
-/// No line end stands anywhere; or the first is a carriage return, and the last token.
+/// No line ending occurs; or the first one is a carriage return, and the last token.
 fn line_begun(tokens: &[u8]) -> bool {
     match first_place(tokens, &[b"\r", b"\n"]) {
         Some(place) => &tokens[place..] == b"\r".as_slice(),
@@ -70,7 +72,7 @@ fn line_begun(tokens: &[u8]) -> bool {
     }
 }
 
-/// No length is there; or fewer tokens behind it than it says.
+/// The length is missing; or `behind` is true for the length and the tokens after it.
 fn length_begun(tokens: &[u8], behind: impl Fn(usize, &[u8]) -> Asked) -> Asked {
     let Some(first) = tokens.first() else {
         return Ok(true);
@@ -111,8 +113,8 @@ fn leaf_begun(leaf: Leaf, tokens: &[u8]) -> bool {
     }
 }
 
-/// One is begun behind some that stand, which are fewer than the greatest number; so many stood
-/// before.
+/// An item is incomplete after some items that match, and fewer than `greatest` items precede it.
+/// `before` is the number of items before `tokens`.
 fn among(
     before: usize,
     greatest: Option<usize>,
@@ -157,12 +159,12 @@ fn one_begun(kind: One, part: &Tree, tokens: &[u8]) -> Asked {
     }
 }
 
-/// An item is begun behind fewer than the greatest number.
+/// An item is incomplete, and fewer than `greatest` items precede it.
 fn items_begun(item: &Tree, greatest: Option<usize>, tokens: &[u8]) -> Asked {
     among(0, greatest, tokens, |rest| is_begun(item, rest), |rest| standing(item, rest))
 }
 
-/// The first is begun; or it stands, and behind it the second is begun.
+/// `first` is incomplete; or it matches, and `second` is incomplete after it.
 fn behind(first: &Tree, second: &Tree, tokens: &[u8]) -> Asked {
     if is_begun(first, tokens)? {
         return Ok(true);
@@ -173,13 +175,15 @@ fn behind(first: &Tree, second: &Tree, tokens: &[u8]) -> Asked {
     }
 }
 
-/// The first is begun; or it does not stand, and the second is begun.
+/// `first` is incomplete; or it does not match, and `second` is incomplete.
 fn either(first: &Tree, second: &Tree, tokens: &[u8]) -> Asked {
     let begun = is_begun(first, tokens)?;
     Ok(begun || (standing(first, tokens)?.is_none() && is_begun(second, tokens)?))
 }
 
-/// An element is begun that is wanted; or it stands, and behind it and some links a link is.
+/// The first element is incomplete, and the greatest number is not 0; or it matches, and after
+/// fewer than the greatest number of elements the next pair of a separator and an element is
+/// incomplete.
 fn parted_begun((element, separator): (&Tree, &Tree), bounds: Bounds, tokens: &[u8]) -> Asked {
     if bounds.greatest == Some(0) {
         return Ok(false);
@@ -199,8 +203,8 @@ fn parted_begun((element, separator): (&Tree, &Tree), bounds: Bounds, tokens: &[
     }
 }
 
-/// An item is begun behind fewer than the least number; or behind these, where the terminator
-/// stands at no place before, it is begun, or an item is, where one more may be.
+/// An item is incomplete, and fewer than `bounds.least` items precede it; or, after these, the
+/// terminator has not matched before, and it is incomplete, or an item is if one more is allowed.
 fn till_begun((item, till): (&Tree, &Tree), bounds: Bounds, tokens: &[u8]) -> Asked {
     let (mut count, mut rest) = (0, tokens);
     loop {

@@ -14,7 +14,7 @@ pub(crate) fn is_accepted(output: &Shown) -> bool {
     output.len() % 2 == 0
 }
 
-/// What a `verify_map` makes of an output that it accepts.
+/// Returns the output of `verify_map` for an output that it accepts.
 pub(crate) fn made_if_accepted(output: Shown) -> Option<Shown> {
     if is_accepted(&output) {
         Some(Shown::count(output.len()))
@@ -23,17 +23,17 @@ pub(crate) fn made_if_accepted(output: Shown) -> Option<Shown> {
     }
 }
 
-/// What a `map` makes of an output.
+/// Returns the output of `map`.
 pub(crate) fn made(output: Shown) -> Shown {
     Shown::all(b'm', &[output])
 }
 
-/// How many tokens a `flat_map` takes behind an output.
+/// Returns the number of tokens that `flat_map` takes after an output.
 pub(crate) fn decided(output: Shown) -> usize {
     output.len() % 3
 }
 
-/// What a fold makes of a value and an output.
+/// Folds an output into a value.
 pub(crate) fn folded(value: Shown, output: Shown) -> Shown {
     Shown::all(b'f', &[value, output])
 }

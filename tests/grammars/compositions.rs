@@ -1,4 +1,4 @@
-//! Compositions made at random, beside their grammars.
+//! Compositions made at random, compared with their grammars.
 use crate::begun::is_begun;
 use crate::generator::Generator;
 use crate::leaves::Bytes;
@@ -17,10 +17,11 @@ use test_support::rows::Modal;
 /// How many compositions each of the ten tests makes.
 const COMPOSITIONS: usize = 1_000;
 
-/// How many inputs each is run on; a stable one on the first of them cut at each place, too.
+/// The number of inputs for each composition. A stable one also runs on every prefix of the first
+/// of them.
 const INPUTS: usize = 6;
 
-/// What a test ran.
+/// The counts of a test.
 #[derive(Clone, Copy, Debug, Default)]
 struct Ran {
     compositions: usize,
@@ -29,7 +30,7 @@ struct Ran {
     cut_inputs_settled: usize,
 }
 
-/// What a run answers: the output and how many tokens are taken, or the kind of the error.
+/// Returns the output and the number of consumed tokens, or the kind of the error.
 fn answer<'i, I: Bytes<'i>>(tree: &mut Tree, input: I) -> Result<Standing, Kind> {
     let before = input.eof_offset();
     let (answer, rest) = outcome_of::<I, Shown, Modal, _>(tree, input);
@@ -42,7 +43,7 @@ fn answer<'i, I: Bytes<'i>>(tree: &mut Tree, input: I) -> Result<Standing, Kind>
     }
 }
 
-/// What it has to answer where all of the input is there.
+/// Returns the expected result on complete input.
 fn answer_by(found: Option<Standing>) -> Result<Standing, Kind> {
     match found {
         Some(standing) => Ok(standing),
@@ -50,8 +51,9 @@ fn answer_by(found: Option<Standing>) -> Result<Standing, Kind> {
     }
 }
 
-/// Of an input that is cut, more is asked for exactly where its tokens are begun, and each other
-/// answer is that of each longer input. How many such answers there are.
+/// Checks that on every prefix as partial input the result is `Incomplete` if and only if the
+/// tokens are incomplete, and that every other result is that of each longer input. Returns the
+/// number of these other results.
 fn agrees_when_cut(
     rt: &impl Abort,
     alloc: Global,
@@ -77,7 +79,8 @@ fn agrees_when_cut(
     Ok(settled)
 }
 
-/// Each composition of a seed answers what stands by its grammar, and backtracks where none does.
+/// Checks that each composition made from a seed returns the output of its grammar, and backtracks
+/// if there is no match.
 fn agree(rt: &impl Abort, alloc: Global, seed: u64, depth: usize) -> Result<Ran, Fail> {
     let random = Random(seed);
     let mut generator = Generator { random, alloc };

@@ -12,7 +12,7 @@ const SETS: [&'static [u8]; 6] = [b"a", b"ab", b"01", b"b,", b"aAb012", b"\r\n-"
 
 const TEXTS: [&'static str; 6] = ["a", "ab", "aa", ",", "-1", "\r\n"];
 
-/// What makes compositions and inputs.
+/// A generator of compositions and inputs.
 #[derive(Clone, Copy)]
 pub(crate) struct Generator {
     pub(crate) random: Random,
@@ -105,7 +105,7 @@ impl Generator {
         }
     }
 
-    /// A part; one that takes tokens, where that is asked for.
+    /// Makes a part; one that always consumes tokens if `wants_tokens`.
     fn part(&mut self, depth: usize, wants_tokens: bool) -> Result<Box<Tree>, Fail> {
         let part = self.tree(depth)?;
         if wants_tokens && !part.consumes() {
@@ -162,7 +162,8 @@ impl Generator {
         Ok(())
     }
 
-    /// An input of a composition: bytes, or what it may read with bytes behind it.
+    /// Makes an input for a composition: random bytes, or a text that it may match followed by
+    /// random bytes.
     pub(crate) fn input(&mut self, tree: &Tree) -> Result<Vec<u8>, Fail> {
         let mut input = Vec::new(self.alloc);
         if self.random.below(3) == 0 {

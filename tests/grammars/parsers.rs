@@ -21,7 +21,7 @@ use winnow_repeat::combinator::{repeat, repeat_till};
 use winnow_separated::combinator::separated;
 use winnow_token::token::{one_of, take};
 
-// The ghost members are what the trait asks of each parser.
+// The ghost members that the trait requires of each parser.
 impl<'i, I: Bytes<'i>> Parser<I, Shown, Modal> for Tree {
     ghost State = { ⊤ };
 
@@ -73,7 +73,7 @@ fn unit(nothing: ()) -> Shown {
     Shown::unit()
 }
 
-/// One run of what is made of one parser.
+/// Runs a combinator of one parser.
 fn run_one<'i, I: Bytes<'i>>(
     kind: One,
     alloc: Global,
@@ -132,7 +132,7 @@ fn run_repeat<'i, I: Bytes<'i>>(
     }
 }
 
-/// One run of what is made of two.
+/// Runs a combinator of two parsers.
 fn run_two<'i, I: Bytes<'i>>(
     kind: Two,
     alloc: Global,
@@ -161,7 +161,7 @@ fn run_two<'i, I: Bytes<'i>>(
     }
 }
 
-/// One run of what is made of three.
+/// Runs a combinator of three parsers.
 fn run_three<'i, I: Bytes<'i>>(
     kind: Three,
     (first, second, third): (&mut Tree, &mut Tree, &mut Tree),

@@ -21,7 +21,7 @@ impl Random {
         usize::try_from((self.next() >> 11) % bound).unwrap_or(0)
     }
 
-    /// One of some values, of which there is one.
+    /// Returns one of `values`, which must not be empty.
     pub(crate) fn one_of<T: Copy>(&mut self, values: &[T]) -> T {
         values[self.below(values.len())]
     }

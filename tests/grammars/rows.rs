@@ -1,10 +1,10 @@
-//! Grammars of what stands one behind the other.
+//! Grammars of repetitions and separated lists.
 use crate::closures::folded;
 use crate::shown::Shown;
 use crate::standing::{Found, Standing, both, one_alone, standing};
 use crate::tree::{Bounds, Into, Tree};
 
-/// Outputs that stand one behind the other.
+/// The outputs of consecutive items.
 #[derive(Clone, Copy)]
 pub(crate) struct Row {
     count: usize,
@@ -26,7 +26,7 @@ impl Row {
         }
     }
 
-    /// One more behind them.
+    /// Appends an output.
     fn and(self, more: Standing) -> Row {
         Row {
             count: self.count + 1,
@@ -36,7 +36,7 @@ impl Row {
         }
     }
 
-    /// What an accumulator holds of the outputs.
+    /// Returns the value of an accumulator of the outputs.
     pub(crate) fn held(self, into: Into) -> Shown {
         match into {
             Into::List => self.list,
@@ -46,19 +46,19 @@ impl Row {
     }
 }
 
-/// What stands once more in a row. It takes tokens.
+/// The next item of a row. It must consume tokens.
 #[derive(Clone, Copy)]
 pub(crate) enum Step<'t> {
     /// The tree.
     Item(&'t Tree),
-    /// The first, and the second behind it, whose output it is.
+    /// The first tree, then the second, with the second's output.
     Behind(&'t Tree, &'t Tree),
-    /// The first, where the second does not stand.
+    /// The first tree, if the second does not match.
     Turn(&'t Tree, &'t Tree),
 }
 
 impl Step<'_> {
-    /// What stands first as a step.
+    /// Returns the match of the item at the start of `tokens`.
     fn standing(self, tokens: &[u8]) -> Found<Standing> {
         match self {
             Step::Item(tree) => standing(tree, tokens),
@@ -87,7 +87,8 @@ impl Step<'_> {
         }
     }
 
-    /// Behind so many no more are read: they are as many as may be, or none stands there.
+    /// Returns `Some` if the row cannot be continued: it has the greatest number of items, or no
+    /// further item matches.
     fn stops(self, bounds: Bounds, row: Row, tokens: &[u8]) -> Found<()> {
         let is_full = bounds.greatest == Some(row.count);
         let is_below = bounds.is_within(row.count) && !is_full;
@@ -95,20 +96,20 @@ impl Step<'_> {
         Ok(if is_full || (is_below && none_stands) { Some(()) } else { None })
     }
 
-    /// The row, where it has enough and no more are read behind it.
+    /// Returns the row if it has enough items and cannot be continued.
     fn within(self, bounds: Bounds, row: Row, tokens: &[u8]) -> Found<Row> {
         let stops = self.stops(bounds, row, tokens)?.is_some();
         Ok(if bounds.least <= row.count && stops { Some(row) } else { None })
     }
 }
 
-/// As many as stand one behind the other, within the bounds.
+/// Matches as many consecutive items as possible, within the bounds.
 pub(crate) fn many(item: &Tree, bounds: Bounds, tokens: &[u8]) -> Found<Row> {
     let step = Step::Item(item);
     step.each(Row::none(), tokens, |row| step.within(bounds, row, tokens))
 }
 
-/// Elements with a separator between each two of them, as many as stand, within the bounds.
+/// Matches as many elements as possible, with a separator between each two, within the bounds.
 pub(crate) fn parted(
     (element, separator): (&Tree, &Tree),
     bounds: Bounds,
@@ -124,7 +125,7 @@ pub(crate) fn parted(
     one_alone(none, some)
 }
 
-/// So many outputs stand one behind the other.
+/// Matches exactly `count` consecutive items.
 pub(crate) fn times(item: &Tree, count: usize, tokens: &[u8]) -> Found<Row> {
     Step::Item(item).each(Row::none(), tokens, |row| Ok(if row.count == count {
         Some(row)
@@ -133,8 +134,8 @@ pub(crate) fn times(item: &Tree, count: usize, tokens: &[u8]) -> Found<Row> {
     }))
 }
 
-/// The least number of items, and behind them items up to the first place where the terminator
-/// stands, no more in all than the greatest number.
+/// Matches the least number of items, then items up to the first match of the terminator, at most
+/// the greatest number in all.
 pub(crate) fn up_to((item, till): (&Tree, &Tree), bounds: Bounds, tokens: &[u8]) -> Found<Row> {
     Step::Item(item).each(Row::none(), tokens, |first| {
         if first.count != bounds.least {

@@ -8,7 +8,7 @@ pub(crate) struct Shown {
 }
 
 impl Shown {
-    /// Nothing yet, of which the mark says what it is to be.
+    /// An empty output, with a mark for its kind.
     fn begun(mark: u8) -> Shown {
         let mut shown = Shown {
             len: 0,
@@ -51,7 +51,7 @@ impl Shown {
         Shown::number(i64::try_from(count).unwrap_or(-1))
     }
 
-    /// Several, one behind the other, behind a mark that says what they are.
+    /// A sequence of outputs, after a mark for its kind.
     pub(crate) fn all(mark: u8, parts: &[Shown]) -> Shown {
         let mut shown = Shown::begun(mark);
         for part in parts {
@@ -60,7 +60,7 @@ impl Shown {
         shown
     }
 
-    /// The same with one more behind it.
+    /// Appends an output.
     pub(crate) fn and(self, part: Shown) -> Shown {
         let mut shown = self;
         shown.put(part.digest);

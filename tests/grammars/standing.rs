@@ -1,23 +1,23 @@
-//! Grammars, evaluated by trying what their words quantify over: which output stands first in some
-//! tokens, and what is left behind it.
+//! Grammars, evaluated by trying every value that their definitions quantify over: the output that
+//! matches at the start of some tokens, and the rest.
 use crate::closures::{LENGTHS, decided, is_accepted, made, made_if_accepted, said};
 use crate::rows::{Row, many, parted, times, up_to};
 use crate::shown::Shown;
 use crate::tree::{Into, One, Three, Tree, Two};
 use crate::words::{Cut, output_at};
 
-/// An output that stands first in some tokens, and how many are taken by it.
+/// An output that matches at the start of some tokens, and the number of its tokens.
 #[derive(Clone, Copy, Debug, PartialEq)]
 pub(crate) struct Standing {
     pub(crate) output: Shown,
     pub(crate) taken: usize,
 }
 
-/// Two stand first in the same tokens.
+/// The error that two outputs match at the start of the same tokens.
 #[derive(Clone, Copy, Debug)]
 pub(crate) struct Ambiguous;
 
-/// What is found: one or none.
+/// The only match, if there is one.
 pub(crate) type Found<T> = Result<Option<T>, Ambiguous>;
 
 /// The one of two that is there.
@@ -32,7 +32,7 @@ fn stands(output: Shown, taken: usize) -> Found<Standing> {
     Ok(Some(Standing { output, taken }))
 }
 
-/// What is made of a row, if there is one.
+/// Converts a row, if there is one, to a match.
 fn made_of(found: Option<Row>, output: impl Fn(Row) -> Shown) -> Found<Standing> {
     match found {
         Some(row) => stands(output(row), row.taken),
@@ -40,7 +40,7 @@ fn made_of(found: Option<Row>, output: impl Fn(Row) -> Shown) -> Found<Standing>
     }
 }
 
-/// The output of a composition that stands first in the tokens.
+/// Returns the match of a composition at the start of `tokens`.
 pub(crate) fn standing(tree: &Tree, tokens: &[u8]) -> Found<Standing> {
     match tree {
         Tree::Leaf(leaf) => {
@@ -60,7 +60,7 @@ pub(crate) fn standing(tree: &Tree, tokens: &[u8]) -> Found<Standing> {
     }
 }
 
-/// One stands first, and the other behind it.
+/// Matches `first`, then `second`.
 pub(crate) fn both(
     first: &Tree,
     second: &Tree,
@@ -76,7 +76,7 @@ pub(crate) fn both(
     stands(output(p.output, q.output), p.taken + q.taken)
 }
 
-/// One stands first, another behind it, and a third behind that.
+/// Matches three trees in sequence.
 fn each_of_three(
     (first, second, third): (&Tree, &Tree, &Tree),
     tokens: &[u8],
@@ -95,7 +95,7 @@ fn each_of_three(
     stands(output(p.output, q.output, r.output), before + r.taken)
 }
 
-/// The first stands; or none of it does, and the second does.
+/// Matches `first`; if it does not match, matches `second`.
 fn either(first: &Tree, second: &Tree, tokens: &[u8]) -> Found<Standing> {
     match standing(first, tokens)? {
         Some(found) => Ok(Some(found)),
@@ -103,7 +103,7 @@ fn either(first: &Tree, second: &Tree, tokens: &[u8]) -> Found<Standing> {
     }
 }
 
-/// A length stands first, and behind it what stands by that number.
+/// Matches a length, then `behind` for that number.
 fn sized(
     tokens: &[u8],
     behind: impl Fn(usize, &[u8]) -> Found<Standing>,
@@ -120,7 +120,7 @@ fn sized(
     }
 }
 
-/// So many tokens are first, and an output stands in them alone.
+/// Matches `tree` within the first `count` tokens, and takes all of these.
 fn inside(tree: &Tree, count: usize, tokens: &[u8]) -> Found<Standing> {
     if tokens.len() < count {
         return Ok(None);
@@ -131,7 +131,7 @@ fn inside(tree: &Tree, count: usize, tokens: &[u8]) -> Found<Standing> {
     }
 }
 
-/// The grammar of what is made of one part.
+/// The grammar of a combinator of one part.
 fn of_one(kind: One, part: &Tree, tokens: &[u8]) -> Found<Standing> {
     match kind {
         One::Cond(false) => return stands(Shown::option(None), 0),
@@ -173,7 +173,8 @@ fn of_one(kind: One, part: &Tree, tokens: &[u8]) -> Found<Standing> {
     }
 }
 
-/// What an adapter makes of an output that stands in these tokens, if it accepts it.
+/// Returns the output of an adapter for an output that matched these tokens, if the adapter accepts
+/// it.
 fn adapted(kind: One, output: Shown, tokens: &[u8]) -> Option<Shown> {
     match kind {
         One::Take => Some(Shown::slice(tokens)),
@@ -192,7 +193,7 @@ fn adapted(kind: One, output: Shown, tokens: &[u8]) -> Option<Shown> {
     }
 }
 
-/// The grammar of what is made of two.
+/// The grammar of a combinator of two parts.
 fn of_two(kind: Two, (first, second): (&Tree, &Tree), tokens: &[u8]) -> Found<Standing> {
     match kind {
         Two::Sequence => both(first, second, tokens, |p, q| Shown::all(b'2', &[p, q])),
@@ -219,7 +220,7 @@ fn of_two(kind: Two, (first, second): (&Tree, &Tree), tokens: &[u8]) -> Found<St
     }
 }
 
-/// The grammar of what is made of three.
+/// The grammar of a combinator of three parts.
 fn of_three(kind: Three, parts: (&Tree, &Tree, &Tree), tokens: &[u8]) -> Found<Standing> {
     match kind {
         Three::Sequence => each_of_three(parts, tokens, |p, q, r| Shown::all(b'3', &[p, q, r])),

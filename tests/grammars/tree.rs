@@ -10,7 +10,7 @@ pub(crate) struct Bounds {
 }
 
 impl Bounds {
-    /// At least so many.
+    /// At least `least`.
     pub(crate) fn from(least: usize) -> Bounds {
         Bounds {
             least,
@@ -62,7 +62,7 @@ pub(crate) enum Leaf {
     Fail,
 }
 
-/// What a repetition puts its outputs into.
+/// The accumulators of a repetition.
 #[derive(Clone, Copy, Debug)]
 pub(crate) enum Into {
     List,
@@ -70,7 +70,7 @@ pub(crate) enum Into {
     Nothing,
 }
 
-/// What is made of one parser.
+/// The combinators of one parser.
 #[derive(Clone, Copy, Debug)]
 pub(crate) enum One {
     Opt,
@@ -91,7 +91,7 @@ pub(crate) enum One {
     LengthRepeat,
 }
 
-/// What is made of two.
+/// The combinators of two parsers.
 #[derive(Clone, Copy, Debug)]
 pub(crate) enum Two {
     Sequence,
@@ -103,7 +103,7 @@ pub(crate) enum Two {
     RepeatTill(Bounds),
 }
 
-/// What is made of three.
+/// The combinators of three parsers.
 #[derive(Clone, Copy, Debug)]
 pub(crate) enum Three {
     Sequence,
@@ -112,7 +112,7 @@ pub(crate) enum Three {
     Choice,
 }
 
-/// A composition. What it takes for its lists is asked of the allocator beside it.
+/// A composition, with the allocator for its lists.
 #[derive(Drop)]
 pub(crate) enum Tree {
     Leaf(Leaf),
@@ -142,7 +142,7 @@ impl One {
 }
 
 impl Leaf {
-    /// Whether it takes tokens wherever it stands.
+    /// Returns whether every match consumes tokens.
     pub(crate) fn consumes(self) -> bool {
         match self {
             Leaf::Text(text) | Leaf::Caseless(text) => text.len() > 0,
@@ -157,14 +157,14 @@ impl Leaf {
         }
     }
 
-    /// Whether more input changes no answer but one that asks for more.
+    /// Returns whether every result other than `Incomplete` stays the same with more input.
     pub(crate) fn is_stable(self) -> bool {
         !matches!(self, Leaf::Rest | Leaf::RestLen | Leaf::Eof)
     }
 }
 
 impl Tree {
-    /// Whether it takes tokens wherever it stands.
+    /// Returns whether every match consumes tokens.
     pub(crate) fn consumes(&self) -> bool {
         match self {
             Tree::Leaf(leaf) => leaf.consumes(),
@@ -190,7 +190,7 @@ impl Tree {
         }
     }
 
-    /// Whether more input changes no answer but one that asks for more.
+    /// Returns whether every result other than `Incomplete` stays the same with more input.
     pub(crate) fn is_stable(&self) -> bool {
         match self {
             Tree::Leaf(leaf) => leaf.is_stable(),

@@ -1,10 +1,9 @@
-//! The grammars of leaves, word by word: of each beginning of the tokens it is asked whether the
-//! definition has it.
+//! The grammars of leaves, word by word: each prefix of the tokens is compared with the definition.
 use crate::closures::{LENGTHS, said};
 use crate::shown::Shown;
 use crate::tree::{Bounds, Leaf};
 
-/// Some tokens, cut in two: those that are taken, and those that are left.
+/// Some tokens, split into the taken ones and the rest.
 #[derive(Clone, Copy)]
 pub(crate) struct Cut<'t> {
     tokens: &'t [u8],
@@ -13,7 +12,7 @@ pub(crate) struct Cut<'t> {
 }
 
 impl<'t> Cut<'t> {
-    /// The tokens, of which so many are taken.
+    /// Splits the tokens after the first `taken` of them.
     pub(crate) fn at(tokens: &'t [u8], taken: usize) -> Cut<'t> {
         Cut {
             tokens,
@@ -27,8 +26,8 @@ impl<'t> Cut<'t> {
         self.front == these
     }
 
-    /// The longest beginning of members, of at most the greatest number, is taken, and it has
-    /// enough of them.
+    /// Returns whether the longest prefix of members is taken, limited to the greatest number, and
+    /// has the least number of them.
     fn is_longest(self, bounds: Bounds, is_member: impl Fn(u8) -> bool) -> bool {
         let is_full = bounds.greatest == Some(self.front.len());
         let is_ended = match self.rest.first() {
@@ -40,7 +39,7 @@ impl<'t> Cut<'t> {
             && (is_full || is_ended)
     }
 
-    /// What is sought stands right behind what is taken, and at no earlier place.
+    /// Returns whether the first occurrence of any of `sought` directly follows the taken tokens.
     fn is_before(self, sought: &[&[u8]]) -> bool {
         first_place(self.tokens, sought) == Some(self.front.len())
     }
@@ -54,8 +53,9 @@ impl<'t> Cut<'t> {
         is_line_of && (!self.rest.starts_with(b"\r") || self.rest.starts_with(b"\r\n"))
     }
 
-    /// The digits are all that is taken behind a sign of so many bytes, no '0' is the first but a
-    /// lone one, and no digit is left behind others than a lone '0': their number.
+    /// Returns the number that the digits after a sign of `sign` bytes encode, if these digits are
+    /// all that is taken. The first digit is '0' only if it is the only one. Unless the number is
+    /// '0', no further digit follows.
     fn decimal(self, sign: usize) -> Option<i64> {
         let digits = &self.front[sign..];
         let are_digits = !digits.is_empty() && digits.iter().all(|b| b.is_ascii_digit());
@@ -106,7 +106,7 @@ impl<'t> Cut<'t> {
         }
     }
 
-    /// A length is taken, and behind it so many tokens.
+    /// Returns the tokens after a length, if the length and exactly as many tokens are taken.
     fn behind_length(self) -> Option<Shown> {
         let first = *self.front.first()?;
         let behind = &self.front[1..];
@@ -121,7 +121,7 @@ impl<'t> Cut<'t> {
     }
 }
 
-/// The first place of the tokens where one of the texts stands.
+/// Returns the first offset at which one of the texts occurs.
 pub(crate) fn first_place(tokens: &[u8], sought: &[&[u8]]) -> Option<usize> {
     for place in 0..tokens.len() {
         for text in sought {
@@ -145,7 +145,7 @@ fn if_so(holds: bool, output: Shown) -> Option<Shown> {
     if holds { Some(output) } else { None }
 }
 
-/// The output of a leaf that stands first in the tokens so that they are cut there, if it does.
+/// Returns the output of a leaf if it matches exactly the taken tokens, followed by the rest.
 pub(crate) fn output_at(leaf: Leaf, cut: Cut) -> Option<Shown> {
     let is_nothing = cut.front.is_empty();
     match leaf {
@@ -166,7 +166,7 @@ pub(crate) fn output_at(leaf: Leaf, cut: Cut) -> Option<Shown> {
     }
 }
 
-/// Whether a leaf whose output is the slice that it takes stands so.
+/// Returns whether a leaf with a slice as its output matches exactly the taken tokens.
 fn is_slice(leaf: Leaf, cut: Cut) -> bool {
     match leaf {
         Leaf::Text(text) => cut.takes(text.as_bytes()),

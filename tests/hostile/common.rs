@@ -1,4 +1,4 @@
-//! What these tests share: a child that counts its runs, and a child with a plan.
+//! Common helpers: a child that counts its calls, and a child with a plan.
 ghost use Rattle.winnow_core.specs.Claim.{no_claim, nothing_claimed};
 ghost use Rattle.winnow_core.specs.Says.{nothing_done, nothing_said};
 ghost use Rattle.std.specs.Prelude.{⊤};
@@ -26,7 +26,7 @@ pub(crate) struct Counted<'c, P> {
     runs: &'c Cell<usize>,
 }
 
-// The ghost members are what the trait asks of each parser.
+// The ghost members that the trait requires of each parser.
 impl<I: Stream, O, E: ParserError<I>, P: Parser<I, O, E>> Parser<I, O, E> for Counted<'_, P> {
     ghost can_parse = { λ s. P.can_parse s.parser };
 
@@ -52,25 +52,25 @@ impl<I: Stream, O, E: ParserError<I>, P: Parser<I, O, E>> Parser<I, O, E> for Co
     }
 }
 
-/// The parser, of which each run is counted.
+/// Returns the parser with a count of its calls.
 pub(crate) fn counting<P>(parser: P, runs: &Cell<usize>) -> Counted<'_, P> {
     Counted { parser, runs }
 }
 
-/// What a run of a [`Planned`] does.
+/// The result of one call of a [`Planned`].
 #[derive(Clone, Copy)]
 pub(crate) enum Act {
     /// It takes a token, and answers its number in the plan.
     Take,
-    /// It takes none, and answers its number.
+    /// Consumes no token, and returns its number.
     Stay,
     /// It takes a token, and fails so.
     TakeAndFail(Kind),
-    /// It takes none, and fails so.
+    /// Consumes no token, and fails with this kind.
     Fail(Kind),
 }
 
-/// A parser whose runs do what a plan says, the first one first; behind its end they backtrack.
+/// A parser whose calls follow a plan in order; after its end they backtrack.
 #[derive(Drop)]
 pub(crate) struct Planned {
     plan: [Act; 3],

@@ -26,7 +26,7 @@ const SIZE: usize = 1 << 20;
 /// The bytes of the others, where each takes more time.
 const FEWER: usize = 1 << 18;
 
-/// How often a part of an expression stands in its input.
+/// How often a part of an expression occurs in its input.
 const OPERATORS: usize = 1 << 12;
 
 /// So many times a part, between a first and a last one.
@@ -48,7 +48,7 @@ fn runs() -> Cell<usize> {
     Cell::new(0)
 }
 
-/// A run that answers and leaves so, whose children were run so often.
+/// Checks a result, the number of remaining bytes, and how often the children were called.
 fn ran<O: PartialEq + std::fmt::Debug + Drop>(
     rt: &impl Abort,
     name: &str,
@@ -139,7 +139,7 @@ fn repeat_till_of_many(rt: HostRuntime) -> Result<(), Fail> {
     Ok(())
 }
 
-/// Elements and separators, of which the last element is missing.
+/// Elements and separators without a last element.
 #[test]
 fn separated_of_many(rt: HostRuntime) -> Result<(), Fail> {
     let pairs = FEWER / 2;
@@ -163,7 +163,7 @@ fn separated_of_many(rt: HostRuntime) -> Result<(), Fail> {
     Ok(())
 }
 
-/// Separators alone, with elements that are empty between them.
+/// Only separators, with empty elements between them.
 #[test]
 fn separated_of_many_empty_elements(rt: HostRuntime) -> Result<(), Fail> {
     let bytes = times(rt.alloc(), (b"", b",,,,,,,,", FEWER / 8, b""))?;
@@ -283,7 +283,8 @@ fn runs_of(alloc: Global, bytes: &[u8]) -> ([usize; 4], Result<usize, Kind>, usi
     (runs, answer, rest.len())
 }
 
-/// An expression of a part so many times runs its parsers so often, and leaves a semicolon.
+/// Checks how often an expression of `OPERATORS` repetitions of `part` calls its parsers. The rest
+/// is a semicolon.
 fn expression_runs(
     rt: &impl Abort,
     alloc: Global,

@@ -16,10 +16,10 @@ use winnow_binary::binary;
 use winnow_binary::binary::impls::LengthTake;
 use winnow_integers::binary::impls::{BeU16, U8};
 
-/// A number, three bytes behind their length, and a line end.
+/// A number, three bytes after their length, and a line ending.
 const ALL: [u8; 8] = [0x00, 0x2A, 0x03, 0x61, 0x62, 0x63, 0x0D, 0x0A];
 
-/// What the parser answers.
+/// The output of the parser.
 type Message<'b> = (u16, &'b [u8], &'b [u8]);
 
 /// Bytes as a stream.
@@ -45,7 +45,7 @@ impl<'b, I: OfBytes<'b>> OfBytes<'b> for LocatingSlice<I> {
     }
 }
 
-/// What a run on a stream answers, and how many bytes it takes.
+/// Returns the result on a stream, and the number of consumed bytes.
 fn read<'b, I, E>(mut input: I, is_complete: bool) -> (Result<Message<'b>, Kind>, usize)
 where
     I: OfBytes<'b> + Compare<&'static str>,
@@ -61,12 +61,12 @@ where
     (answer, before - rest.eof_offset())
 }
 
-/// A need of so many bytes more.
+/// A need of `units` more bytes.
 fn lacks(units: usize) -> Result<Message<'static>, Kind> {
     Err(Incomplete(Needed::new(units)))
 }
 
-/// On a cut input each beginning is answered with what it lacks.
+/// The need of every proper prefix as partial input.
 fn asks_for_more<I, E>(rt: &impl Abort)
 where
     I: OfBytes<'static> + Compare<&'static str>,
@@ -90,7 +90,8 @@ where
     }
 }
 
-/// On a whole input each beginning backtracks, where the part that lacks something began.
+/// Every proper prefix as complete input is a backtrack, at the start of the part that is
+/// incomplete.
 fn backtracks<I, E>(rt: &impl Abort)
 where
     I: OfBytes<'static> + Compare<&'static str>,
@@ -109,7 +110,7 @@ where
     assert_eq!(rt; got, want, "all bytes, whole");
 }
 
-/// What comes behind changes nothing: what is answered, and how many bytes are taken.
+/// The bytes that follow do not change the result, nor the number of consumed bytes.
 fn leaves_the_rest<'b, I, E>(rt: &impl Abort, bytes: &'b [u8])
 where
     I: OfBytes<'b> + Compare<&'static str>,
@@ -131,7 +132,7 @@ fn each_beginning_of_a_message(rt: HostRuntime) {
     backtracks::<LocatingSlice<&[u8]>, Modal>(&rt);
 }
 
-/// Each byte behind the message, and each beginning of a second one.
+/// Every byte after the message, and every prefix of a second one.
 #[test]
 fn a_message_and_more(rt: HostRuntime) {
     let mut longer = [0x00, 0x2A, 0x03, 0x61, 0x62, 0x63, 0x0D, 0x0A, 0];

@@ -1,4 +1,4 @@
-//! Deep formulas: the operators that wait stand in a list, and not on the stack of calls.
+//! Deeply nested formulas: pending operators are kept in a list, not on the call stack.
 use readers::calc::value;
 use readers::fault::Fault;
 use std::alloc::Global;
@@ -6,7 +6,7 @@ use std::process::Abort;
 use std::test::Fail;
 use test_support::rows::same;
 
-/// A text of a first part, so many times a second one, and a last one.
+/// Writes `first`, then `times` times `part`, then `last`.
 fn text_of(
     alloc: Global,
     first: &str,
@@ -22,7 +22,7 @@ fn text_of(
     Ok(text)
 }
 
-/// A formula of so many times a part has this value, or is refused so.
+/// Checks the value or the error of a formula with `times` times a part.
 fn comes_to(
     rt: &impl Abort,
     alloc: Global,

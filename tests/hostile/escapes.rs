@@ -1,4 +1,4 @@
-//! Texts with escapes: children that consume nothing, memory that is refused, and long inputs.
+//! Texts with escapes: children that consume no input, allocation failures, and long inputs.
 use crate::common::{AtBytes, Bytes, Plain, counting};
 use crate::counts::times;
 use std::alloc::{Allocator, Global};
@@ -63,7 +63,7 @@ fn escapes_that_consume_nothing(rt: HostRuntime) {
     turns_of_nothing::<Plain>(&rt, rt.alloc(), Backtrack);
 }
 
-/// What a text with escapes stands for, as how many bytes it has, and how many are left.
+/// Returns the length in bytes of an unescaped text, and the number of remaining bytes.
 fn read<A: Allocator + Copy>(alloc: A, text: &'static str) -> (Result<usize, Kind>, usize) {
     let named = alt(("n".value("\n"), "\\".value("\\")));
     let mut parser: Escaped<_, _, _, &str, &str, char, &str, String<A>, Modal, A> = escaped(
@@ -79,7 +79,7 @@ fn read<A: Allocator + Copy>(alloc: A, text: &'static str) -> (Result<usize, Kin
     }
 }
 
-/// Each request for memory is refused in turn, and then each from one on.
+/// Every allocation fails in turn, then all from each one on.
 #[test]
 fn escaped_without_memory(rt: HostRuntime) {
     let text = "ab\\ncd;";
@@ -93,7 +93,7 @@ fn escaped_without_memory(rt: HostRuntime) {
     let heap = Refusing::always_from(rt.alloc(), 0);
     same(&rt, "escaped", text, read(&heap, text).0, Err(Memory));
     assert!(rt; heap.met(), "a text asks for memory");
-    // Nothing and a number ask for none.
+    // Accumulating into `()` or a number does not allocate.
     let heap = Refusing::always_from(rt.alloc(), 0);
     let mut parser: Escaped<_, _, _, &str, &str, char, char, usize, EmptyError, _> = escaped(
         &heap, Alpha1, '\\', Any,
@@ -109,7 +109,7 @@ fn escaped_without_memory(rt: HostRuntime) {
     assert!(rt; !heap.met(), "a number asks for no memory");
 }
 
-/// A control that wants memory is no end of the text.
+/// Out of memory in a control is an error, not the end of the text.
 #[test]
 fn control_that_wants_memory(rt: HostRuntime) {
     let wants = Func(|input: &mut Bytes| {

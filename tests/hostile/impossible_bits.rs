@@ -1,4 +1,4 @@
-//! Bits that cannot be read: of a byte that is not there, or at a place that no byte has.
+//! Bits that cannot be read: of a missing byte, or at an invalid bit offset.
 use std::process::Abort;
 use stream_bits::bits::Bits;
 use stream_errors::empty::EmptyError;
@@ -97,7 +97,7 @@ fn bytes_at_impossible_places(rt: HostRuntime) {
     }
 }
 
-/// The parsers of tokens: no bit is left.
+/// The parsers of tokens: no bit remains.
 #[test]
 fn tokens_at_impossible_places(rt: HostRuntime) {
     let lacks = |units: usize| -> Kind { Incomplete(Needed::new(units)) };

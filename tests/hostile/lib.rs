@@ -1,5 +1,5 @@
-//! The tests of hostile use: nothing hangs, halts or answers what is not so, whatever the children,
-//! the input, the memory and the streams do.
+//! Tests of hostile use: nothing hangs, aborts or returns a wrong result, for any children, input,
+//! allocator and stream.
 #![tactic(auto)]
 
 #[cfg(test)]

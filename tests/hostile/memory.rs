@@ -1,4 +1,4 @@
-//! Requests for memory that are refused.
+//! Allocation failures.
 use crate::common::{AtBytes, Bytes, counting};
 use readers::calc::value;
 use readers::fault::Fault;
@@ -26,8 +26,8 @@ use winnow_separated::combinator::impls::Separated;
 use winnow_separated::combinator::{separated, separated_foldr1};
 use winnow_token::token::impls::Any;
 
-/// The first of the requests is refused, the second, and so on until a run meets none, and then
-/// each from one on: a run that met a refusal answers want of memory, and no other answer.
+/// Checks that a call with a failed allocation returns `refused`, and otherwise `want`. Every
+/// allocation fails in turn until a call meets no failure, and then all from each one on.
 fn wants_memory<T: PartialEq + Debug + Copy>(
     rt: &impl Abort,
     name: &str,
@@ -116,8 +116,8 @@ fn listed<A: Allocator + Copy>(alloc: A) -> Listed<A> {
     repeat(alloc, Range::from(0..), Any)
 }
 
-/// What a choice answers whose first branch makes a list of each byte that is refused memory: as
-/// the first branch does, and the second is not run.
+/// If the first branch of `alt` runs out of memory, `alt` does too, without running the second
+/// branch.
 #[test]
 fn alt_behind_want_of_memory(rt: HostRuntime) {
     let heap = Refusing::always_from(rt.alloc(), 0);
@@ -162,7 +162,7 @@ fn alt_behind_want_of_memory(rt: HostRuntime) {
     assert!(rt; !heaps[1].met(), "the second branch is not run");
 }
 
-/// What is put into nothing or into a number asks for no memory, nor does a fold.
+/// Accumulating into `()` or a number does not allocate, nor does a fold.
 fn takes_none<E: ParserError<Bytes>>(rt: &impl Abort, alloc: Global) {
     let heap = Refusing::always_from(alloc, 0);
     let any = Range::from(0..);

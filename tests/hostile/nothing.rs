@@ -29,7 +29,7 @@ fn number<E: ParserError<Bytes>>() -> Number<E> {
     Digit1.parse_to()
 }
 
-/// A run that should answer so, and leave so many bytes, did.
+/// Checks a result and the number of remaining bytes.
 fn ended<O: PartialEq + std::fmt::Debug + Drop>(
     rt: &impl Abort,
     (name, text): (&str, &str),
@@ -39,8 +39,8 @@ fn ended<O: PartialEq + std::fmt::Debug + Drop>(
     same(rt, name, text, (got.0, got.1.len()), want);
 }
 
-/// Elements with nothing between them. The assert error has this kind, and is handed on behind the
-/// element, also where it backtracks.
+/// Elements with an empty separator. The assert error of kind `asserted` is returned after the
+/// element, also if it is a backtrack.
 fn separators<E: ParserError<Bytes>>(rt: &impl Abort, alloc: Global, asserted: Kind) {
     for (name, range) in [
         ("separated(0.., digit1, Empty)", Range::from(0..)),

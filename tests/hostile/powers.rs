@@ -17,7 +17,7 @@ struct Written {
 }
 
 impl Written {
-    /// What is written by these in order.
+    /// Concatenates the parts.
     fn of(parts: &[&[u8]]) -> Written {
         let mut all = Written {
             bytes: [0; 24],
@@ -39,7 +39,7 @@ impl Written {
     }
 }
 
-/// What an operator writes: itself.
+/// An operator that writes itself.
 #[derive(Clone, Copy)]
 struct Writes(u8);
 
@@ -74,8 +74,7 @@ enum Side {
     Neither,
 }
 
-/// Operators: `-` in front of an operand, `!` behind one, and `+`, `*` and `=` between two, each by
-/// its power.
+/// Operators with their precedence: a prefix `-`, a postfix `!`, and infix `+`, `*` and `=`.
 #[derive(Clone, Copy)]
 struct Powers {
     minus: Option<i64>,
@@ -148,7 +147,7 @@ fn read(
     outcome_of::<&str, Written, Modal, _>(&mut parser, text)
 }
 
-/// An expression of such operators at a level is read as this tree, and this is left.
+/// Checks the tree of an expression of such operators at a level, and the rest.
 fn reads(
     rt: &impl Abort,
     alloc: Global,

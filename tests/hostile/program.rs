@@ -1,4 +1,4 @@
-//! The program over readers and writers that fail, and over memory that is refused.
+//! The program over readers and writers that fail, and with allocation failures.
 use readers::run;
 use std::alloc::{Allocator, Global};
 use std::io;
@@ -69,7 +69,8 @@ impl Write for Failing {
 /// No read or write of that number.
 const NEVER: usize = usize::MAX;
 
-/// A word, an input, and what a run without faults writes and to which status.
+/// A word, an input, and the output, the error output and the status of the program if nothing
+/// fails.
 type Run = (&'static str, &'static str, &'static str, &'static str, u8);
 
 const RUNS: [Run; 6] = [
@@ -87,7 +88,7 @@ const RUNS: [Run; 6] = [
     ("calc", "1 2", "", "refused at 2\n", 1),
 ];
 
-/// A run of the program: its status, and what it wrote.
+/// Runs the program, and returns its status and outputs.
 fn ran<A: Allocator + Copy>(
     alloc: A,
     (word, text): (&str, &str),
@@ -132,7 +133,7 @@ fn readers_that_fail(rt: HostRuntime) {
         for reading in 1..=text.len() + 1 {
             let got = ran(rt.alloc(), (word, text), (reading, NEVER, NEVER));
             comes_to(&rt, text, got, (2, "", "cannot read standard input\n"));
-            // The errors cannot be told either.
+            // The errors cannot be reported either.
             let got = ran(rt.alloc(), (word, text), (reading, NEVER, 1));
             comes_to(&rt, text, got, (2, "", ""));
         }
@@ -146,7 +147,7 @@ fn writers_that_fail(rt: HostRuntime) {
         let got = ran(rt.alloc(), (word, text), (NEVER, 1, NEVER));
         if lines.is_empty() {
             comes_to(&rt, text, got, (status, "", told));
-            // A refusal that cannot be told is one.
+            // An error that cannot be reported keeps its status.
             let got = ran(rt.alloc(), (word, text), (NEVER, NEVER, 1));
             comes_to(&rt, text, got, (status, "", ""));
         } else {
@@ -157,8 +158,8 @@ fn writers_that_fail(rt: HostRuntime) {
     }
 }
 
-/// A run of the program where one request for memory is refused, until none is: a refused one is
-/// told, or nothing is where the errors cannot take it.
+/// Runs the program with each allocation failing in turn, until none fails: a failure is reported,
+/// or nothing if the error output fails too.
 fn refused_in_turn(rt: &impl Abort, alloc: Global, (word, text, lines, told, status): Run) {
     for telling in [NEVER, 1] {
         let mut number = 0;
@@ -174,7 +175,7 @@ fn refused_in_turn(rt: &impl Abort, alloc: Global, (word, text, lines, told, sta
             number += 1;
         }
         assert!(rt; number > 1, "{text:?} asks for memory");
-        // All requests from one on are refused.
+        // All allocations from one on fail.
         for first in 0..number - 1 {
             let heap = Refusing::always_from(alloc, first);
             let got = ran(&heap, (word, text), (NEVER, NEVER, NEVER));
@@ -210,7 +211,7 @@ fn what_needs_no_memory(rt: HostRuntime) {
     assert_eq!(rt; input.len(), 9, "nothing is read");
 }
 
-/// A formula of so many times a sign and a last byte comes to this.
+/// Checks the value of a formula of repeated signs and a last byte.
 fn signs(
     rt: &impl Abort,
     alloc: Global,

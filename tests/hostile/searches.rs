@@ -1,5 +1,5 @@
-//! Searches at their worst, of up to 1 MiB: a search that looked at a place again and again would
-//! not end in the time that a test has.
+//! Worst cases of searches, of up to 1 MiB: a search that looked at an offset again and again would
+//! exceed the time limit of a test.
 use crate::counts::times;
 use std::alloc::Global;
 use std::test::Fail;
@@ -16,7 +16,7 @@ use winnow_token::token::take_until;
 /// The bytes of the inputs.
 const SIZE: usize = 1 << 20;
 
-/// How many bytes stand before a literal, and are left behind them.
+/// Returns how many bytes precede a literal, and how many remain.
 fn before<'b>(literal: &'b [u8], bytes: &'b [u8]) -> (Result<usize, Kind>, usize) {
     let mut parser: TakeUntil<&[u8], &[u8], EmptyError> = take_until(Range::from(0..), literal);
     let (answer, rest) = outcome_of::<&[u8], &[u8], EmptyError, _>(&mut parser, bytes);
@@ -26,7 +26,7 @@ fn before<'b>(literal: &'b [u8], bytes: &'b [u8]) -> (Result<usize, Kind>, usize
     }
 }
 
-/// Long literals that nearly stand at each place.
+/// Long literals that almost match at every offset.
 #[test]
 fn take_until_long_literals(rt: HostRuntime) -> Result<(), Fail> {
     let alloc = rt.alloc();
@@ -41,7 +41,7 @@ fn take_until_long_literals(rt: HostRuntime) -> Result<(), Fail> {
         let got = before(literal.as_slice(), text.as_slice());
         assert_eq!(rt; got, (Err(Backtrack), SIZE), "a literal that is not there");
     }
-    // A literal of a period, and one that stands last.
+    // A periodic literal, and one that occurs at the end.
     let text = times(alloc, (b"", b"abababab", SIZE / 8, b"c"))?;
     let period = times(alloc, (b"", b"ab", half, b"b"))?;
     let got = before(period.as_slice(), text.as_slice());

@@ -18,8 +18,8 @@ use winnow_repeat::combinator::impls::Repeat;
 use winnow_repeat::combinator::repeat;
 use winnow_token::token::impls::Any;
 
-/// A closure that counts its calls, in front of a token: the count goes on from run to run, also
-/// behind one that asked for more.
+/// A closure that counts its calls, before a token: the count continues from call to call, also
+/// after `Incomplete`.
 #[test]
 fn a_count_goes_on_behind_an_incomplete_run(rt: HostRuntime) {
     for (name, rows) in [
@@ -68,8 +68,8 @@ fn a_second_call_that_backtracks(rt: HostRuntime) {
     same(&rt, "repeat", "ab", rest, "b");
 }
 
-/// A repetition of a child with a plan comes to so many items, or such an error, and leaves so many
-/// bytes; and the child is run so often.
+/// Checks a repetition of a child with a plan: the number of items or the error, the number of
+/// remaining bytes, and how often the child is called.
 fn repeats(
     rt: &impl Abort,
     alloc: Global,
@@ -115,8 +115,8 @@ fn repetitions_of_plans(rt: HostRuntime) {
     }
 }
 
-/// What a choice of two plans answers, what it leaves, and how often each is run: the second begins
-/// where the first did, and is not run where the first does not backtrack.
+/// The results of `alt` over two plans, the rest, and how often each is called: the second starts
+/// where the first did, and runs only if the first backtracks.
 #[test]
 fn choices_of_plans(rt: HostRuntime) {
     for (first, want, left, runs) in [
@@ -143,8 +143,7 @@ fn choices_of_plans(rt: HostRuntime) {
     }
 }
 
-/// A child that takes a token and fails: what looks ahead, and what is an option, is back before it
-/// where it says so.
+/// A child that takes a token and fails: lookahead and options reset the input as they document it.
 #[test]
 fn looks_ahead_of_plans(rt: HostRuntime) {
     for (act, want, left) in [

@@ -1,4 +1,4 @@
-//! What the tests of values of JSON share: values as text, and reads that are refused memory.
+//! Common helpers for tests of JSON values: values as text, and reads with allocation failures.
 #![tactic(auto)]
 
 pub mod refused;

@@ -1,4 +1,4 @@
-//! Reads of a value, of which each request for memory is refused in turn.
+//! Reads of a value, with each allocation failing in turn.
 use std::alloc::Global;
 use std::process::Abort;
 use test_support::outcomes::{Kind, kind_of};
@@ -6,10 +6,11 @@ use test_support::refusing::{Refusing, refused_in_turn};
 use winnow::error::{ParseFault, ParserError};
 use winnow::stream::Stream;
 
-/// The text that is read, of a value of level 3 that asks for memory again and again.
+/// The text to read, with a value nested three deep that allocates repeatedly.
 pub const TEXT: &str = "[1, {\"a\": [\"b\"], \"c\": true}, {}]";
 
-/// Whether a read answers a value, or the kind of its error, and how much of the text it left.
+/// The result of a read, without the value or with the kind of the error, and how much of the text
+/// remains.
 pub type Read = (Result<(), Kind>, usize);
 
 /// A read by a parser, which left so much.
@@ -34,7 +35,8 @@ where
     }
 }
 
-/// A read of the text wants memory where a request is refused, and else reads all of it.
+/// Checks that a read of the text is out of memory if an allocation fails, and otherwise reads all
+/// of it.
 pub fn each_refused(
     rt: &impl Abort,
     name: &str,

@@ -1,4 +1,4 @@
-//! A refused growth, and want of memory in errors that keep lists.
+//! Failed growth of a list, and out of memory in errors that hold lists.
 use std::alloc::{Allocator, Global};
 use test_support::refusing::Refusing;
 use winnow::ascii::impls::DecUint;

@@ -1,4 +1,4 @@
-//! Each caller where it answers and where it fails, and what it leaves.
+//! Every caller with its successes and errors, and the rest.
 use std::fmt::Debug;
 use std::process::Abort;
 use example_callers::premises::closures::{
@@ -17,7 +17,7 @@ use example_callers::premises::repeats::{
     bytes_up_to_mark, characters_up_to_mark, greatest_byte, greatest_code,
 };
 
-/// What a reader answers, and what it leaves.
+/// Checks the result of a reader, and the rest.
 fn same<T: PartialEq + Debug + Drop, I: PartialEq + Debug + Copy>(
     rt: &impl Abort,
     got: Option<T>,

@@ -1,4 +1,4 @@
-//! A time where it is read, and how it fails, whole and in pieces.
+//! Times and their errors, on complete and partial input.
 use example_callers::outcomes::{time_in_pieces, time_of_bytes};
 use std::process::Abort;
 use winnow::Parser;

@@ -1,4 +1,4 @@
-//! Arguments, and refused memory.
+//! Arguments, and allocation failures.
 use crate::runs::USAGE;
 use readers::program::serve;
 use std::alloc::Global;
@@ -6,7 +6,7 @@ use std::env::{Env, FillError};
 use std::process::{Abort, ExitCode};
 use test_support::refusing::Refusing;
 
-/// The arguments of a test, the program's name among them.
+/// The arguments of a test, including the program's name.
 #[derive(Drop)]
 struct Arguments<'a> {
     all: &'a [&'a [u8]],
@@ -35,8 +35,8 @@ impl Env for Arguments<'_> {
     }
 }
 
-/// The program over these arguments and bytes, where the n-th request for memory is refused:
-/// whether one was. If none was, it ends so; else for want of memory.
+/// Runs the program on these arguments and bytes, with allocation `n` failing, and returns whether
+/// it failed. If it did, the program must report out of memory; otherwise it must end as given.
 fn serves(
     rt: &impl Abort,
     alloc: Global,

@@ -7,7 +7,7 @@ use std::process::Abort;
 use std::test::Fail;
 use test_support::refusing::Refusing;
 
-/// A run over a document writes these lines, or refuses it so, with this status.
+/// Checks the lines or the error of a run over a document, and the status.
 fn reads(rt: &impl Abort, alloc: Global, bytes: &[u8], lines: &str, error: &str, want: u8) {
     answers(rt, alloc, (&["ini"], bytes), (lines, error, want));
 }
@@ -109,7 +109,7 @@ fn times(alloc: Global, line: &[u8], times: usize) -> Result<Vec<u8>, Fail> {
     Ok(bytes)
 }
 
-/// A document of a beginning and so many times a line: how many bytes it writes.
+/// Returns how many bytes are written for a document of a first part and repeated lines.
 fn written(
     rt: &impl Abort,
     alloc: Global,
@@ -166,8 +166,8 @@ fn a_byte_too_many(rt: HostRuntime) -> Result<(), Fail> {
     Ok(())
 }
 
-/// How many sections a document has, where the n-th request for memory is refused; and whether one
-/// was.
+/// Returns the number of sections of a document, with allocation `n` failing, and whether it
+/// failed.
 fn counted(alloc: Global, n: u64, text: &str) -> (Result<usize, Fault>, bool) {
     let heap = Refusing::once(alloc, n);
     let got = match document(&heap, text.as_bytes()) {

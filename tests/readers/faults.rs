@@ -1,4 +1,4 @@
-//! Faults of reading and writing.
+//! Errors of reading and writing.
 use crate::runs::USAGE;
 use readers::program::{Outcome, run_and_tell};
 use std::alloc::Global;
@@ -6,7 +6,7 @@ use std::io;
 use std::io::{ErrorKind, Read, Write};
 use std::process::Abort;
 
-/// A reader of bytes. Each read is interrupted once before it is done, and behind so many reads it
+/// A reader of bytes. Each read is interrupted once before it succeeds; after `reads` reads it
 /// fails.
 #[derive(Drop)]
 struct Halting<'a> {
@@ -164,7 +164,7 @@ fn faults_of_errors(rt: HostRuntime) {
     let by_one = Habit { step: 1, ..FREE };
     let refused = "refused at 0\n";
     let rows = [
-        // a refusal, of 13 bytes
+        // an error message of 13 bytes
         ("pair", by_one, 1, true, refused),
         ("pair", room(12), 1, false, "refused at 0"),
         ("pair", room(0), 1, false, ""),

@@ -4,7 +4,7 @@ use std::alloc::Global;
 use std::process::Abort;
 use std::test::Fail;
 
-/// A run over a formula writes this line, or refuses it so, with this status.
+/// Checks the line or the error of a run over a formula, and the status.
 fn calculates(rt: &impl Abort, alloc: Global, bytes: &[u8], line: &str, error: &str, status: u8) {
     answers(rt, alloc, (&["calc"], bytes), (line, error, status));
 }
@@ -49,7 +49,8 @@ fn refused_formulas(rt: HostRuntime) {
         (b"1=", "refused at 2\n"),
         // a character of two bytes
         ("1+\u{e9}".as_bytes(), "refused at 2\n"),
-        // what is not text is refused at its first wrong byte, whatever stands before it
+        // input that is not UTF-8 is rejected at its first invalid byte, regardless of the text
+        // before it
         (b"1 2\xFF", "refused at 3\n"),
         (b"\xFF", "refused at 0\n"),
         (b"1\xC3", "refused at 1\n"),

@@ -7,7 +7,7 @@ use std::test::Fail;
 /// The words of the usage line.
 pub(crate) const USAGE: &str = "usage: readers pair|ini|calc\n";
 
-/// Runs the program over bytes, and tells the status and what it wrote.
+/// Runs the program on bytes, and returns the status and both outputs.
 pub(crate) fn ran(alloc: Global, words: &[&str], bytes: &[u8]) -> (u8, Vec<u8>, Vec<u8>) {
     let mut input = bytes;
     let mut output = Vec::new(alloc);
@@ -56,7 +56,7 @@ fn pairs(rt: HostRuntime) {
     }
 }
 
-/// The words are refused by the usage line, and nothing is read.
+/// Checks that the words are rejected with the usage line, without reading input.
 fn refuses_words(rt: &impl Abort, alloc: Global, words: &[&str]) {
     let mut input = b"key=value".as_slice();
     let mut output = Vec::new(alloc);

@@ -1,4 +1,4 @@
-//! Lines of a large file, read one at a time into one buffer, and the line of a place.
+//! Lines of a large file, read one at a time into one buffer, and the line of an offset.
 
 use super::numbers::read_temperature;
 use std::alloc::Global;
@@ -35,7 +35,7 @@ fn lines_of_a_reader(rt: HostRuntime) -> io::Result<()> {
     Ok(())
 }
 
-/// The place of the first character that is no digit and no line feed.
+/// Finds the first character that is not a digit or a line feed.
 fn first_stray(text: &str) -> Option<Excerpt<'_>> {
     let mut input = text;
     let passed: Result<&str, ErrMode<EmptyError>> =

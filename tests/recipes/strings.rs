@@ -1,4 +1,4 @@
-//! Texts with escapes, as they stand and as what they stand for.
+//! Texts with escapes, as written and unescaped.
 
 use examples::strings::{as_it_stands, unescaped};
 use std::alloc::Global;

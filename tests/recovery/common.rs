@@ -1,4 +1,4 @@
-//! What the tests of recovery share: whole parses and single runs, and what they come to.
+//! Common helpers for tests of recovery: whole parses and single calls, and their results.
 use std::alloc::{Allocator, Global};
 use std::fmt::Debug;
 use std::process::Abort;
@@ -47,7 +47,7 @@ where
     }
 }
 
-/// One run of a parser answers so, leaves so much, and records errors of these kinds.
+/// Checks the result of one call, the rest, and the kinds of the recorded errors.
 pub fn runs<O, P>(
     rt: &impl Abort,
     alloc: Global,

@@ -1,4 +1,4 @@
-//! Requests for memory that are refused.
+//! Allocation failures.
 use crate::common::Text;
 use std::alloc::Global;
 use std::fmt::Debug;
@@ -14,7 +14,8 @@ use winnow_recovery::parser::{NoMemory, RecoverableParser, RecoveringParser};
 use winnow_token::token::impls::Rest;
 use winnow_token::token::take_till;
 
-/// The output of a whole parse, and how many errors it answers; the text comes back in any case.
+/// Returns the output of a whole parse, and the number of its errors. The text must be returned in
+/// any case.
 fn output_of<'a, O, P>(
     rt: &impl Abort,
     heap: &'a Refusing<Global>,
@@ -37,7 +38,7 @@ where
     }
 }
 
-/// Each request of a whole parse is refused in turn: the input alone comes back.
+/// Each allocation of a whole parse fails in turn: only the input is returned.
 #[test]
 fn recoverable_parse_refused(rt: HostRuntime) {
     let alloc = rt.alloc();
@@ -70,7 +71,7 @@ fn recoverable_parse_refused(rt: HostRuntime) {
         |heap| output_of(&rt, heap, (Digit1.resume_after(to_comma()), ',', Digit1), "x,2"),
         (Ok(Some((None, ',', "2"))), 1),
     );
-    // The branch behind one that wants memory is not run.
+    // After a branch that is out of memory the next one is not run.
     refused_in_turn(
         &rt,
         "a choice",
@@ -93,7 +94,7 @@ fn recoverable_parse_refused(rt: HostRuntime) {
     );
 }
 
-/// Nothing is recorded where nothing fails, so no memory is asked for.
+/// Without errors nothing is recorded, so nothing is allocated.
 #[test]
 fn recoverable_parse_that_takes_no_memory(rt: HostRuntime) {
     let heap = Refusing::always_from(rt.alloc(), 0);

@@ -16,7 +16,7 @@ use winnow_core::parser::Parser;
 use winnow_recovery::parser::{NoMemory, RecoverableParser, RecoveringParser};
 use winnow_token::token::take_till;
 
-/// What is left is an error, behind those that were recorded.
+/// Remaining input is an error, after the recorded ones.
 #[test]
 fn recoverable_parse(rt: HostRuntime) {
     parses(&rt, rt.alloc(), Digit1, "12ab", Some("12"), &[Backtrack]);
@@ -25,7 +25,7 @@ fn recoverable_parse(rt: HostRuntime) {
     parses(&rt, rt.alloc(), cut_err(Digit1), "ab", None, &[Cut]);
 }
 
-/// Errors stand in the order in which they were recorded, and the one that ended the parse last.
+/// Errors are in the order in which they were recorded; the one that ended the parse is last.
 #[test]
 fn recoverable_parse_orders_errors(rt: HostRuntime) {
     let to_comma = || take_till(Range::from(0..), ',').void();
@@ -37,14 +37,14 @@ fn recoverable_parse_orders_errors(rt: HostRuntime) {
     parses(&rt, rt.alloc(), pair, "x,y", None, &[Backtrack, Cut]);
 }
 
-/// An error that asks for more backtracks, since the input is whole.
+/// `Incomplete` becomes a backtrack, since the input is complete.
 #[test]
 fn recoverable_parse_of_a_need(rt: HostRuntime) {
     let asks = Failing(Incomplete(Needed::new(2)));
     parses(&rt, rt.alloc(), asks, "ab", None, &[Backtrack]);
 }
 
-/// Where a parser wants memory, the input alone comes back.
+/// If a parser is out of memory, only the input is returned.
 #[test]
 fn recoverable_parse_without_memory(rt: HostRuntime) {
     let answer: Result<(&str, Option<u8>, Vec<EmptyError>), NoMemory<&str>> =
@@ -56,7 +56,7 @@ fn recoverable_parse_without_memory(rt: HostRuntime) {
     assert!(rt; matches!(answer, Err(NoMemory("ab"))));
 }
 
-/// Other errors, and a stream that knows its place.
+/// Other errors, and a stream that knows its offset.
 #[test]
 fn recoverable_parse_elsewhere(rt: HostRuntime) {
     type Located = LocatingSlice<&'static [u8]>;

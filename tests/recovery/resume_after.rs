@@ -1,4 +1,4 @@
-//! Parsers behind which one goes on where they could not parse.
+//! Parsers after whose errors parsing resumes.
 use crate::common::{parses, runs};
 use stream_sets::range::Range;
 use test_support::failing::{Failing, HARD};
@@ -33,7 +33,8 @@ fn resume_after_in_a_choice(rt: HostRuntime) {
     parses(&rt, rt.alloc(), alt((first, Rest.void())), "x,", Some(()), &[Backtrack]);
 }
 
-/// Where the parser that recovers fails, the error is answered, and the input stands where it arose.
+/// If the recovery parser fails, the original error is returned, and the input is left where that
+/// error occurred.
 #[test]
 fn resume_after_goes_back(rt: HostRuntime) {
     let word = (Alpha1, cut_err(Digit1)).resume_after((';', ',').void());
@@ -42,7 +43,7 @@ fn resume_after_goes_back(rt: HostRuntime) {
     runs(&rt, rt.alloc(), Digit1.resume_after(wants), "ab", Err(Memory), "ab", &[]);
 }
 
-/// A need of more input, and want of memory, are handed on, and nothing is recorded.
+/// `Incomplete` and out of memory are returned unchanged, and nothing is recorded.
 #[test]
 fn resume_after_hands_on(rt: HostRuntime) {
     for kind in HARD {

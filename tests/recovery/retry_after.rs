@@ -1,4 +1,4 @@
-//! Parsers that are tried again behind what could not be parsed.
+//! Parsers that are tried again after input that could not be parsed.
 use crate::common::{have_kinds, parses, runs};
 use stream_recovery::recoverable::Recoverable;
 use stream_sets::range::Range;
@@ -28,8 +28,8 @@ fn retry_after(rt: HostRuntime) {
     parses(&rt, rt.alloc(), digits, "ab,c,12", Some("12"), &cut);
 }
 
-/// Where the parser that recovers consumes nothing, or fails, the error is answered, and the input
-/// stands where it arose.
+/// If the recovery parser consumes no input or fails, the original error is returned, and the input
+/// is left where that error occurred.
 #[test]
 fn retry_after_goes_back(rt: HostRuntime) {
     let to_comma = take_till(Range::from(0..), ',').void();
@@ -45,7 +45,7 @@ fn retry_after_goes_back(rt: HostRuntime) {
     runs(&rt, rt.alloc(), digits, "a,b;", Err(Cut), "b;", &[Cut]);
 }
 
-/// A need of more input, and want of memory, are handed on, and nothing is recorded.
+/// `Incomplete` and out of memory are returned unchanged, and nothing is recorded.
 #[test]
 fn retry_after_hands_on(rt: HostRuntime) {
     for kind in HARD {
@@ -62,7 +62,8 @@ fn retry_after_hands_on(rt: HostRuntime) {
     assert_eq!(rt; got, Err(Incomplete(Needed::new(1))));
 }
 
-/// Where the parser that recovers wants memory, that is answered, where the error arose.
+/// If the recovery parser is out of memory, that is returned, and the input is left where the
+/// original error occurred.
 #[test]
 fn retry_after_wants_memory(rt: HostRuntime) {
     let skips = Failing(Memory).void();
@@ -79,7 +80,7 @@ fn retry_after_without_recovery(rt: HostRuntime) {
     assert_eq!(rt; got, (Ok("12"), ","));
 }
 
-/// A partial stream that is marked complete is answered as the plain one.
+/// A partial stream that is marked complete gives the same results as the plain one.
 #[test]
 fn retry_after_of_a_complete_stream(rt: HostRuntime) {
     type Cut = Recoverable<Partial<&'static str>, Modal>;

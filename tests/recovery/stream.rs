@@ -72,8 +72,8 @@ fn recoverable_records(rt: HostRuntime) {
     assert_eq!(rt; errors.len(), 2);
 }
 
-/// An error for which there is no memory is handed back, and is want of memory where it is recorded
-/// from an error of a parser.
+/// An error that cannot be stored is returned to the caller; recording it as the error of a parser
+/// is out of memory.
 #[test]
 fn recoverable_refuses(rt: HostRuntime) {
     let heap = Refusing::always_from(rt.alloc(), 0);

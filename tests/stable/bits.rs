@@ -1,4 +1,4 @@
-//! The parsers of bits, and of bytes as bits and back, on all beginnings of samples.
+//! The parsers of bits, and of bytes as bits and back, on every prefix of samples.
 use crate::samples::{settles_from, settles_in_bits};
 use crate::settling::Bytes;
 use test_support::outcomes::Kind::{Backtrack, Cut};

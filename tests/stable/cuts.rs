@@ -1,4 +1,4 @@
-//! Compositions on all beginnings of texts, beside each longer one.
+//! Compositions on every prefix of texts, compared with each longer prefix.
 use crate::settling::{Bytes, Text, settles};
 use std::alloc::Global;
 use std::fmt::Debug;

@@ -1,4 +1,4 @@
-//! Text with escapes, on all beginnings of a text, beside each longer one.
+//! Text with escapes, on every prefix of a text, compared with each longer prefix.
 use crate::settling::{Bytes, Text, settles_at};
 use std::alloc::Global;
 use std::fmt::Debug;
@@ -18,7 +18,7 @@ use winnow_token::token::{none_of, one_of};
 /// Letters and escapes up to a semicolon, which the first nine beginnings do not have.
 const ESCAPED: &str = "ab\\ncd\\\\;e\\x";
 
-/// Each beginning settles so, and so many ask for more.
+/// Checks every prefix with `settles_at`; `want` of them must return `Incomplete`.
 fn asks<I, O, P>(rt: &impl Abort, name: &str, mut parser: P, want: usize)
 where
     I: OfText,
@@ -34,7 +34,7 @@ where
     assert_eq!(rt; asking, want, "{name}: beginnings that ask for more");
 }
 
-/// Such a text behind a control, which the token that stands first settles.
+/// Such a text with a control that the next token settles.
 fn behind<I, K, D>(rt: &impl Abort, name: &str, control: K, want: usize)
 where
     I: OfText,

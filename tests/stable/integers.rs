@@ -1,5 +1,5 @@
-//! Integers as bytes on all beginnings of two samples. What bytes stand for is what Python's
-//! `int.from_bytes` says of them.
+//! Integers as bytes on every prefix of two samples. The expected values are those of Python's
+//! `int.from_bytes`.
 use crate::samples::settles_from;
 use crate::settling::Bytes;
 use std::fmt::Debug;
@@ -19,7 +19,7 @@ const UP: &[u8] = b"\x01\x02\x03\x04\x05\x06\x07\x08\x09\x0A\x0B\x0C\x0D\x0E\x0F
 /// 255 down to 238.
 const DOWN: &[u8] = b"\xFF\xFE\xFD\xFC\xFB\xFA\xF9\xF8\xF7\xF6\xF5\xF4\xF3\xF2\xF1\xF0\xEF\xEE";
 
-/// An unsigned integer of so many bytes is this one.
+/// Checks an unsigned integer of `width` bytes.
 fn unsigned<O, P>(rt: &impl Abort, name: &str, parser: P, width: usize, value: O)
 where
     O: PartialEq + Debug + Drop + Copy,

@@ -1,4 +1,4 @@
-//! Data behind its length on all beginnings of samples.
+//! Length-prefixed data on every prefix of samples.
 use crate::samples::settles_from;
 use crate::settling::Bytes;
 use std::alloc::Global;
@@ -27,7 +27,7 @@ fn length_take_on_all_cuts(rt: HostRuntime) {
     settles_from(&rt, "length_take", parser, b"\x00ab", (1, Ok(b"".as_slice()), 1));
 }
 
-/// What is taken is whole: no parser of it asks for more, be it stable or not.
+/// The taken bytes are complete input: no parser of them, stable or not, returns `Incomplete`.
 #[test]
 fn length_and_then_on_all_cuts(rt: HostRuntime) {
     let parser: LengthAndThen<U8, Digit1, Bytes, u8, &[u8], Modal> = length_and_then(U8, Digit1);

@@ -1,4 +1,4 @@
-//! The tests of stable parsers: the same answer however the input is cut.
+//! Tests of stable parsers: the same result wherever the input is cut.
 #![tactic(auto)]
 
 #[cfg(test)]

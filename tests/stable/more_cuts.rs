@@ -1,4 +1,5 @@
-//! Classes, line ends and adapters on all beginnings of texts, beside each longer one.
+//! Classes, line endings and adapters on every prefix of the texts, compared with each longer
+//! prefix.
 use crate::settling::{Bytes, Text, settles};
 use std::alloc::Global;
 use std::fmt::Debug;
@@ -110,7 +111,7 @@ where
     settles::<I, _, _>(rt, "with_span", parser);
 }
 
-/// Folds that may refuse.
+/// Folds that may fail.
 fn folds<I>(rt: &impl Abort, alloc: Global)
 where
     I: OfText + LineEnds + SlicesAsBytes + Compare<char>,

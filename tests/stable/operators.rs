@@ -1,4 +1,4 @@
-//! Operators as parsers of themselves, alone and behind their signs, on all beginnings of samples.
+//! Operators as parsers, by themselves and after their signs, on every prefix of samples.
 use crate::samples::settles_from;
 use test_support::outcomes::Kind::Backtrack;
 use winnow_core::parser::Parser;

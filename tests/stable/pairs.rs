@@ -1,4 +1,4 @@
-//! Rows on a cut input, each with runs on longer ones.
+//! Rows on partial input, each compared with longer inputs.
 use crate::settling::{Bytes, Text};
 use std::fmt::Debug;
 use std::process::Abort;
@@ -28,8 +28,8 @@ use winnow_token::token::take_while;
 
 const UNKNOWN: Kind = Incomplete(Needed::Unknown);
 
-/// Each row on a cut text. The rows are longer and longer inputs: where one does not ask for more,
-/// those behind it answer the same, cut and whole.
+/// Checks each row on partial text. The rows are longer and longer inputs: after a result other
+/// than `Incomplete`, the following rows give the same result, on partial and on complete input.
 fn pairs<I, O, P>(rt: &impl Abort, name: &str, mut parser: P, rows: &[Answer<O>])
 where
     I: OfText,

@@ -1,4 +1,4 @@
-//! Runs of stable parsers on all beginnings of a sample of bytes, each beside what must come.
+//! Stable parsers on every prefix of a sample of bytes, with their expected results.
 use crate::settling::Bytes;
 use std::fmt::Debug;
 use std::process::Abort;
@@ -10,12 +10,13 @@ use test_support::rows::Modal;
 use test_support::texts::completed;
 use winnow_core::stable::Stable;
 
-/// How a sample is answered: from how many of its bytes on, by what, and how many units are taken.
+/// The least number of bytes of the sample for which the result is final, the result, and the
+/// number of consumed units.
 pub(crate) type Settled<O> = (usize, Result<O, Kind>, usize);
 
 /// A stream of the bytes of a sample that may be cut.
 pub(crate) trait OfSample: StreamIsPartial + Copy + Debug {
-    /// The stream of `bytes`, of which so many bits were read.
+    /// Returns the stream of `bytes`, with `read` bits already consumed.
     fn of_sample(bytes: &'static [u8], read: usize) -> Self;
 }
 
@@ -31,8 +32,9 @@ impl OfSample for Bits<Bytes> {
     }
 }
 
-/// A run on each beginning of the sample, from `first` bytes on, that is too short asks for more,
-/// and one on each other, cut and complete, answers so.
+/// Checks that a prefix that is too short returns `Incomplete`, and that each longer one returns
+/// the same result, on partial and on complete input. If bits were already consumed, the first
+/// prefix has one byte.
 fn settles_behind<I, O, P>(
     rt: &impl Abort,
     name: &str,
@@ -80,7 +82,7 @@ where
     settles_behind::<Bytes, O, P>(rt, name, &mut parser, sample, 0, want);
 }
 
-/// So on the bits of a sample, of which so many were read.
+/// Likewise on the bits of a sample, with `read` bits already consumed.
 pub(crate) fn settles_in_bits<O, P>(
     rt: &impl Abort,
     name: &str,

@@ -1,4 +1,4 @@
-//! Runs of stable parsers on a cut input, and on longer ones.
+//! Stable parsers on partial input, and on longer inputs.
 use std::fmt::Debug;
 use std::process::Abort;
 use streams::partial::Partial;
@@ -8,7 +8,7 @@ use test_support::rows::Modal;
 use test_support::texts::{OfText, completed};
 use winnow_core::stable::Stable;
 
-/// The answer of a run, and how many units it took.
+/// The result of a call, and the number of consumed units.
 type Ran<O> = (Result<O, Kind>, usize);
 
 /// Text that may be cut.
@@ -24,14 +24,14 @@ fn ran<I: Stream, O, P: Stable<I, O, Modal>>(parser: &mut P, input: I) -> Ran<O>
     (answer, before - rest.eof_offset())
 }
 
-/// Whether it asks for more.
+/// Returns whether the result is `Incomplete`.
 fn asks<O>(run: &Ran<O>) -> bool {
     matches!(run.0, Err(Kind::Incomplete(_)))
 }
 
-/// A run on the first tokens of a text, so many, asks for more, or takes as much of each longer
-/// beginning and of the whole text, cut and complete, and answers the same. Whether it asks is
-/// answered.
+/// Calls a parser on the first `count` tokens of a text, and returns whether the result is
+/// `Incomplete`. If it is not, each longer prefix and the whole text, on partial and on complete
+/// input, must give the same result and consume as much.
 pub(crate) fn settles_at<I, O, P>(
     rt: &impl Abort,
     name: &str,
@@ -74,7 +74,7 @@ const TEXTS: [&str; 5] = [
     "\r\nab\r\n1;2",
 ];
 
-/// Each beginning of each text settles so.
+/// Checks every prefix of each text with `settles_at`.
 pub(crate) fn settles<I, O, P>(rt: &impl Abort, name: &str, mut parser: P)
 where
     I: OfText,

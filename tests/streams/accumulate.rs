@@ -1,4 +1,4 @@
-//! What outputs are put into.
+//! Accumulators.
 use std::alloc::Global;
 use std::collections::BTreeMap;
 use std::test::Fail;
@@ -19,7 +19,7 @@ fn accumulate_into_a_number(rt: HostRuntime) -> Result<(), Fail> {
     Ok(())
 }
 
-/// A capacity, be it the greatest, is no request that must be met.
+/// A capacity is only a hint, even `usize::MAX`.
 #[test]
 fn accumulate_from_any_capacity(rt: HostRuntime) -> Result<(), Fail> {
     for capacity in [None, Some(0), Some(1), Some(usize::MAX)] {

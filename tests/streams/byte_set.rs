@@ -4,7 +4,8 @@ use std::process::Abort;
 use stream_sets::classes::HexadecimalDigits;
 use stream_sets::sets::{ContainsToken, Pred};
 
-/// All 256 bytes of a table beside the set that it was made from, its complement and its number.
+/// Checks all 256 bytes of a table against the set that it was made from, and its complement and
+/// its number.
 fn is_the_set<S: ContainsToken<u8> + Drop>(rt: &impl Abort, set: S) -> ByteSet {
     let table = ByteSet::from_set(&set);
     let others = table.complement();

@@ -38,7 +38,7 @@ fn slices(rt: HostRuntime) {
     assert_eq!(rt; input.next_token(), None);
 }
 
-/// Looks in texts of each length up to 64 for a byte that stands at each place.
+/// Searches texts of every length up to 64 for a byte at every offset.
 #[test]
 fn runs_of_each_length(rt: HostRuntime) {
     for place in 0..64 {

@@ -8,7 +8,7 @@ use streams::partial::Partial;
 use test_support::rows::same;
 use test_support::texts::OfText;
 
-/// An input, a literal, and the answer.
+/// An input, a literal, and the result.
 const ROWS: [(&'static str, &'static str, CompareResult); 13] = [
     ("HeLLo!", "hello", CompareResult::Ok(5)),
     ("hello", "HELLO", CompareResult::Ok(5)),

@@ -18,7 +18,7 @@ type Bytes = &'static [u8];
 
 const INPUT: Bytes = b"ab";
 
-/// The contexts stand in the order in which they were added, the innermost first.
+/// The contexts are in the order in which they were added, the innermost first.
 #[test]
 fn context_error(rt: HostRuntime) {
     let mut error: ContextError<&str> = ContextError::new();
@@ -39,7 +39,7 @@ fn context_error(rt: HostRuntime) {
     assert_eq!(rt; ParserError::<Bytes>::needed(&other), None, "needed");
 }
 
-/// Where the list cannot grow the contexts stay, and the error is want of memory from then on.
+/// If the list cannot grow, the contexts are kept, and the error is out of memory from then on.
 #[test]
 fn context_error_without_memory(rt: HostRuntime) {
     for n in 0..20u64 {
@@ -85,7 +85,7 @@ fn context_error_without_memory(rt: HostRuntime) {
     assert!(rt; false, "contexts meet refusals without end");
 }
 
-/// An error that was told a context has this kind.
+/// Adds a context to an error, and checks its kind.
 fn told<E>(rt: &impl Abort, alloc: Global, row: &str, error: E, want: Kind) -> E
 where
     E: ParserError<Bytes> + AddContext<Bytes, &'static str, Global>,

@@ -1,4 +1,4 @@
-//! The faults of a whole parse.
+//! The errors of a whole parse.
 use stream_errors::fault::{ParseError, ParseFault};
 use streams::needed::Needed;
 use streams::stream::Stream;

@@ -5,13 +5,13 @@ use streams::partial::Partial;
 use test_support::rows::same;
 use test_support::texts::OfText;
 
-/// The first range at which something stands in the input.
+/// Returns the first range of `sought` in the input.
 fn found<T, I: FindSlice<T>>(input: I, sought: T) -> Option<(usize, usize)> {
     let range = input.find_slice(sought)?;
     Some((range.start, range.end))
 }
 
-/// An input, a text, and where it stands first.
+/// An input, a text, and its first occurrence.
 const ROWS: [(&'static str, &'static str, Option<(usize, usize)>); 13] = [
     ("aaab", "aab", Some((1, 4))),
     ("abab", "ab", Some((0, 2))),

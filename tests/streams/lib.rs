@@ -1,5 +1,5 @@
-//! The tests of the streams, of sets, comparisons and searches, and of errors; and of the allocator
-//! that refuses, which other tests stand on. A file has the name of the module that it tests.
+//! Tests of the streams, of sets, comparisons and searches, and of errors; and of the failing
+//! allocator, on which other tests depend. A file is named after the module that it tests.
 #![tactic(auto)]
 
 #[cfg(test)]

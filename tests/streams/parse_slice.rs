@@ -18,7 +18,7 @@ fn parse_slice(rt: HostRuntime) {
     }
 }
 
-/// Bytes that are no text, also beside some that are.
+/// Bytes that are not UTF-8, also next to valid text.
 #[test]
 fn parse_slice_of_no_text(rt: HostRuntime) {
     for (bytes, want) in [

@@ -8,7 +8,7 @@ use stream_errors::parser_error::ParserError;
 use streams::needed::Needed;
 use streams::stream::Stream;
 
-/// The error backtracks, is incomplete, or wants memory, as said.
+/// Checks whether the error is a backtrack, incomplete, or out of memory.
 fn has<I: Stream, E: ParserError<I>>(rt: &impl Abort, row: &str, error: E, want: [bool; 3]) {
     let got = [
         error.is_backtrack(),
@@ -50,7 +50,8 @@ fn is_modal<I: Stream, E: ParserError<I>>(rt: &impl Abort, input: I) {
     has::<I, E>(rt, "incomplete", missing, IS_INCOMPLETE);
 }
 
-/// Pairs of kinds, joined: incomplete before cut before backtrack, and want of memory before all.
+/// Pairs of kinds, merged: incomplete takes precedence over cut, cut over backtrack, and out of
+/// memory over all.
 fn joined<I: Stream, E: ParserError<I>>(rt: &impl Abort, input: I) {
     let back = || E::from_input(&input);
     let cut = || E::assert(&input, "why");

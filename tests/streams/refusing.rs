@@ -1,5 +1,5 @@
-//! The allocator that refuses: which requests are refused one after the other, what a refused run
-//! keeps, and that blocks are given back.
+//! The failing allocator: which allocations fail, the contents that are kept after a failure, and
+//! that blocks are freed.
 use std::alloc::{AllocError, AllocFailed, Allocator, Global};
 use std::cell::Cell;
 use std::test::Fail;

@@ -27,7 +27,7 @@ fn flagged<I: StreamIsPartial>(rt: &impl Abort, mut input: I) {
     assert_eq!(rt; input.is_partial(), true, "at the end");
 }
 
-/// The place behind a token, back at the start, and behind it again.
+/// The offset after a token, back at the start, and after it again.
 fn goes_back<I: Location>(rt: &impl Abort, mut input: I) {
     let start = input.checkpoint();
     let _first = input.next_token();
@@ -102,7 +102,7 @@ fn over_slices(rt: HostRuntime) {
         &rt,
         Partial::new(LocatingSlice::new(LocatingSlice::new(input))),
     );
-    // Over a slice longer than what was passed a place begins at 0.
+    // With a slice longer than the consumed input an offset starts at 0.
     let longer = LocatingSlice::new(b"a".as_slice()).update_slice(input);
     assert_eq!(rt; longer.current_token_start(), 0);
     assert_eq!(rt; longer.eof_offset() > 1, true);

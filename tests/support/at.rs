@@ -1,10 +1,10 @@
-//! The streams and errors that rows run at. Rows stand in functions that are generic over the
-//! stream and the error; each of these macros calls such functions at some.
+//! The streams and errors with which rows run. Rows are in functions that are generic over the
+//! stream and the error; each of these macros calls such functions with some of them.
 pub use stream_errors::empty::EmptyError;
 use streams::locating::LocatingSlice;
 pub use streams::partial::Partial;
 
-/// Text that knows its place.
+/// Text that knows its offset.
 pub type LocatedText = LocatingSlice<&'static str>;
 
 /// Bytes that know their place.

@@ -14,7 +14,7 @@ use winnow_core::parser::Parser;
 #[derive(Clone, Copy)]
 pub struct Failing(pub Kind);
 
-// The ghost members are what the trait asks of each parser.
+// The ghost members that the trait requires of each parser.
 impl<I: Stream, E: ParserError<I>> Parser<I, u8, E> for Failing {
     ghost State = { ⊤ };
 

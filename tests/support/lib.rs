@@ -1,5 +1,5 @@
-//! What the tests share: streams made of texts, runs of parsers and what they come to, comparisons
-//! that name their row, a parser that fails, an allocator that refuses, and an error that wants
+//! Common helpers for tests: streams made of texts, calls of parsers and their results, comparisons
+//! that name their row, a parser that fails, an allocator that fails, and an error that is out of
 //! memory.
 #![tactic(auto)]
 

@@ -1,10 +1,10 @@
-//! What runs of parsers come to.
+//! Results of parsers.
 use stream_errors::parser_error::ParserError;
 use streams::needed::Needed;
 use streams::stream::{Location, Stream};
 use winnow_core::parser::Parser;
 
-/// What an error says of other branches, of more input and of memory.
+/// The kind of an error.
 #[derive(Clone, Copy, Debug, PartialEq, Eq)]
 pub enum Kind {
     Backtrack,
@@ -35,7 +35,7 @@ pub fn answer_of<I: Stream, O, E: ParserError<I>>(answer: Result<O, E>) -> Resul
     }
 }
 
-/// The output of a run or the kind of its error, and what it left.
+/// The output of a call or the kind of its error, and the rest.
 pub type Outcome<O, I> = (Result<O, Kind>, I);
 
 /// One run of a parser.
@@ -54,26 +54,26 @@ pub enum Ending {
     Fails(Kind, usize),
 }
 
-/// The end of a run that takes nothing and backtracks.
+/// The ending of a call that backtracks without consuming input.
 pub const BACKTRACKS: Ending = Ending::Fails(Kind::Backtrack, 0);
 
-/// The end of a run that takes nothing and cuts.
+/// The ending of a call that cuts without consuming input.
 pub const CUTS: Ending = Ending::Fails(Kind::Cut, 0);
 
-/// The end of a run that takes nothing and needs more; it is not known how much.
+/// The ending of a call that needs an unknown number of units, without consuming input.
 pub const LACKS: Ending = Ending::Fails(Kind::Incomplete(Needed::Unknown), 0);
 
-/// The end of a run that takes nothing and needs so many units more.
+/// Returns the ending of a call that needs `units` more units, without consuming input.
 pub fn lacks(units: usize) -> Ending {
     Ending::Fails(Kind::Incomplete(Needed::new(units)), 0)
 }
 
-/// The end of a run that backtracks behind so many units.
+/// Returns the ending of a call that backtracks after `taken` units.
 pub fn backtracks_behind(taken: usize) -> Ending {
     Ending::Fails(Kind::Backtrack, taken)
 }
 
-/// The end of a run that needs one unit more behind so many.
+/// Returns the ending of a call that needs one more unit after `taken` units.
 pub fn lacks_one_behind(taken: usize) -> Ending {
     Ending::Fails(Kind::Incomplete(Needed::new(1)), taken)
 }
@@ -85,7 +85,7 @@ impl Ending {
     }
 }
 
-/// How a run with this answer ended.
+/// Returns the ending of a call with this result.
 fn ending_with<O: Drop>(answer: Result<O, Kind>, taken: usize) -> Ending {
     match answer {
         Ok(_) => Ending::Takes(taken),
@@ -103,7 +103,8 @@ pub fn ending_of<I: Stream, O: Drop, E: ParserError<I>, P: Parser<I, O, E>>(
     ending_with(answer, before - rest.eof_offset())
 }
 
-/// How one run of a parser ends on a stream that knows its place, by how far that moved.
+/// Calls a parser on a stream that knows its offset, and returns how the call ends, with the units
+/// by which the offset moved.
 pub fn ending_by_place<I: Location, O: Drop, E: ParserError<I>, P: Parser<I, O, E>>(
     parser: &mut P,
     input: I,

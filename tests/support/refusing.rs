@@ -1,15 +1,15 @@
-//! An allocator that refuses a chosen request, or each one from a chosen request on, and tells
+//! An allocator that fails on a chosen allocation, or on all from a chosen one on, and reports
 //! whether it did.
 //!
-//! Requests are numbered from 0. A test counts up from there until a run meets no refusal, and so
-//! tries each request that the code makes ([`refused_in_turn`]).
+//! Allocations are numbered from 0. A test counts up from there until a call meets no failure, and
+//! so tries each allocation of the code ([`refused_in_turn`]).
 use crate::outcomes::Kind;
 use std::alloc::{AllocError, Allocator, Global};
 use std::cell::Cell;
 use std::fmt::Debug;
 use std::process::Abort;
 
-/// Which requests are refused.
+/// The allocations that fail.
 #[derive(Clone, Copy)]
 enum Plan {
     /// The request with this number, and no other.
@@ -18,14 +18,14 @@ enum Plan {
     AlwaysFrom(u64),
 }
 
-/// An allocator that refuses some requests, and passes the others on to the one that it was made
-/// with.
+/// An allocator that fails on some allocations, and passes the others on to the one that it was
+/// made with.
 ///
-/// A request is a call of `allocate`, and each growing or shrinking of a block makes one. A refused
-/// request gets the allocation error, and goes no further. Blocks go back to the allocator that
-/// they are from, and giving one back is no request.
+/// An allocation is a call of `allocate`, and each growing or shrinking of a block makes one. A
+/// failing one returns the allocation error without calling the inner allocator. Blocks are freed
+/// by the inner allocator; freeing is not counted.
 ///
-/// Lend it to the code under test: `&heap` is an `Allocator + Copy`, and `heap.met()` can be asked
+/// Lend it to the code under test: `&heap` is an `Allocator + Copy`, and `heap.met()` can be called
 /// afterwards.
 #[derive(Drop)]
 pub struct Refusing<B: Allocator> {
@@ -53,7 +53,7 @@ impl<B: Allocator> Refusing<B> {
         }
     }
 
-    /// Whether a request was refused so far.
+    /// Returns whether an allocation has failed so far.
     pub fn met(&self) -> bool {
         match self.plan {
             Plan::Once(first) | Plan::AlwaysFrom(first) => first < self.asked.get(),
@@ -82,8 +82,9 @@ unsafe impl<B: Allocator> Allocator for Refusing<B> {
     }
 }
 
-/// Each request for memory of a run is refused in turn: the run then answers want of memory. With
-/// none refused it answers so, and leaves so many units; and it asks for memory at all.
+/// Checks that a call returns out of memory if any one of its allocations fails, each in turn.
+/// Without a failed allocation it must return `want.0` and leave `want.1` units. It must allocate
+/// at least once.
 pub fn refused_in_turn<O: PartialEq + Debug + Drop>(
     rt: &impl Abort,
     name: &str,

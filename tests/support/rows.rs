@@ -19,20 +19,20 @@ pub type ModalAt<I> = ErrMode<InputError<I>>;
 /// A text, and how a parser ends on it where it is whole, and where it is cut.
 pub type Row = (&'static str, Ending, Ending);
 
-/// A text, what a parser answers where it is whole, and what it leaves of it.
+/// A text, the result of a parser on it as complete input, and the rest.
 pub type Answer<O> = (&'static str, Result<O, Kind>, &'static str);
 
-/// What was got at a row is what the row says.
+/// Checks a result of `name` at `row`.
 pub fn same<T: PartialEq + Debug + Drop>(rt: &impl Abort, name: &str, row: &str, got: T, want: T) {
     assert_eq!(rt; got, want, "{name} at {row:?}");
 }
 
-/// A run on a whole text that answers so, and leaves so much of it.
+/// Returns the outcome of a call on complete text with this result and this rest.
 pub fn outcome_in_text<I: OfText, O>(answer: Result<O, Kind>, rest: &'static str) -> Outcome<O, I> {
     (answer, whole(rest))
 }
 
-/// What a row says of a slice, at a stream.
+/// Converts the slice of a row to the stream's.
 pub fn slice_in_text<I: OfText>(answer: Result<&'static str, Kind>) -> Result<I::Slice, Kind> {
     match answer {
         Ok(text) => Ok(I::slice_of_text(text)),
@@ -48,7 +48,7 @@ pub fn outcome_at<I: OfText, O, E: ParserError<I>, P: Parser<I, O, E>>(
     outcome_of::<I, O, E, P>(parser, whole(text))
 }
 
-/// A run of a parser on the whole text answers and leaves so.
+/// Checks the result of a parser on complete text, and the rest.
 pub fn answers<I, O, E, P>(
     rt: &impl Abort,
     name: &str,
@@ -67,7 +67,7 @@ where
     same(rt, name, text, got, outcome_in_text(want, rest));
 }
 
-/// The runs of one parser on whole texts, one behind the other, answer and leave so.
+/// Checks the results of consecutive calls of one parser on complete texts, and the rest of each.
 pub fn answers_each<I, O, E, P>(rt: &impl Abort, name: &str, mut parser: P, rows: &[Answer<O>])
 where
     I: OfText,
@@ -101,7 +101,8 @@ where
     }
 }
 
-/// A run of a parser on a text that is cut, where the stream can be, answers and leaves so.
+/// Checks the result of a parser on a text, and the rest. The text is partial input if the stream
+/// is partial.
 pub fn answers_on_cut<I, O, E, P>(rt: &impl Abort, name: &str, parser: &mut P, row: Answer<O>)
 where
     I: OfText,
@@ -114,7 +115,7 @@ where
     same(rt, name, text, got, (want, I::of_text(rest)));
 }
 
-/// How a parser ends on a text, as the stream has it, and marked complete.
+/// Returns how a parser ends on a text, as the stream is and marked complete.
 pub fn endings_at<I: OfText, O: Drop, E: ParserError<I>, P: Parser<I, O, E>>(
     parser: &mut P,
     text: &'static str,
@@ -125,7 +126,7 @@ pub fn endings_at<I: OfText, O: Drop, E: ParserError<I>, P: Parser<I, O, E>>(
     ]
 }
 
-/// What these are where the parser ends so on the whole text, and so on the cut one.
+/// Returns the expected [`endings_at`] for the endings on complete and on partial input.
 pub fn endings_in_text<I: OfText>(as_whole: Ending, as_cut: Ending) -> [Ending; 2] {
     if I::of_text("").is_partial() {
         [as_cut, as_whole]
@@ -180,7 +181,7 @@ where
     }
 }
 
-/// A run of a parser on the whole text answers so, and stands behind so many units of it.
+/// Checks the result of a parser on complete text, and that it consumed `place` units.
 pub fn answers_at<I, O, E, P>(
     rt: &impl Abort,
     name: &str,
@@ -200,8 +201,8 @@ where
     same(rt, name, text, got, (want, place, text.len() - place));
 }
 
-/// Each beginning of a sample, from none of its tokens on, ends so where it is whole, and so where
-/// it is cut; cut it is incomplete, or ends as the whole sample does.
+/// Checks how a parser ends on every prefix of `sample`, the empty one included, as complete and as
+/// partial input. On partial input it must return `Incomplete` or end as on the whole sample.
 pub fn sweep<I, O, E, P>(
     rt: &impl Abort,
     name: &str,

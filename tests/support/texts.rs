@@ -9,7 +9,7 @@ pub trait OfText: StreamIsPartial + PartialEq + Debug {
     /// The stream of `text`, cut where the stream can be.
     fn of_text(text: &'static str) -> Self;
 
-    /// The stream of the first tokens of `text`, so many; of all where there are no more.
+    /// Returns the stream of the first `count` tokens of `text`, or of all if there are fewer.
     fn of_beginning(text: &'static str, count: usize) -> Self;
 
     /// The slice that is `text`.

@@ -1,4 +1,4 @@
-//! An error that wants memory to keep another.
+//! An error that needs memory to hold another error.
 ghost use Rattle.std.specs.Prelude.{true};
 ghost use Rattle.stream_errors.specs.Form.{marked_kind, plain};
 ghost use Rattle.stream_errors.specs.Form.{marked_kind-cases};
@@ -14,14 +14,14 @@ use streams::stream::Stream;
 #[derive(Clone, Copy, Debug, PartialEq, Eq)]
 pub struct TooLarge;
 
-/// A plain error that would keep the error of another, and never has the memory for it: made of
-/// a [`TooLarge`] it is want of memory.
+/// A plain error that would hold another error but never can allocate for it: made from a
+/// [`TooLarge`] it is out of memory.
 #[derive(Clone, Copy, Debug, PartialEq, Eq)]
 pub struct Wanting {
     is_memory: bool,
 }
 
-// The ghost members are what the traits ask of each error.
+// The ghost members that the traits require of each error.
 impl HasKind for Wanting {
     ghost kind = { λ e. marked_kind e.is_memory };
 

@@ -3,8 +3,8 @@ use std::fmt::Debug;
 use std::process::Abort;
 use text_positions::{Position, one_position, position_of};
 
-/// A text, an offset in bytes, and the line and the column that Python's `json.JSONDecodeError`
-/// says of the character there.
+/// A text, an offset in bytes, and the line and the column of Python's `json.JSONDecodeError` for
+/// the character there.
 const PLACES: &[(&str, usize, usize, usize)] = &[
     ("", 0, 1, 1),
     ("a", 0, 1, 1),
@@ -62,8 +62,8 @@ const PLACES: &[(&str, usize, usize, usize)] = &[
     ("日本\n語", 10, 2, 2),
 ];
 
-/// A text, and an offset that lies within a character, where Python's `bytes.decode` fails on what
-/// stands before it, or behind the end.
+/// A text, and an offset within a character, so that Python's `bytes.decode` fails on the bytes
+/// before it, or an offset past the end.
 const NO_PLACES: &[(&str, usize)] = &[
     ("", 1),
     ("", 2),

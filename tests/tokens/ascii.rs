@@ -1,4 +1,4 @@
-//! Parsers of ASCII's classes of characters, of line ends and of numbers as text.
+//! Parsers of ASCII's classes of characters, of line endings and of numbers as text.
 mod classes;
 mod line_ends;
 mod number_types;

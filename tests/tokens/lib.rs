@@ -1,5 +1,5 @@
-//! The tests of the parsers of tokens, of ASCII's classes and line ends, and of numbers as text. A
-//! file has the name of winnow's module, and a test that of the parser.
+//! Tests of the parsers of tokens, of ASCII's classes and line endings, and of numbers as text. A
+//! file is named after winnow's module, and a test after the parser.
 #![tactic(auto)]
 
 #[cfg(test)]

@@ -127,7 +127,7 @@ fn take(rt: HostRuntime) {
 /// Texts, and how many units they have.
 const TEXTS: [(&'static str, usize); 4] = [("", 0), ("é", 2), ("éa", 3), ("ab", 2)];
 
-/// All that is there, which asks for no more; and how much is left behind it.
+/// All remaining input, without `Incomplete`; and the length of the rest after it.
 fn rest_of_text<I: OfText, E: ParserError<I>>(rt: &impl Abort)
 where
     I::Slice: PartialEq + Debug,

@@ -1,4 +1,4 @@
-//! Choices: one of some forms, by `alt`, by `opt`, or by a look at what stands first.
+//! Choices: one of some forms, by `alt`, by `opt`, or by a look at the next token.
 
 use crate::forms::{read_number_or_word, read_signed, read_switch};
 use test_support::rows::Modal;
@@ -16,7 +16,7 @@ use winnow::token::{any, take_till};
 pub enum Level {
     /// Errors.
     Error,
-    /// What may be wrong too.
+    /// Also warnings.
     Warning,
     /// All that happens.
     Trace,
@@ -55,7 +55,7 @@ pub fn read_duration(input: &mut &str) -> Result<Duration, ErrMode<EmptyError>> 
     }
 }
 
-/// Reads a user's name, over any stream of text; there is none where `-` stands.
+/// Reads a user's name, over any stream of text; returns `None` for `-`.
 pub fn read_user<I, E>(input: &mut I) -> Result<Option<I::Slice>, E>
 where
     I: StreamIsPartial + Compare<&'static str>,
@@ -99,7 +99,7 @@ pub fn read_value<'i>(input: &mut &'i str) -> Result<Value<'i>, ErrMode<EmptyErr
     }
 }
 
-/// Reads a port behind a colon; there is none where no colon stands.
+/// Reads a port after a colon; returns `None` if there is no colon.
 pub fn read_port(input: &mut &str) -> Result<Option<u16>, ErrMode<EmptyError>> {
     let colon: Option<char> = opt(':').parse_next(input)?;
     match colon {

@@ -1,4 +1,4 @@
-//! Readers of forms that stand once more in the files beside it, most of them at one stream here.
+//! Readers of forms that occur again in the files next to it, most of them for one stream here.
 
 use std::alloc::Allocator;
 use winnow::ascii::impls::{Alpha1, Crlf, DecUint, Digit1, Space1};
@@ -15,7 +15,7 @@ pub fn read_switch(input: &mut &[u8]) -> Result<bool, ErrMode<EmptyError>> {
     alt((on, off)).parse_next(input)
 }
 
-/// Reads a number behind a sign that may be left out.
+/// Reads a number after an optional sign.
 pub fn read_signed(input: &mut &str) -> Result<(bool, u32), ErrMode<EmptyError>> {
     (opt('-'), DecUint)
         .map(|(sign, number): (Option<char>, u32)| (sign.is_some(), number))

@@ -1,5 +1,5 @@
-//! Each function that is a parser by itself, called as users call it: at bytes, under plain errors.
-//! What it answers of a text, and what it leaves.
+//! Each function that is itself a parser, called as users call it: on bytes, under plain errors.
+//! The rows give its result for a text, and the rest.
 
 use winnow::ascii::{
     alpha0, alpha1, alphanumeric0, alphanumeric1, crlf, dec_int, dec_uint, digit0, digit1,
@@ -15,7 +15,7 @@ use winnow::combinator::{empty, eof, fail};
 use winnow::error::EmptyError;
 use winnow::token::{any, rest, rest_len};
 
-/// Calls parsers, each on a text: what it must answer, and what it must leave.
+/// Calls parsers, each on a text, and checks the result and the rest.
 macro_rules! gives {
     ($rt:expr; $($parser:ident $text:expr => $want:expr, $left:expr;)+) => {{
         $(

@@ -1,4 +1,4 @@
-//! Input in pieces, and bytes as numbers.
+//! Partial input, and bytes as numbers.
 
 use crate::forms::read_name;
 use test_support::rows::Modal;
@@ -24,7 +24,7 @@ pub fn read_head(input: &mut Partial<&[u8]>) -> Result<Head, ErrMode<EmptyError>
     Ok(Head { kind, length })
 }
 
-/// Reads a frame: its kind, and the bytes behind its length; over any stream of bytes.
+/// Reads a frame: its kind, and its length-prefixed bytes; over any stream of bytes.
 pub fn read_frame<I, E>(input: &mut I) -> Result<(u8, I::Slice), E>
 where
     I: StreamIsPartial + ByteStream,

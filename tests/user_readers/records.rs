@@ -14,11 +14,11 @@ use winnow::token::{take_till, take_while};
 /// An entry of an access log.
 #[derive(Clone, Copy, Debug, PartialEq, Eq)]
 pub struct Entry<'i> {
-    /// Who asked.
+    /// The host of the request.
     pub host: &'i str,
     /// Under which name, if any.
     pub user: Option<&'i str>,
-    /// What was answered, as a number.
+    /// The status of the response.
     pub status: u16,
     /// How many bytes were sent.
     pub size: u64,
@@ -53,7 +53,7 @@ pub struct Date {
     pub day: u8,
 }
 
-/// Reads the digits of a number, so many, over any stream of text.
+/// Reads a number of `count` digits, over any stream of text.
 fn read_digits<I, O, E>(count: usize, input: &mut I) -> Result<O, E>
 where
     I: StreamIsPartial,
@@ -174,17 +174,17 @@ pub fn read_assignment<'i>(input: &mut &'i str) -> Result<(&'i str, &'i str), Er
 /// A version of a program.
 #[derive(Clone, Copy, Debug, PartialEq, Eq)]
 pub struct Version<'i> {
-    /// What breaks callers is counted here.
+    /// The number of incompatible changes.
     pub major: u64,
-    /// What is added is counted here.
+    /// The number of additions.
     pub minor: u64,
-    /// What is mended is counted here.
+    /// The number of fixes.
     pub patch: u64,
-    /// What stands before the version itself, as `beta`.
+    /// The label of a prerelease, as `beta`.
     pub label: Option<&'i str>,
 }
 
-/// Reads what stands behind a version, as `-beta`, if anything does; over any stream of text.
+/// Reads an optional label after a version, as `-beta`; over any stream of text.
 fn read_label<I, E>(input: &mut I) -> Result<Option<I::Slice>, E>
 where
     I: StreamIsPartial + Compare<char>,

@@ -18,7 +18,7 @@ use winnow_core::combinator;
 use winnow_core::combinator::impls::Eof;
 use winnow_core::parser::Func;
 
-/// The end of what is there, which asks for no more.
+/// The end of the input, without `Incomplete`.
 fn eof_at<I: OfText, E: ParserError<I>>(rt: &impl Abort)
 where
     I::Slice: PartialEq + Debug,
@@ -33,7 +33,7 @@ where
     slices_each::<I, E, _>(rt, "eof", Func(combinator::eof::<I, E>), &rows);
 }
 
-/// The end behind a byte.
+/// The end after a byte.
 fn eof_behind<I: OfText + Compare<u8>, E: ParserError<I>>(rt: &impl Abort)
 where
     I::Slice: PartialEq + Debug,

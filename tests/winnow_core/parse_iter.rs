@@ -25,8 +25,8 @@ enum End {
     Lacks(Needed),
 }
 
-/// A parser gives these items of the input, ends so, and then gives none for good. A refused input
-/// is back at its start.
+/// Checks that a parser returns these items of the input, ends as given, and then returns `None`.
+/// The input of an error is reset to its start.
 fn gives<I, O: PartialEq + Debug + Copy, E: ParserError<I>, P: Parser<I, O, E> + Drop>(
     rt: &impl Abort,
     row: &str,
@@ -67,8 +67,8 @@ where
     );
 }
 
-/// Slices of two tokens, and of digits: the place of a fault is counted from the first start, in
-/// units, and an item that consumes nothing is a fault.
+/// Slices of two tokens, and of digits: the offset of an error is counted from the first start, in
+/// units, and an item that consumes no input is an error.
 fn slices<I, E: ParserError<I>>(rt: &impl Abort)
 where
     I: OfText + Copy + Stream<Token = char, Slice = &'static str>,
@@ -95,7 +95,7 @@ where
     for (text, end) in [("ab", End::Refused(0)), ("", End::Read)] {
         gives::<I, usize, E, _>(rt, text, RestLen, I::of_text(text), &[], end);
     }
-    // The start is where the input stood when it was handed over.
+    // The start is where the input was when it was passed.
     let mut input = I::of_text("xabc");
     let _x = input.next_token();
     let pair = token::take::<_, I, E>(2usize);
@@ -134,7 +134,7 @@ fn parse_iter_of_needs(rt: HostRuntime) {
     gives::<&[u8], u8, Modal, _>(&rt, "aab", first, b"aab", b"aa", lacks);
 }
 
-/// The state of the parser goes on from item to item, and to the next parse.
+/// The state of the parser is kept from item to item, and to the next parse.
 #[test]
 fn parse_iter_with_state(rt: HostRuntime) {
     let mut calls = 0u8;

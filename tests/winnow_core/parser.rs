@@ -21,7 +21,8 @@ use winnow_core::parser::{Func, ModalParser, Parser};
 use winnow_token::token;
 use winnow_token::token::impls::{Any, Rest, RestLen};
 
-/// Tuples of none to six: the first failure is handed on, and the input stands there.
+/// Tuples of none to six: the first error is returned, and the input is left where that parser left
+/// it.
 fn tuple<I: OfText + Compare<u8>, E: ParserError<I>>(rt: &impl Abort) {
     answers::<I, (), E, _>(rt, "()", (), "abxsbsh", Ok(()), "abxsbsh");
     answers::<I, (), E, _>(rt, "()", (), "ab", Ok(()), "ab");
@@ -60,7 +61,7 @@ fn func(rt: HostRuntime) {
     same(&rt, "Func", "ab", got, (Ok(b'a'), b"b".as_slice()));
 }
 
-/// Whole parses of digits: the slice, or where the run stood that failed or left something.
+/// Whole parses of digits: the slice, or the offset of the error or of the rest.
 #[test]
 fn parse(rt: HostRuntime) {
     let mut digits = token::take_while::<_, &[u8], EmptyError>(
@@ -82,7 +83,7 @@ fn parse(rt: HostRuntime) {
     }
 }
 
-/// What is read by a grammar: a beginning of the text, and then all of a text.
+/// A prefix of the text that matches a grammar (`read`), and all of a text (`read_all`).
 #[test]
 fn read(rt: HostRuntime) {
     for (text, want, rest) in [("ab", Some('a'), "b"), ("a", Some('a'), ""), ("b", None, "b")] {
@@ -136,7 +137,7 @@ fn parse_peek(rt: HostRuntime) {
     at_text!(rt; peeked);
 }
 
-/// The state of a parser goes on behind a reference.
+/// The state of a parser is kept behind a reference.
 fn referred<I: OfText + Stream<Token = char>, E: ParserError<I>>(rt: &impl Abort) {
     let mut calls = 0u8;
     let mut counted = Any.map(move |_: char| {
@@ -175,7 +176,7 @@ fn parse_under_errors_with_a_mode(rt: HostRuntime) {
     }
 }
 
-/// What runs any parser under errors with a mode.
+/// Runs any parser under errors with a mode.
 fn run_modal<O, P: ModalParser<&'static str, O, EmptyError> + Drop>(
     mut parser: P,
     text: &'static str,

@@ -12,7 +12,7 @@ enum Value {
     Object(Vec<(String, Value)>),
 }
 
-/// A place in a text of JSON.
+/// An offset in a JSON text.
 struct Json<'i> {
     text: &'i str,
     at: usize,
@@ -180,7 +180,7 @@ pub fn json(s: &[u8]) -> Outcome {
     Outcome { count: values.len() as u64, sum: sum.sum(), left: 0 }
 }
 
-/// The field at a place, and where it ends.
+/// Parses the field at `at`, and returns it with the offset after it.
 fn field(s: &[u8], mut at: usize) -> Option<(Vec<u8>, usize)> {
     if s.get(at) != Some(&b'"') {
         let start = at;
@@ -235,7 +235,7 @@ enum Reply<'i> {
     Array(Vec<Reply<'i>>),
 }
 
-/// The line at a place, and where the next one begins.
+/// Returns the line at `at`, and the offset of the next line.
 fn line(s: &[u8], at: usize) -> Option<(&[u8], usize)> {
     let end = at + memchr2(b'\r', b'\n', s.get(at..)?)?;
     (s.get(end..end + 2)? == b"\r\n").then(|| (&s[at..end], end + 2))
@@ -309,7 +309,8 @@ pub fn replies(s: &[u8]) -> Outcome {
     told
 }
 
-/// The text in quotes at a place, with a comma behind it, and where the next one begins.
+/// Parses the quoted string at `at` and the comma after it, and returns the string with the offset
+/// after the comma.
 fn escaped(text: &str, at: usize) -> Option<(String, usize)> {
     let s = text.as_bytes();
     if s.get(at) != Some(&b'"') {

@@ -13,7 +13,7 @@ use nom::sequence::{delimited, pair, preceded, separated_pair, terminated, tuple
 use nom::{Err, IResult, Parser};
 use std::str::from_utf8;
 
-// ---- JSON, as nom's own example of it has it, but that numbers are kept as text and members in a list
+// ---- JSON, as in nom's own example, except that numbers are kept as text and members in a list
 
 #[derive(Clone)]
 enum Value {

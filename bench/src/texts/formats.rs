@@ -12,7 +12,7 @@ fn words(dice: &mut Dice, out: &mut Vec<u8>, most: usize) {
     }
 }
 
-/// A text in quotes, in which an escape stands about once in forty bytes.
+/// Appends a quoted string with about one escape in forty bytes.
 fn quoted(dice: &mut Dice, out: &mut Vec<u8>, escapes: &[&str]) {
     out.push(b'"');
     words(dice, out, 6);
@@ -23,7 +23,7 @@ fn quoted(dice: &mut Dice, out: &mut Vec<u8>, escapes: &[&str]) {
     out.push(b'"');
 }
 
-/// An array of JSON of objects, as an interface of a web site answers them.
+/// Generates a JSON array of objects, similar to the response of a web API.
 pub fn json(size: usize) -> Vec<u8> {
     let escapes = ["\\n", "\\\"", "\\u00e9", "\\/", "é"];
     let mut out = parts(size, |dice, out| {
@@ -47,7 +47,7 @@ pub fn json(size: usize) -> Vec<u8> {
     out
 }
 
-/// Lines of fields with commas between them, a quarter of which stand in quotes.
+/// Generates lines of fields separated by commas; a quarter of the fields are quoted.
 pub fn csv(size: usize) -> Vec<u8> {
     parts(size, |dice, out| {
         for k in 0..dice.below(12) + 1 {
@@ -99,7 +99,7 @@ pub fn replies(size: usize) -> Vec<u8> {
     })
 }
 
-/// Texts in quotes with escapes, a comma behind each.
+/// Generates quoted strings with escapes, each followed by a comma.
 pub fn escapes(size: usize) -> Vec<u8> {
     parts(size, |dice, out| {
         quoted(dice, out, &["\\n", "\\\"", "\\\\", "\\t"]);
@@ -107,8 +107,8 @@ pub fn escapes(size: usize) -> Vec<u8> {
     })
 }
 
-/// Lists of numbers of one to nine digits, with commas between the numbers and a line feed behind
-/// each list.
+/// Generates lists of numbers of one to nine digits. The numbers are separated by commas, and each
+/// list is followed by a line feed.
 pub fn number_lists(size: usize) -> Vec<u8> {
     parts(size, |dice, out| {
         for k in 0..dice.below(12) + 1 {

@@ -4,7 +4,7 @@ use crate::text::{Outcome, Text};
 use pergidau::http::{self, Field};
 use pergidau::Error;
 
-/// How many bytes come at a time, where they come in pieces.
+/// The size of the chunks in bytes, for incremental readers.
 const PIECE: usize = 512;
 const FIELDS: usize = 32;
 
@@ -26,7 +26,7 @@ pub fn heads_in_pieces(text: &Text) -> Outcome {
     let (mut out, mut fields) = (Outcome::default(), [Field::default(); FIELDS]);
     let (bytes, mut begin, mut end) = (text.bytes(), 0, 0);
     while begin < bytes.len() {
-        match http::head_in_pieces(&bytes[begin..end], &mut fields) {
+        match http::head_partial(&bytes[begin..end], &mut fields) {
             Ok(head) => {
                 let parts = head.fields().map(|(name, value)| (name.len(), value.len()));
                 out.add(length(head.target(), parts));
@@ -39,7 +39,7 @@ pub fn heads_in_pieces(text: &Text) -> Outcome {
     out
 }
 
-/// The length of the head with which the bytes begin, and what it adds.
+/// Parses a head, and returns its length and its contribution to the sum.
 fn by_httparse(bytes: &[u8]) -> httparse::Result<(usize, usize)> {
     let mut fields = [httparse::EMPTY_HEADER; FIELDS];
     let mut request = httparse::Request::new(&mut fields);

@@ -1,11 +1,13 @@
-//! Times readers of the library beside those of others that do the same work, or runs one of them. What
-//! they find is compared. `table.py`, which calls it, makes a table of what it prints:
+//! Times readers of this library and of others that do the same work, or runs one of them. Their
+//! results are compared. `table.py` calls this program, and makes a table of its output:
 //!
-//!     beside list            the works, each with its text and its readers
-//!     beside time TURNS      the best time of so many turns of each, in megabytes a second
-//!     beside run WORK PLACE  runs a reader by its place, and prints what it asked for, where counted
+//! - `beside list` lists the workloads, each with its text and its readers.
+//! - `beside time TURNS` prints the best time of TURNS runs of each reader, in megabytes per
+//!   second.
+//! - `beside run WORK PLACE` runs the reader with index PLACE, and prints its allocations if they
+//!   are counted.
 //!
-//! The texts stand in the folder that `TEXTS` names.
+//! The environment variable `TEXTS` names the folder with the texts.
 mod csv;
 mod http;
 mod ini;
@@ -21,7 +23,8 @@ use std::time::Instant;
 use text::{Outcome, Text};
 use works::{Reader, Work, WORKS};
 
-/// A text of this length has all turns, and a longer one fewer, but three at least.
+/// The maximum length of a text that is read in all turns. Longer texts are read in fewer turns,
+/// but at least three.
 const ALL_TURNS: usize = 4 << 20;
 
 fn text_of(work: &Work) -> Text {
@@ -42,7 +45,8 @@ fn compare(work: &Work, text: &Text) {
     }
 }
 
-/// The best time of each reader, in seconds, of so many turns that they take in turn.
+/// Returns the best time of each reader in seconds. The readers run alternately, `turns` times
+/// each.
 fn best(work: &Work, text: &Text, turns: usize) -> Vec<f64> {
     let mut best = vec![f64::INFINITY; work.readers.len()];
     for _ in 0..turns {
@@ -68,15 +72,15 @@ fn time(turns: usize) {
     }
 }
 
-/// What `table.py` has valgrind count.
+/// The call that valgrind counts for `table.py`.
 #[no_mangle]
 #[inline(never)]
 fn counted_run(read: Reader, text: &Text) -> Outcome {
     read(text)
 }
 
-/// Runs a reader twice, of which the second is counted: what it keeps from one to the next is made by
-/// then. Of the long table, of which none keeps anything, it is run once.
+/// Runs a reader twice and counts the second run, so that caches are already filled. On the long
+/// table, where no reader has a cache, it runs once.
 fn run(work: &Work, place: usize) {
     let text = text_of(work);
     let (_, read) = work.readers[place];

@@ -15,7 +15,8 @@ macro_rules! peers {
 
         $(pub fn $name(text: &Text) -> Outcome {
             let mut out = Outcome::default();
-            // SAFETY: the text is a live borrow, which it only reads, and has `PADDING` bytes behind it.
+            // SAFETY: the text is a live borrow that is only read, and it is followed by `PADDING`
+            // bytes.
             unsafe { linked::$name(text.padded().as_ptr().cast(), text.bytes().len(), &mut out) };
             out
         })*

@@ -3,7 +3,7 @@
 use crate::text::{Outcome, Text};
 use pergidau::resp::{self, Extent, Reply};
 
-/// How many bytes come at a time, where they come in pieces: as many as a packet has.
+/// The size of the chunks in bytes, for incremental readers: the payload of a packet.
 const PIECE: usize = 1460;
 const LEVELS: usize = 7;
 

@@ -1,11 +1,11 @@
-//! A text that is read, and what a reader found in it.
+//! An input text, and the result of a reader.
 use std::path::Path;
 
-/// How many bytes that are 0 stand behind a text: simdjson reads up to so many there, and others look
-/// for the first.
+/// The number of zero bytes after a text: simdjson may read up to so far, and others look for the
+/// first zero.
 const PADDING: usize = 64;
 
-/// A text, and the bytes behind it.
+/// A text, followed by padding.
 pub struct Text {
     padded: Vec<u8>,
 }
@@ -25,14 +25,14 @@ impl Text {
         &self.padded[..self.padded.len() - PADDING]
     }
 
-    /// The text with the bytes behind it.
+    /// Returns the text with its padding.
     pub fn padded(&self) -> &[u8] {
         &self.padded
     }
 }
 
-/// What a reader found: how many parts there are, and a sum over them. Of all that read one text it is
-/// the same.
+/// The result of a reader: the number of parts, and a sum over them. It is the same for all readers
+/// of a text.
 #[derive(Clone, Copy, Debug, Default, PartialEq, Eq)]
 #[repr(C)]
 pub struct Outcome {

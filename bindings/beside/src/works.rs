@@ -1,14 +1,14 @@
-//! What is read, and by whom.
+//! The workloads, and the readers of each.
 use crate::text::{Outcome, Text};
 use crate::{csv, http, ini, json, peers, resp};
 
 pub type Reader = fn(&Text) -> Outcome;
 
-/// A work: its name, the file that is read, and the readers, of which the library's is the first.
+/// A workload: its name, its input file, and its readers, this library's first.
 pub struct Work {
     pub name: &'static str,
     pub file: &'static str,
-    /// Whether a half of the text is refused, with nothing read of it.
+    /// Whether readers must reject half of the text, without returning a part of it.
     pub is_whole: bool,
     pub readers: &'static [(&'static str, Reader)],
 }

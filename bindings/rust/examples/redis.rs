@@ -1,9 +1,9 @@
-//! Answers clients of Redis: it keeps values in memory, by the commands PING, ECHO, SET, GET, DEL,
-//! INCR, MGET, COMMAND and QUIT.
+//! A Redis server that keeps values in memory, with the commands PING, ECHO, SET, GET, DEL, INCR,
+//! MGET, COMMAND and QUIT.
 //!
-//! Run by itself it plays a client over a pair of sockets, which sends in pieces of three bytes, and
-//! prints what that gets. With the word `listen` it answers one client of `127.0.0.1` after the other,
-//! at a port that it prints first, until one of them says SHUTDOWN.
+//! Without arguments it also plays a client over a pair of sockets, which sends chunks of three
+//! bytes, and prints the replies. With the argument `listen` it serves clients of `127.0.0.1`, one
+//! at a time, at a port that it prints first, until a client sends SHUTDOWN.
 use pergidau::resp::{self, Reply};
 use pergidau::Error;
 use std::collections::HashMap;
@@ -17,7 +17,7 @@ const MOST: usize = 1 << 16;
 
 type Values = HashMap<Vec<u8>, Vec<u8>>;
 
-/// What is done after an answer.
+/// The action after a reply.
 #[derive(PartialEq)]
 enum Next {
     Read,
@@ -46,7 +46,7 @@ fn bulk(text: Option<&[u8]>, out: &mut Vec<u8>) {
     }
 }
 
-/// One more than a number that is kept as a whole number of Redis, as `:` has it.
+/// Returns the stored value plus 1, if it is an integer as in a `:` reply of Redis.
 fn incremented(old: Option<&Vec<u8>>) -> Option<i64> {
     let Some(old) = old else { return Some(1) };
     let text = [b":", &old[..], b"\r\n"].concat();
@@ -81,7 +81,7 @@ fn answer(words: &[&[u8]], values: &mut Values, out: &mut Vec<u8>) -> Next {
             }
             None => out.extend_from_slice(b"-ERR value is not an integer or out of range\r\n"),
         },
-        // A client asks for this when it begins, and goes on with no answer in it.
+        // Clients send this command when they connect, and accept an empty reply.
         (b"COMMAND", _) => out.extend_from_slice(b"*0\r\n"),
         (b"QUIT", []) => {
             out.extend_from_slice(b"+OK\r\n");
@@ -93,7 +93,7 @@ fn answer(words: &[&[u8]], values: &mut Values, out: &mut Vec<u8>) -> Next {
     Next::Read
 }
 
-/// Answers a client until it ends, or sends what is no request.
+/// Serves a client until it disconnects, or sends an invalid request.
 fn serve(client: &mut (impl Read + Write), values: &mut Values) -> io::Result<Next> {
     let (mut held, mut piece, mut out) = (Vec::new(), [0; 512], Vec::new());
     loop {
@@ -104,7 +104,7 @@ fn serve(client: &mut (impl Read + Write), values: &mut Values) -> io::Result<Ne
         held.extend_from_slice(&piece[..count]);
         let (mut left, mut next) = (&held[..], Next::Read);
         while !left.is_empty() && next == Next::Read {
-            match resp::reply_in_pieces(left, 1) {
+            match resp::reply_partial(left, 1) {
                 Ok((request, behind)) => {
                     next = match words(request) {
                         Some(words) => answer(&words, values, &mut out),
@@ -147,7 +147,7 @@ fn shown(reply: Reply) -> String {
     }
 }
 
-/// Sends requests in pieces, and prints what comes back.
+/// Sends requests in chunks, and prints the replies.
 fn play(server: &mut UnixStream, requests: &[&[&str]], end: &[u8]) -> io::Result<()> {
     let mut script = Vec::new();
     for request in requests {
@@ -176,7 +176,7 @@ fn listen() -> io::Result<()> {
     io::stdout().flush()?;
     let mut values = Values::new();
     for client in listener.incoming() {
-        // (a client that goes away ends its own connection alone)
+        // (a client that disconnects ends only its own connection)
         if let Ok(Next::End) = serve(&mut client?, &mut values) {
             break;
         }
@@ -207,7 +207,7 @@ fn main() -> io::Result<()> {
         let served = thread::spawn(move || {
             let ended = serve(&mut server, &mut Values::new());
             server.shutdown(std::net::Shutdown::Write)?;
-            // What the client still sends is read, so that it gets the last answer.
+            // Drains the remaining input, so that the client receives the last reply.
             io::copy(&mut server, &mut io::sink())?;
             ended
         });

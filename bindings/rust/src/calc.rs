@@ -4,16 +4,24 @@
 //! use pergidau::calc;
 //!
 //! assert_eq!(calc::value("2 + 3 * 4"), Ok(14));
-//! assert_eq!(calc::value("1 / 0").unwrap_err().to_string(), "refused at line 1, column 6");
+//! assert_eq!(calc::value("1 / 0").unwrap_err().to_string(), "invalid input at line 1, column 6");
 //! ```
-use crate::{exports, Error, Place, NOTHING};
+use crate::{exports, Error, Position, NOTHING};
 
-/// The value of a formula of whole numbers.
+/// Evaluates a formula of integers.
 ///
-/// Operators are, the strongest first: `!` after a number, `+` and `-` before one, `^`, then `*`,
-/// `/` and `%`, then `+` and `-`, and `=`, which is 1 or 0. An error has the place where the formula
-/// is refused, or where it has no value that fits; `%` has none where the quotient does not fit, as
-/// in `-2 ^ 63 % -1`. While it runs it holds up to 100 bytes of memory for each byte of the text.
+/// The operators, from the highest precedence to the lowest, are: `!` after a number; `+` and `-`
+/// before one; `^`; `*`, `/` and `%`; `+` and `-`; and `=`, which gives 1 or 0.
+///
+/// # Errors
+///
+/// [`Error::Refused`] holds the position of the error: of a syntax error, or of an operation whose
+/// value is undefined or does not fit. `%` fails if the quotient does not fit, as in `-2 ^ 63 %
+/// -1`.
+///
+/// # Memory
+///
+/// A call holds up to 100 bytes of memory for each byte of the text (measured).
 ///
 /// ```
 /// use pergidau::calc;
@@ -29,6 +37,9 @@ pub fn value(text: &str) -> Result<i64, Error> {
     let code = unsafe { exports::exported_calc_value(text.as_ptr(), text.len(), &mut out) };
     match code {
         exports::DONE => Ok(out.value),
-        code => Err(Error::of(code, Some(Place::of(text.as_bytes(), out.place)), NOTHING)),
+        code => {
+            let position = Some(Position::of(text.as_bytes(), out.error_offset));
+            Err(Error::of(code, position, NOTHING))
+        }
     }
 }

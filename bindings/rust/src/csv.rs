@@ -1,4 +1,4 @@
-//! Records of comma separated values (RFC 4180), whole and in pieces.
+//! Records of comma-separated values (RFC 4180), from complete or partial input.
 //!
 //! ```
 //! use pergidau::csv::{self, LineEnd};
@@ -11,15 +11,15 @@ mod extent;
 
 pub use self::extent::{Extent, Size};
 
-use crate::{at, exports, Error, Place, Span, Wanted};
+use crate::{at, exports, Error, Position, RequiredSize, Span};
 
-/// What ends a line.
+/// A line ending.
 #[derive(Clone, Copy, Debug, Default, PartialEq, Eq)]
 pub enum LineEnd {
-    /// A carriage return and a line feed, as RFC 4180 has it.
+    /// A carriage return and a line feed, as in RFC 4180.
     #[default]
     CrLf,
-    /// A line feed alone.
+    /// Only a line feed.
     Lf,
 }
 
@@ -43,7 +43,7 @@ impl<'i, 'b> Record<'i, 'b> {
         self.places.get(number).map(|place| at(self.text, *place))
     }
 
-    /// What stands after the record and its line end.
+    /// Returns the input after the record and its line ending.
     pub fn rest(&self) -> &'i [u8] {
         self.rest
     }
@@ -83,17 +83,24 @@ fn read<'i, 'b>(
             rest: &bytes[out.length..],
         }),
         code => {
-            let refused = (code == exports::REFUSED).then(|| Place::of(bytes, out.place));
-            Err(Error::of(code, refused, Wanted { entries: out.fields, bytes: out.text }))
+            let position = || Position::of(bytes, out.error_offset);
+            let required = RequiredSize { entries: out.fields, bytes: out.text };
+            Err(Error::of(code, (code == exports::INVALID).then(position), required))
         }
     }
 }
 
-/// The record of comma separated values (RFC 4180) with which the bytes begin; a line end, or the
-/// end of the bytes, stands after it. The bytes of its fields are written into `text`, and their
-/// places into `fields`; where one of them is too small, the error says how much is wanted. No bytes
-/// begin with no record. A refusal has the place of the first byte with which no record goes on. No
-/// memory is asked for.
+/// Parses one record of comma-separated values (RFC 4180), followed by a line ending or the end of
+/// the input. Does not allocate.
+///
+/// The contents of the fields are written into `text`, and their positions into `fields`. Empty
+/// input does not start with a record.
+///
+/// # Errors
+///
+/// - [`Error::BufferTooSmall`] if a buffer is too small; it holds the required sizes.
+/// - [`Error::Invalid`] if `bytes` does not start with a record; it holds the position of the first
+///   invalid byte.
 ///
 /// ```
 /// use pergidau::csv::{self, LineEnd};
@@ -103,8 +110,8 @@ fn read<'i, 'b>(
 /// let record = csv::record(b"a,\"b \"\"c\"\"\"\nd", LineEnd::Lf, &mut text, &mut fields)?;
 /// assert_eq!(record.fields().collect::<Vec<_>>(), [&b"a"[..], b"b \"c\""]);
 /// assert_eq!(record.rest(), b"d");
-/// let refused = csv::record(b"a,b\"c", LineEnd::Lf, &mut text, &mut fields).unwrap_err();
-/// assert_eq!(refused.to_string(), "refused at line 1, column 4");
+/// let error = csv::record(b"a,b\"c", LineEnd::Lf, &mut text, &mut fields).unwrap_err();
+/// assert_eq!(error.to_string(), "invalid input at line 1, column 4");
 /// # Ok::<(), pergidau::Error>(())
 /// ```
 pub fn record<'i, 'b>(
@@ -116,33 +123,39 @@ pub fn record<'i, 'b>(
     read(exports::exported_csv_record, bytes, end, text, fields)
 }
 
-/// The same record where the bytes come in pieces: [`Error::Incomplete`] says that no record with its
-/// line end is there, and that with three bytes more at most they can begin with one;
-/// [`Error::Refused`], that they begin with none, whatever comes after them. A field in quotes that
-/// are not closed goes on for ever, so a caller bounds how many bytes are held. Where no more bytes
-/// come, [`record`] reads a last record that has no line end. Each call reads from the first byte on:
-/// of a long record in many pieces an [`Extent`] finds the end.
+/// Like [`record`], for partial input.
+///
+/// A quoted field without a closing quote never ends, so the caller must limit how many bytes are
+/// buffered. The last record may have no line ending: at the end of the input, parse it with
+/// [`record`]. Each call parses from the first byte; for a long record in many chunks, find its end
+/// with an [`Extent`].
+///
+/// # Errors
+///
+/// - [`Error::Incomplete`] if `bytes` contains no record with its line ending, and at most three
+///   more bytes can complete one.
+/// - [`Error::Invalid`] if `bytes` does not start with a record, regardless of what follows.
 ///
 /// ```
 /// use pergidau::csv::{self, LineEnd};
 /// use pergidau::Error;
 ///
-/// let record = csv::record_in_pieces(b"a,b", LineEnd::CrLf, &mut [], &mut []);
+/// let record = csv::record_partial(b"a,b", LineEnd::CrLf, &mut [], &mut []);
 /// assert_eq!(record.unwrap_err(), Error::Incomplete);
-/// let never = csv::record_in_pieces(b"x\"y", LineEnd::CrLf, &mut [], &mut []);
-/// assert_eq!(never.unwrap_err().to_string(), "refused at line 1, column 2");
+/// let never = csv::record_partial(b"x\"y", LineEnd::CrLf, &mut [], &mut []);
+/// assert_eq!(never.unwrap_err().to_string(), "invalid input at line 1, column 2");
 /// ```
-pub fn record_in_pieces<'i, 'b>(
+pub fn record_partial<'i, 'b>(
     bytes: &'i [u8],
     end: LineEnd,
     text: &'b mut [u8],
     fields: &'b mut [Span],
 ) -> Result<Record<'i, 'b>, Error> {
-    read(exports::exported_csv_record_in_pieces, bytes, end, text, fields)
+    read(exports::exported_csv_record_partial, bytes, end, text, fields)
 }
 
-/// The records of a document, one after the other, each with fields of its own. After an error
-/// there are no more.
+/// An iterator over the records of a document. Each record owns its fields. After an error the
+/// iterator returns `None`.
 #[cfg(feature = "std")]
 #[derive(Clone, Debug)]
 pub struct Records<'i> {
@@ -164,16 +177,17 @@ impl Iterator for Records<'_> {
                     self.left = record.rest();
                     return Some(Ok(record.fields().map(<[u8]>::to_vec).collect()));
                 }
-                Err(Error::TooSmall(wanted)) => {
-                    self.text.resize(wanted.bytes.max(self.text.len()), 0);
-                    self.fields.resize(wanted.entries.max(self.fields.len()), Span::default());
+                Err(Error::BufferTooSmall(required)) => {
+                    self.text.resize(required.bytes.max(self.text.len()), 0);
+                    self.fields.resize(required.entries.max(self.fields.len()), Span::default());
                 }
                 Err(error) => {
                     let before = self.document.len() - self.left.len();
                     self.left = &[];
                     return Some(Err(match error {
-                        Error::Refused(Some(place)) => {
-                            Error::Refused(Some(Place::of(self.document, before + place.offset)))
+                        Error::Invalid(Some(position)) => {
+                            let offset = before + position.offset;
+                            Error::Invalid(Some(Position::of(self.document, offset)))
                         }
                         error => error,
                     }));
@@ -184,16 +198,16 @@ impl Iterator for Records<'_> {
     }
 }
 
-/// The records of a document. Where the bytes begin with no record any more, the error has the place
-/// of the first byte with which none goes on.
+/// Returns an iterator over the records of a document. If a record is invalid, the error holds the
+/// position of the first invalid byte.
 ///
 /// ```
 /// use pergidau::csv::{self, LineEnd};
 ///
 /// let records: Result<Vec<_>, _> = csv::records(b"a,b\n\"c\nd\",\n", LineEnd::Lf).collect();
 /// assert_eq!(records?, [[b"a".to_vec(), b"b".to_vec()], [b"c\nd".to_vec(), Vec::new()]]);
-/// let refused = csv::records(b"a\nb\"\n", LineEnd::Lf).last();
-/// assert_eq!(refused.unwrap().unwrap_err().to_string(), "refused at line 2, column 2");
+/// let error = csv::records(b"a\nb\"\n", LineEnd::Lf).last();
+/// assert_eq!(error.unwrap().unwrap_err().to_string(), "invalid input at line 2, column 2");
 /// # Ok::<(), pergidau::Error>(())
 /// ```
 #[cfg(feature = "std")]

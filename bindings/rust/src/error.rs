@@ -1,11 +1,11 @@
-//! Why a reader gives no answer.
-use crate::exports;
+//! The errors of readers.
+use crate::exports::{self, MAX_DEPTH};
 use core::fmt;
 
-/// A place in what was read.
+/// A position in the input.
 #[derive(Clone, Copy, Debug, PartialEq, Eq)]
-pub struct Place {
-    /// How many bytes stand before it.
+pub struct Position {
+    /// The offset in bytes.
     pub offset: usize,
     /// The number of its line, from 1 on.
     pub line: usize,
@@ -13,48 +13,48 @@ pub struct Place {
     pub column: usize,
 }
 
-impl Place {
+impl Position {
     /// The place after the first `offset` bytes.
-    pub fn of(bytes: &[u8], offset: usize) -> Place {
+    pub fn of(bytes: &[u8], offset: usize) -> Position {
         let mut found = exports::Position::default();
         // SAFETY: the pointers are those of live borrows, and the bytes are only read. The call takes up to
         // 4 KiB of stack (measured); where there is less, the thread's guard page ends the program.
         unsafe {
             exports::exported_text_position(bytes.as_ptr(), bytes.len(), offset, &mut found);
         }
-        Place { offset, line: found.line, column: found.column }
+        Position { offset, line: found.line, column: found.column }
     }
 }
 
-impl fmt::Display for Place {
+impl fmt::Display for Position {
     fn fmt(&self, f: &mut fmt::Formatter<'_>) -> fmt::Result {
         write!(f, "line {}, column {}", self.line, self.column)
     }
 }
 
-/// Why a reader gives no answer.
+/// The error of a reader.
 #[derive(Clone, Copy, Debug, PartialEq, Eq)]
 #[non_exhaustive]
 pub enum Error {
-    /// The bytes are not what is read, and where, if the reader says so.
-    Refused(Option<Place>),
-    /// The bytes are not yet what is read; whether more after them can be is said at the function.
+    /// The input is invalid, at this position if the reader reports one.
+    Invalid(Option<Position>),
+    /// The input is incomplete. The function documents whether more bytes can complete it.
     Incomplete,
-    /// A request for memory was refused.
+    /// Memory allocation failed.
     NoMemory,
-    /// The bytes are no UTF-8, where text is asked for.
-    NotText,
-    /// The buffer is too small, and this is how much is wanted.
-    TooSmall(Wanted),
-    /// More levels are asked for than [`MOST_LEVELS`](crate::MOST_LEVELS).
-    TooDeep,
+    /// Input is not valid UTF-8.
+    InvalidUtf8,
+    /// The buffer is too small; holds the required size.
+    BufferTooSmall(RequiredSize),
+    /// The requested depth limit is above [`MAX_DEPTH`](crate::MAX_DEPTH).
+    MaxDepthTooLarge,
     /// The library said what this crate does not know: it is another one.
     Unknown(u32),
 }
 
-/// What a buffer is to have room for.
+/// The required size of a buffer.
 #[derive(Clone, Copy, Debug, PartialEq, Eq)]
-pub struct Wanted {
+pub struct RequiredSize {
     /// How many entries.
     pub entries: usize,
     /// How many bytes, where bytes are copied.
@@ -62,15 +62,15 @@ pub struct Wanted {
 }
 
 impl Error {
-    /// What a code other than that for done says.
-    pub(crate) fn of(code: u32, refused: Option<Place>, wanted: Wanted) -> Error {
+    /// Converts a code other than `DONE` to an error.
+    pub(crate) fn of(code: u32, position: Option<Position>, required: RequiredSize) -> Error {
         match code {
-            exports::REFUSED => Error::Refused(refused),
+            exports::INVALID => Error::Invalid(position),
             exports::INCOMPLETE => Error::Incomplete,
             exports::NO_MEMORY => Error::NoMemory,
-            exports::NO_TEXT => Error::NotText,
-            exports::TOO_SMALL => Error::TooSmall(wanted),
-            exports::TOO_DEEP => Error::TooDeep,
+            exports::INVALID_UTF8 => Error::InvalidUtf8,
+            exports::BUFFER_TOO_SMALL => Error::BufferTooSmall(required),
+            exports::MAX_DEPTH_TOO_LARGE => Error::MaxDepthTooLarge,
             code => Error::Unknown(code),
         }
     }
@@ -79,22 +79,24 @@ impl Error {
 impl fmt::Display for Error {
     fn fmt(&self, f: &mut fmt::Formatter<'_>) -> fmt::Result {
         match self {
-            Error::Refused(Some(place)) => write!(f, "refused at {place}"),
-            Error::Refused(None) => f.write_str("refused"),
-            Error::Incomplete => f.write_str("more bytes are needed"),
-            Error::NoMemory => f.write_str("a request for memory was refused"),
-            Error::NotText => f.write_str("the bytes are no UTF-8"),
-            Error::TooSmall(Wanted { entries, bytes: 0 }) => {
-                write!(f, "the buffer is too small: {entries} entries are wanted")
+            Error::Invalid(Some(position)) => write!(f, "invalid input at {position}"),
+            Error::Invalid(None) => f.write_str("invalid input"),
+            Error::Incomplete => f.write_str("incomplete input: more bytes are needed"),
+            Error::NoMemory => f.write_str("memory allocation failed"),
+            Error::InvalidUtf8 => f.write_str("input is not valid UTF-8"),
+            Error::BufferTooSmall(RequiredSize { entries, bytes: 0 }) => {
+                write!(f, "buffer too small: {entries} entries required")
             }
-            Error::TooSmall(Wanted { entries: 0, bytes }) => {
-                write!(f, "the buffer is too small: {bytes} bytes are wanted")
+            Error::BufferTooSmall(RequiredSize { entries: 0, bytes }) => {
+                write!(f, "buffer too small: {bytes} bytes required")
             }
-            Error::TooSmall(Wanted { entries, bytes }) => {
-                write!(f, "the buffer is too small: {entries} entries and {bytes} bytes are wanted")
+            Error::BufferTooSmall(RequiredSize { entries, bytes }) => {
+                write!(f, "buffer too small: {entries} entries and {bytes} bytes required")
             }
-            Error::TooDeep => f.write_str("more levels are asked for than are read"),
-            Error::Unknown(code) => write!(f, "the library answered the unknown code {code}"),
+            Error::MaxDepthTooLarge => {
+                write!(f, "depth limit too large: at most {MAX_DEPTH} levels are supported")
+            }
+            Error::Unknown(code) => write!(f, "unknown code {code} from the library"),
         }
     }
 }

@@ -1,4 +1,5 @@
-//! Heads of requests and of responses of HTTP/1.1, whole and in pieces, and chunked bodies, in pieces.
+//! Heads of HTTP/1.1 requests and responses, from complete or partial input, and chunked bodies,
+//! from partial input.
 //!
 //! ```
 //! use pergidau::http::{self, Field};
@@ -15,11 +16,11 @@ mod extent;
 mod response;
 
 pub use self::extent::HeadExtent;
-pub use self::response::{response_head, response_head_in_pieces, ResponseHead};
+pub use self::response::{response_head, response_head_partial, ResponseHead};
 pub use crate::exports::Field;
 
 use crate::exports;
-use crate::{at, Error, Place, Wanted};
+use crate::{at, Error, Position, RequiredSize};
 use core::fmt;
 
 /// The head of a request: its parts, as slices of the bytes that were read.
@@ -46,7 +47,8 @@ impl<'i, 'f> Head<'i, 'f> {
         (self.places.major, self.places.minor)
     }
 
-    /// The names and the values of the fields, in order. White space round a value is no part of it.
+    /// Returns the names and values of the fields, in order. Values do not include the whitespace
+    /// around them.
     pub fn fields(&self) -> impl ExactSizeIterator<Item = (&'i [u8], &'i [u8])> + 'f
     where
         'i: 'f,
@@ -55,7 +57,7 @@ impl<'i, 'f> Head<'i, 'f> {
         self.fields.iter().map(move |it| (at(bytes, it.name), at(bytes, it.value)))
     }
 
-    /// What stands after the head.
+    /// Returns the input after the head.
     pub fn rest(&self) -> &'i [u8] {
         &self.bytes[self.places.length..]
     }
@@ -76,16 +78,25 @@ fn read<'i, 'f>(
     match code {
         exports::DONE => Ok(Head { bytes, places, fields: &fields[..places.fields] }),
         code => {
-            let wanted = Wanted { entries: places.fields, bytes: 0 };
-            Err(Error::of(code, Some(Place::of(bytes, places.place)), wanted))
+            let required = RequiredSize { entries: places.fields, bytes: 0 };
+            Err(Error::of(code, Some(Position::of(bytes, places.error_offset)), required))
         }
     }
 }
 
-/// The head of a request of HTTP/1.1 (RFC 9112) with which the bytes begin. The places of its fields
-/// are written into `fields`; where these are too few, the error says how many are wanted. Where the
-/// bytes begin with no head, the error says the first place at which none goes on. At an error any
-/// entry may be written. No empty line is passed before the request line. No memory is asked for.
+/// Parses the head of an HTTP/1.1 request (RFC 9112) at the start of `bytes`. Does not allocate.
+///
+/// The offsets of the fields are written into `fields`. Empty lines before the request line are not
+/// skipped.
+///
+/// # Errors
+///
+/// - [`Error::BufferTooSmall`] if the head has more fields than `fields` has entries; it holds the
+///   number of fields.
+/// - [`Error::Invalid`] if `bytes` does not start with a head; it holds the position of the first
+///   invalid byte, or the end of the input.
+///
+/// After an error the contents of `fields` are unspecified.
 ///
 /// ```
 /// let mut fields = [pergidau::http::Field::default(); 16];
@@ -98,51 +109,57 @@ pub fn head<'i, 'f>(bytes: &'i [u8], fields: &'f mut [Field]) -> Result<Head<'i,
     read(exports::exported_http_head, bytes, fields)
 }
 
-/// The same head where the bytes come in pieces: [`Error::Incomplete`] says that with more bytes
-/// after them they can begin with one, and [`Error::Refused`] that they cannot, and the first place
-/// at which none goes on. Each call reads from the first byte on: of a head in many pieces a
-/// [`HeadExtent`] finds the end.
+/// Like [`head`], for partial input.
+///
+/// Each call parses from the first byte; for a head in many chunks, find its end with a
+/// [`HeadExtent`].
+///
+/// # Errors
+///
+/// - [`Error::Incomplete`] if `bytes` does not start with a head, but more bytes can complete one.
+/// - [`Error::Invalid`] if `bytes` does not start with a head, regardless of what follows; it holds
+///   the position of the first invalid byte.
 ///
 /// ```
-/// let head = pergidau::http::head_in_pieces(b"GET / HTT", &mut []);
+/// let head = pergidau::http::head_partial(b"GET / HTT", &mut []);
 /// assert_eq!(head.unwrap_err(), pergidau::Error::Incomplete);
 /// ```
-pub fn head_in_pieces<'i, 'f>(
+pub fn head_partial<'i, 'f>(
     bytes: &'i [u8],
     fields: &'f mut [Field],
 ) -> Result<Head<'i, 'f>, Error> {
-    read(exports::exported_http_head_in_pieces, bytes, fields)
+    read(exports::exported_http_head_partial, bytes, fields)
 }
 
-/// What bytes of a chunked body are.
+/// A part of a chunked body.
 #[derive(Clone, Copy, Debug, PartialEq, Eq)]
 pub enum Step<'i> {
     /// Data of a chunk, one byte or more.
     Data(&'i [u8]),
-    /// Bytes of the trailer section, one or more: after one another all of them are field lines, whole
-    /// ones, each with its line end.
+    /// Bytes of the trailer section, one or more. All of them together are complete field lines,
+    /// each with its line ending.
     Trailers(&'i [u8]),
-    /// The body is whole. What is left is after it.
+    /// The end of the body. The remaining bytes follow the body.
     End,
     /// All bytes are taken, and more are needed.
     More,
 }
 
-/// Why a byte of a chunked body is refused.
+/// The reason why a byte of a chunked body is invalid.
 #[derive(Clone, Copy, Debug, PartialEq, Eq)]
 #[non_exhaustive]
-pub enum Fault {
-    /// A size line is due, and begins with no hexadecimal digit.
+pub enum ChunkedError {
+    /// A size line does not start with a hexadecimal digit.
     Size,
-    /// No size line goes on with the byte.
+    /// The byte is invalid in a size line.
     SizeLine,
     /// With this digit the size is 2<sup>64</sup> or more.
     SizeTooLarge,
-    /// More bytes than the limit lets would stand before the next data, or the end.
+    /// There are more bytes than the limit allows before the next data, or before the end.
     SizeLineTooLong,
-    /// A carriage return and a line feed are due after the data of a chunk.
+    /// The data of a chunk is not followed by a carriage return and a line feed.
     DataEnd,
-    /// No field line goes on with the byte, nor the line end after the trailer section.
+    /// The byte can continue neither a field line nor the line ending after the trailer section.
     Trailers,
     /// The trailer section would have more bytes than the limit lets.
     TrailersTooLong,
@@ -150,47 +167,49 @@ pub enum Fault {
     Unknown(usize),
 }
 
-impl fmt::Display for Fault {
+impl fmt::Display for ChunkedError {
     fn fmt(&self, f: &mut fmt::Formatter<'_>) -> fmt::Result {
         match self {
-            Fault::Size => f.write_str("the size of a chunk is due"),
-            Fault::SizeLine => f.write_str("no size line goes on so"),
-            Fault::SizeTooLarge => f.write_str("the size of a chunk is too large"),
-            Fault::SizeLineTooLong => f.write_str("a size line is too long"),
-            Fault::DataEnd => f.write_str("a line end is due after the data of a chunk"),
-            Fault::Trailers => f.write_str("no trailer section goes on so"),
-            Fault::TrailersTooLong => f.write_str("the trailer section is too long"),
-            Fault::Unknown(number) => write!(f, "the library answered the unknown number {number}"),
+            ChunkedError::Size => f.write_str("expected a chunk size"),
+            ChunkedError::SizeLine => f.write_str("invalid byte in chunk size line"),
+            ChunkedError::SizeTooLarge => f.write_str("chunk size too large"),
+            ChunkedError::SizeLineTooLong => f.write_str("chunk size line too long"),
+            ChunkedError::DataEnd => f.write_str("expected CRLF after chunk data"),
+            ChunkedError::Trailers => f.write_str("invalid byte in trailer section"),
+            ChunkedError::TrailersTooLong => f.write_str("trailer section too long"),
+            ChunkedError::Unknown(number) => write!(f, "unknown number {number} from the library"),
         }
     }
 }
 
 #[cfg(feature = "std")]
-impl std::error::Error for Fault {}
+impl std::error::Error for ChunkedError {}
 
-impl Fault {
-    /// What a number of the library says.
-    fn of(number: usize) -> Fault {
+impl ChunkedError {
+    /// Converts a number of the library to an error.
+    fn of(number: usize) -> ChunkedError {
         match number {
-            exports::CHUNKED_FAULT_SIZE => Fault::Size,
-            exports::CHUNKED_FAULT_SIZE_LINE => Fault::SizeLine,
-            exports::CHUNKED_FAULT_SIZE_TOO_LARGE => Fault::SizeTooLarge,
-            exports::CHUNKED_FAULT_SIZE_LINE_TOO_LONG => Fault::SizeLineTooLong,
-            exports::CHUNKED_FAULT_DATA_END => Fault::DataEnd,
-            exports::CHUNKED_FAULT_TRAILERS => Fault::Trailers,
-            exports::CHUNKED_FAULT_TRAILERS_TOO_LONG => Fault::TrailersTooLong,
-            number => Fault::Unknown(number),
+            exports::CHUNKED_ERROR_SIZE => ChunkedError::Size,
+            exports::CHUNKED_ERROR_SIZE_LINE => ChunkedError::SizeLine,
+            exports::CHUNKED_ERROR_SIZE_TOO_LARGE => ChunkedError::SizeTooLarge,
+            exports::CHUNKED_ERROR_SIZE_LINE_TOO_LONG => ChunkedError::SizeLineTooLong,
+            exports::CHUNKED_ERROR_DATA_END => ChunkedError::DataEnd,
+            exports::CHUNKED_ERROR_TRAILERS => ChunkedError::Trailers,
+            exports::CHUNKED_ERROR_TRAILERS_TOO_LONG => ChunkedError::TrailersTooLong,
+            number => ChunkedError::Unknown(number),
         }
     }
 }
 
-/// How many bytes a size line may have, where nothing else is said.
+/// The default limit for the bytes between data.
 const SIZE_LINE: usize = 4096;
-/// How many bytes the trailer section may have, where nothing else is said.
+/// The default limit for the bytes of the trailer section.
 const TRAILERS: usize = 8192;
 
-/// How far a chunked body that comes in pieces was decoded. What one call took, no other looks at
-/// again, and no memory is asked for: a copy goes on from the same place.
+/// The state of a decoder for chunked bodies that arrive in chunks of any size.
+///
+/// No call looks again at bytes that an earlier call consumed. It does not allocate. A copy resumes
+/// at the same point.
 ///
 /// ```
 /// use pergidau::http::{Chunked, Step};
@@ -210,7 +229,7 @@ const TRAILERS: usize = 8192;
 ///     }
 /// }
 /// assert_eq!(content, b"Wiki");
-/// # Ok::<(), pergidau::http::Fault>(())
+/// # Ok::<(), pergidau::http::ChunkedError>(())
 /// ```
 #[derive(Clone, Copy, Debug, PartialEq, Eq)]
 pub struct Chunked {
@@ -224,8 +243,8 @@ impl Default for Chunked {
 }
 
 impl Chunked {
-    /// Nothing of a body is taken. 4,096 bytes may stand between data, and the trailer section may
-    /// have 8,192.
+    /// Returns a decoder at the start of a body. At most 4,096 bytes may separate data, and the
+    /// trailer section may have at most 8,192 bytes.
     ///
     /// ```
     /// use pergidau::http::Chunked;
@@ -236,13 +255,14 @@ impl Chunked {
         Chunked::with_limits(SIZE_LINE, TRAILERS)
     }
 
-    /// The same, where so many bytes may stand between data, and be of the trailer section.
+    /// Like [`new`](Chunked::new), with limits: at most `size_line` bytes between data, and at most
+    /// `trailers` bytes in the trailer section.
     ///
     /// ```
-    /// use pergidau::http::{Chunked, Fault};
+    /// use pergidau::http::{Chunked, ChunkedError};
     ///
     /// let mut body = Chunked::with_limits(3, 0);
-    /// assert_eq!(body.advance(&mut &b"0;ab"[..]), Err(Fault::SizeLineTooLong));
+    /// assert_eq!(body.advance(&mut &b"0;ab"[..]), Err(ChunkedError::SizeLineTooLong));
     /// ```
     pub fn with_limits(size_line: usize, trailers: usize) -> Chunked {
         let state = exports::ChunkedState {
@@ -256,13 +276,18 @@ impl Chunked {
         Chunked { state }
     }
 
-    /// Takes the first of the bytes, and says what they are; or takes all, and says that more are
-    /// needed. The bytes of the next call follow those that were taken. Extensions are passed over.
+    /// Consumes a prefix of `bytes`, and returns it as a [`Step`]; or consumes all of `bytes`, and
+    /// returns [`Step::More`].
     ///
-    /// Of all bytes that are taken the data are the content of the chunked body that they begin, in
-    /// order, wherever they are cut. An error is for the first byte with which no body goes on, or for
-    /// one that is past the limits: the bytes then begin with it, and it is refused again.
-    pub fn advance<'i>(&mut self, bytes: &mut &'i [u8]) -> Result<Step<'i>, Fault> {
+    /// The bytes of the next call must follow those that were consumed. Extensions are skipped. The
+    /// data of all steps together are the content of the body, in order, however the input is
+    /// split.
+    ///
+    /// # Errors
+    ///
+    /// Fails at the first byte that no body can continue with, or that exceeds a limit. `bytes`
+    /// then starts with that byte, and further calls give the same error.
+    pub fn advance<'i>(&mut self, bytes: &mut &'i [u8]) -> Result<Step<'i>, ChunkedError> {
         let all: &'i [u8] = bytes;
         let mut step = exports::ChunkedStep::default();
         // SAFETY: the pointers are those of live borrows, and the bytes are only read. The call takes up
@@ -272,13 +297,13 @@ impl Chunked {
         };
         *bytes = &all[step.taken..];
         match (code, step.kind) {
-            (exports::DONE, exports::CHUNKED_DATA) => Ok(Step::Data(at(all, step.place))),
-            (exports::DONE, exports::CHUNKED_TRAILERS) => Ok(Step::Trailers(at(all, step.place))),
+            (exports::DONE, exports::CHUNKED_DATA) => Ok(Step::Data(at(all, step.span))),
+            (exports::DONE, exports::CHUNKED_TRAILERS) => Ok(Step::Trailers(at(all, step.span))),
             (exports::END, _) => Ok(Step::End),
             (exports::INCOMPLETE, _) => Ok(Step::More),
-            (exports::REFUSED, _) => Err(Fault::of(step.fault)),
-            (exports::DONE, kind) => Err(Fault::Unknown(kind)),
-            (code, _) => Err(Fault::Unknown(code as usize)),
+            (exports::INVALID, _) => Err(ChunkedError::of(step.error)),
+            (exports::DONE, kind) => Err(ChunkedError::Unknown(kind)),
+            (code, _) => Err(ChunkedError::Unknown(code as usize)),
         }
     }
 }

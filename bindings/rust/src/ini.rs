@@ -17,10 +17,10 @@ pub mod dialects;
 
 pub use crate::exports::Entry;
 
-use crate::{at, exports, Error, Place, Wanted, NOTHING};
+use crate::{at, exports, Error, Position, RequiredSize, NOTHING};
 
-/// The key and the value of one line, as `key=value`: a key of ASCII letters or digits, and a value
-/// of any bytes but a line feed; one line feed may stand at the end.
+/// Parses a line of the form `key=value`. The key consists of ASCII letters or digits, the value of
+/// any bytes except line feeds. The line may end with one line feed.
 ///
 /// ```
 /// use pergidau::ini;
@@ -35,7 +35,7 @@ pub fn pair(line: &[u8]) -> Result<(&[u8], &[u8]), Error> {
     let code = unsafe { exports::exported_ini_pair(line.as_ptr(), line.len(), &mut out) };
     match code {
         exports::DONE => Ok((at(line, out.key), at(line, out.value))),
-        code => Err(Error::of(code, Some(Place::of(line, out.place)), NOTHING)),
+        code => Err(Error::of(code, Some(Position::of(line, out.error_offset)), NOTHING)),
     }
 }
 
@@ -93,12 +93,22 @@ impl<'b> Section<'b> {
     }
 }
 
-/// A document of sections, each a name in brackets and pairs, with white space and comments between
-/// them. The bytes of its names, keys and values are written into `text`, and their places into
-/// `entries`; where one of them is too small, the error says how much is wanted. A refusal has the
-/// place where the first part begins that is no section, pair, white space or comment; a pair ends
-/// where its line does, so a pair with bytes that are no UTF-8 is refused at its key. While it runs it
-/// holds up to 100 bytes of memory for each byte of the document.
+/// Parses a document of sections: names in brackets, each followed by pairs, with whitespace and
+/// comments between them.
+///
+/// The bytes of the names, keys and values are written into `text`, and their offsets into
+/// `entries`.
+///
+/// # Errors
+///
+/// - [`Error::TooSmall`] if a buffer is too small; it holds the required sizes.
+/// - [`Error::Refused`] holds the position of the first part that is not a section, pair,
+///   whitespace or comment. A pair extends to the end of its line, so a pair with bytes that are
+///   not UTF-8 is rejected at its key.
+///
+/// # Memory
+///
+/// A call holds up to 100 bytes of memory for each byte of the document (measured).
 ///
 /// ```
 /// use pergidau::ini::{self, Entry};
@@ -108,8 +118,8 @@ impl<'b> Section<'b> {
 /// let section = document.sections().next().unwrap();
 /// assert_eq!(section.name(), b"a");
 /// assert_eq!(section.pairs().collect::<Vec<_>>(), [(&b"x"[..], &b"1"[..]), (b"y", b"2")]);
-/// let refused = ini::document(b"[a]\nx\n", &mut text, &mut entries).unwrap_err();
-/// assert_eq!(refused.to_string(), "refused at line 2, column 1");
+/// let error = ini::document(b"[a]\nx\n", &mut text, &mut entries).unwrap_err();
+/// assert_eq!(error.to_string(), "invalid input at line 2, column 1");
 /// # Ok::<(), pergidau::Error>(())
 /// ```
 pub fn document<'b>(
@@ -130,8 +140,8 @@ pub fn document<'b>(
     match code {
         exports::DONE => Ok(Document { text: &text[..out.text], entries: &entries[..out.entries] }),
         code => {
-            let wanted = Wanted { entries: out.entries, bytes: out.text };
-            Err(Error::of(code, Some(Place::of(bytes, out.place)), wanted))
+            let required = RequiredSize { entries: out.entries, bytes: out.text };
+            Err(Error::of(code, Some(Position::of(bytes, out.error_offset)), required))
         }
     }
 }

@@ -17,7 +17,7 @@ mod steps;
 pub use scalars::unescape;
 pub use steps::{steps, Step, Steps};
 
-/// What a value is.
+/// The type of a value.
 #[derive(Clone, Copy, Debug, PartialEq, Eq)]
 pub enum Kind {
     /// The word null.
@@ -36,10 +36,12 @@ pub enum Kind {
     Object,
 }
 
-/// A value of a text of JSON: what it is, and its text. What stands in it is read when it is asked
-/// for, so a walk by [`elements`](Value::elements) and [`members`](Value::members) through all levels
-/// reads each byte once for each level that it stands in. [`steps`](Value::steps) reads each once.
-/// Values of one kind with the same text are equal.
+/// A value of a JSON text: its type and its source text.
+///
+/// Elements and members are parsed on demand. So a walk with [`elements`](Value::elements) and
+/// [`members`](Value::members) through all levels scans each byte once for each level that contains
+/// it; [`steps`](Value::steps) scans each byte once. Values of one type with the same source text
+/// are equal.
 ///
 /// ```
 /// use pergidau::json;
@@ -51,7 +53,7 @@ pub enum Kind {
 pub struct Value<'i> {
     kind: Kind,
     text: &'i str,
-    levels: usize,
+    max_depth: usize,
 }
 
 impl PartialEq for Value<'_> {
@@ -63,7 +65,7 @@ impl PartialEq for Value<'_> {
 impl Eq for Value<'_> {}
 
 impl<'i> Value<'i> {
-    /// What it is.
+    /// Returns the type of the value.
     pub fn kind(&self) -> Kind {
         self.kind
     }
@@ -74,19 +76,20 @@ impl<'i> Value<'i> {
         self.text
     }
 
-    /// The elements of an array, in order. What is none has none.
+    /// Returns the elements of an array, in order. The iterator is empty if the value is not an
+    /// array.
     pub fn elements(&self) -> Elements<'i> {
         Elements(Inside::of(self, Kind::Array))
     }
 
-    /// The members of an object, in order, repeats kept: of each the name, as it is written between
-    /// its quotes, and the value. What is no object has none.
+    /// Returns the members of an object, in order, including repeated ones: the name as written
+    /// between its quotes, and the value. The iterator is empty if the value is not an object.
     pub fn members(&self) -> Members<'i> {
         Members(Inside::of(self, Kind::Object))
     }
 
-    /// All that stands in it, through all levels, from its start to its end: of a value that has no
-    /// others in it, itself.
+    /// Returns the steps of the value from its start to its end, through all levels. A value that
+    /// contains no others is one step.
     pub fn steps(&self) -> Steps<'i> {
         Steps::of(self.text)
     }
@@ -96,20 +99,20 @@ impl<'i> Value<'i> {
 /// seem to end here.
 #[cold]
 fn unknown(number: usize) -> ! {
-    panic!("the library answered the unknown number {number}")
+    panic!("unknown number {number} from the library")
 }
 
-/// What stands after an opening bracket or after a value, and how many levels it may have.
+/// The text after an opening bracket or after a value, and the depth limit for values in it.
 #[derive(Clone, Copy, Debug)]
 struct Inside<'i> {
     left: &'i str,
-    levels: usize,
+    max_depth: usize,
 }
 
 impl<'i> Inside<'i> {
     fn of(value: &Value<'i>, kind: Kind) -> Inside<'i> {
         let left = if value.kind == kind { &value.text[1..] } else { "" };
-        Inside { left, levels: value.levels.saturating_sub(1) }
+        Inside { left, max_depth: value.max_depth.saturating_sub(1) }
     }
 
     /// The next value. It is part of a text that was checked, so where there is none it is the end.
@@ -117,10 +120,10 @@ impl<'i> Inside<'i> {
         let mut out = JsonItem::default();
         let bytes = self.left.as_bytes();
         // SAFETY: the pointers are those of live borrows, and the bytes are only read. The call takes up to
-        // 57 KiB of stack at `MOST_LEVELS` (measured); where there is less, the thread's guard page ends
+        // 57 KiB of stack at `MAX_DEPTH` (measured); where there is less, the thread's guard page ends
         // the program.
         let code = unsafe {
-            exports::exported_json_next(bytes.as_ptr(), bytes.len(), self.levels, &mut out)
+            exports::exported_json_next(bytes.as_ptr(), bytes.len(), self.max_depth, &mut out)
         };
         match code {
             exports::DONE => {}
@@ -137,9 +140,9 @@ impl<'i> Inside<'i> {
             exports::JSON_OBJECT => Kind::Object,
             kind => unknown(kind),
         };
-        let (front, left) = self.left.split_at(out.place.offset + out.place.length);
+        let (front, left) = self.left.split_at(out.span.offset + out.span.length);
         self.left = left;
-        Some(Value { kind, text: &front[out.place.offset..], levels: self.levels })
+        Some(Value { kind, text: &front[out.span.offset..], max_depth: self.max_depth })
     }
 }
 
@@ -168,8 +171,8 @@ impl<'i> Iterator for Members<'i> {
     }
 }
 
-/// The value of a text of JSON (RFC 8259), in which no more than `levels` arrays and objects stand
-/// in one another; a text that is none is refused as a whole, as [`check`] does it.
+/// Parses a JSON text (RFC 8259) whose arrays and objects are nested at most `max_depth` deep. The
+/// whole text is checked first, as by [`check`].
 ///
 /// ```
 /// let text = " {\"a\": [1, null], \"b\": \"x\"}";
@@ -180,45 +183,45 @@ impl<'i> Iterator for Members<'i> {
 /// assert_eq!(value.members().last().unwrap().1.kind(), pergidau::json::Kind::String);
 /// # Ok::<(), pergidau::Error>(())
 /// ```
-pub fn parse(text: &str, levels: usize) -> Result<Value<'_>, Error> {
-    check(text.as_bytes(), levels)?;
-    Inside { left: text, levels }.next().ok_or(Error::Refused(None))
+pub fn parse(text: &str, max_depth: usize) -> Result<Value<'_>, Error> {
+    check(text.as_bytes(), max_depth)?;
+    Inside { left: text, max_depth }.next().ok_or(Error::Invalid(None))
 }
 
-/// Whether a text is one of JSON (RFC 8259), in which no more than `levels` arrays and objects stand
-/// in one another: an error says that it is none. Of a text that is none no place is told.
+/// Checks that `text` is a JSON text (RFC 8259) whose arrays and objects are nested at most
+/// `max_depth` deep. The error has no position.
 ///
 /// ```
 /// use pergidau::{json, Error};
 ///
 /// assert_eq!(json::check(b" {\"a\": [1, 2.5e3, true]}\n", 2), Ok(()));
-/// assert_eq!(json::check(b"[1, 2,]", 2), Err(Error::Refused(None)));
+/// assert_eq!(json::check(b"[1, 2,]", 2), Err(Error::Invalid(None)));
 /// ```
-pub fn check(text: &[u8], levels: usize) -> Result<(), Error> {
+pub fn check(text: &[u8], max_depth: usize) -> Result<(), Error> {
     // SAFETY: the pointer is that of a live borrow, and the bytes are only read. The call takes up to
-    // 57 KiB of stack at `MOST_LEVELS` (measured); where there is less, the thread's guard page ends
+    // 57 KiB of stack at `MAX_DEPTH` (measured); where there is less, the thread's guard page ends
     // the program.
-    match unsafe { exports::exported_json_check(text.as_ptr(), text.len(), levels) } {
+    match unsafe { exports::exported_json_check(text.as_ptr(), text.len(), max_depth) } {
         exports::DONE => Ok(()),
         code => Err(Error::of(code, None, NOTHING)),
     }
 }
 
-/// The longest value of JSON (RFC 8259) with which the bytes begin, and what stands after it. White
-/// space before it is not passed, and bytes of 128 and above are not looked at.
+/// Returns the longest JSON value (RFC 8259) at the start of `bytes`, and the rest. Whitespace
+/// before the value is not skipped, and bytes of 128 and above are not checked.
 ///
 /// ```
 /// use pergidau::json;
 ///
 /// assert_eq!(json::longest(b"[1, {}] , 2", 2), Ok((&b"[1, {}]"[..], &b" , 2"[..])));
 /// ```
-pub fn longest(bytes: &[u8], levels: usize) -> Result<(&[u8], &[u8]), Error> {
+pub fn longest(bytes: &[u8], max_depth: usize) -> Result<(&[u8], &[u8]), Error> {
     let mut length = 0;
     // SAFETY: the pointers are those of live borrows, and the bytes are only read. The call takes up to
-    // 57 KiB of stack at `MOST_LEVELS` (measured); where there is less, the thread's guard page ends
+    // 57 KiB of stack at `MAX_DEPTH` (measured); where there is less, the thread's guard page ends
     // the program.
     let code = unsafe {
-        exports::exported_json_value(bytes.as_ptr(), bytes.len(), levels, &mut length)
+        exports::exported_json_value(bytes.as_ptr(), bytes.len(), max_depth, &mut length)
     };
     match code {
         exports::DONE => Ok(bytes.split_at(length)),

@@ -1,37 +1,39 @@
-//! Proved readers: what each answers is what its words say, for all bytes.
+//! Proved readers: the result of each function is proved to be as documented, for all inputs.
 //!
-//! They are written in Rattle, which is Rust with contracts, and linked as a library of C; the crate
-//! `exported` of Pergidau has the contracts that were proved. This crate adds what a Rust programmer
-//! looks for: slices in, slices of these out, and errors. It has no state and takes no memory; the
-//! library takes some while a call runs, and gives it back. What a call holds is said at each, and so
-//! is the stack, where `unsafe` stands: both are measured, not proved.
+//! They are written in Rattle, which is Rust with contracts, and linked as a C library; the proved
+//! contracts are in the crate `exported` of Pergidau. This crate adds a Rust interface: slices as
+//! input, slices of them as output, and errors. It has no state, and of its own functions only
+//! `csv::records` allocates. The library may allocate during a call, and frees that memory before
+//! it returns. The documentation of a function gives the memory that a call needs; a comment at
+//! `unsafe` gives the stack. Both are measured, not proved.
 //!
-//! | Module | Reads |
+//! | Module | Parses |
 //! |---|---|
-//! | [`calc`] | formulas of whole numbers |
-//! | [`csv`] | records of comma separated values |
-//! | [`http`] | heads of requests and of responses of HTTP/1.1, and chunked bodies |
+//! | [`calc`] | formulas of integers |
+//! | [`csv`] | records of comma-separated values |
+//! | [`http`] | heads of requests and responses of HTTP/1.1, and chunked bodies |
 //! | [`ini`] | lines of a key and a value, documents of them, and INI files of any dialect |
-//! | [`json`] | texts of JSON, and the values in them |
-//! | [`resp`] | replies of Redis |
-//! | [`toml`] | documents of TOML |
+//! | [`json`] | JSON texts, and the values in them |
+//! | [`resp`] | Redis replies |
+//! | [`toml`] | TOML documents |
 //!
 //! ```
 //! use pergidau::{calc, ini};
 //!
 //! assert_eq!(calc::value("2 + 3 * 4"), Ok(14));
 //! assert_eq!(ini::pair(b"key=value\n"), Ok((&b"key"[..], &b"value"[..])));
-//! let refused = calc::value("1 +\n 2 / 0").unwrap_err();
-//! assert_eq!(refused.to_string(), "refused at line 2, column 7");
+//! let error = calc::value("1 +\n 2 / 0").unwrap_err();
+//! assert_eq!(error.to_string(), "invalid input at line 2, column 7");
 //! ```
 //!
 //! # The library
 //!
-//! `build.rs` links it from the folder that `PERGIDAU_LIB` names, else as `pkg-config` says, else from
-//! `bindings/out` beside this crate; and says what to run where none of these has it. A program links
-//! with a library of this crate's version alone, since it refers to a symbol that has the version in
-//! its name. With `PERGIDAU_UNPROVED=1` the library is taken that was built with no proof, to try it:
-//! [`is_proved`] tells.
+//! `build.rs` links the library from the folder that `PERGIDAU_LIB` names; otherwise as
+//! `pkg-config` reports; otherwise from `bindings/out` next to this crate. If none of these has it,
+//! the error message gives the command to run. A program links only with a library of this crate's
+//! version, because it refers to a symbol that contains the version. For a trial,
+//! `PERGIDAU_UNPROVED=1` selects a library that was built without proofs; [`is_proved`] reports
+//! which one is linked.
 #![cfg_attr(not(feature = "std"), no_std)]
 #![warn(missing_docs)]
 
@@ -45,18 +47,18 @@ pub mod json;
 pub mod resp;
 pub mod toml;
 
-pub use crate::error::{Error, Place, Wanted};
-pub use crate::exports::{Span, MOST_LEVELS};
+pub use crate::error::{Error, Position, RequiredSize};
+pub use crate::exports::{Span, MAX_DEPTH};
 
 /// The examples of the page of this crate are run as those of its documentation.
 #[cfg(doctest)]
 #[doc = include_str!("../README.md")]
 pub struct Page;
 
-/// Nothing is wanted.
-const NOTHING: Wanted = Wanted { entries: 0, bytes: 0 };
+/// No required size.
+const NOTHING: RequiredSize = RequiredSize { entries: 0, bytes: 0 };
 
-/// What stands at a place of the bytes.
+/// Returns the slice of `bytes` at `error_offset`.
 fn at(bytes: &[u8], place: Span) -> &[u8] {
     &bytes[place.offset..][..place.length]
 }
@@ -75,6 +77,6 @@ pub fn version() -> &'static str {
 /// Whether each function of the library that is linked was proved before it was compiled. One that
 /// `bindings/build --unproved` built is not.
 pub fn is_proved() -> bool {
-    // SAFETY: it takes nothing, and reads nothing.
+    // SAFETY: the function has no arguments, and reads no memory of the caller.
     unsafe { exports::pergidau_is_proved() == 1 }
 }

@@ -1,4 +1,4 @@
-//! Replies of Redis (RESP2), whole and in pieces.
+//! Redis replies (RESP2), from complete or partial input.
 //!
 //! ```
 //! use pergidau::resp::{self, Reply};
@@ -8,7 +8,7 @@
 //! assert_eq!(resp::reply(rest, 0)?, (Reply::Integer(7), &b""[..]));
 //! # Ok::<(), pergidau::Error>(())
 //! ```
-use crate::exports::{self, MOST_LEVELS};
+use crate::exports::{self, MAX_DEPTH};
 use crate::{at, Error, NOTHING};
 
 /// A reply of Redis: its strings are slices of the bytes that were read.
@@ -30,8 +30,8 @@ pub enum Reply<'i> {
     NullArray,
 }
 
-/// The elements of an array, each read when it is asked for. They were read once already, so the one
-/// error that comes is [`Error::NoMemory`], after which there are no more.
+/// An iterator over the elements of an array, each parsed on demand. They were checked before, so
+/// the only possible error is [`Error::NoMemory`]; after it the iterator returns `None`.
 #[derive(Clone, Copy, Debug, PartialEq, Eq)]
 pub struct Elements<'i> {
     left: &'i [u8],
@@ -43,7 +43,7 @@ impl<'i> Iterator for Elements<'i> {
 
     fn next(&mut self) -> Option<Self::Item> {
         self.count = self.count.checked_sub(1)?;
-        match reply(self.left, MOST_LEVELS) {
+        match reply(self.left, MAX_DEPTH) {
             Ok((reply, rest)) => {
                 self.left = rest;
                 Some(Ok(reply))
@@ -64,16 +64,16 @@ impl ExactSizeIterator for Elements<'_> {}
 
 type Export = unsafe extern "C" fn(*const u8, usize, usize, *mut exports::Reply) -> u32;
 
-fn read(export: Export, bytes: &[u8], levels: usize) -> Result<(Reply<'_>, &[u8]), Error> {
+fn read(export: Export, bytes: &[u8], max_depth: usize) -> Result<(Reply<'_>, &[u8]), Error> {
     let mut out = exports::Reply::default();
     // SAFETY: the pointers are those of live borrows, and the bytes are only read. The call takes up to
-    // 107 KiB of stack at `MOST_LEVELS` (measured); where there is less, the thread's guard page ends
+    // 107 KiB of stack at `MAX_DEPTH` (measured); where there is less, the thread's guard page ends
     // the program.
-    let code = unsafe { export(bytes.as_ptr(), bytes.len(), levels, &mut out) };
+    let code = unsafe { export(bytes.as_ptr(), bytes.len(), max_depth, &mut out) };
     if code != exports::DONE {
         return Err(Error::of(code, None, NOTHING));
     }
-    let inside = at(bytes, out.place);
+    let inside = at(bytes, out.span);
     let reply = match out.kind {
         exports::RESP_SIMPLE => Reply::Simple(inside),
         exports::RESP_ERROR => Reply::Error(inside),
@@ -87,9 +87,11 @@ fn read(export: Export, bytes: &[u8], levels: usize) -> Result<(Reply<'_>, &[u8]
     Ok((reply, &bytes[out.length..]))
 }
 
-/// The reply of Redis (RESP2) with which the bytes begin, in which no more than `levels` arrays stand
-/// in one another, and what stands after it. While it runs it holds up to 32 bytes of memory for each
-/// byte of the reply, and 2 KiB for each level of arrays that has begun.
+/// Parses the Redis reply (RESP2) at the start of `bytes`, whose arrays are nested at most
+/// `max_depth` deep. Returns the reply and the rest of the input.
+///
+/// A call holds up to 32 bytes of memory for each byte of the reply, and 2 KiB for each level of
+/// arrays that has started (measured).
 ///
 /// ```
 /// use pergidau::resp::{self, Reply};
@@ -101,27 +103,35 @@ fn read(export: Export, bytes: &[u8], levels: usize) -> Result<(Reply<'_>, &[u8]
 /// assert_eq!(rest, b"+");
 /// # Ok::<(), pergidau::Error>(())
 /// ```
-pub fn reply(bytes: &[u8], levels: usize) -> Result<(Reply<'_>, &[u8]), Error> {
-    read(exports::exported_resp_reply, bytes, levels)
+pub fn reply(bytes: &[u8], max_depth: usize) -> Result<(Reply<'_>, &[u8]), Error> {
+    read(exports::exported_resp_reply, bytes, max_depth)
 }
 
-/// The same reply where the bytes come in pieces: [`Error::Incomplete`] says that more of them may
-/// be needed, and [`Error::Refused`] that they begin with none, whatever comes after them. Each call
-/// reads from the first byte on: of a long reply in many pieces an [`Extent`] finds the end.
+/// Like [`reply`], for partial input.
+///
+/// Each call parses from the first byte; for a long reply in many chunks, find its end with an
+/// [`Extent`].
+///
+/// # Errors
+///
+/// - [`Error::Incomplete`] if more bytes may be needed.
+/// - [`Error::Invalid`] if `bytes` does not start with a reply, regardless of what follows.
 ///
 /// ```
 /// use pergidau::{resp, Error};
 ///
-/// assert_eq!(resp::reply_in_pieces(b"$6\r\nfoo", 0), Err(Error::Incomplete));
-/// assert_eq!(resp::reply_in_pieces(b"$x\r\n", 0), Err(Error::Refused(None)));
+/// assert_eq!(resp::reply_partial(b"$6\r\nfoo", 0), Err(Error::Incomplete));
+/// assert_eq!(resp::reply_partial(b"$x\r\n", 0), Err(Error::Invalid(None)));
 /// ```
-pub fn reply_in_pieces(bytes: &[u8], levels: usize) -> Result<(Reply<'_>, &[u8]), Error> {
-    read(exports::exported_resp_reply_in_pieces, bytes, levels)
+pub fn reply_partial(bytes: &[u8], max_depth: usize) -> Result<(Reply<'_>, &[u8]), Error> {
+    read(exports::exported_resp_reply_partial, bytes, max_depth)
 }
 
-/// How far bytes that come in pieces were searched for the end of the reply that they begin with. What
-/// one call passed, no other looks at again: so all calls for a reply take a time that is linear in its
-/// bytes, however many pieces there are, where [`reply_in_pieces`] reads from the first byte each time.
+/// The state of a search for the end of a reply in input that arrives in chunks.
+///
+/// No call looks again at bytes that an earlier call scanned. So all calls for a reply take time
+/// linear in its length, for any number of chunks, whereas [`reply_partial`] parses from the first
+/// byte each time.
 ///
 /// ```
 /// use pergidau::resp::{self, Extent, Reply};
@@ -141,21 +151,25 @@ pub fn reply_in_pieces(bytes: &[u8], levels: usize) -> Result<(Reply<'_>, &[u8])
 /// ```
 #[derive(Clone, Debug, Default, PartialEq, Eq)]
 pub struct Extent {
-    state: exports::RespExtent,
+    state: exports::RespReplyState,
 }
 
 impl Extent {
-    /// That of a reply of which nothing was passed.
+    /// Returns the initial state.
     pub fn new() -> Extent {
         Extent::default()
     }
 
-    /// How many bytes the reply has with which the bytes begin, if it is there. They are all of those of
-    /// the call before, and a piece more. `None` says that the reply's last line is not ended, or that
-    /// bytes of a string are wanting; [`Error::Refused`], that they begin with no reply, whatever comes
-    /// after them. What is told of other bytes than those of the call before may be wrong.
+    /// Returns the length in bytes of the reply at the start of `bytes`, if it is complete.
     ///
-    /// How deep arrays stand in one another is not asked here: [`reply`] does, of the bytes of the reply.
+    /// `bytes` must be the bytes of the previous call, followed by a new chunk; otherwise the
+    /// result may be wrong. `None` means that the last line of the reply has not ended, or that
+    /// bytes of a string are missing. The nesting depth of arrays is not checked; [`reply`] checks
+    /// it when it parses the bytes.
+    ///
+    /// # Errors
+    ///
+    /// [`Error::Invalid`] if `bytes` does not start with a reply, regardless of what follows.
     pub fn advance(&mut self, bytes: &[u8]) -> Result<Option<usize>, Error> {
         let mut length = 0;
         // SAFETY: the pointers are those of live borrows, and the bytes are only read. The call takes up
@@ -175,13 +189,13 @@ impl Extent {
 mod tests {
     use super::*;
 
-    /// An iterator ends after an error, and says so before it is asked.
+    /// An iterator ends after an error, and reports this in advance.
     #[test]
     fn elements_end_behind_an_error() {
         let mut elements = Elements { left: b":1\r\nx:2\r\n", count: 3 };
         assert_eq!(elements.next(), Some(Ok(Reply::Integer(1))));
         assert_eq!(elements.len(), 2);
-        assert_eq!(elements.next(), Some(Err(Error::Refused(None))));
+        assert_eq!(elements.next(), Some(Err(Error::Invalid(None))));
         assert_eq!(elements.len(), 0);
         assert_eq!(elements.next(), None);
     }

@@ -14,22 +14,22 @@
 //! ```
 pub use crate::exports::TomlNode as Node;
 
-use crate::{exports, Place, Span, Wanted};
+use crate::{exports, Position, RequiredSize, Span};
 use core::{fmt, str};
 
-/// Why a text is no document, and where.
+/// The reason why a text is not a document, and its position.
 #[derive(Clone, Copy, Debug, PartialEq, Eq)]
 #[non_exhaustive]
 pub enum Error {
-    /// A line is none of TOML: what stands at the place is not what may stand there.
-    Unexpected(Place, Expected),
-    /// The standard refuses the line that begins at the place, for what those before it say.
-    Refused(Place, Refusal),
-    /// Another reason, which is no matter of TOML.
+    /// A syntax error: the text at the position is not as expected.
+    Unexpected(Position, Expected),
+    /// The standard forbids the line that starts at the position, because of earlier lines.
+    Invalid(Position, Reason),
+    /// An error that is not specific to TOML.
     Other(crate::Error),
 }
 
-/// What is expected at a place.
+/// The expected element at a position.
 #[derive(Clone, Copy, Debug, PartialEq, Eq)]
 pub enum Expected {
     /// A key, or a table.
@@ -46,24 +46,24 @@ pub enum Expected {
     LineEnd,
 }
 
-/// Why the standard refuses a line.
+/// The reason why the standard forbids a line.
 #[derive(Clone, Copy, Debug, PartialEq, Eq)]
-pub enum Refusal {
-    /// What it defines is defined already.
+pub enum Reason {
+    /// Its key is already defined.
     Defined,
     /// It takes a value for a table.
-    NoTable,
+    NotATable,
     /// It adds to a table that is closed: an inline table, or by dotted keys one of a header.
     Closed,
-    /// It adds a table to what is no array of tables.
-    NoTables,
+    /// It adds a table to a key that is not an array of tables.
+    NotAnArrayOfTables,
 }
 
 impl fmt::Display for Error {
     fn fmt(&self, f: &mut fmt::Formatter<'_>) -> fmt::Result {
         match self {
-            Error::Unexpected(place, expected) => write!(f, "{place}: expected {expected}"),
-            Error::Refused(place, why) => write!(f, "{place}: {why}"),
+            Error::Unexpected(position, expected) => write!(f, "{position}: expected {expected}"),
+            Error::Invalid(position, reason) => write!(f, "{position}: {reason}"),
             Error::Other(error) => error.fmt(f),
         }
     }
@@ -82,13 +82,13 @@ impl fmt::Display for Expected {
     }
 }
 
-impl fmt::Display for Refusal {
+impl fmt::Display for Reason {
     fn fmt(&self, f: &mut fmt::Formatter<'_>) -> fmt::Result {
         f.write_str(match self {
-            Refusal::Defined => "it is defined already",
-            Refusal::NoTable => "it takes a value for a table",
-            Refusal::Closed => "it adds to a table that is closed",
-            Refusal::NoTables => "it adds a table to what is no array of tables",
+            Reason::Defined => "key is already defined",
+            Reason::NotATable => "key is not a table",
+            Reason::Closed => "table cannot be extended",
+            Reason::NotAnArrayOfTables => "key is not an array of tables",
         })
     }
 }
@@ -97,27 +97,29 @@ impl fmt::Display for Refusal {
 impl std::error::Error for Error {}
 
 impl Error {
-    /// What a code other than that for done says, with what was written.
-    fn of(code: u32, text: &str, out: &exports::TomlDocument) -> Error {
-        let place = Place::of(text.as_bytes(), out.place);
-        let expected = match out.fault {
-            exports::TOML_FAULT_NONE => {
-                let wanted = Wanted { entries: out.nodes, bytes: out.text };
-                return Error::Other(crate::Error::of(code, Some(place), wanted));
+    /// Converts a code other than `DONE`, with the fields that were written.
+    fn of(code: u32, text: &str, out: &exports::TomlResult) -> Error {
+        let position = Position::of(text.as_bytes(), out.error_offset);
+        let expected = match out.error {
+            exports::TOML_ERROR_NONE => {
+                let required = RequiredSize { entries: out.nodes, bytes: out.text };
+                return Error::Other(crate::Error::of(code, Some(position), required));
             }
-            exports::TOML_FAULT_KEY => Expected::Key,
-            exports::TOML_FAULT_EQUALS_SIGN => Expected::EqualsSign,
-            exports::TOML_FAULT_VALUE => Expected::Value,
-            exports::TOML_FAULT_TABLE_NAME => Expected::TableName,
-            exports::TOML_FAULT_CLOSING_BRACKET => Expected::ClosingBracket,
-            exports::TOML_FAULT_LINE_END => Expected::LineEnd,
-            exports::TOML_FAULT_DEFINED => return Error::Refused(place, Refusal::Defined),
-            exports::TOML_FAULT_NO_TABLE => return Error::Refused(place, Refusal::NoTable),
-            exports::TOML_FAULT_CLOSED => return Error::Refused(place, Refusal::Closed),
-            exports::TOML_FAULT_NO_TABLES => return Error::Refused(place, Refusal::NoTables),
+            exports::TOML_ERROR_KEY => Expected::Key,
+            exports::TOML_ERROR_EQUALS_SIGN => Expected::EqualsSign,
+            exports::TOML_ERROR_VALUE => Expected::Value,
+            exports::TOML_ERROR_TABLE_NAME => Expected::TableName,
+            exports::TOML_ERROR_CLOSING_BRACKET => Expected::ClosingBracket,
+            exports::TOML_ERROR_LINE_END => Expected::LineEnd,
+            exports::TOML_ERROR_DEFINED => return Error::Invalid(position, Reason::Defined),
+            exports::TOML_ERROR_NOT_A_TABLE => return Error::Invalid(position, Reason::NotATable),
+            exports::TOML_ERROR_CLOSED => return Error::Invalid(position, Reason::Closed),
+            exports::TOML_ERROR_NOT_AN_ARRAY_OF_TABLES => {
+                return Error::Invalid(position, Reason::NotAnArrayOfTables);
+            }
             _ => return Error::Other(crate::Error::Unknown(code)),
         };
-        Error::Unexpected(place, expected)
+        Error::Unexpected(position, expected)
     }
 }
 
@@ -140,7 +142,7 @@ impl<'b> Document<'b> {
     }
 }
 
-/// What there is at a path of a document: a table, an array or another value.
+/// An item of a document: a table, an array or another value.
 #[derive(Clone, Copy)]
 pub struct Item<'b> {
     text: &'b str,
@@ -178,7 +180,7 @@ pub struct Time<'b> {
     pub fraction: &'b str,
 }
 
-/// What there is.
+/// The value of an item.
 #[derive(Clone, Copy, Debug, PartialEq, Eq)]
 #[non_exhaustive]
 pub enum Value<'b> {
@@ -194,13 +196,14 @@ pub enum Value<'b> {
     Float(&'b str),
     /// The word `true` or `false`.
     Boolean(bool),
-    /// A date and a time, so many minutes ahead of UTC.
+    /// A date and a time, with the offset from UTC in minutes; it is positive for times ahead of
+    /// UTC.
     OffsetDateTime(Date, Time<'b>, i16),
     /// A date and a time with no offset.
     LocalDateTime(Date, Time<'b>),
-    /// A date alone.
+    /// A date without a time.
     LocalDate(Date),
-    /// A time alone.
+    /// A time without a date.
     LocalTime(Time<'b>),
 }
 
@@ -229,13 +232,13 @@ impl<'b> Item<'b> {
         Time { hour: it.hour, minute: it.minute, second: it.second, fraction }
     }
 
-    /// Its name in its table. An element of an array has none, and nor has the first table.
+    /// Returns its name in its table. Elements of arrays and the root table have no name.
     pub fn name(&self) -> Option<&'b str> {
         let node = self.node();
         (self.number != 0 && !node.is_element).then(|| self.at(node.name))
     }
 
-    /// What there is.
+    /// The value of an item.
     pub fn value(&self) -> Value<'b> {
         let it = &self.node().value;
         match it.kind {
@@ -259,17 +262,20 @@ impl<'b> Item<'b> {
         self.item(self.node().first)
     }
 
-    /// What is in a table or an array, in the order in which the document first speaks of it.
+    /// Returns the items in a table or an array, in the order in which the document first mentions
+    /// them.
     pub fn children(&self) -> Children<'b> {
         Children { next: self.first() }
     }
 
-    /// The entries of a table, each with its name. What is no table has none.
+    /// Returns the entries of a table, each with its name. The iterator is empty if the item is not
+    /// a table.
     pub fn entries(&self) -> impl Iterator<Item = (&'b str, Item<'b>)> {
         self.children().filter_map(|it| Some((it.name()?, it)))
     }
 
-    /// The elements of an array, in order. What is no array has none.
+    /// Returns the elements of an array, in order. The iterator is empty if the item is not an
+    /// array.
     pub fn elements(&self) -> impl Iterator<Item = Item<'b>> {
         self.children().filter(|it| it.node().is_element)
     }
@@ -322,7 +328,7 @@ impl<'b> Item<'b> {
     }
 }
 
-/// What is in a table or an array.
+/// An iterator over the items in a table or an array.
 #[derive(Clone, Copy, Debug)]
 pub struct Children<'b> {
     next: Option<Item<'b>>,
@@ -338,35 +344,46 @@ impl<'b> Iterator for Children<'b> {
     }
 }
 
-/// The document that a text is, in whose values no more than `levels` arrays and inline tables stand in
-/// one another. The nodes are written into `nodes`, and the bytes of their names and texts into `text`;
-/// where one of them is too small, the error says how much is wanted. More than
-/// [`MOST_LEVELS`](crate::MOST_LEVELS) levels are an error. While it runs it holds up to 600 bytes of
-/// memory for each byte of the document.
+/// Parses a TOML document whose values have arrays and inline tables nested at most `max_depth`
+/// deep.
+///
+/// The nodes are written into `nodes`, and the bytes of their names and texts into `text`.
+///
+/// # Errors
+///
+/// - [`Error::Unexpected`] or [`Error::Invalid`] if `source` is not a document.
+/// - [`Error::Other`] with [`crate::Error::BufferTooSmall`] if a buffer is too small; it holds the
+///   required sizes.
+/// - [`Error::Other`] with [`crate::Error::MaxDepthTooLarge`] if `max_depth` is above
+///   [`MAX_DEPTH`](crate::MAX_DEPTH).
+///
+/// # Memory
+///
+/// A call holds up to 600 bytes of memory for each byte of the document (measured).
 ///
 /// ```
 /// use pergidau::toml::{self, Node};
 ///
 /// let (mut text, mut nodes) = ([0; 64], [Node::default(); 8]);
-/// let refused = toml::parse("[a]\nb 2\n", 0, &mut text, &mut nodes).unwrap_err();
-/// assert_eq!(refused.to_string(), "line 2, column 3: expected `=`");
-/// let refused = toml::parse("a = 1\na = 2\n", 0, &mut text, &mut nodes).unwrap_err();
-/// assert_eq!(refused.to_string(), "line 2, column 1: it is defined already");
+/// let error = toml::parse("[a]\nb 2\n", 0, &mut text, &mut nodes).unwrap_err();
+/// assert_eq!(error.to_string(), "line 2, column 3: expected `=`");
+/// let error = toml::parse("a = 1\na = 2\n", 0, &mut text, &mut nodes).unwrap_err();
+/// assert_eq!(error.to_string(), "line 2, column 1: key is already defined");
 /// ```
 pub fn parse<'b>(
     source: &str,
-    levels: usize,
+    max_depth: usize,
     text: &'b mut [u8],
     nodes: &'b mut [Node],
 ) -> Result<Document<'b>, Error> {
-    let mut out = exports::TomlDocument::default();
+    let mut out = exports::TomlResult::default();
     let (bytes, room) = (text.as_mut_ptr(), text.len());
     let (places, count) = (nodes.as_mut_ptr(), nodes.len());
     // SAFETY: the pointers are those of live borrows, and the text is only read. The call takes up to
     // 510 KiB of stack (measured); where there is less, the thread's guard page ends the program.
     let code = unsafe {
         exports::exported_toml_document(
-            source.as_ptr(), source.len(), levels, bytes, room, places, count, &mut out,
+            source.as_ptr(), source.len(), max_depth, bytes, room, places, count, &mut out,
         )
     };
     match (code, str::from_utf8(&text[..out.text.min(text.len())])) {

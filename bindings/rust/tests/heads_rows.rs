@@ -1,12 +1,12 @@
-//! Rows of heads of responses, and of heads of requests and records whose end is found in pieces.
+//! Tables of response heads, and of request heads and records whose end is found incrementally.
 use pergidau::csv::{Extent, LineEnd, Size};
 use pergidau::http::{self, Field, HeadExtent};
-use pergidau::{Error, Place, Wanted};
+use pergidau::{Error, Position, RequiredSize};
 
-/// How many bytes stand before the place of a refusal.
+/// Returns the offset of an error in bytes.
 fn offset_of(error: Error) -> Option<usize> {
     match error {
-        Error::Refused(place) => place.map(|it| it.offset),
+        Error::Invalid(place) => place.map(|it| it.offset),
         _ => None,
     }
 }
@@ -30,16 +30,16 @@ fn http_response_head_of_responses() {
     assert_eq!(head.fields().collect::<Vec<_>>(), want);
     let whole = HELLO.len() - 5;
     for end in 0..whole {
-        let piece = http::response_head_in_pieces(&HELLO[..end], &mut fields);
+        let piece = http::response_head_partial(&HELLO[..end], &mut fields);
         assert_eq!(piece.unwrap_err(), Error::Incomplete, "{end}");
-        let place = Place::of(&HELLO[..end], end);
+        let place = Position::of(&HELLO[..end], end);
         let short = http::response_head(&HELLO[..end], &mut fields).unwrap_err();
-        assert_eq!(short, Error::Refused(Some(place)), "{end}");
+        assert_eq!(short, Error::Invalid(Some(place)), "{end}");
     }
-    let head = http::response_head_in_pieces(&HELLO[..whole], &mut fields).unwrap();
+    let head = http::response_head_partial(&HELLO[..whole], &mut fields).unwrap();
     assert_eq!((head.status(), head.fields().len()), (200, 3));
     let small = http::response_head(HELLO, &mut fields[..2]).unwrap_err();
-    assert_eq!(small.to_string(), "the buffer is too small: 3 entries are wanted");
+    assert_eq!(small.to_string(), "buffer too small: 3 entries required");
     let rows: [(&[u8], (u8, u8), u16, &[u8]); 4] = [
         (b"HTTP/1.1 404 Not Found\r\n\r\n", (1, 1), 404, b"Not Found"),
         (b"HTTP/1.0 200 \r\n\r\n", (1, 0), 200, b""),
@@ -59,7 +59,7 @@ fn http_response_head_of_responses() {
         (b"HTTP/1.1 200 O\0K\r\n\r\n", 14),
     ] {
         for cut in 0..=bytes.len() {
-            let error = http::response_head_in_pieces(&bytes[..cut], &mut []).unwrap_err();
+            let error = http::response_head_partial(&bytes[..cut], &mut []).unwrap_err();
             assert_eq!(offset_of(error), (cut > begins).then_some(begins), "{bytes:?} {cut}");
         }
         let error = http::response_head(bytes, &mut []).unwrap_err();
@@ -88,7 +88,7 @@ fn http_head_extent_of_pieces() {
             assert!(have - end < step);
         }
     }
-    // What was passed is kept.
+    // The state records the bytes that were scanned.
     let mut extent = HeadExtent::new();
     assert_eq!(extent.advance(b"GET /"), Ok(None));
     assert_ne!(extent, HeadExtent::new());
@@ -113,7 +113,7 @@ fn csv_extent_of_pieces() {
         (b"\n\n", LineEnd::Lf, 1, 1, 0),
     ];
     for (bytes, end, length, entries, text) in rows {
-        let want = Size { length, wanted: Wanted { entries, bytes: text } };
+        let want = Size { length, required: RequiredSize { entries, bytes: text } };
         for step in 1..=bytes.len() {
             let (mut extent, mut have) = (Extent::new(end), 0);
             let size = loop {
@@ -126,7 +126,7 @@ fn csv_extent_of_pieces() {
             assert_eq!(size, want, "{bytes:?} {step}");
         }
     }
-    // What was passed is kept.
+    // The state records the bytes that were scanned.
     let mut extent = Extent::new(LineEnd::Lf);
     assert_eq!(extent.advance(b"a,\"b"), Ok(None));
     assert_ne!(extent, Extent::new(LineEnd::Lf));

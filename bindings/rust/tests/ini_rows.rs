@@ -1,8 +1,8 @@
-//! Rows of INI files of any dialect, entry by entry, from Rust. What is wanted of rows in the
-//! dialect of Python is what its `configparser` has.
-use pergidau::ini::dialects::{entries, Continued, Delimiters, Dialect, Entry, Marks, Refusal};
+//! Tables of INI files of any dialect, entry by entry, from Rust. In the dialect of Python the
+//! expected results are those of its `configparser`.
+use pergidau::ini::dialects::{entries, Continued, Delimiters, Dialect, Entry, Marks, Reason};
 
-/// The entries of a document, in short, and why and in which line and column one is refused.
+/// Formats the entries of a document, and the reason, line and column of an error.
 fn told(text: &str, dialect: Dialect) -> String {
     let mut shown = String::new();
     for entry in entries(text, dialect) {
@@ -11,7 +11,10 @@ fn told(text: &str, dialect: Dialect) -> String {
             Ok(Entry::Pair { key, value: Some(value) }) => format!("{key}={value}|"),
             Ok(Entry::Pair { key, value: None }) => format!("{key}|"),
             Ok(Entry::More(line)) => format!("+{line}|"),
-            Err(error) => format!("{:?} {} {}", error.why, error.place.line, error.place.column),
+            Err(error) => {
+                let at = error.position;
+                format!("{:?} {} {}", error.reason, at.line, at.column)
+            }
         };
     }
     shown
@@ -73,19 +76,19 @@ fn entries_of_other_dialects() {
 #[test]
 fn refused_lines() {
     let rows = [
-        ("\u{feff}a = b\n", "NoSection 1 2"),
-        ("[s]\n\n  abc\nd=e\n", "[s]|NoDelimiter 3 1"),
-        ("[s]\n = b\n", "[s]|NoKey 2 1"),
-        ("[s]\né=f\n[s", "[s]|é=f|OpenSection 3 1"),
+        ("\u{feff}a = b\n", "MissingSection 1 2"),
+        ("[s]\n\n  abc\nd=e\n", "[s]|MissingDelimiter 3 1"),
+        ("[s]\n = b\n", "[s]|MissingKey 2 1"),
+        ("[s]\né=f\n[s", "[s]|é=f|UnclosedSection 3 1"),
         ("[]\n", "EmptySection 1 1"),
-        ("[s] x\n", "TextBehindSection 1 1"),
+        ("[s] x\n", "TrailingText 1 1"),
     ];
     for (text, want) in rows {
         assert_eq!(told(text, Dialect::PYTHON), want, "{text}");
     }
     let mut found = entries("[s]\na\nb=c\n", Dialect::PYTHON);
     let refused = found.nth(1).unwrap().unwrap_err();
-    assert_eq!((refused.place.offset, refused.why), (4, Refusal::NoDelimiter));
-    assert_eq!(refused.to_string(), "no delimiter after the key, at line 2, column 1");
+    assert_eq!((refused.position.offset, refused.reason), (4, Reason::MissingDelimiter));
+    assert_eq!(refused.to_string(), "missing delimiter after the key at line 2, column 1");
     assert_eq!(found.next(), None);
 }

@@ -1,6 +1,7 @@
-//! Rows of what texts of JSON say, from Rust. What is wanted is what Python's `json` answers.
+//! Tables of JSON texts and their values, from Rust. The expected results are those of Python's
+//! `json`.
 use pergidau::json::{self, Kind, Step};
-use pergidau::{Error, Wanted};
+use pergidau::{Error, RequiredSize};
 
 /// The steps of a text, in short.
 fn told(steps: json::Steps<'_>) -> String {
@@ -31,8 +32,8 @@ fn steps_of_texts() {
     for (text, want) in rows {
         assert_eq!(told(json::steps(text, 3).unwrap()), want, "{text}");
     }
-    assert_eq!(json::steps("[1,]", 3).err(), Some(Error::Refused(None)));
-    assert_eq!(json::steps("[[]]", 1).err(), Some(Error::Refused(None)));
+    assert_eq!(json::steps("[1,]", 3).err(), Some(Error::Invalid(None)));
+    assert_eq!(json::steps("[[]]", 1).err(), Some(Error::Invalid(None)));
 }
 
 #[test]
@@ -91,7 +92,7 @@ fn texts_of_strings() {
         let escaped = text.contains('\\');
         assert_eq!(buffer[0] == 0xab, !escaped, "{text}");
         let small = json::parse(text, 0).unwrap().as_str_into(&mut []).err();
-        let wanted = Error::TooSmall(Wanted { entries: 0, bytes: want.len() });
+        let wanted = Error::BufferTooSmall(RequiredSize { entries: 0, bytes: want.len() });
         assert_eq!(small, escaped.then_some(wanted), "{text}");
     }
     assert_eq!(json::parse("1", 0).unwrap().as_str_into(&mut []), Ok(None));
@@ -111,8 +112,8 @@ fn bytes_that_begin_with_strings() {
     let mut buffer = [0; 8];
     assert_eq!(json::unescape(b"\"\\u00e9\xff\"\x01", &mut buffer), Ok((&b"\xc3\xa9\xff"[..], &b"\x01"[..])));
     for bytes in [&b""[..], b"\"a", b"\"\\ud800\"", b" \"a\"", b"\"\\x\""] {
-        assert_eq!(json::unescape(bytes, &mut buffer), Err(Error::Refused(None)), "{bytes:?}");
+        assert_eq!(json::unescape(bytes, &mut buffer), Err(Error::Invalid(None)), "{bytes:?}");
     }
     let small = json::unescape(b"\"abc\"", &mut [0; 2]).unwrap_err();
-    assert_eq!(small.to_string(), "the buffer is too small: 3 bytes are wanted");
+    assert_eq!(small.to_string(), "buffer too small: 3 bytes required");
 }

@@ -1,13 +1,13 @@
 //! Rows of the readers' tests, from Rust.
 use pergidau::csv::{self, LineEnd};
-use pergidau::http::{self, Chunked, Fault, Field, Step};
+use pergidau::http::{self, Chunked, ChunkedError, Field, Step};
 use pergidau::ini::{self, Entry};
 use pergidau::json::{self, Kind, Value};
 use pergidau::resp::{self, Extent, Reply};
-use pergidau::{calc, Error, Place, Span, Wanted, MOST_LEVELS};
+use pergidau::{calc, Error, Position, RequiredSize, Span, MAX_DEPTH};
 
-fn refused(offset: usize, column: usize) -> Error {
-    Error::Refused(Some(Place { offset, line: 1, column }))
+fn invalid(offset: usize, column: usize) -> Error {
+    Error::Invalid(Some(Position { offset, line: 1, column }))
 }
 
 #[test]
@@ -20,13 +20,13 @@ fn calc_value_of_formulas() {
         ("-7%3", Ok(-1)),
         ("20!", Ok(2432902008176640000)),
         ("1+1=2", Ok(1)),
-        ("1/0", Err(refused(3, 4))),
-        ("1 2", Err(refused(2, 3))),
-        ("", Err(refused(0, 1))),
-        ("2^63", Err(refused(4, 5))),
-        ("1=2=1", Err(refused(3, 4))),
+        ("1/0", Err(invalid(3, 4))),
+        ("1 2", Err(invalid(2, 3))),
+        ("", Err(invalid(0, 1))),
+        ("2^63", Err(invalid(4, 5))),
+        ("1=2=1", Err(invalid(3, 4))),
         ("-2^63", Ok(i64::MIN)),
-        ("-2^63 % -1", Err(refused(10, 11))),
+        ("-2^63 % -1", Err(invalid(10, 11))),
     ];
     for (text, want) in rows {
         assert_eq!(calc::value(text), want, "{text}");
@@ -45,9 +45,9 @@ fn ini_pair_of_lines() {
         (b"a=", Ok((b"a", b""))),
         (b"a==b", Ok((b"a", b"=b"))),
         (b"a=\xff", Ok((b"a", b"\xff"))),
-        (b"a=b\nc", Err(Error::Refused(Some(Place { offset: 4, line: 2, column: 1 })))),
-        (b"key", Err(refused(3, 4))),
-        (b"", Err(refused(0, 1))),
+        (b"a=b\nc", Err(Error::Invalid(Some(Position { offset: 4, line: 2, column: 1 })))),
+        (b"key", Err(invalid(3, 4))),
+        (b"", Err(invalid(0, 1))),
     ];
     for (line, want) in rows {
         assert_eq!(ini::pair(line), want, "{line:?}");
@@ -61,20 +61,21 @@ fn json_of_texts() {
     }
     let alone = ["\"\\ud800\"", "\"\\udead\"", "[\"\\ud83d\\u0041\"]", "{\"\\ude00\\ud83d\": 1}"];
     for text in alone.into_iter().chain(["", "nul", "[1,]", "01", "[[[]]]", "{\"a\" 1}", "1 2"]) {
-        assert_eq!(json::check(text.as_bytes(), 2), Err(Error::Refused(None)), "{text}");
+        assert_eq!(json::check(text.as_bytes(), 2), Err(Error::Invalid(None)), "{text}");
     }
-    assert_eq!(json::check(b"\"\xff\"", 0), Err(Error::NotText));
-    assert_eq!(json::check(b"1", MOST_LEVELS + 1), Err(Error::TooDeep));
+    assert_eq!(json::check(b"\"\xff\"", 0), Err(Error::InvalidUtf8));
+    assert_eq!(json::check(b"1", MAX_DEPTH + 1), Err(Error::MaxDepthTooLarge));
     assert_eq!(json::longest(b"-1.5e3 ", 0), Ok((&b"-1.5e3"[..], &b" "[..])));
     assert_eq!(json::longest(b"[ \t\r\n]]", 1), Ok((&b"[ \t\r\n]"[..], &b"]"[..])));
-    assert_eq!(json::longest(b" 1", 1), Err(Error::Refused(None)));
-    assert_eq!(json::longest(b"\"\\ud800\"", 1), Err(Error::Refused(None)));
-    let deep = "[".repeat(MOST_LEVELS) + &"]".repeat(MOST_LEVELS);
-    assert_eq!(json::check(deep.as_bytes(), MOST_LEVELS), Ok(()));
-    assert_eq!(json::check(deep.as_bytes(), MOST_LEVELS - 1), Err(Error::Refused(None)));
+    assert_eq!(json::longest(b" 1", 1), Err(Error::Invalid(None)));
+    assert_eq!(json::longest(b"\"\\ud800\"", 1), Err(Error::Invalid(None)));
+    let deep = "[".repeat(MAX_DEPTH) + &"]".repeat(MAX_DEPTH);
+    assert_eq!(json::check(deep.as_bytes(), MAX_DEPTH), Ok(()));
+    assert_eq!(json::check(deep.as_bytes(), MAX_DEPTH - 1), Err(Error::Invalid(None)));
 }
 
-/// The texts of what is no array or object, in order, and the names, each with a colon.
+/// Collects the texts of all values other than arrays and objects, in order, and the names, each
+/// with a colon.
 fn walk<'i>(value: Value<'i>, into: &mut Vec<String>) {
     match value.kind() {
         Kind::Array => value.elements().for_each(|it| walk(it, into)),
@@ -115,15 +116,15 @@ fn json_walks() {
     assert_eq!(object.members().count(), 2);
     assert_eq!(json::parse("\"[1]\"", 0).unwrap().elements().count(), 0);
     assert_eq!(json::parse("1", 0).unwrap().elements().count(), 0);
-    assert_eq!(json::parse("[1,]", 9), Err(Error::Refused(None)));
-    assert_eq!(json::parse("", 9), Err(Error::Refused(None)));
-    assert_eq!(json::parse("1", MOST_LEVELS + 1), Err(Error::TooDeep));
-    let deep = "[".repeat(MOST_LEVELS) + &"]".repeat(MOST_LEVELS);
-    let (mut value, mut levels) = (json::parse(&deep, MOST_LEVELS).unwrap(), 1);
+    assert_eq!(json::parse("[1,]", 9), Err(Error::Invalid(None)));
+    assert_eq!(json::parse("", 9), Err(Error::Invalid(None)));
+    assert_eq!(json::parse("1", MAX_DEPTH + 1), Err(Error::MaxDepthTooLarge));
+    let deep = "[".repeat(MAX_DEPTH) + &"]".repeat(MAX_DEPTH);
+    let (mut value, mut levels) = (json::parse(&deep, MAX_DEPTH).unwrap(), 1);
     while let Some(inner) = value.elements().next() {
         (value, levels) = (inner, levels + 1);
     }
-    assert_eq!(levels, MOST_LEVELS);
+    assert_eq!(levels, MAX_DEPTH);
 }
 
 #[test]
@@ -144,19 +145,19 @@ fn ini_document_of_sections() {
     let empty = ini::document(b" \n;x", &mut [], &mut []).unwrap();
     assert_eq!(empty.sections().count(), 0);
     let small = ini::document(bytes, &mut text[..10], &mut entries).unwrap_err();
-    assert_eq!(small.to_string(), "the buffer is too small: 7 entries and 12 bytes are wanted");
+    assert_eq!(small.to_string(), "buffer too small: 7 entries and 12 bytes required");
     let small = ini::document(bytes, &mut text[..12], &mut entries[..6]).unwrap_err();
-    assert_eq!(small.to_string(), "the buffer is too small: 7 entries and 12 bytes are wanted");
+    assert_eq!(small.to_string(), "buffer too small: 7 entries and 12 bytes required");
     assert!(ini::document(bytes, &mut text[..12], &mut entries[..7]).is_ok());
     for (bytes, offset, line, column) in
         [(&b"x=1"[..], 0, 1, 1), (b"[a]\nx\n", 4, 2, 1), (b"[a]\nx=1\n [b", 9, 3, 2)]
     {
         let refused = ini::document(bytes, &mut text, &mut entries).unwrap_err();
-        assert_eq!(refused, Error::Refused(Some(Place { offset, line, column })), "{bytes:?}");
+        assert_eq!(refused, Error::Invalid(Some(Position { offset, line, column })), "{bytes:?}");
     }
 }
 
-/// The request of RFC 9110, section 3.9, and what a client sends after it.
+/// The request of RFC 9110, section 3.9, and the start of a next one.
 const HELLO: &[u8] = b"GET /hello.txt HTTP/1.1\r\nUser-Agent: curl/7.64.1\r\n\
 Host: www.example.com\r\nAccept-Language: en, mi\r\n\r\nGET";
 
@@ -176,28 +177,28 @@ fn http_head_of_requests() {
     assert_eq!(head.fields().collect::<Vec<_>>(), want);
     let whole = HELLO.len() - 3;
     for end in 0..whole {
-        let piece = http::head_in_pieces(&HELLO[..end], &mut fields);
+        let piece = http::head_partial(&HELLO[..end], &mut fields);
         assert_eq!(piece.unwrap_err(), Error::Incomplete, "{end}");
-        let place = Place::of(&HELLO[..end], end);
+        let place = Position::of(&HELLO[..end], end);
         let short = http::head(&HELLO[..end], &mut fields).unwrap_err();
-        assert_eq!(short, Error::Refused(Some(place)), "{end}");
+        assert_eq!(short, Error::Invalid(Some(place)), "{end}");
     }
-    assert!(http::head_in_pieces(&HELLO[..whole], &mut fields).is_ok());
+    assert!(http::head_partial(&HELLO[..whole], &mut fields).is_ok());
     let small = http::head(HELLO, &mut fields[..2]).unwrap_err();
-    assert_eq!(small.to_string(), "the buffer is too small: 3 entries are wanted");
+    assert_eq!(small.to_string(), "buffer too small: 3 entries required");
     for (request, version) in [(&b"A b HTTP/1.0\r\n\r\n"[..], (1, 0)), (b"A b HTTP/2.9\r\n\r\n", (2, 9))] {
         assert_eq!(http::head(request, &mut []).unwrap().version(), version);
-        assert_eq!(http::head_in_pieces(request, &mut []).unwrap().version(), version);
+        assert_eq!(http::head_partial(request, &mut []).unwrap().version(), version);
     }
-    let never = http::head_in_pieces(b"GET  / HTTP/1.1\r\n", &mut fields);
-    let place = Place { offset: 4, line: 1, column: 5 };
-    assert_eq!(never.unwrap_err(), Error::Refused(Some(place)));
+    let never = http::head_partial(b"GET  / HTTP/1.1\r\n", &mut fields);
+    let place = Position { offset: 4, line: 1, column: 5 };
+    assert_eq!(never.unwrap_err(), Error::Invalid(Some(place)));
 }
 
-/// How many bytes stand before the place of a refusal.
+/// Returns the offset of an error in bytes.
 fn offset_of(error: Error) -> Option<usize> {
     match error {
-        Error::Refused(place) => place.map(|it| it.offset),
+        Error::Invalid(place) => place.map(|it| it.offset),
         _ => None,
     }
 }
@@ -228,7 +229,7 @@ fn csv_record_of_lines() {
     }
     let (mut text, mut fields) = ([0; 3], [Span::default(); 2]);
     let small = csv::record(b"ab,cd", LineEnd::Lf, &mut text, &mut fields).unwrap_err();
-    assert_eq!(small.to_string(), "the buffer is too small: 2 entries and 4 bytes are wanted");
+    assert_eq!(small.to_string(), "buffer too small: 2 entries and 4 bytes required");
 }
 
 #[test]
@@ -236,18 +237,18 @@ fn csv_record_of_pieces() {
     let (mut text, mut fields) = ([0; 16], [Span::default(); 4]);
     let bytes = b"a,\"b\r\n\"\r\nc";
     for end in 0..9 {
-        let piece = csv::record_in_pieces(&bytes[..end], LineEnd::CrLf, &mut text, &mut fields);
+        let piece = csv::record_partial(&bytes[..end], LineEnd::CrLf, &mut text, &mut fields);
         assert_eq!(piece.unwrap_err(), Error::Incomplete, "{end}");
     }
     for end in 9..=bytes.len() {
-        let piece = csv::record_in_pieces(&bytes[..end], LineEnd::CrLf, &mut text, &mut fields);
+        let piece = csv::record_partial(&bytes[..end], LineEnd::CrLf, &mut text, &mut fields);
         let record = piece.unwrap();
         assert_eq!(record.fields().collect::<Vec<_>>(), [&b"a"[..], b"b\r\n"]);
         assert_eq!(record.rest(), &bytes[9..end]);
     }
 }
 
-/// The bytes before the first at which no record goes on can begin one; with that byte none begins.
+/// The bytes before the first invalid byte are a prefix of a record; with that byte they are not.
 #[test]
 fn csv_record_of_pieces_is_refused_where_none_goes_on() {
     let rows: [(&[u8], LineEnd, usize); 6] = [
@@ -260,7 +261,7 @@ fn csv_record_of_pieces_is_refused_where_none_goes_on() {
     ];
     for (bytes, end, begins) in rows {
         for cut in 0..=bytes.len() {
-            let piece = csv::record_in_pieces(&bytes[..cut], end, &mut [], &mut []);
+            let piece = csv::record_partial(&bytes[..cut], end, &mut [], &mut []);
             let error = piece.unwrap_err();
             assert_eq!(offset_of(error), (cut > begins).then_some(begins), "{bytes:?} {cut}");
             assert!(cut > begins || error == Error::Incomplete, "{bytes:?} {cut}");
@@ -277,8 +278,8 @@ fn csv_records_of_a_document() {
     assert_eq!(records.unwrap(), want);
     let mut refused = csv::records(b"a\r\nb\rc\r\n", LineEnd::CrLf);
     assert_eq!(refused.next(), Some(Ok(vec![b"a".to_vec()])));
-    let place = Place { offset: 5, line: 2, column: 3 };
-    assert_eq!(refused.next(), Some(Err(Error::Refused(Some(place)))));
+    let place = Position { offset: 5, line: 2, column: 3 };
+    assert_eq!(refused.next(), Some(Err(Error::Invalid(Some(place)))));
     assert_eq!(refused.next(), None);
     assert_eq!(csv::records(b"", LineEnd::Lf).count(), 0);
 }
@@ -308,7 +309,7 @@ fn resp_extent_of_pieces() {
             assert!(have - end < step);
         }
     }
-    // What was passed is kept.
+    // The state records the bytes that were scanned.
     let mut extent = Extent::new();
     assert_eq!(extent.advance(b"*2\r\n:1\r\n"), Ok(None));
     assert_ne!(extent, Extent::new());
@@ -318,13 +319,13 @@ fn resp_extent_of_pieces() {
             assert_eq!(extent.advance(&bytes[..have]), Ok(None), "{bytes:?} {have}");
         }
         let refused = extent.advance(&bytes[..begins + 1]);
-        assert_eq!(refused, Err(Error::Refused(None)), "{bytes:?}");
+        assert_eq!(refused, Err(Error::Invalid(None)), "{bytes:?}");
     }
 }
 
-/// A chunked body of pieces of so many bytes: its content, its trailers, how many bytes are behind it,
-/// and whether it ends, or why it is refused.
-type Decoded = (Vec<u8>, Vec<u8>, usize, Result<bool, Fault>);
+/// The result for a chunked body that arrives in chunks: its content, its trailers, the number of
+/// bytes after it, and whether it ends or why it is invalid.
+type Decoded = (Vec<u8>, Vec<u8>, usize, Result<bool, ChunkedError>);
 
 fn decode(mut body: Chunked, bytes: &[u8], piece: usize) -> Decoded {
     let (mut content, mut trailers, mut left) = (Vec::new(), Vec::new(), bytes.len());
@@ -363,13 +364,13 @@ fn http_chunked_of_pieces() {
             assert_eq!((left, said), (0, Ok(false)), "{bytes:?} {cut}");
         }
     }
-    let refused: [(&[u8], usize, Fault); 6] = [
-        (b"x", 0, Fault::Size),
-        (b"1 \r\n", 2, Fault::SizeLine),
-        (b"10000000000000000\r\n", 16, Fault::SizeTooLarge),
-        (b"1\r\nab", 4, Fault::DataEnd),
-        (b"0\r\n A: b\r\n", 3, Fault::Trailers),
-        (b"0\r\n\r\r", 4, Fault::Trailers),
+    let refused: [(&[u8], usize, ChunkedError); 6] = [
+        (b"x", 0, ChunkedError::Size),
+        (b"1 \r\n", 2, ChunkedError::SizeLine),
+        (b"10000000000000000\r\n", 16, ChunkedError::SizeTooLarge),
+        (b"1\r\nab", 4, ChunkedError::DataEnd),
+        (b"0\r\n A: b\r\n", 3, ChunkedError::Trailers),
+        (b"0\r\n\r\r", 4, ChunkedError::Trailers),
     ];
     for (bytes, begins, fault) in refused {
         for piece in 1..=bytes.len() {
@@ -378,13 +379,13 @@ fn http_chunked_of_pieces() {
         }
     }
     let (_, _, left, said) = decode(Chunked::with_limits(3, 2), b"0\r\nA:\r\n\r\n", 1);
-    assert_eq!((left, said), (4, Err(Fault::TrailersTooLong)));
+    assert_eq!((left, said), (4, Err(ChunkedError::TrailersTooLong)));
     let (_, _, left, said) = decode(Chunked::with_limits(3, 20), b"0;ab\r\n\r\n", 9);
-    assert_eq!((left, said), (5, Err(Fault::SizeLineTooLong)));
+    assert_eq!((left, said), (5, Err(ChunkedError::SizeLineTooLong)));
     let mut begun = Chunked::default();
     assert_eq!(begun.advance(&mut &b""[..]), Ok(Step::More));
     assert_eq!(begun, Chunked::with_limits(4096, 8192));
-    assert_eq!(Fault::DataEnd.to_string(), "a line end is due after the data of a chunk");
+    assert_eq!(ChunkedError::DataEnd.to_string(), "expected CRLF after chunk data");
 }
 
 #[test]
@@ -403,16 +404,16 @@ fn resp_reply_of_bytes() {
     for (bytes, want, rest) in rows {
         assert_eq!(resp::reply(bytes, 0), Ok((want, rest)), "{bytes:?}");
         for end in 0..bytes.len() - rest.len() {
-            assert_eq!(resp::reply(&bytes[..end], 0), Err(Error::Refused(None)), "{bytes:?}");
-            assert_eq!(resp::reply_in_pieces(&bytes[..end], 0), Err(Error::Incomplete), "{bytes:?}");
+            assert_eq!(resp::reply(&bytes[..end], 0), Err(Error::Invalid(None)), "{bytes:?}");
+            assert_eq!(resp::reply_partial(&bytes[..end], 0), Err(Error::Incomplete), "{bytes:?}");
         }
-        assert_eq!(resp::reply_in_pieces(bytes, 0), Ok((want, rest)), "{bytes:?}");
+        assert_eq!(resp::reply_partial(bytes, 0), Ok((want, rest)), "{bytes:?}");
     }
     for bytes in [&b"x"[..], b":1a\r\n", b"$+1\r\na\r\n", b"$-2\r\n", b"+a\rb", b"$1\r\nab\r\n", b"*0\r\n"] {
-        assert_eq!(resp::reply(bytes, 0), Err(Error::Refused(None)), "{bytes:?}");
-        assert_eq!(resp::reply_in_pieces(bytes, 0), Err(Error::Refused(None)), "{bytes:?}");
+        assert_eq!(resp::reply(bytes, 0), Err(Error::Invalid(None)), "{bytes:?}");
+        assert_eq!(resp::reply_partial(bytes, 0), Err(Error::Invalid(None)), "{bytes:?}");
     }
-    assert_eq!(resp::reply(b"+\r\n", MOST_LEVELS + 1), Err(Error::TooDeep));
+    assert_eq!(resp::reply(b"+\r\n", MAX_DEPTH + 1), Err(Error::MaxDepthTooLarge));
 }
 
 #[test]
@@ -426,9 +427,9 @@ fn resp_reply_of_arrays() {
     assert_eq!(elements.next(), Some(Ok(Reply::NullBulk)));
     assert_eq!(elements.next(), Some(Ok(Reply::Simple(b"a"))));
     assert_eq!(elements.next(), None);
-    let deep = "*1\r\n".repeat(MOST_LEVELS) + ":1\r\n";
-    assert!(resp::reply(deep.as_bytes(), MOST_LEVELS).is_ok());
-    assert_eq!(resp::reply(deep.as_bytes(), MOST_LEVELS - 1), Err(Error::Refused(None)));
+    let deep = "*1\r\n".repeat(MAX_DEPTH) + ":1\r\n";
+    assert!(resp::reply(deep.as_bytes(), MAX_DEPTH).is_ok());
+    assert_eq!(resp::reply(deep.as_bytes(), MAX_DEPTH - 1), Err(Error::Invalid(None)));
 }
 
 #[test]
@@ -441,20 +442,20 @@ fn library_says_what_it_is() {
 #[test]
 fn errors_are_shown() {
     let error: Box<dyn std::error::Error> = Box::new(calc::value("1 +\n 2 / 0").unwrap_err());
-    assert_eq!(error.to_string(), "refused at line 2, column 7");
-    let wanted = Wanted { entries: 2, bytes: 4 };
+    assert_eq!(error.to_string(), "invalid input at line 2, column 7");
+    let wanted = RequiredSize { entries: 2, bytes: 4 };
     let rows = [
-        (Error::Refused(None), "refused"),
-        (Error::Incomplete, "more bytes are needed"),
-        (Error::NoMemory, "a request for memory was refused"),
-        (Error::NotText, "the bytes are no UTF-8"),
-        (Error::TooSmall(wanted), "the buffer is too small: 2 entries and 4 bytes are wanted"),
-        (Error::TooDeep, "more levels are asked for than are read"),
-        (Error::Unknown(7), "the library answered the unknown code 7"),
+        (Error::Invalid(None), "invalid input"),
+        (Error::Incomplete, "incomplete input: more bytes are needed"),
+        (Error::NoMemory, "memory allocation failed"),
+        (Error::InvalidUtf8, "input is not valid UTF-8"),
+        (Error::BufferTooSmall(wanted), "buffer too small: 2 entries and 4 bytes required"),
+        (Error::MaxDepthTooLarge, "depth limit too large: at most 512 levels are supported"),
+        (Error::Unknown(7), "unknown code 7 from the library"),
     ];
     for (error, want) in rows {
         assert_eq!(error.to_string(), want);
     }
-    let place = Place::of("gr\u{f6}\u{df}e=1\nh\u{f6}he?2\n".as_bytes(), 15);
-    assert_eq!(place, Place { offset: 15, line: 2, column: 5 });
+    let place = Position::of("gr\u{f6}\u{df}e=1\nh\u{f6}he?2\n".as_bytes(), 15);
+    assert_eq!(place, Position { offset: 15, line: 2, column: 5 });
 }

@@ -1,8 +1,8 @@
 //! Rows of documents of TOML. The wanted values are those of Python's tomllib, and of the examples of
 //! the standard.
-use pergidau::toml::{self, Date, Error, Expected, Item, Node, Refusal, Time, Value};
+use pergidau::toml::{self, Date, Error, Expected, Item, Node, Reason, Time, Value};
 
-/// What a document says: tables in braces, arrays in brackets.
+/// Formats the contents of a document: tables in braces, arrays in brackets.
 fn said(item: Item<'_>) -> String {
     let joined = |parts: Vec<String>| parts.join(" ");
     match item.value() {
@@ -87,24 +87,24 @@ fn errors_say_where_and_why() {
         ("[]", "line 1, column 2: expected the name of a table"),
         ("[a", "line 1, column 3: expected `]`"),
         ("a = 1 b = 2", "line 1, column 7: expected the end of the line"),
-        ("a = 1\na = 2\n", "line 2, column 1: it is defined already"),
-        ("a = 1\na.b = 2\n", "line 2, column 1: it takes a value for a table"),
-        ("a = {}\n[a.b]", "line 2, column 1: it adds to a table that is closed"),
-        ("[a]\n[[a]]\n", "line 2, column 1: it adds a table to what is no array of tables"),
+        ("a = 1\na = 2\n", "line 2, column 1: key is already defined"),
+        ("a = 1\na.b = 2\n", "line 2, column 1: key is not a table"),
+        ("a = {}\n[a.b]", "line 2, column 1: table cannot be extended"),
+        ("[a]\n[[a]]\n", "line 2, column 1: key is not an array of tables"),
     ];
     for (text, wanted) in rows {
         assert_eq!(read(text).unwrap_err().to_string(), wanted, "{text}");
     }
     assert!(matches!(read("a 1"), Err(Error::Unexpected(at, Expected::EqualsSign)) if at.offset == 2));
-    assert!(matches!(read("a=1\na=1"), Err(Error::Refused(at, Refusal::Defined)) if at.offset == 4));
+    assert!(matches!(read("a=1\na=1"), Err(Error::Invalid(at, Reason::Defined)) if at.offset == 4));
 }
 
 #[test]
 fn buffers_that_are_too_small_are_named() {
     let (mut bytes, mut nodes) = ([0; 5], [Node::default(); 2]);
     let small = toml::parse("ab = 'cde'", 0, &mut bytes, &mut nodes[..1]).unwrap_err();
-    assert_eq!(small.to_string(), "the buffer is too small: 2 entries and 5 bytes are wanted");
+    assert_eq!(small.to_string(), "buffer too small: 2 entries and 5 bytes required");
     assert!(toml::parse("ab = 'cde'", 0, &mut bytes, &mut nodes).is_ok());
-    let deep = toml::parse("a = 1", pergidau::MOST_LEVELS + 1, &mut bytes, &mut nodes).unwrap_err();
-    assert_eq!(deep, Error::Other(pergidau::Error::TooDeep));
+    let deep = toml::parse("a = 1", pergidau::MAX_DEPTH + 1, &mut bytes, &mut nodes).unwrap_err();
+    assert_eq!(deep, Error::Other(pergidau::Error::MaxDepthTooLarge));
 }

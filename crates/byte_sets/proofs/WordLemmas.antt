@@ -1,4 +1,4 @@
--- What becomes of the bits of a table.
+-- Lemmas about the bits of a byte table.
 use Rattle.std.specs.Prelude.{◌≡◌, ◌<◌, ◌/◌, ◌%◌, ◌||◌, ◌==◌, ℕ, suc, zero, max, Bool, true}
 use Rattle.std.specs.Prelude.{false}
 use Rattle.std.specs.Prelude.{◌+◌, ◌*◌, ◌^◌, ◌≤◌}
@@ -78,7 +78,6 @@ pub none_above : (word bit : ℕ) → bit < 64
 none_above word bit within unseen i above =
     bit_at_set_other w64 word bit within i (λ same. omega arith) ∙ unseen i (omega arith)
 
--- the bits of a word where the byte after those seen is no member
 pub without_member : (P : ℕ → Bool → Type 0) (word bit : ℕ) → bit_at word bit ≡ 0 → P bit false
     → ((i : ℕ) → i < bit → P i (bit_at word i == 1))
     → (i : ℕ) → i < bit + 1 → P i (bit_at word i == 1)

@@ -21,7 +21,7 @@ pub struct ByteSet {
 }
 
 impl ByteSet {
-    /// The bytes that `set` contains: each of the 256 bytes is asked for once.
+    /// Returns the set of the bytes that `set` contains. Tests each of the 256 bytes once.
     ///
     /// ```
     /// assert_eq!(rt; ByteSet::from_set(&(b'0'..=b'9')).len(), 10);
@@ -48,7 +48,7 @@ impl ByteSet {
         self.words[byte as usize / 64] >> (byte % 64) & 1 == 1
     }
 
-    /// The bytes that are no members.
+    /// Returns the set of all bytes that are not in `self`.
     pub fn complement(self) -> ByteSet
         ensures { (b : ℕ) → b < 256 → has_byte result b ≡ not (has_byte self b) }
     {

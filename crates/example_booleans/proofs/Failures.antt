@@ -1,5 +1,5 @@
--- Where an expression of items fails whose folds never refuse: at the place of an operand, where
--- neither an operand nor a prefix begins.
+-- Errors of an expression of items whose folds never fail. They occur at an offset where an operand
+-- is expected, and neither an operand nor a prefix operator begins.
 use Rattle.std.specs.Prelude.{◌≡◌, ◌⊎◌, ℤ, Bool, true, false, List, Result, Ok, Err, IfErr}
 use Rattle.std.specs.Prelude.{⊤}
 use Rattle.std.proofs.Common.{refl, sym, ◌∙◌, ap, subst, inl, inr, arith}
@@ -122,7 +122,7 @@ module _ {T V F G H L : Type 0} (reading : Reading T L) (refusal : Kind)
   infix_down i j o (inr (some, inr (inr (m, run, inr (inl (k, q, unlike, e)))))) = ok_is_not refl e
   infix_down i j o (inr (some, inr (inr (m, run, inr (inr (n, q, place, e)))))) = absurd (cc)
 
-  -- ---- no operator is read that consumes nothing, and no fold refuses
+  -- ---- every operator consumes input, and no fold fails
 
   pub none_unmoved : (i : Input T) → Unmoved whole states i → ⊥
   none_unmoved i (inl (k, n, p, f, comes, read, same)) =
@@ -182,7 +182,7 @@ module _ {T V F G H L : Type 0} (reading : Reading T L) (refusal : Kind)
   ))) =
       gives_err (two (fold_of o) v w) z j kind (twos (fold_of o) v w) refused
 
-  -- ---- so a failure is at the place of an operand
+  -- ---- so errors occur where an operand is expected
 
   abbrev ItemsCome : List T → Bool → List T → Type 0
   ItemsCome = Comes (FirstItems operand prefix) (NextItems postfix infix_)
@@ -257,7 +257,6 @@ module _ {T V F G H L : Type 0} (reading : Reading T L) (refusal : Kind)
     ])
   ]
 
--- so what is said of each kind that is answered is said of the error
 pub told_of_err : {V E : Type 0} (kind : E → Kind) (P : Kind → Type 0) (result : Result V E)
     → ((k : Kind) → answer_by kind result ≡ Err k → P k) → IfErr result (λ e. P (kind e))
 told_of_err kind P (Ok v) told = tt

@@ -48,8 +48,8 @@ logic_value And v w x = x ≡ (if v then w else false)
 logic_value Or v w x = x ≡ (if v then true else w)
 logic_value Same v w x = x ≡ (if v then w else (if w then false else true))
 
--- The reading of a formula comes to a place where an operand is due, and there is none, nor a
--- prefix.
+-- `LacksOperand start place`: parsing a formula from `start` reaches `place`, where an operand is
+-- expected and neither an operand nor a prefix operator begins.
 abbrev pub LacksOperand : List ℕ → List ℕ → Type 0
 LacksOperand start place =
     Comes (FirstItems (ByteItem operand_at) (ByteItem prefix_at))
@@ -60,7 +60,7 @@ LacksOperand start place =
 abbrev pub empty_kind : EmptyError → Kind
 empty_kind e = marked_kind e.is_memory
 
--- A formula: the one tree over these bytes that keeps the powers, and its truth value.
+-- A formula: the truth value of the only tree of the bytes that respects precedence.
 abbrev pub IsFormula : Grammar ℕ Bool
 IsFormula = ReadsTree (ByteItem operand_at) (ByteItem prefix_at) (ByteItem postfix_at)
     (ByteItem infix_at) not_value not_value logic_value (pos 0)

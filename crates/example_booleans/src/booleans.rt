@@ -26,7 +26,7 @@ use winnow_expression::combinator::{FoldBinary, FoldUnary, Infix, Postfix, Prefi
 use winnow_expression_trees::laws::{Likeness, expression_reads_the_one_tree};
 use winnow_token::token::impls::Any;
 
-/// Truth values are alike where they are equal.
+/// Equality of truth values.
 struct Equal;
 
 impl Likeness<bool> for Equal {
@@ -249,14 +249,13 @@ impl<'i> Parser<&'i [u8], Infix<Logic>, EmptyError> for Part {
     }
 }
 
-/// The truth value of the formula that a text begins with: operands `t` and `f`, prefix `!` of
-/// power 7, postfix `'` of power 9, `&` of power 5 and `|` of power 3, joined from the left, and
-/// `=` of power 1, which is not joined with another one.
+/// Parses a formula and returns its truth value. Operands are `t` and `f`. Operators are prefix `!`
+/// of power 7, postfix `'` of power 9, `&` of power 5 and `|` of power 3, both left-associative,
+/// and `=` of power 1, which is not associative.
 ///
-/// The answer is the value of the one tree over these bytes that keeps the powers, and what is
-/// after it is left. It fails where there is none, and for want of memory: else at a place where
-/// an
-/// operand is due and there is none, nor a prefix, and the input is left there.
+/// Returns the value of the only tree of the bytes that respects precedence, and leaves the rest.
+/// It fails if there is no such tree, or with out of memory. In the first case it leaves the input
+/// at an offset where an operand is expected, and neither an operand nor a prefix operator begins.
 ///
 /// ```
 /// use example_booleans::booleans::truth;

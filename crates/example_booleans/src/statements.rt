@@ -43,7 +43,7 @@ pub fn formula<'i, A: Allocator + Copy>(alloc: A, input: &mut &'i [u8]) -> Resul
     truth(alloc, input)
 }
 
-/// What a function reads by a rule, and a token after it, of any stream.
+/// Parses by a rule, and then one token, over any stream.
 fn ended<I, E, R, F, B>(rule: R, run: F, end: B, input: &mut I) -> Result<bool, E>
 where
     I: Stream,

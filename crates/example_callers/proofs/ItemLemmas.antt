@@ -1,4 +1,4 @@
--- What the run that stopped an iterator says of all its items.
+-- Lemmas that derive properties of all items of an iterator from the call that stopped it.
 use Rattle.std.proofs.Common.{◌≡◌, ◌∙◌, List, ◌⊎◌, Ok, Err, inl, inr, subst, sym}
 use Rattle.winnow.specs.Input.{Input}
 use Rattle.winnow.specs.Iterator.{IteratorState, IteratorStops, Standing, done, finish_answer}

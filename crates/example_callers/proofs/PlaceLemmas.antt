@@ -12,7 +12,6 @@ use Rattle.winnow.specs.Spans.{IsBetween, output_alone}
 use Rattle.example_callers.specs.Places.{IsPlaced}
 
 module _ {T L : Type 0} (reading : Reading T L) where
-  -- what is passed and what is left are all units
   all_units : (i j : Input T) → IsEndOf (located_reading reading) j i
       → j.left.place.passed + reading.units j.left.tokens
       ≡ i.left.place.passed + reading.units i.left.tokens
@@ -39,7 +38,6 @@ module _ {T L : Type 0} (reading : Reading T L) where
         ∙ all_units i j first.ends,
   )
 
-  -- and what is told of a result, where that is an output
   pub placed_told : {O E : Type 0} {kind : E → Kind} (key : Grammar T O) (value : Grammar T L)
       (i j k : Input T) (o : O) (result : Result (L × Range ℕ) E) → i.status.cut ≡ false
       → Reads (located_reading reading) kind key i (Ok o) j

@@ -1,4 +1,4 @@
--- Premises of the callers of `premises`, and what they read in words of their own.
+-- Premises of the callers in `premises`, and their grammars in definitions of their own.
 use Rattle.std.specs.Prelude.{◌≡◌, ◌↔◌, ◌++◌, ℕ, List, [], ◌∷◌, None, length, max}
 use Rattle.std.specs.Borrow.{Bor}
 use Rattle.std.specs.List.{FoldsTo, fold}
@@ -24,7 +24,6 @@ use Rattle.winnow.specs.Text.{text_reading}
 pub one_alike : IsAlike (λ x. x) One
 one_alike = token_alike (λ x. x) (λ x y e. e)
 
--- that many bytes are the same bytes
 pub counted_alike : (n : ℕ)
     → IsAlike (λ (slice : Bor (List ℕ)). slice.now) (Counted counted_reading n)
 unfolding Counted
@@ -33,7 +32,6 @@ counted_alike n = record {
       shown ∙ (same_beginnings f g rest other (many ∙ sym so_many) (sym e ∙ d)).0 ∙ sym shows;
 }
 
--- that many characters are the same text
 pub text_alike : (n : ℕ) → IsAlike (λ (slice : Bor (List ℕ)). slice.now) (Counted text_reading n)
 unfolding Counted
 text_alike n = record {
@@ -42,7 +40,6 @@ text_alike n = record {
       shown ∙ ap encode_utf8_all same.0 ∙ sym shows;
 }
 
--- what is made of an output, where the closure makes what is said
 pub decided_by : {F T O H U : Type 0} (makes : F → O → H → Type 0) (f : F) (says : O → H → Type 0)
     (reads : H → Grammar T U) (g : Grammar T O) → ((o : O) (h : H) → makes f o h ↔ says o h)
     → Same (FlatMapped makes f reads g) (FlatMapped (λ (_ : Unit {0}) o h. says o h) tt reads g)
@@ -52,7 +49,6 @@ decided_by makes f says reads g is = record {
   back = λ tokens u rest (o, mid, made, x, m, y). (o, mid, made, x, (is o made).1 m, y);
 }
 
--- a fold by steps that are said is a fold by what they say
 folded_by : {H O R : Type 0} (step : H → R → O → R → H → Type 0) (op : H) (says : R → O → R)
     → ((r : R) (o : O) (q : R) → step op r o q op ↔ (q ≡ says r o)) → (empty value : R)
     (os : List O)

@@ -1,4 +1,4 @@
--- What a call that takes letters tells.
+-- Lemmas about calls that take letters.
 use Rattle.std.proofs.Common.{ℕ, List, None, Ok, Err}
 use Rattle.std.specs.Prelude.{Result, IfOk}
 use Rattle.std.specs.Borrow.{Bor}
@@ -11,7 +11,6 @@ use Rattle.winnow.specs.Input.{Input}
 use Rattle.winnow.specs.Kind.{Kind}
 use Rattle.winnow.specs.TakeWhile.Known.{tells_of, took_all, took_counted}
 
--- what it answers is letters
 pub letters_told : {E : Type 0} (kind : E → Kind) (i j : Input ℕ)
     (result : Result (Bor (List ℕ)) E)
     → ClassRuns IsAlpha 1 (λ b. b) (λ b. b) counted_reading plain i (answer_by kind result) j

@@ -12,8 +12,8 @@ abbrev pub KeyAndMark : {K T L : Type 0} → (K → ℕ) → (K → T) → Readi
 KeyAndMark code seen reading mark =
     Both (λ key o. (key, o)) (Class IsAlpha 1 code seen reading) mark
 
--- A key and a value stand one after the other. The range begins where what is after the key
--- begins, and ends where what is after the value begins, each in units from the start.
+-- `IsPlaced reading key value left both`: `left` starts with a key followed by a value. The range
+-- of `both` begins where the key ends and ends where the value ends, in units from the start.
 abbrev pub IsPlaced : {T L O : Type 0} → Reading T L → Grammar T O → Grammar T L → Remaining T
     → L × Range ℕ → Type 0
 IsPlaced {T} {L} {O} reading key value left both =

@@ -1,4 +1,4 @@
--- What the callers of `premises` read: words of grammars over bytes and characters.
+-- Grammars of the callers in `premises`, over bytes and characters.
 use Rattle.std.specs.Prelude.{◌≡◌, ◌+◌, ◌<◌, ℕ, List, [], ◌∷◌, None, max}
 use Rattle.std.specs.Borrow.{Bor}
 use Rattle.std.specs.List.{fold}
@@ -40,7 +40,7 @@ LettersOfTwo =
     Meaning (λ (two : Bor (List ℕ)) u. (rest : List ℕ) × Word two.now u rest)
     (Counted counted_reading 2)
 
--- as many letters of a text as stand first, at least one
+-- The longest prefix of letters of a text, at least one.
 abbrev pub TextLetters : Grammar ℕ (Bor (List ℕ))
 TextLetters = Class IsAlpha 1 (λ c. c) (λ c. c) text_reading
 

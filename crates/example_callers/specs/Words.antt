@@ -6,7 +6,7 @@ use Rattle.winnow.specs.Counted.{counted_reading}
 use Rattle.winnow.specs.Grammar.{Both, Class, Either, Grammar, Three}
 use Rattle.winnow.specs.Grammar.Known.{Byte}
 
--- a word: as many letters as stand first, at least one
+-- A word: the longest prefix of letters, at least one.
 abbrev pub Word : Grammar ℕ (Bor (List ℕ))
 Word = Class IsAlpha 1 (λ b. b) (λ b. b) counted_reading
 

@@ -1,4 +1,4 @@
-//! Choices in use: what the owner of borrowed branches knows after a choice, and what one reads.
+//! Examples of choices: the state of borrowed branches after a choice, and the grammar of one.
 #![tactic(auto)]
 
 ghost use Rattle.std.specs.Prelude.{◌≡◌, [], map};
@@ -28,8 +28,8 @@ pub fn choose_among<P: Parser<I, O, E>, I: Stream, O, E: ParserError<I>>(
     alt(&mut *branches).parse_next(input)
 }
 
-/// What the first of some branches reads by which something stands first. It fails where nothing
-/// does by any, by a backtrack, or for want of memory.
+/// Runs the first of `branches` whose grammar the input starts with. Backtracks if there is no such
+/// branch. Otherwise an error is out of memory.
 pub fn read_among<P: Parser<I, O, E>, I: Stream, O, E: ParserError<I>>(
     branches: &mut [P],
     input: &mut I,
@@ -44,8 +44,7 @@ pub fn read_among<P: Parser<I, O, E>, I: Stream, O, E: ParserError<I>>(
     alt(&mut *branches).read(input)
 }
 
-/// A sign, `+` or `-`, which stands first where it is answered. It fails, by a backtrack, where
-/// neither does.
+/// Parses a sign, `+` or `-`. Backtracks if the input starts with neither.
 ///
 /// ```
 /// use example_callers::choices::sign;

@@ -1,5 +1,5 @@
-//! Complete streams in use: what a partial stream that is marked complete is answered, said of the
-//! plain one.
+//! Examples of complete streams: results on a partial stream that is marked complete, in terms of
+//! the plain stream.
 #![tactic(auto)]
 
 ghost use Rattle.std.specs.Prelude.{ℕ};

@@ -10,9 +10,8 @@ use winnow::ascii::impls::{LineEnding, TillLineEnding};
 use winnow::combinator::terminated;
 use winnow::error::{EmptyError, HasKind};
 
-/// The first line of bytes, without its end, which is read too: a line feed, or one after a
-/// carriage return. It fails, by a backtrack, where no line end is there, or a carriage return
-/// stands before it alone.
+/// Parses the first line and its line ending, a line feed or CRLF, and returns the line without it.
+/// Backtracks if there is no line ending, or if a carriage return without a line feed precedes it.
 ///
 /// ```
 /// use example_callers::first_line::first_line;

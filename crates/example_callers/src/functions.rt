@@ -21,8 +21,8 @@ fn word<'i>(input: &mut &'i [u8]) -> Result<&'i [u8], EmptyError>
     alpha1(input)
 }
 
-/// Two words with a space between them: each is letters, at least one, and these, and then what is
-/// left, are the input.
+/// Parses two words with a space between them. Each word has at least one letter. The outputs
+/// followed by the rest are the original input.
 pub fn two_words<'i>(input: &mut &'i [u8]) -> Result<(&'i [u8], u8, &'i [u8]), EmptyError>
     ensures some { IfOk result (λ words. (0 < length words.0.now) × (0 < length words.2.now)) }
     ensures letters { IfOk result (λ words.

@@ -1,4 +1,4 @@
-//! Names in use: what is taken, and then what is left, is the input.
+//! Examples of names: the output followed by the rest is the original input.
 #![tactic(auto)]
 
 ghost use Rattle.std.specs.Prelude.{◌≡◌, ◌++◌, IfOk};
@@ -7,8 +7,8 @@ use winnow::error::{EmptyError, ErrMode};
 use winnow::prelude::*;
 use winnow::token::{one_of, take_while};
 
-/// Reads a name: a letter or an underscore, and then letters, digits and underscores. It, and then
-/// what is left, is the input.
+/// Parses a name: a letter or an underscore, and then letters, digits and underscores. The name
+/// followed by the rest is the original input.
 pub fn read_identifier<'i>(input: &mut &'i [u8]) -> Result<&'i [u8], ErrMode<EmptyError>>
     ensures { IfOk result (λ name. input.old.now ≡ name.now ++ input.new.now) }
 {

@@ -15,10 +15,9 @@ use winnow::combinator::{ParserIterator, iterator};
 use winnow::error::{ParseFault, ParserError};
 use winnow::stream::{Stream, StreamIsPartial};
 
-/// The last of the outputs of a chain of runs that consume, to one that backtracks, before which
-/// the
-/// input is left. A run that fails otherwise, or that consumes nothing, is its error, whatever
-/// outputs there were.
+/// Calls `parser` until it backtracks, and returns the last output. The input is left where the
+/// call that backtracks began. If a call fails otherwise, or consumes no input, returns that error,
+/// regardless of earlier outputs.
 pub fn last_item<P: Parser<I, O, E> + Drop, I: Stream, O: Drop, E: ParserError<I>>(
     input: &mut I,
     parser: P,
@@ -44,7 +43,8 @@ pub fn last_item<P: Parser<I, O, E> + Drop, I: Stream, O: Drop, E: ParserError<I
     }
 }
 
-/// The last item of an input that items are all of; else the fault of what stands after them.
+/// Returns the last item of an input that consists of items. Otherwise returns the error after the
+/// last item.
 pub fn last_of_all<P: Parser<I, O, E>, I: StreamIsPartial, O: Drop, E: ParserError<I>>(
     parser: &mut P,
     input: I,

@@ -6,7 +6,7 @@ ghost use Rattle.winnow.specs.Bytes.{bytes_input};
 
 use winnow::prelude::*;
 
-/// Whether a byte is left: it looks at what is left of bytes, and leaves them as they were.
+/// Returns whether a byte remains, and leaves the input unchanged.
 pub fn looked_at<'i>(input: &mut &'i [u8]) -> bool
     ensures same { bytes_input input.new.now ≡ bytes_input input.old.now }
     ensures answer { IsTrue result ↔ (0 < length input.old.now) }

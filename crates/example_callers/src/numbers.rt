@@ -20,8 +20,8 @@ pub type Numbers<I, E, A> = Repeat<
     A,
 >;
 
-/// Runs a parser of numbers over a partial stream: what it answers and leaves is a run of the same
-/// parser over the plain stream.
+/// Runs a parser of numbers over a partial stream. Its result and the rest are those of a call of
+/// the same parser over the plain stream.
 pub fn parse_numbers<I, E, F, A>(
     numbers: &mut Numbers<Partial<I>, F, A>,
     input: &mut Partial<I>,

@@ -9,8 +9,8 @@ use winnow::Parser;
 use winnow::ascii::impls::{DecInt, DecUint};
 use winnow::error::{EmptyError, HasKind};
 
-/// A port at the front of bytes: what `{}` writes of it, all digits that stand there, or a lone
-/// '0'. It fails, by a backtrack, where no digit is first, or the number is 65536 or more.
+/// Parses a port number as `{}` writes it: all digits at the start of the input, or a single `0`.
+/// Backtracks if the input does not start with a digit, or if the number is 65536 or more.
 ///
 /// ```
 /// use example_callers::numerals::port;
@@ -27,9 +27,9 @@ pub fn port<'i>(input: &mut &'i [u8]) -> Result<u16, EmptyError>
     DecUint.read(input)
 }
 
-/// An offset at the front of bytes: what `{}` writes of it, or that after a `+` where it is
-/// positive; all digits that stand there, or a lone '0'. It fails, by a backtrack, where no such
-/// number is first, or it does not fit 16 bits.
+/// Parses an offset as `{}` writes it, or with a `+` if it is positive: all digits there, or a
+/// single `0`. Backtracks if the input does not start with such a number, or if it does not fit in
+/// 16 bits.
 ///
 /// ```
 /// use example_callers::numerals::offset;

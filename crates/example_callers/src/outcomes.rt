@@ -1,5 +1,5 @@
-//! Outcomes in use: a parser of several parts tells what it did with the tokens, on whole input and
-//! in pieces.
+//! Examples of outcomes: a parser of several parts, specified by its effect on the tokens of
+//! complete and of partial input.
 #![tactic(auto)]
 
 ghost use Rattle.std.specs.Prelude.{◌≡◌, ⊤, ℕ};
@@ -15,8 +15,8 @@ use winnow::error::{EmptyError, ErrMode, ParserError};
 use winnow::laws::a_longer_input_gets_the_answer_of_a_cut_one;
 use winnow::stream::{AsChar, Compare, Partial, StreamIsPartial};
 
-/// A time, as `12:30`, from any stream: what is returned, and where an error leaves the input, is
-/// what digits, a colon and digits say of the tokens.
+/// Parses a time such as `12:30`, over any stream. The result, and the position of an error, are
+/// those of digits, a colon and digits.
 pub fn time<I, E>(input: &mut I) -> Result<(I::Slice, u8, I::Slice), E>
 where
     I: StreamIsPartial + Compare<u8>,
@@ -31,7 +31,8 @@ where
     (Digit1, b':', Digit1).read_outcome(input)
 }
 
-/// Each longer input gets the time, or the error, that a cut input got.
+/// States that results on partial input are final: each longer input has the same time, or the same
+/// error.
 pub fn time_is_for_good<I, E>()
 where
     I: StreamIsPartial + Compare<u8>,
@@ -58,7 +59,7 @@ pub fn time_of_bytes<'i>(
     time(input)
 }
 
-/// A time of bytes of which more may come.
+/// Parses a time from partial input.
 pub fn time_in_pieces<'i>(
     input: &mut Partial<&'i [u8]>,
 ) -> Result<(&'i [u8], u8, &'i [u8]), ErrMode<EmptyError>> {

@@ -8,7 +8,7 @@ use winnow::prelude::*;
 use winnow::stream::{AsChar, ParseSlice};
 use winnow::token::take_while;
 
-/// Reads what the `FromStr` of a type says of one digit to three, over any stream of text.
+/// Parses one to three digits by the `FromStr` of `O`, over any stream of text.
 fn read_digits<I, O, E>(input: &mut I) -> Result<O, E>
 where
     I: StreamIsPartial,

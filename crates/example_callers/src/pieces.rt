@@ -1,5 +1,5 @@
-//! Decoders of input that comes in pieces: each asks for more, or answers what it will answer
-//! whatever follows. That is proved by the trait of stable parsers alone.
+//! Decoders of partial input. Each returns `Incomplete`, or a result that is the same for any
+//! continuation. The trait of stable parsers suffices to prove that.
 ghost use Rattle.std.specs.Prelude.{◌≡◌, true, ℕ, ⊤};
 ghost use Rattle.winnow.specs.Form.{answer_by, modal};
 ghost use Rattle.winnow.specs.Stable.{EachSettlesOnCut, SettlesOnCut};
@@ -13,7 +13,7 @@ use winnow::stable::Stable;
 use winnow::stream::{AsBStr, AsChar, Compare, SlicesAsBytes};
 use winnow::token::impls::Any;
 
-/// A number, a colon, digits and a line end.
+/// Parses a number, a colon, digits and a line ending.
 pub fn field<
     I: StreamIsPartial + Compare<u8> + Compare<&'static str> + SlicesAsBytes,
     E: ParserError<I>,
@@ -52,7 +52,7 @@ where
     >();
 }
 
-/// Any stable parser between brackets, and a line end.
+/// Parses with any stable parser between brackets, and a line ending.
 pub fn bracketed<
     P: Stable<I, O, E> + Drop,
     I: StreamIsPartial + Compare<u8> + Compare<&'static str>,
@@ -70,7 +70,8 @@ pub fn bracketed<
     (b'[', inner, b']', LineEnding).parse_cut(input)
 }
 
-/// One token, whose error a closure hands on: that the closure keeps its kind is seen here.
+/// Parses one token, and passes its error through a closure. The proof shows that the closure keeps
+/// the error's kind.
 pub fn token_kept<I: StreamIsPartial, E: ParserError<I>>(input: &mut I) -> Result<I::Token, E>
     requires modal { E.form ≡ modal }
     requires is_cut { (I.view input.old).status.cut ≡ true }

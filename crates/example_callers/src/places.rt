@@ -31,7 +31,7 @@ where
     (Alpha1, b'=').read(input)
 }
 
-/// A word, and between which places, of any stream of bytes that knows its place.
+/// Parses a word and returns it with its span, over any stream of bytes with offsets.
 fn word_between<I, E>(input: &mut I) -> Result<(I::Slice, Range<usize>), E>
 where
     I: StreamIsPartial + Location,
@@ -46,8 +46,8 @@ where
     Alpha1.read_spanned(input)
 }
 
-/// The value of an assignment as `key=value` that is first in what is left, and between which
-/// places it is, in bytes from the start of the stream. It fails where no assignment is first.
+/// Parses an assignment `key=value` and returns the value and its span, in bytes from the start of
+/// the stream. Fails if the input does not start with an assignment.
 ///
 /// ```
 /// use example_callers::places::value_place;

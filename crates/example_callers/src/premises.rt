@@ -1,5 +1,5 @@
-//! Closed callers of the parsers whose grammar asks something of a closure, a type or a part: each
-//! meets what is asked, and tells by the grammar what it reads.
+//! Closed callers of the parsers whose grammar has a precondition on a closure, a type or a part.
+//! Each meets the precondition, and specifies its result by the grammar.
 
 pub mod closures;
 pub mod errors;

@@ -1,4 +1,4 @@
-//! Words in use: what stands first by the grammars of their parsers.
+//! Examples of words: contracts by the grammars of the parsers.
 #![tactic(auto)]
 
 ghost use Rattle.example_callers.specs.Words.{Assignment, Mark, MarkedWord, Word};
@@ -10,8 +10,8 @@ use winnow::ascii::impls::Alpha1;
 use winnow::combinator::preceded;
 use winnow::error::{EmptyError, HasKind};
 
-/// A word at the front of bytes: as many letters as stand first, at least one. It fails, by a
-/// backtrack, where no letter stands first.
+/// Parses a word: the longest prefix of letters, at least one. Backtracks if the input does not
+/// start with a letter.
 ///
 /// ```
 /// use example_callers::words::front_word;
@@ -29,8 +29,7 @@ pub fn front_word<'i>(input: &mut &'i [u8]) -> Result<&'i [u8], EmptyError>
     Alpha1.read(input)
 }
 
-/// The mark `=`, which stands first in bytes where it is answered; it fails, by a backtrack, where
-/// it does not.
+/// Parses the mark `=`. Backtracks if the input does not start with it.
 pub fn mark<'i>(input: &mut &'i [u8]) -> Result<u8, EmptyError>
     ensures reads { Reads bytes_reading ⟦<EmptyError as HasKind>⟧.kind Mark
         (bytes_input input.old.now) result (bytes_input input.new.now) }
@@ -39,7 +38,7 @@ pub fn mark<'i>(input: &mut &'i [u8]) -> Result<u8, EmptyError>
     b'='.read(input)
 }
 
-/// A word, `=` and a word. It fails, by a backtrack, where these do not stand first.
+/// Parses a word, `=` and a word. Backtracks if the input does not start with these.
 pub fn assignment<'i>(input: &mut &'i [u8]) -> Result<(&'i [u8], u8, &'i [u8]), EmptyError>
     ensures reads { Reads bytes_reading ⟦<EmptyError as HasKind>⟧.kind Assignment
         (bytes_input input.old.now) result (bytes_input input.new.now) }
@@ -48,8 +47,7 @@ pub fn assignment<'i>(input: &mut &'i [u8]) -> Result<(&'i [u8], u8, &'i [u8]), 
     (Alpha1, b'=', Alpha1).read(input)
 }
 
-/// A word after a mark: `=` and the word, which is answered. It fails, by a backtrack, where these
-/// do not stand first.
+/// Parses `=` and a word, and returns the word. Backtracks if the input does not start with these.
 pub fn marked_word<'i>(input: &mut &'i [u8]) -> Result<&'i [u8], EmptyError>
     ensures reads { Reads bytes_reading ⟦<EmptyError as HasKind>⟧.kind MarkedWord
         (bytes_input input.old.now) result (bytes_input input.new.now) }

@@ -27,11 +27,11 @@ abbrev pub bytes_of : Scale → ℕ
 bytes_of Kilo = 1024
 bytes_of Mega = 1048576
 
--- what a unit makes of a size, where that is a number of 32 bits
+-- `unit_value unit v x`: `x` is the size `v` in `unit`, and fits in 32 bits.
 abbrev pub unit_value : Scale → ℕ → ℕ → Type 0
 unit_value unit v x = (x ≡ v * bytes_of unit) × (x < 2 ^ 32)
 
--- and what a sign makes of two
+-- `sign_value sign v w x`: `x` is the result of `sign` for `v` and `w`, and fits in 32 bits.
 abbrev pub sign_value : Sign → ℕ → ℕ → ℕ → Type 0
 sign_value Plus v w x = (x ≡ v + w) × (x < 2 ^ 32)
 sign_value Times v w x = (x ≡ v * w) × (x < 2 ^ 32)
@@ -44,7 +44,7 @@ pub one_sign : (sign : Sign) (v w : ℕ) → GivesOne (sign_value sign v w)
 one_sign Plus v w x y is was = is.0 ∙ sym was.0
 one_sign Times v w x y is was = is.0 ∙ sym was.0
 
--- the bytes of two operators that are a choice of bytes, and what they stand for
+-- Two operators that are each one byte: their bytes and their values.
 abbrev pub Marks : Type 0 → Type 0
 Marks O = (ℕ × O) × (ℕ × O)
 
@@ -70,7 +70,6 @@ SizeStates = (⊤ × ⊤) × (Marks (Postfix Scale) × Marks (Infix Sign))
 abbrev pub size_states : SizeStates
 size_states = ((tt, tt), (unit_marks, sign_marks))
 
--- units and signs that are equal are alike, as far as their folds are
 pub same_units : {T : Type 0} (o p : Postfix Scale) → o ≡ p
     → AlikePostfix (FoldAlike {T = T} (λ v w. v ≡ w) (λ f i v a j. Gives (unit_value f v) i a j)) o
     p

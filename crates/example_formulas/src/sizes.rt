@@ -43,14 +43,14 @@ pub enum Sign {
     Times,
 }
 
-/// Numbers are alike where they are equal.
+/// Equality of numbers.
 struct Equal;
 
 impl Likeness<u32> for Equal {
     ghost alike = { λ v w. v ≡ w };
 }
 
-/// What a unit makes of a size: none where it does not fit.
+/// Returns `size` in `unit` as a number of bytes, or `None` if that does not fit.
 fn scaled(unit: Scale, size: u32) -> Option<u32>
     ensures { MatchOption result ((x : ℕ) → unit_value unit size x → ⊥)
         (λ x. unit_value unit size x) }
@@ -61,7 +61,7 @@ fn scaled(unit: Scale, size: u32) -> Option<u32>
     }
 }
 
-/// What a sign makes of two sizes: none where it does not fit.
+/// Applies `sign` to two sizes. Returns `None` if the result does not fit.
 fn joined(sign: Sign, left: u32, right: u32) -> Option<u32>
     ensures { MatchOption result ((x : ℕ) → sign_value sign left right x → ⊥)
         (λ x. sign_value sign left right x) }
@@ -127,12 +127,11 @@ fn signs<'i>() -> Marks<&'i [u8], Infix<Sign>>
     ))
 }
 
-/// The size that the bytes begin with: a number, `k` and `m` after a size, of power 5, and between
-/// two `*`, of power 3, and `+`, of power 1, joined from the left.
+/// Parses a size: a number, postfix `k` and `m` of power 5, and between two sizes `*` of power 3
+/// and `+` of power 1, both left-associative.
 ///
-/// The answer is the value of the one tree over what the parts read that keeps the powers, and what
-/// is after it is left. It fails where there is none, where a number does not fit in 32 bits, and
-/// for want of memory.
+/// Returns the value of the only tree of the parts that respects precedence, and leaves the rest.
+/// It fails if there is no such tree, if a number does not fit in 32 bits, or with out of memory.
 ///
 /// ```
 /// use example_formulas::sizes::read_size;

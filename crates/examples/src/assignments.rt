@@ -1,5 +1,5 @@
-//! Lines of settings and flags, as `width=12` and `debug`: after an equals sign a value is due, so
-//! that a line lacks it is told for good, where the value is due.
+//! Lines of settings and flags, as `width=12` and `debug`. A value must follow an equals sign, so a
+//! missing value is a final error at the offset where the value is expected.
 ghost use Rattle.std.specs.Prelude.{◌≡◌, [], ⊤, false};
 ghost use Rattle.examples.specs.Assignments.Assignments.{IsTold};
 ghost use Rattle.examples.specs.Assignments.Read.{LineFails, LineRead, LinesFail, LinesRead};
@@ -16,7 +16,7 @@ use winnow::error::{EmptyError, ErrMode, ModalError, ParseFault, ParserError};
 use winnow::exact::Fails;
 use winnow::stream::{AsChar, Compare, Range, StreamIsPartial};
 
-/// Lines that `line` reads, one after the other, up to the end of the input.
+/// Parses all of `input` as a sequence of lines by `line`.
 fn lines_of<I, E, A, P>(alloc: A, line: P, input: I) -> Result<(), ParseFault<I, E::Inner>>
 where
     I: StreamIsPartial,
@@ -66,10 +66,11 @@ where
     lines_of::<I, E, A, _>(alloc, alt((setting, flag)), input)
 }
 
-/// Whether a text is lines of settings and flags: a setting is a name of letters, an equals sign
-/// and a value of digits, a flag is a name, and a line feed ends each. A fault says at which byte a
-/// value lacks, right after its equals sign; or at which byte what is no line begins. Memory is
-/// not asked for.
+/// Checks that a text consists of lines of settings and flags. A setting is a name of letters, an
+/// equals sign and a value of digits. A flag is a name. A line feed ends each line.
+///
+/// An error holds the offset in bytes at which a value is missing, directly after its equals sign,
+/// or at which an invalid line begins. Does not allocate.
 ///
 /// ```
 /// use examples::assignments::check_assignments;

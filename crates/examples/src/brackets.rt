@@ -1,8 +1,8 @@
-//! Brackets in brackets, as `[[][[]]]`, nested to a level that the caller gives, from bytes that
-//! may come in pieces.
+//! Nested brackets, as `[[][[]]]`, up to a depth that the caller gives, from bytes that may arrive
+//! in chunks.
 //!
-//! So what contains itself is read in pieces by its grammar: as in `nested`, a function of a level
-//! makes a parser of itself at the level below, here by `Rule::by_pieces`, which is stable.
+//! This is how recursive grammars are parsed incrementally. As in `nested`, a function of a depth
+//! makes a parser of itself at the depth below, here by `Rule::by_pieces`, which is stable.
 ghost use Rattle.std.specs.Prelude.{◌≡◌, ⊤, None, Vec};
 ghost use Rattle.std.specs.Fn.{CalledAtMut};
 ghost use Rattle.winnow.specs.Bytes.{bytes_follow, bytes_reading};
@@ -27,15 +27,14 @@ type Bytes = Partial<&'static [u8]>;
 
 type Error = ErrMode<EmptyError>;
 
-/// Brackets, with those that stand in them.
+/// Brackets, with the brackets inside them.
 #[derive(Drop)]
 pub struct Brackets<A: Allocator> {
     /// Those, in order.
     pub inner: Vec<Brackets<A>, A>,
 }
 
-/// Items between the opening and the closing one, as many as stand. A function reads an item by a
-/// rule, in pieces.
+/// Parses zero or more items between brackets. A function parses an item by a rule, incrementally.
 fn read_between<I, E, O, A, R, F, B>(
     alloc: A,
     rule: R,
@@ -92,10 +91,10 @@ impl<'i, A: Allocator> Rule<Partial<&'i [u8]>, Brackets<A>> for AnyBrackets<A> {
     ghost takes = { λ r _. brackets_take r.1 };
 }
 
-/// Brackets, of which no more than that many stand in one another.
+/// Parses brackets nested at most `level` deep.
 ///
-/// What it answers on a cut input, it answers whatever follows; else it asks for more, or wants
-/// memory. A backtrack says that no such brackets stand first.
+/// On partial input a result is the same for any continuation, unless it is `Incomplete` or out of
+/// memory. A backtrack means that the input does not start with such brackets.
 ///
 /// ```
 /// use examples::brackets::read_brackets;

@@ -45,8 +45,8 @@ where
     Parser::<I, _, E>::read_all(&mut color, input)
 }
 
-/// The color that a text is, as `#a0b1c2`: the two hexadecimal digits of red, of green and of blue.
-/// A fault says at which byte the text is no color.
+/// Parses all of a text as a color such as `#a0b1c2`, and returns the two hexadecimal digits of
+/// red, of green and of blue. An error holds the offset in bytes at which the text is not a color.
 ///
 /// ```
 /// use examples::color::parse_color;

@@ -1,9 +1,9 @@
-//! Lines of a log, with an error type of their own: an enum of this crate, which says what was
-//! expected or which letter stands for no level.
+//! Lines of a log, with an error type of their own: an enum of this crate, which holds the expected
+//! part or the letter that is not a level.
 //!
-//! A type is the error of parsers where it says which kind each of its values has ([`HasKind`]) and
-//! how parsers make and join it ([`ParserError`]). `context` wants [`AddContext`], and `try_map`
-//! [`FromExternalError`] for the errors of its closure.
+//! A type is the error of parsers if each of its values has a kind ([`HasKind`]), and if parsers
+//! can make and join values ([`ParserError`]). `context` requires [`AddContext`], and `try_map`
+//! requires [`FromExternalError`] for the errors of its closure.
 //!
 //! [`HasKind`]: winnow::error::HasKind
 //! [`ParserError`]: winnow::error::ParserError
@@ -51,8 +51,8 @@ pub fn level_of(letter: u8) -> Result<Level, NoLevel>
     }
 }
 
-/// Reads the letter of a level. It says that a level is missing, or which letter stands for none,
-/// and leaves the input as it was; it wants no memory.
+/// Parses the letter of a level. The error reports that a level is missing, or holds the letter
+/// that is not a level. The input is then unchanged. Never fails with out of memory.
 ///
 /// ```
 /// use examples::errors::error::LineError;
@@ -76,8 +76,8 @@ pub fn read_letter<'i, A: Allocator + Copy>(
     }
 }
 
-/// Reads the colon after a level, or says that it is missing, and leaves the input as it was; it
-/// wants no memory.
+/// Parses the colon after a level. If it is missing, the error reports that, and the input is
+/// unchanged. Never fails with out of memory.
 ///
 /// ```
 /// use examples::errors::error::{LineError, Part};
@@ -101,10 +101,10 @@ pub fn read_colon<'i, A: Allocator + Copy>(
     }
 }
 
-/// Reads the level of a line and the colon after it.
+/// Parses the level of a line and the colon after it.
 ///
-/// Where the level is missing the input stays; where the colon is, it is left after the letter. It
-/// wants no memory.
+/// If the level is missing, the input is unchanged. If the colon is missing, the input is left
+/// after the letter. Never fails with out of memory.
 ///
 /// ```
 /// use examples::errors::{Level, read_level};

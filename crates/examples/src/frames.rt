@@ -1,4 +1,4 @@
-//! Frames of a length and a payload, read in pieces into a buffer of the caller's.
+//! Frames of a length and a payload, read in chunks into a buffer of the caller.
 pub mod fault;
 pub mod first;
 pub mod frames;

@@ -1,8 +1,8 @@
-//! Lines that are each a `y` or an `n`, by a grammar in their own words.
+//! Lines that are each a `y` or an `n`, by a grammar of their own.
 //!
-//! A reader is made of parsers, and its clause says what it reads: on a whole input it answers what
-//! stands first by the grammar, with what is left, and fails only where none stands, or for want of
-//! memory.
+//! A reader is composed of parsers, and its contract gives its grammar. On complete input it
+//! returns the match of the grammar at the start of the input, and leaves the rest. It fails only
+//! if there is no match, or with out of memory.
 ghost use Rattle.std.specs.Prelude.{⊤, ℕ};
 ghost use Rattle.std.specs.declared.vec.Vec.{Vec};
 ghost use Rattle.winnow.specs.Bytes.{bytes_input, bytes_reading};
@@ -21,7 +21,7 @@ use winnow::error::{EmptyError, ErrMode, HasKind, ParseFault, ParserError};
 use winnow::exact::Rule;
 use winnow::stream::Range;
 
-/// A line: a `y` or an `n`, and a line feed. It answers the letter.
+/// Parses a line, a `y` or an `n` followed by a line feed, and returns the letter.
 ///
 /// ```
 /// use examples::lines::read_line;
@@ -53,7 +53,7 @@ impl<'i> Rule<&'i [u8], u8> for Line {
     ghost takes = { λ _ _. line_takes };
 }
 
-/// Lines, as many as stand one after the other: their letters, in order.
+/// Parses as many consecutive lines as match, and returns their letters, in order.
 ///
 /// ```
 /// use examples::lines::read_lines;
@@ -75,9 +75,9 @@ pub fn read_lines<'i, A: Allocator + Copy>(
     repeat(alloc, Range::from(0..), Line.by(read_line)).read(input)
 }
 
-/// Lines, where all of the bytes are lines: their letters, in order. Else a fault, which says where
-/// the lines ended; or want of memory. So of what is written for some letters it answers these, or
-/// memory is wanting.
+/// Parses all of the bytes as lines, and returns their letters, in order. Otherwise the error holds
+/// the offset at which the lines ended, or is out of memory. The lines that are written for some
+/// letters are therefore parsed as these letters, unless an allocation fails.
 ///
 /// ```
 /// use examples::lines::parse_lines;

@@ -109,7 +109,7 @@ impl<'i, A: Allocator> Rule<&'i [u8], Tree<A>> for AnyTree<A> {
     ghost takes = { λ r _. tree_takes r.1 };
 }
 
-/// A tree, in which no more than that many brackets stand in one another.
+/// Parses a tree whose brackets are nested at most `level` deep.
 ///
 /// ```
 /// use examples::nested::{Tree, read_tree};

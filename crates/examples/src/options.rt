@@ -1,12 +1,13 @@
-//! Options in brackets, as `[mode=fast,debug]`: a composition of eleven parsers that reads by its
-//! grammar, on a whole input and in pieces.
-ghost use Rattle.std.specs.Prelude.{◌≡◌, [], true};
-ghost use Rattle.winnow.specs.Begun.{AsksExactly};
-ghost use Rattle.winnow.specs.Compare.{IsShort};
+//! Options in brackets, as `[mode=fast,debug]`: a composition of eleven parsers that is specified
+//! by its grammar, on complete and on partial input.
+ghost use Rattle.std.specs.Prelude.{◌≡◌, []};
+ghost use Rattle.winnow.specs.Class.Says.{SeenOnce};
 ghost use Rattle.winnow.specs.Form.{answer_by, modal};
 ghost use Rattle.winnow.specs.Bytes.{bytes_follow, bytes_input, bytes_reading};
-ghost use Rattle.examples.specs.Options.Options.{AreOptions, AreOptionsBegun, InBrackets};
-ghost use Rattle.examples.specs.Options.Options.{InBracketsBegun, OptionsBegun, OptionsOf};
+ghost use Rattle.winnow.specs.Outcome.{outcome_of};
+ghost use Rattle.winnow.specs.Says.{Tells};
+ghost use Rattle.examples.specs.Options.Options.{AreOptions, InBrackets, OptionsOf, byte_says};
+ghost use Rattle.examples.specs.Options.Options.{in_brackets_says, option_says, options_say};
 ghost use Rattle.winnow.specs.Exact.{Reads};
 ghost use Rattle.winnow.specs.Cut.{ReadsOrAsks};
 ghost use Rattle.winnow.specs.Once.{SeesApart};
@@ -17,17 +18,19 @@ use winnow::Parser;
 use winnow::ascii::impls::{Alpha1, Alphanumeric1};
 use winnow::combinator::{delimited, opt, preceded, separated};
 use winnow::error::{EmptyError, ErrMode, HasKind, ParserError};
-use winnow::exact::Begun;
+use winnow::exact::ReadsPieces;
+use winnow::stable::Stable;
 use winnow::stream::{AsChar, Compare, Partial, Range, Stream, StreamIsPartial};
 
-/// What `option` reads, with commas between them, in brackets, from any stream of bytes.
+/// Parses zero or more items by `option`, with commas between them, in brackets, over any stream of
+/// bytes.
 fn in_brackets<I, E, O, A, P>(alloc: A, option: P, input: &mut I) -> Result<Vec<O, A>, E>
 where
     I: StreamIsPartial + Compare<u8>,
     E: ParserError<I>,
     O: Drop,
     A: Allocator + Copy,
-    P: Begun<I, O, E> + Drop,
+    P: Stable<I, O, E> + Drop,
     requires modal { E.form ≡ modal }
     requires comma { I.spells 44 [] → ⊥ }
     requires option { P.can_parse option × (P.claim (P.state option)).premise
@@ -35,12 +38,12 @@ where
     ensures reads { ReadsOrAsks I.reading I.following E.kind
         (InBrackets (Literally I.reading I.spells (λ s _. s)) (P.claim (P.state option)).grammar)
         (I.view input.old) result (I.view input.new) }
-    ensures asks { (I.view input.old).status.cut ≡ true → (I.view input.old).left.possible ≡ true
-        → AsksExactly (InBracketsBegun (Literally I.reading I.spells (λ s _. s))
-        (P.claim (P.state option)).grammar A (λ b. IsShort (I.spells b)) (P.begun option))
-        (I.view input.old) (answer_by E.kind result) }
+    ensures tells { (P.says (P.state option)).premise
+        → Tells (in_brackets_says (byte_says I.reading I.spells) (P.says (P.state option)))
+        E.form (I.view input.old)
+        (outcome_of (answer_by E.kind result) (I.view input.new).left.tokens) }
 {
-    delimited(b'[', separated(alloc, Range::from(0..), option, b','), b']').read_asking(input)
+    delimited(b'[', separated(alloc, Range::from(0..), option, b','), b']').read_cut(input)
 }
 
 /// Options in brackets, from any stream of bytes.
@@ -52,22 +55,25 @@ where
     A: Allocator + Copy,
     requires modal { E.form ≡ modal }
     requires seen { SeesApart I.seen_as }
+    requires once { SeenOnce I.seen_as I.Token.code }
     requires comma { I.spells 44 [] → ⊥ }
     ensures reads { ReadsOrAsks I.reading I.following E.kind (OptionsOf I.reading I.seen_as
         I.Token.code (Literally I.reading I.spells (λ s _. s))) (I.view input.old) result
         (I.view input.new) }
-    ensures asks { (I.view input.old).status.cut ≡ true → (I.view input.old).left.possible ≡ true
-        → AsksExactly (OptionsBegun I.reading I.seen_as I.Token.code
-        (Literally I.reading I.spells (λ s _. s)) A (λ b. IsShort (I.spells b)))
-        (I.view input.old) (answer_by E.kind result) }
+    ensures tells { Tells (in_brackets_says (byte_says I.reading I.spells)
+        (option_says I.reading I.seen_as I.Token.code (byte_says I.reading I.spells)))
+        E.form (I.view input.old)
+        (outcome_of (answer_by E.kind result) (I.view input.new).left.tokens) }
 {
     in_brackets(alloc, (Alpha1, opt(preceded(b'=', Alphanumeric1))), input)
 }
 
-/// Options in brackets: names of letters, each with a value of letters and digits after an equals
-/// sign, or without one, and commas between them. What stands first is read, and what is after the
-/// bracket that closes is left. An error leaves an end of the input, and backtracks: no options
-/// stand first. Else it is out of memory.
+/// Parses options in brackets, with commas between them, and leaves the rest after the closing
+/// bracket. An option is a name of letters, with or without an equals sign and a value of letters
+/// and digits.
+///
+/// An error leaves the input at a suffix. It is a backtrack if the input does not start with
+/// options. Otherwise it is out of memory.
 ///
 /// ```
 /// use examples::options::read_options;
@@ -87,9 +93,9 @@ pub fn read_options<'i, A: Allocator + Copy>(
     options(alloc, input)
 }
 
-/// As [`read_options`], from an input to which more may come: what it answers there, it answers
-/// whatever follows. It asks for more, by `Incomplete`, exactly where the bytes are the beginning
-/// of options and the next of them is not there (`asks`), want of memory aside.
+/// Reads options as [`read_options`] does, from partial input. A result other than `Incomplete` is
+/// the result for every longer input (`reads`). The outcome of the parsers is specified exactly
+/// (`tells`): when they return `Incomplete`, with which need, and where an error leaves the input.
 ///
 /// ```
 /// use examples::options::read_options_in_pieces;
@@ -108,9 +114,10 @@ pub fn read_options_in_pieces<'i, A: Allocator + Copy>(
         ⟦<ErrMode<EmptyError> as HasKind>⟧.kind AreOptions
         (⟦<Partial<&'static [u8]> as Stream>⟧.view input.old) result
         (⟦<Partial<&'static [u8]> as Stream>⟧.view input.new) }
-    ensures asks { (⟦<Partial<&'static [u8]> as Stream>⟧.view input.old).status.cut ≡ true
-        → AsksExactly (AreOptionsBegun A) (⟦<Partial<&'static [u8]> as Stream>⟧.view input.old)
-        (answer_by ⟦<ErrMode<EmptyError> as HasKind>⟧.kind result) }
+    ensures tells { Tells options_say modal
+        (⟦<Partial<&'static [u8]> as Stream>⟧.view input.old)
+        (outcome_of (answer_by ⟦<ErrMode<EmptyError> as HasKind>⟧.kind result)
+        (⟦<Partial<&'static [u8]> as Stream>⟧.view input.new).left.tokens) }
 {
     options(alloc, input)
 }

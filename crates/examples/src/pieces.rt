@@ -1,8 +1,8 @@
-//! Readers of input that comes in pieces: what each answers to a piece it answers for good.
+//! Readers of partial input whose results are final.
 //!
-//! An answer other than a call for more, or for memory, is what every longer input is answered, as
-//! far as outputs show the same; so where the input is cut does not matter. Each is made of parsers
-//! of the library, with no proof about them.
+//! A result is also that of every longer input, unless it is `Incomplete` or out of memory, as far
+//! as outputs show the same. So it does not matter where the input is split. Each reader is
+//! composed of parsers of the library, with no proof about them.
 ghost use Rattle.std.specs.Prelude.{◌≡◌, true};
 ghost use Rattle.winnow.specs.Form.{answer_by, modal};
 ghost use Rattle.examples.specs.Pieces.Pieces.{SameSettings};
@@ -23,7 +23,7 @@ type Error = ErrMode<EmptyError>;
 /// A setting, as clauses name it.
 type Setting = (&'static [u8], u8, &'static [u8]);
 
-/// A name, an equals sign and digits, at the beginning of a cut input of bytes.
+/// Parses a name, an equals sign and digits at the start of partial input.
 ///
 /// ```
 /// use examples::pieces::read_setting;

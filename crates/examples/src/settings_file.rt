@@ -63,9 +63,10 @@ where
     Parser::<I, _, E>::read_all(&mut lines, input)
 }
 
-/// The settings of a file, in order: a key of one byte or more, an equals sign, a value and a line
-/// feed each. A value may have any bytes but line feeds, a key no equals signs either. A fault says
-/// at which byte a line is no setting, or that memory was refused.
+/// Parses the settings of a file, in order. Each is a key of one byte or more, an equals sign, a
+/// value and a line feed. A value may have any bytes except line feeds; a key may not have equals
+/// signs either. An error holds the offset in bytes at which a line is not a setting, or is out of
+/// memory.
 ///
 /// ```
 /// use examples::settings_file::parse_settings;

@@ -1,4 +1,4 @@
-//! Words with escapes, as they stand and as what they stand for.
+//! Words with escapes, raw and unescaped.
 
 use std::alloc::Global;
 use winnow::Parser;

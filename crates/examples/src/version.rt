@@ -58,10 +58,10 @@ where
     Parser::<I, _, E>::read_all(&mut version, input)
 }
 
-/// The version that a text is: three numbers with dots between them, and after a hyphen one word
-/// or more with dots between them, or neither. A number is below 2 to the 64, with no zeros in
-/// front; a word has letters, digits and hyphens, one at least. A fault says at which byte the text
-/// is no version, or that memory was refused.
+/// Parses all of a text as a version: three numbers with dots between them, and optionally a hyphen
+/// and one or more words with dots between them. A number is below 2 to the 64, without leading
+/// zeros. A word has one or more letters, digits and hyphens. An error holds the offset in bytes at
+/// which the text is not a version, or is out of memory.
 ///
 /// ```
 /// use examples::version::parse_version;

@@ -1,4 +1,4 @@
--- What a call tells of a chunked body, and calls in turn.
+-- Lemmas about the results of calls for chunked bodies, and of successive calls.
 use Rattle.std.specs.Prelude.{◌≡◌, ◌+◌, ◌++◌, ℕ, List, [], ◌∷◌, length, take, Result}
 use Rattle.std.proofs.Common.{ap, append_assoc, append-nil, arith, length-append, refl, subst, sym}
 use Rattle.std.proofs.Common.{◌∙◌}
@@ -38,7 +38,6 @@ tells old new before after bytes rest said code out was is taken writes spends a
 
 -- ---- places
 
--- what is taken is before the rest, with what is given out
 pub taken_before : (bytes rest : List ℕ) (said : Result Step Fault) → Stands bytes rest said
     → (before : List ℕ) × (bytes ≡ before ++ rest)
 taken_before bytes rest said (before, e) =
@@ -77,7 +76,6 @@ at_as : (at : Place) (a b c d e f : List ℕ) → a ≡ b → c ≡ d → e ≡ 
 at_as at a b c d e f x y z is =
     subst (λ l. IsAt at b d l) z (subst (λ l. IsAt at b l e) y (subst (λ l. IsAt at l c e) x is))
 
--- the same after what was taken before, with what is after it
 joined : (front text more all : List ℕ) → all ≡ text ++ more
     → (front ++ text) ++ more ≡ front ++ all
 joined front text more all e = append_assoc front text more ∙ ap (λ l. front ++ l) (sym e)

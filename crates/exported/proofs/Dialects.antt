@@ -1,4 +1,4 @@
--- What calls tell of a document of INI, and calls in turn.
+-- Lemmas about the results of calls for INI documents, and of successive calls.
 use Rattle.std.specs.Prelude.{◌≡◌, ◌<◌, ◌++◌, ℕ, List, [], ◌∷◌, drop}
 use Rattle.std.specs.Prelude.{Option, Some, None, Result, Ok, Err}
 use Rattle.std.proofs.Common.{ap, append_assoc, arith, inl, inr, length-drop, subst, sym}
@@ -17,13 +17,12 @@ use Rattle.format_ini.specs.declared.places.Reading.{Reading}
 use Rattle.format_ini.specs.declared.places.Stop.{Stop}
 use Rattle.format_ini.specs.declared.places.Stop.TheVariants as stops
 use Rattle.exported.proofs.DialectTexts.{line_text, mark_text, rest_text}
-use Rattle.exported.specs.Code.{done, end, no_text, refused}
+use Rattle.exported.specs.Code.{done, end, invalid, invalid_utf8}
 use Rattle.exported.specs.Dialects.{EntriesInTurn, IsFrom, TellsEntry, Writes, dialect_of}
 use Rattle.exported.specs.Dialects.{fault_number, reading_at, said_by, zeros}
 use Rattle.exported.specs.declared.ini.dialects.IniEntry.{IniEntry}
 use Rattle.exported.specs.declared.ini.dialects.IniState.{IniState}
 
--- what the reader of entries answers, of the states that are of it
 pub tells : (dialect : ℕ) (d : Dialect) (old new : IniState) (bytes : List ℕ)
     (from after : Reading) (answer : Result (Option Placed) Stop) (code : ℕ) (out : IniEntry)
     → d ≡ dialect_of dialect → IsFrom old bytes from → reading_at new ≡ after
@@ -42,12 +41,12 @@ tells dialect d old new bytes from after answer code out same begins is next wri
 
 -- ---- calls in turn
 
--- lines that say this stand before the place where reading goes on
+-- `SoFar dialect bytes said from`: the lines of `bytes` before `from` have the content `said`.
 abbrev pub SoFar : ℕ → List ℕ → List Said → Reading → Type 0
 SoFar dialect bytes said from = (lines : List ℕ) × BehindMark bytes lines
     × ReadsLines (dialect_of dialect) start lines said from.state (drop from.offset bytes)
 
--- the same wherever a state says that reading goes on
+-- `Stands dialect bytes said state`: `SoFar` holds for each position that `state` represents.
 abbrev pub Stands : ℕ → List ℕ → List Said → IniState → Type 0
 Stands dialect bytes said state =
     (from : Reading) → IsFrom state bytes from → SoFar dialect bytes said from
@@ -59,7 +58,6 @@ stands_first dialect bytes from (inl (z, (mark, within, is))) =
     (left, mark, subst P (sym is) (reads_none (dialect_of dialect) start left))
 stands_first dialect bytes from (inr (more, is)) = absurd (omega (arith, more))
 
--- as far as lines go that say nothing
 passed : (dialect : ℕ) (bytes : List ℕ) (said : List Said) (from mid : Reading)
     → SoFar dialect bytes said from
     → ReadsLines (dialect_of dialect) from.state (drop from.offset bytes) [] mid.state
@@ -129,7 +127,6 @@ turn_by_turn dialect bytes (out ∷ outs) state last before said here
     (turn_by_turn dialect bytes outs next last (before ++ one) others
     (stands_more dialect bytes before state next out tells here) again)
 
--- where no entry is left
 over_by : (dialect : ℕ) (bytes : List ℕ) (said : List Said) (from new : Reading)
     (answer : Result (Option Placed) Stop) (out : IniEntry)
     → NextPlaced (dialect_of dialect) bytes from answer new → Writes answer new.offset end out
@@ -145,13 +142,12 @@ over_by dialect bytes said from new (Err stops.NoText) out next (code, none) her
 over_by dialect bytes said from new (Err (stops.Refused reason)) out next (code, none) here =
     absurd (omega (arith, code))
 
--- where a line is refused
 refused_by : (dialect : ℕ) (bytes : List ℕ) (said : List Said) (from new : Reading)
     (answer : Result (Option Placed) Stop) (out : IniEntry)
     → NextPlaced (dialect_of dialect) bytes from answer new
-    → Writes answer new.offset refused out → SoFar dialect bytes said from
-    → (reason : Refusal) × (out.fault ≡ fault_number reason)
-    × IsRefused (dialect_of dialect) bytes (record { offset = out.place; why = reason })
+    → Writes answer new.offset invalid out → SoFar dialect bytes said from
+    → (reason : Refusal) × (out.error ≡ fault_number reason)
+    × IsRefused (dialect_of dialect) bytes (record { offset = out.error_offset; why = reason })
 refused_by dialect bytes said from new (Err (stops.Refused reason)) out
     ((least, passes), less, stop) (code, (kind, key, value, place, fault)) here =
     let (lines, mark, reads) = passed dialect bytes said from new here passes in (
@@ -174,11 +170,10 @@ refused_by dialect bytes said from new (Ok (Some it)) out next (code, none) here
 refused_by dialect bytes said from new (Err stops.NoText) out next (code, none) here =
     absurd (omega (arith, code))
 
--- where a line is no text
 no_text_by : (dialect : ℕ) (bytes : List ℕ) (said : List Said) (from new : Reading)
     (answer : Result (Option Placed) Stop) (out : IniEntry)
     → NextPlaced (dialect_of dialect) bytes from answer new
-    → Writes answer new.offset no_text out → SoFar dialect bytes said from → IsUtf8 bytes → ⊥
+    → Writes answer new.offset invalid_utf8 out → SoFar dialect bytes said from → IsUtf8 bytes → ⊥
 no_text_by dialect bytes said from new (Err stops.NoText) out
     ((least, passes), less, (line, behind, first, bad)) writes here is =
     let (lines, mark, (every, are, says)) = passed dialect bytes said from new here passes in
@@ -203,12 +198,12 @@ module _ (dialect : ℕ) (bytes : List ℕ) (outs : List IniEntry) (said : List 
   whole last = over_by dialect bytes said last.from (reading_at next) last.answer out last.next
       last.writes (here last.from last.begins)
 
-  pub refuses : TellsEntry dialect state next bytes refused out
-      → (reason : Refusal) × (out.fault ≡ fault_number reason)
-      × IsRefused (dialect_of dialect) bytes (record { offset = out.place; why = reason })
+  pub refuses : TellsEntry dialect state next bytes invalid out
+      → (reason : Refusal) × (out.error ≡ fault_number reason)
+      × IsRefused (dialect_of dialect) bytes (record { offset = out.error_offset; why = reason })
   refuses last = refused_by dialect bytes said last.from (reading_at next) last.answer out
       last.next last.writes (here last.from last.begins)
 
-  pub no_texts : TellsEntry dialect state next bytes no_text out → IsUtf8 bytes → ⊥
+  pub no_texts : TellsEntry dialect state next bytes invalid_utf8 out → IsUtf8 bytes → ⊥
   no_texts last = no_text_by dialect bytes said last.from (reading_at next) last.answer out
       last.next last.writes (here last.from last.begins)

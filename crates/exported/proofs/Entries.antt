@@ -28,7 +28,7 @@ nothing = (record { ref_ptr = (0, 0); now = [] }, record { ref_ptr = (0, 0); now
 abbrev pub of_number : List Found → ℕ → Found
 of_number found i = slice_index_or found i nothing
 
--- ---- a document is no shorter than its entries
+-- ---- a document is at least as long as its entries
 
 text_long : (a b : List EntryText)
     → length (text_of (a ++ b)) ≡ length (text_of a) + length (text_of b)
@@ -106,7 +106,6 @@ pub within_map : (found : List Found) (i : ℕ) → i < length found
     → i < length (map pair_text found)
 within_map found i within = omega (arith, within, length-map found pair_text)
 
--- what stands before an entry, and after it
 text_splits : (found : List Found) (i : ℕ) (x : Found) → i < length found
     → x ≡ slice_index_or found i nothing
     → text_of (map pair_text found) ≡ text_of (take i (map pair_text found))
@@ -159,7 +158,7 @@ front_long found i x within is =
       length-append x.0.now x.1.now,
     )
 
--- ---- where an entry stands
+-- ---- the offsets of an entry
 
 entry_stands : (found : List Found) (i : ℕ) (x : Found) (place : Entry) → i < length found
     → x ≡ slice_index_or found i nothing

@@ -1,4 +1,4 @@
--- What tests of an error say of its kind.
+-- Lemmas about the tests for the kind of an error.
 use Rattle.std.proofs.Common.{◌≡◌, Option, refl}
 use Rattle.std.specs.Prelude.{IsSome}
 use Rattle.std.proofs.lemmas.Bool.{false≢true}

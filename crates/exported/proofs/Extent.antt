@@ -1,4 +1,4 @@
--- What calls in turn tell of the end of a reply.
+-- Lemmas about successive calls for the end of a reply.
 use Rattle.std.specs.Prelude.{◌≡◌, ◌++◌, ℕ, List, [], Option, None, Some, Result, Ok, Err}
 use Rattle.std.specs.Prelude.{IfOk, OnOk}
 use Rattle.std.proofs.Common.{refl, sym, subst, arith}
@@ -6,19 +6,19 @@ use Rattle.format_resp.specs.Extents.{IsOf, IsTold, IsWanting}
 use Rattle.format_resp.specs.declared.extent.Extent.{Extent}
 use Rattle.format_resp.specs.declared.extent.Refused.{Refused}
 use Rattle.format_resp.proofs.Passing.{none_passed}
-use Rattle.exported.specs.Code.{done, incomplete, refused}
+use Rattle.exported.specs.Code.{done, incomplete, invalid}
 use Rattle.exported.specs.Extent.{CallsInTurn, TellsEnd, extent_of, nothing}
 use Rattle.exported.specs.Turns.{all_of}
-use Rattle.exported.specs.declared.resp.RespExtent.{RespExtent}
+use Rattle.exported.specs.declared.resp.RespReplyState.{RespReplyState}
 use Rattle.exported.proofs.Turns.{calls_from_nothing}
 
--- ---- one call, by what was answered of the extent
+-- ---- one call, from the specification of the extent
 
 module _ (old new : Extent) (bytes : List ℕ) (answer : Result (Option ℕ) Refused)
     (told : IsOf old bytes → IsTold bytes answer)
     (kept : OnOk answer (IsOf old bytes → (more : List ℕ) → IsOf new (bytes ++ more)))
     (wants : IsOf old bytes → IfOk answer (IsWanting new bytes))
-    (before after : RespExtent) (was : old ≡ extent_of before) (is : extent_of after ≡ new)
+    (before after : RespReplyState) (was : old ≡ extent_of before) (is : extent_of after ≡ new)
     (here : IsOf (extent_of before) bytes) where
   it_was : IsOf old bytes
   it_was = let P : Extent → Type 0 = λ e. IsOf e bytes in subst P (sym was) here
@@ -67,7 +67,7 @@ module _ (old new : Extent) (bytes : List ℕ) (answer : Result (Option ℕ) Ref
       }
 
   pub tells_never : (why : Refused) (count : ℕ) → answer ≡ Err why
-      → TellsEnd bytes refused count after
+      → TellsEnd bytes invalid count after
   tells_never why count e =
       let P : Result (Option ℕ) Refused → Type 0 = λ a. IsTold bytes a in
       record {
@@ -79,7 +79,7 @@ module _ (old new : Extent) (bytes : List ℕ) (answer : Result (Option ℕ) Ref
 
 -- ---- calls in turn
 
-pub calls_in_turn : (pieces : List (List ℕ)) (state : RespExtent)
+pub calls_in_turn : (pieces : List (List ℕ)) (state : RespReplyState)
     → CallsInTurn nothing [] pieces state
     → (more : List ℕ) → IsOf (extent_of state) (all_of pieces ++ more)
 calls_in_turn pieces state calls more =

@@ -1,24 +1,23 @@
--- What calls in turn tell of the end of the head of a request.
+-- Lemmas about successive calls for the end of the head of a request.
 use Rattle.std.specs.Prelude.{◌≡◌, ◌++◌, ℕ, List, [], Option, None, Some, Result, Ok, Err}
 use Rattle.std.proofs.Common.{refl, sym, subst}
 use Rattle.format_http_places.specs.Extents.{IsOf, IsTold}
 use Rattle.format_http_places.specs.declared.extent.HeadExtent.{HeadExtent}
 use Rattle.format_http_places.specs.declared.extent.Refused.{Refused}
 use Rattle.format_http_places.proofs.Extents.{of_none}
-use Rattle.exported.specs.Code.{done, incomplete, refused}
+use Rattle.exported.specs.Code.{done, incomplete, invalid}
 use Rattle.exported.specs.HttpExtent.{HeadCalls, TellsHead, head_extent_of, nothing}
 use Rattle.exported.specs.Turns.{all_of}
-use Rattle.exported.specs.declared.http.extent.HttpHeadExtent.{HttpHeadExtent}
+use Rattle.exported.specs.declared.http.extent.HttpHeadState.{HttpHeadState}
 use Rattle.exported.proofs.Turns.{calls_from_nothing}
 
--- one call, by what was answered of the extent
 pub tells_head : (old new : HeadExtent) (bytes : List ℕ) (answer : Result (Option ℕ) Refused)
-    (before after : HttpHeadExtent) (code out : ℕ)
+    (before after : HttpHeadState) (code out : ℕ)
     → (IsOf old bytes → IsTold bytes answer)
     → (IsOf old bytes → (more : List ℕ) → IsOf new (bytes ++ more))
     → old ≡ head_extent_of before → head_extent_of after ≡ new
     → (code ≡ done → answer ≡ Ok (Some out)) → (code ≡ incomplete → answer ≡ Ok None)
-    → (code ≡ refused → answer ≡ Err (record { place = out }))
+    → (code ≡ invalid → answer ≡ Err (record { place = out }))
     → IsOf (head_extent_of before) bytes → TellsHead bytes code out after
 tells_head old new bytes answer before after code out told kept was is ends wants never here =
     let P : HeadExtent → Type 0 = λ e. IsOf e bytes in
@@ -33,7 +32,7 @@ tells_head old new bytes answer before after code out told kept was is ends want
           subst R (sym is) (kept it more);
     }
 
-pub head_calls : (pieces : List (List ℕ)) (state : HttpHeadExtent)
+pub head_calls : (pieces : List (List ℕ)) (state : HttpHeadState)
     → HeadCalls nothing [] pieces state
     → (more : List ℕ) → IsOf (head_extent_of state) (all_of pieces ++ more)
 head_calls pieces state calls more =

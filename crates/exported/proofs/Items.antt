@@ -1,4 +1,4 @@
--- Where the next value stands, or the next step.
+-- Lemmas about the offset of the next value or step.
 use Rattle.std.proofs.Common.{◌≡◌, ◌∙◌, ◌+◌, ◌-◌, ◌≤◌, ◌++◌, ℕ, List, ap, arith, length}
 use Rattle.std.proofs.Common.{length-append}
 use Rattle.format_json_extents.specs.Steps.{IsNextStep}

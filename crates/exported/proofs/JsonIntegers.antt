@@ -1,4 +1,4 @@
--- What is told of the integer of a number.
+-- Lemmas about the integer of a number.
 use Rattle.std.proofs.Common.{◌∙◌, FitsSigned, List, Some, subst, sym, ℕ, ℤ}
 use Rattle.std.specs.Int.{w64}
 use Rattle.std.proofs.lemmas.Int.{to_z-of_z}

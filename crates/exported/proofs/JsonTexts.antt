@@ -1,4 +1,4 @@
--- What is told of the text of a string.
+-- Lemmas about the text of a string.
 use Rattle.std.proofs.Common.{◌≡◌, ◌∙◌, ◌-◌, ◌≤◌, ◌++◌, ◌∷◌, ℕ, List, ap, arith, drop, length}
 use Rattle.std.proofs.Common.{length-append}
 use Rattle.format_json_extents.specs.Unescaped.{IsStringWritten}

@@ -3,7 +3,7 @@ use Rattle.std.specs.Prelude.{ℕ, List}
 use Rattle.std.specs.Str.{IsUtf8}
 use Rattle.std.specs.declared.alloc.Global.{Global}
 use Rattle.exported.specs.Toml.{ShowsDocument, ShowsTree, WantsDocument, WantsTree}
-use Rattle.exported.specs.declared.toml.TomlDocument.{TomlDocument}
+use Rattle.exported.specs.declared.toml.TomlResult.{TomlResult}
 use Rattle.format_toml_document.specs.Fault.{IsDocument}
 use Rattle.format_toml_nodes.specs.declared.node.TomlNode.{TomlNode}
 use Rattle.format_toml_tree.specs.declared.tree.Tree.{Tree}
@@ -21,7 +21,7 @@ shows_document level bytes text tree nodes (is_text, (lines, are, (given, gives,
       nodes_are = shows given holds;
     }
 
-pub wants_document : (level : ℕ) (bytes : List ℕ) (tree : Tree Global) (found : TomlDocument)
+pub wants_document : (level : ℕ) (bytes : List ℕ) (tree : Tree Global) (found : TomlResult)
     → IsUtf8 bytes × IsDocument Global level bytes tree → WantsTree tree found
     → WantsDocument level bytes found
 wants_document level bytes tree found (is_text, is) wants = (is_text, (tree, is, wants))

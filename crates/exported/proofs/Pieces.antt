@@ -1,4 +1,4 @@
--- What is told of bytes in pieces, and of whole ones.
+-- Lemmas about results on partial and on complete input.
 use Rattle.std.proofs.Common.{◌≡◌, ◌<◌, ◌≤◌, ◌++◌, [], ℕ, List, arith, false, inl, inr, length}
 use Rattle.std.proofs.Common.{refl, subst, sym, true}
 use Rattle.std.specs.Prelude.{Err, IsSome, Ok}
@@ -27,7 +27,6 @@ what_asks k (need, is) =
 
 module _ {O E : Type 0} {kind : E → Kind} (grammar : Grammar ℕ O) (bytes : List ℕ)
     (i j : Input ℕ) where
-  -- what stands whatever follows
   pub stands_for_good : (o : O) → i ≡ with_flag (bytes_input bytes) true
       → ReadsOrAsks bytes_reading bytes_follow kind grammar i (Ok o) j
       → (more : List ℕ) → MayFollow bytes more → grammar (bytes ++ more) o (j.left.tokens ++ more)
@@ -36,7 +35,6 @@ module _ {O E : Type 0} {kind : E → Kind} (grammar : Grammar ℕ O) (bytes : L
       ReadsOrAsks bytes_reading bytes_follow kind grammar x (Ok o) j in
       ((subst P is r).cut refl).stands more (follows bytes more f)
 
-  -- and that none does
   pub none_for_good : (e : E) → i ≡ with_flag (bytes_input bytes) true → (kind e ≡ memory → ⊥)
       → (IsSome (need_of_kind (kind e)) → ⊥)
       → ReadsOrAsks bytes_reading bytes_follow kind grammar i (Err e) j
@@ -50,7 +48,6 @@ module _ {O E : Type 0} {kind : E → Kind} (grammar : Grammar ℕ O) (bytes : L
         | inr (inr none) ↦ (none more (follows bytes more f)).1
       ]
 
-  -- what stands in all of the bytes
   pub stands_whole : (o : O) → i ≡ with_flag (bytes_input bytes) false
       → ReadsOrAsks bytes_reading bytes_follow kind grammar i (Ok o) j
       → grammar bytes o j.left.tokens

@@ -1,4 +1,4 @@
--- What calls in turn tell of the end of a record.
+-- Lemmas about successive calls for the end of a record.
 use Rattle.std.specs.Prelude.{◌≡◌, ◌++◌, ℕ, List, [], Option, None, Some, Result, Ok, Err}
 use Rattle.std.proofs.Common.{inr, refl, sym, subst}
 use Rattle.format_csv_records.specs.Extents.{IsOf, IsTold}
@@ -8,24 +8,23 @@ use Rattle.format_csv_records.specs.declared.dialect.Dialect.{Dialect}
 use Rattle.format_csv_records.specs.declared.extent.RecordExtent.{RecordExtent}
 use Rattle.format_csv_records.specs.declared.read.RecordFault.{RecordFault}
 use Rattle.format_csv_records.proofs.Extents.{of_none}
-use Rattle.exported.specs.Code.{done, incomplete, refused}
+use Rattle.exported.specs.Code.{done, incomplete, invalid}
 use Rattle.exported.specs.CsvExtent.{RecordCalls, TellsRecord, nothing, record_extent_of}
 use Rattle.exported.specs.Turns.{all_of}
 use Rattle.exported.specs.declared.csv.Record.{Record}
-use Rattle.exported.specs.declared.csv.extent.CsvRecordExtent.{CsvRecordExtent}
+use Rattle.exported.specs.declared.csv.extent.CsvRecordState.{CsvRecordState}
 use Rattle.exported.proofs.Records.{Tells, wanted}
 use Rattle.exported.proofs.Turns.{calls_from_nothing}
 
--- one call, by what was answered of the extent
 module _ (d : Dialect) (old new : RecordExtent) (bytes : List ℕ)
-    (answer : Result (Option RecordSize) RecordFault) (before after : CsvRecordExtent) (code : ℕ)
+    (answer : Result (Option RecordSize) RecordFault) (before after : CsvRecordState) (code : ℕ)
     (out : Record) (told : IsOf d old bytes → IsTold d bytes answer)
     (kept : IsOf d old bytes → (more : List ℕ) → IsOf d new (bytes ++ more))
     (was : old ≡ record_extent_of before) (is : record_extent_of after ≡ new)
     (ends : code ≡ done → (size : RecordSize) × (answer ≡ Ok (Some size)) × Tells out size)
     (wants : code ≡ incomplete → answer ≡ Ok None)
-    (never : code ≡ refused
-    → (fault : RecordFault) × (answer ≡ Err fault) × (out.place ≡ fault.offset)) where
+    (never : code ≡ invalid
+    → (fault : RecordFault) × (answer ≡ Err fault) × (out.error_offset ≡ fault.offset)) where
   tells_of : IsOf d old bytes → TellsRecord d bytes code out after
   tells_of it =
       let Q : Result (Option RecordSize) RecordFault → Type 0 = λ a. IsTold d bytes a in
@@ -53,7 +52,7 @@ module _ (d : Dialect) (old new : RecordExtent) (bytes : List ℕ)
       let T : Dialect → Type 0 = λ x. TellsRecord x bytes code out after in
       subst T same (tells_of (subst R (sym was) (subst P (sym same) here)))
 
-pub record_calls : (d : Dialect) (pieces : List (List ℕ)) (state : CsvRecordExtent)
+pub record_calls : (d : Dialect) (pieces : List (List ℕ)) (state : CsvRecordState)
     → RecordCalls d nothing [] pieces state
     → (more : List ℕ) → IsOf d (record_extent_of state) (all_of pieces ++ more)
 record_calls d pieces state calls more =

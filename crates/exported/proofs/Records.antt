@@ -1,4 +1,4 @@
--- What is told of records of comma separated values.
+-- Lemmas about results for records of comma-separated values.
 use Rattle.std.proofs.Common.{◌≡◌, ◌∙◌, ◌<◌, ◌≤◌, ◌++◌, [], ℕ, List, ap, arith, drop, false}
 use Rattle.std.proofs.Common.{length, subst, sym, true}
 use Rattle.std.specs.Prelude.{Bool, MatchBool}
@@ -21,7 +21,7 @@ use Rattle.exported.specs.Span.{span_of}
 use Rattle.exported.specs.declared.csv.Record.{Record}
 use Rattle.exported.specs.declared.span.Span.{Span}
 
--- What is told is the size of the record.
+-- `Tells found size`: `found` has the counts of `size`.
 abbrev pub Tells : Record → RecordSize → Type 0
 Tells found size = (found.fields ≡ size.fields) × (found.text ≡ size.text)
     × (found.length ≡ size.length)
@@ -46,7 +46,6 @@ open_still : (A B : Type 0) (b : Bool) → MatchBool b A B → b ≡ false → B
 open_still A B true it is = cc
 open_still A B false it is = it
 
--- a record that stands there whatever follows, by its size
 pub wanted : (d : Dialect) (input : List ℕ) (size : RecordSize) (found : Record)
     → Tells found size → size.ended ≡ true → IsSized d input size
     → WantsRecord (IsForGood d) input found

@@ -1,4 +1,4 @@
--- What stands in replies, and where.
+-- Lemmas about the parts of replies and their offsets.
 use Rattle.std.proofs.Common.{◌≡◌, ◌∙◌, ◌+◌, ◌-◌, ◌≤◌, ◌++◌, ◌∷◌, [], ℕ, List, Global, ap}
 use Rattle.std.proofs.Common.{append-nil, append_assoc, arith, inl, inr, length, length-append, pos}
 use Rattle.std.proofs.Common.{subst}
@@ -22,7 +22,6 @@ use Rattle.exported.specs.Span.{EndsWith, StandsAt, nowhere}
 use Rattle.exported.specs.declared.resp.Reply.{Reply}
 use Rattle.exported.specs.declared.span.Span.{Span}
 
--- of what stands for good, nothing need follow
 pub reply_stands : (level : ℕ) (input : List ℕ) (reply : Found) (rest : List ℕ)
     → MayFollow input [] → IsReplyForGood level input reply rest → IsReply level input reply rest
 reply_stands level input reply rest none good =
@@ -30,9 +29,8 @@ reply_stands level input reply rest none good =
     let Q : List ℕ → Type 0 = λ l. IsReply level input reply l in
     subst Q (append-nil rest) (subst P (append-nil input) (good [] none))
 
--- ---- what stands after the first line feed
+-- ---- the bytes after the first line feed
 
--- after some bytes that are none
 pub feed_more : (line rest behind more : List ℕ) (b : ℕ) → (b ≡ 10 → ⊥) → NoFeed line
     → rest ≡ b ∷ more → rest ≡ line ++ 10 ∷ behind
     → (left : List ℕ) × NoFeed left × (more ≡ left ++ 10 ∷ behind)
@@ -95,7 +93,7 @@ reply_told begins level input it reply rest left is behind shown ends = record {
   ends = ap (λ n. it.length + n) behind ∙ ends;
 }
 
--- what stands in a reply that is made so
+-- the parts of a reply of each kind
 module _ (level : ℕ) (input : List ℕ) (reply : Found) (rest : List ℕ)
     (is : IsReply level input reply rest) where
   opened : (kind : Opened Global) (form : Found) → reply ≡ form
@@ -136,7 +134,7 @@ module _ (level : ℕ) (input : List ℕ) (reply : Found) (rest : List ℕ)
         | inr (inr (inr (inr (inr (inr e))))) ↦ none e
       ]
 
--- ---- what is told of a reply that is made so
+-- ---- the result for a reply of each kind
 
 module _ (level : ℕ) (input rest : List ℕ) (reply : Found) (it : Reply) where
   shown_made : (kind : Opened Global) (form : Found) → reply ≡ form
@@ -157,7 +155,7 @@ module _ (level : ℕ) (input rest : List ℕ) (reply : Found) (it : Reply) wher
       shown_made (Reply-F.Error text) (made.Error text) same (error_is text)
 
   pub integer_shown : (number : ℤ) → reply ≡ made.Integer number → Tells it 2 number 0
-      → it.place ≡ nowhere → IsShown level input rest reply it
+      → it.span ≡ nowhere → IsShown level input rest reply it
   integer_shown number same told none =
       shown_made (Reply-F.Integer number) (made.Integer number) same (integer_is number)
       (told, none)
@@ -167,7 +165,7 @@ module _ (level : ℕ) (input rest : List ℕ) (reply : Found) (it : Reply) wher
   bulk_shown text same =
       shown_made (Reply-F.Bulk text) (made.Bulk text) same (bulk_is text)
 
-  pub null_bulk_shown : reply ≡ made.NullBulk → Tells it 4 (pos 0) 0 → it.place ≡ nowhere
+  pub null_bulk_shown : reply ≡ made.NullBulk → Tells it 4 (pos 0) 0 → it.span ≡ nowhere
       → IsShown level input rest reply it
   null_bulk_shown same told none =
       shown_made Reply-F.NullBulk made.NullBulk same null_bulk_is (told, none)
@@ -178,7 +176,7 @@ module _ (level : ℕ) (input rest : List ℕ) (reply : Found) (it : Reply) wher
   array_shown list same told are =
       shown_made (Reply-F.Array list) (made.Array list) same (array_is list) (told, are)
 
-  pub null_array_shown : reply ≡ made.NullArray → Tells it 6 (pos 0) 0 → it.place ≡ nowhere
+  pub null_array_shown : reply ≡ made.NullArray → Tells it 6 (pos 0) 0 → it.span ≡ nowhere
       → IsShown level input rest reply it
   null_array_shown same told none =
       shown_made Reply-F.NullArray made.NullArray same null_array_is (told, none)

@@ -1,4 +1,4 @@
--- Chunked bodies that come in pieces, as callers see them, from call to call.
+-- Chunked bodies from partial input, as callers see them, over successive calls.
 use Rattle.std.specs.Prelude.{◌≡◌, ◌+◌, ◌++◌, ℕ, List, [], ◌∷◌, length, take, Result, Ok, Err}
 use Rattle.format_http_chunked.specs.Decoded.{IsAnswer, IsAt, content_of, trailers_of}
 use Rattle.format_http_chunked.specs.Room.{Spends}
@@ -10,18 +10,18 @@ use Rattle.format_http_chunked.specs.declared.decoder.Step.TheVariants as step
 use Rattle.format_http_chunked.specs.declared.places.Framing.TheVariants as framing
 use Rattle.format_http_chunked.specs.declared.places.Place.TheVariants as place
 use Rattle.format_http_chunked.specs.declared.state.ChunkedState.{ChunkedState}
-use Rattle.exported.specs.Code.{done, end, incomplete, refused}
+use Rattle.exported.specs.Code.{done, end, incomplete, invalid}
 use Rattle.exported.specs.Span.{StandsAt, nowhere}
 use Rattle.exported.specs.declared.http.chunked.ChunkedStep.{ChunkedStep}
 
--- the numbers of what is given out
+-- the numbers of the kinds of output
 abbrev pub data_kind : ℕ
 data_kind = 0
 
 abbrev pub trailers_kind : ℕ
 trailers_kind = 1
 
--- the number of why a byte is refused
+-- the number of an error
 abbrev pub fault_number : Fault → ℕ
 fault_number fault.Size = 0
 fault_number fault.SizeLine = 1
@@ -33,24 +33,25 @@ fault_number fault.TrailersTooLong = 6
 
 -- Nothing is given out.
 abbrev pub GivesNone : ChunkedStep → Type 0
-GivesNone out = (out.kind ≡ 0) × (out.place ≡ nowhere)
+GivesNone out = (out.kind ≡ 0) × (out.span ≡ nowhere)
 
--- What is written where the decoder says this, and leaves the rest of the bytes: by the code, what
--- is given out, as a place right before the rest, or why the next byte is refused.
+-- `Writes bytes rest said code out`: `code` and `out` report the result `said` of the decoder,
+-- after which `rest` remains. The span of data or trailers ends directly before `rest`.
 abbrev pub Writes : List ℕ → List ℕ → Result Step Fault → ℕ → ChunkedStep → Type 0
 Writes bytes rest (Ok (step.Data chunk)) code out =
-    (code ≡ done) × (out.kind ≡ data_kind) × StandsAt bytes out.place chunk.now rest
-    × (out.fault ≡ 0)
+    (code ≡ done) × (out.kind ≡ data_kind) × StandsAt bytes out.span chunk.now rest
+    × (out.error ≡ 0)
 Writes bytes rest (Ok (step.Trailers fields)) code out =
-    (code ≡ done) × (out.kind ≡ trailers_kind) × StandsAt bytes out.place fields.now rest
-    × (out.fault ≡ 0)
-Writes bytes rest (Ok step.End) code out = (code ≡ end) × GivesNone out × (out.fault ≡ 0)
-Writes bytes rest (Ok step.More) code out = (code ≡ incomplete) × GivesNone out × (out.fault ≡ 0)
+    (code ≡ done) × (out.kind ≡ trailers_kind) × StandsAt bytes out.span fields.now rest
+    × (out.error ≡ 0)
+Writes bytes rest (Ok step.End) code out = (code ≡ end) × GivesNone out × (out.error ≡ 0)
+Writes bytes rest (Ok step.More) code out = (code ≡ incomplete) × GivesNone out × (out.error ≡ 0)
 Writes bytes rest (Err why) code out =
-    (code ≡ refused) × GivesNone out × (out.fault ≡ fault_number why)
+    (code ≡ invalid) × GivesNone out × (out.error ≡ fault_number why)
 
--- What a call says of its bytes is what the decoder says that the state was of: it takes that many
--- of them, and the state that it leaves is of the decoder after them.
+-- `TellsStep old new bytes code out`: a call on `bytes` returns `code` and `out`, the result of the
+-- decoder that `old` represents. It consumes `out.taken` bytes, and `new` represents the decoder
+-- after them.
 pub record TellsStep (old new : ChunkedState) (bytes : List ℕ) (code : ℕ) (out : ChunkedStep)
     : Type 0 where
   pub said : Result Step Fault
@@ -63,7 +64,8 @@ pub record TellsStep (old new : ChunkedState) (bytes : List ℕ) (code : ℕ) (o
 
 -- ---- calls in turn
 
--- A state of which nothing was taken: that of zeros, or one with other limits, whose place is 1.
+-- `IsFirst state`: `state` is an initial state: zeros, or a state with other limits whose `place`
+-- is 1.
 abbrev pub IsFirst : ChunkedState → Type 0
 IsFirst state = (decoder_of state).place ≡ place.Framing framing.Start
 
@@ -71,9 +73,9 @@ IsFirst state = (decoder_of state).place ≡ place.Framing framing.Start
 abbrev pub Call : Type 0
 Call = List ℕ × ℕ × ChunkedStep
 
--- Calls that follow one another from a state on, each with the state that the last one left: the
--- state that is left in the end, the bytes that they took, one after the other, and the content and
--- the bytes of trailers that they gave out.
+-- `CallsInTurn state calls last taken content trailers`: successive calls, each with the state that
+-- the previous one left, lead from `state` to `last`. Together they consume `taken`, and return
+-- `content` and the trailer bytes `trailers`.
 unfoldable pub CallsInTurn : ChunkedState → List Call → ChunkedState → List ℕ → List ℕ → List ℕ
     → Type 0
 CallsInTurn state [] last taken content trailers =

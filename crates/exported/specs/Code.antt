@@ -4,8 +4,8 @@ use Rattle.std.specs.Prelude.{ℕ}
 abbrev pub done : ℕ
 done = 0
 
-abbrev pub refused : ℕ
-refused = 1
+abbrev pub invalid : ℕ
+invalid = 1
 
 abbrev pub incomplete : ℕ
 incomplete = 2
@@ -13,21 +13,21 @@ incomplete = 2
 abbrev pub no_memory : ℕ
 no_memory = 3
 
-abbrev pub no_text : ℕ
-no_text = 4
+abbrev pub invalid_utf8 : ℕ
+invalid_utf8 = 4
 
-abbrev pub too_small : ℕ
-too_small = 5
+abbrev pub buffer_too_small : ℕ
+buffer_too_small = 5
 
-abbrev pub too_deep : ℕ
-too_deep = 6
+abbrev pub max_depth_too_large : ℕ
+max_depth_too_large = 6
 
 abbrev pub end : ℕ
 end = 9
 
-abbrev pub no_integer : ℕ
-no_integer = 10
+abbrev pub not_an_integer : ℕ
+not_an_integer = 10
 
--- how many levels of JSON may be asked for
-abbrev pub most_levels : ℕ
-most_levels = 512
+-- the largest depth limit for JSON
+abbrev pub supported_depth : ℕ
+supported_depth = 512

@@ -17,8 +17,8 @@ abbrev pub ends_of : ℕ → LineEnds
 ends_of zero = CrLf
 ends_of (suc n) = Lf
 
--- Commas, double quotes and these line ends: by a law of `format_csv`, `a_record_is_one_of_commas`,
--- its records are those that `format_csv` reads.
+-- The dialect with commas, double quotes and these line endings. By the law
+-- `a_record_is_one_of_commas` of `format_csv`, its records are those that `format_csv` parses.
 abbrev pub dialect_of : ℕ → Dialect
 dialect_of line_feeds = commas_by (ends_of line_feeds)
 
@@ -26,7 +26,8 @@ dialect_of line_feeds = commas_by (ends_of line_feeds)
 abbrev pub NoRecord : Dialect → List ℕ → Type 0
 NoRecord d input = (fields : List (List ℕ)) (rest : List ℕ) → IsRecord d input fields rest → ⊥
 
--- There are no bytes, or this is the first place at which no record goes on.
+-- `IsRefusedAt d input place`: `input` is empty, or `place` is the first offset at which it cannot
+-- continue a record.
 abbrev pub IsRefusedAt : Dialect → List ℕ → ℕ → Type 0
 IsRefusedAt d input place = ((input ≡ []) × (place ≡ 0))
     ⊎ ((why : Refusal) × IsRefused d input (record { offset = place; why = why }))
@@ -40,15 +41,16 @@ pub record CountsRecord (begins : List ℕ → List (List ℕ) → List ℕ → 
   pub bytes : found.text ≡ length (text_of fields)
   pub ends : found.length + length rest ≡ length input
 
--- The input begins with a record: this text is the bytes of its fields, one after the other, and
--- these are their places there, in order.
+-- `ShowsRecord begins input found text places`: `input` begins with a record with the counts of
+-- `found`, `text` is the concatenation of its fields, and `places` are their spans in `text`, in
+-- order.
 abbrev pub ShowsRecord : (List ℕ → List (List ℕ) → List ℕ → Type 0) → List ℕ → Record → List ℕ
     → List Span → Type 0
 ShowsRecord begins input found text places =
     (fields : List (List ℕ)) × CountsRecord begins input found fields × (text ≡ text_of fields)
     × (places ≡ places_of span_of 0 fields)
 
--- The input begins with a record, for which so much room is wanted.
+-- `WantsRecord begins input found`: `input` begins with a record that needs the sizes in `found`.
 abbrev pub WantsRecord : (List ℕ → List (List ℕ) → List ℕ → Type 0) → List ℕ → Record → Type 0
 WantsRecord begins input found =
     (fields : List (List ℕ)) × CountsRecord begins input found fields

@@ -1,4 +1,4 @@
--- How far bytes that come in pieces are searched for the end of a record.
+-- The search for the end of a record in partial input.
 use Rattle.std.specs.Prelude.{◌≡◌, ◌++◌, ℕ, List, [], ◌∷◌, get_or}
 use Rattle.format_csv_records.specs.Buffers.{IsForGood, NoneForGood}
 use Rattle.format_csv_records.specs.Early.{BeginsNone, GoesOn}
@@ -7,19 +7,19 @@ use Rattle.format_csv_records.specs.declared.dialect.Dialect.{Dialect}
 use Rattle.format_csv_records.specs.declared.extent.RecordExtent.{RecordExtent}
 use Rattle.format_csv_records.specs.declared.extent.RecordPlace.{RecordPlace}
 use Rattle.format_csv_records.specs.declared.extent.RecordPlace.TheVariants as place
-use Rattle.exported.specs.Code.{done, incomplete, refused}
+use Rattle.exported.specs.Code.{done, incomplete, invalid}
 use Rattle.exported.specs.Csv.{IsRefusedAt, WantsRecord}
 use Rattle.exported.specs.Turns.{CallsFrom}
 use Rattle.exported.specs.declared.csv.Record.{Record}
-use Rattle.exported.specs.declared.csv.extent.CsvRecordExtent.{CsvRecordExtent}
+use Rattle.exported.specs.declared.csv.extent.CsvRecordState.{CsvRecordState}
 
--- where in a record the next byte is due, by its number
+-- the part of a record that is expected next, from its number
 abbrev pub place_at : ℕ → RecordPlace
 place_at n = get_or
     (place.Field ∷ place.Plain ∷ place.Quoted ∷ place.Quote ∷ place.Return ∷ []) n place.Done
 
--- What a state says: what is passed, and what is due after that.
-abbrev pub record_extent_of : CsvRecordExtent → RecordExtent
+-- the extent that a state represents
+abbrev pub record_extent_of : CsvRecordState → RecordExtent
 record_extent_of s = record {
   passed = s.passed;
   text = s.text;
@@ -28,22 +28,23 @@ record_extent_of s = record {
 }
 
 -- the state of zeros
-abbrev pub nothing : CsvRecordExtent
+abbrev pub nothing : CsvRecordState
 nothing = record { passed = 0; text = 0; fields = 0; place = 0 }
 
--- What a call says of its bytes, by its code: whatever follows they begin with a record, of these
--- sizes; or with none whatever follows, and with more bytes after them with one; or they never do,
--- and this is the first place at which none goes on. The state that it leaves is one of these
--- bytes, whatever comes after them.
+-- `TellsRecord d bytes code out state`: the result of a call on `bytes`, by `code`. `done`: for any
+-- continuation, `bytes` starts with a record of the sizes in `out`. `incomplete`: this holds for no
+-- record, but some continuation completes one. `refused`: no continuation starts with a record, and
+-- `out.place` is the first offset at which no record can continue. `state` is a state of `bytes`,
+-- for any continuation.
 pub record TellsRecord (d : Dialect) (bytes : List ℕ) (code : ℕ) (out : Record)
-    (state : CsvRecordExtent) : Type 0 where
+    (state : CsvRecordState) : Type 0 where
   pub ends : code ≡ done → WantsRecord (IsForGood d) bytes out
   pub wants : code ≡ incomplete → NoneForGood d bytes × GoesOn d bytes
-  pub never : code ≡ refused → BeginsNone d bytes × IsRefusedAt d bytes out.place
+  pub never : code ≡ invalid → BeginsNone d bytes × IsRefusedAt d bytes out.error_offset
   pub kept : (more : List ℕ) → IsOf d (record_extent_of state) (bytes ++ more)
 
--- Calls that follow one another, and all ask for more.
-abbrev pub RecordCalls : Dialect → CsvRecordExtent → List ℕ → List (List ℕ) → CsvRecordExtent
+-- Successive calls that all return `incomplete`.
+abbrev pub RecordCalls : Dialect → CsvRecordState → List ℕ → List (List ℕ) → CsvRecordState
     → Type 0
 RecordCalls d state bytes pieces last =
     CallsFrom (λ s. IsOf d (record_extent_of s)) (TellsRecord d) state bytes pieces last

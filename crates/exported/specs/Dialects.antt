@@ -19,7 +19,7 @@ use Rattle.format_ini.specs.declared.places.Placed.{Placed}
 use Rattle.format_ini.specs.declared.places.Reading.{Reading}
 use Rattle.format_ini.specs.declared.places.Stop.{Stop}
 use Rattle.format_ini.specs.declared.places.Stop.TheVariants as stops
-use Rattle.exported.specs.Code.{done, end, no_text, refused}
+use Rattle.exported.specs.Code.{done, end, invalid, invalid_utf8}
 use Rattle.exported.specs.Span.{nowhere, span_of}
 use Rattle.exported.specs.declared.ini.dialects.IniEntry.{IniEntry}
 use Rattle.exported.specs.declared.ini.dialects.IniState.{IniState}
@@ -65,19 +65,20 @@ abbrev pub is_set : ℕ → Bool
 is_set zero = false
 is_set (suc n) = true
 
--- how deep the pair is indented that the next line may go on, if there is one
+-- the indentation of the pair that the next line may continue, if there is one
 abbrev pub pair_in : Bool → ℕ → Option ℕ
 pair_in true indent = Some indent
 pair_in false indent = None
 
--- What a state says that is not at the start.
+-- The position that a state other than the initial one represents.
 abbrev pub reading_at : IniState → Reading
 reading_at s = record {
   offset = s.offset;
   state = record { section = is_set s.section; pair = pair_in (is_set s.pair) s.indent };
 }
 
--- Reading goes on from there, by a state: at the start behind a byte order mark.
+-- `IsFrom s bytes from`: in the state `s` parsing resumes at `from`; in the initial state, at the
+-- start of `bytes` after an optional byte order mark.
 abbrev pub IsFrom : IniState → List ℕ → Reading → Type 0
 IsFrom s bytes from =
     ((s.offset ≡ 0) × IsBegun bytes from) ⊎ ((0 < s.offset) × (from ≡ reading_at s))
@@ -86,9 +87,9 @@ IsFrom s bytes from =
 abbrev pub zeros : IniState
 zeros = record { offset = 0; section = 0; pair = 0; indent = 0 }
 
--- ---- what is told
+-- ---- results
 
--- the number of why a line is refused
+-- the number of the reason why a line is invalid
 abbrev pub fault_number : Refusal → ℕ
 fault_number why.OpenSection = 0
 fault_number why.EmptySection = 1
@@ -97,9 +98,9 @@ fault_number why.NoSection = 3
 fault_number why.NoKey = 4
 fault_number why.NoDelimiter = 5
 
--- No line is refused, and which number says what the entry is.
+-- `IsOfKind out kind`: `out` has this kind, and no error.
 abbrev pub IsOfKind : IniEntry → ℕ → Type 0
-IsOfKind out kind = (out.kind ≡ kind) × (out.place ≡ 0) × (out.fault ≡ 0)
+IsOfKind out kind = (out.kind ≡ kind) × (out.error_offset ≡ 0) × (out.error ≡ 0)
 
 -- An entry, by what it is and the places of its texts: each begins where it does in the bytes, and
 -- has as many as the text.
@@ -114,21 +115,23 @@ ShowsEntry (entries.Pair key None) at out = IsOfKind out 2
 ShowsEntry (entries.More value) at out = IsOfKind out 3
     × (out.key ≡ nowhere) × (out.value ≡ span_of at.head (length value.now))
 
--- No entry is told, and the line that is none begins there, for a reason of that number.
+-- `ShowsNone out place fault`: `out` has no entry; the invalid line starts at `place`, and `fault`
+-- is the number of the reason.
 abbrev pub ShowsNone : IniEntry → ℕ → ℕ → Type 0
 ShowsNone out place fault = (out.kind ≡ 0) × (out.key ≡ nowhere) × (out.value ≡ nowhere)
-    × (out.place ≡ place) × (out.fault ≡ fault)
+    × (out.error_offset ≡ place) × (out.error ≡ fault)
 
--- What is written where the reader of entries answers this, and the next line begins there.
+-- `Writes answer offset code out`: `code` and `out` report the result `answer` of the parser of
+-- entries; the next line starts at `offset`.
 abbrev pub Writes : Result (Option Placed) Stop → ℕ → ℕ → IniEntry → Type 0
 Writes (Ok (Some it)) offset code out = (code ≡ done) × ShowsEntry it.entry it.at out
 Writes (Ok None) offset code out = (code ≡ end) × ShowsNone out 0 0
-Writes (Err stops.NoText) offset code out = (code ≡ no_text) × ShowsNone out offset 0
+Writes (Err stops.NoText) offset code out = (code ≡ invalid_utf8) × ShowsNone out offset 0
 Writes (Err (stops.Refused reason)) offset code out =
-    (code ≡ refused) × ShowsNone out offset (fault_number reason)
+    (code ≡ invalid) × ShowsNone out offset (fault_number reason)
 
--- What a call says is what the reader of entries answers that goes on where the state says, and the
--- state that it leaves is of where that one is then.
+-- `TellsEntry dialect old new bytes code out`: a call returns the result of the parser of entries
+-- that resumes at the position of `old`, and `new` represents its position afterwards.
 pub record TellsEntry (dialect : ℕ) (old new : IniState) (bytes : List ℕ) (code : ℕ)
     (out : IniEntry) : Type 0 where
   pub from : Reading
@@ -145,8 +148,9 @@ said_by (Ok (Some it)) = said_in it.entry ∷ []
 said_by (Ok None) = []
 said_by (Err stop) = []
 
--- Calls that follow one another from a state on, each with the state that the last one left, and
--- each tells an entry: what these say, one after the other, and the state that is left in the end.
+-- `EntriesInTurn dialect bytes state outs said last`: successive calls, each with the state that
+-- the previous one left, lead from `state` to `last`. Each returns an entry, and `said` is the
+-- content of these entries, in order.
 unfoldable pub EntriesInTurn : ℕ → List ℕ → IniState → List IniEntry → List Said → IniState → Type 0
 EntriesInTurn dialect bytes state [] said last = (state ≡ last) × (said ≡ [])
 EntriesInTurn dialect bytes state (out ∷ outs) said last = (next : IniState)

@@ -20,8 +20,8 @@ places_of head = record {
   minor = head.minor;
 }
 
--- The bytes begin with no head: at this place none goes on, or it is their end, and they end
--- within one.
+-- `bytes` does not start with a head: `place` is the first offset at which no head can continue, or
+-- `bytes` ends at `place` within a head.
 abbrev pub IsNoHead : List ℕ → ℕ → Type 0
 IsNoHead bytes place = IsRefused bytes place
     ⊎ ((place ≡ length bytes) × BeginsHead bytes × NoneRead bytes)
@@ -39,8 +39,8 @@ response_of head = record {
   minor = head.minor;
 }
 
--- The bytes begin with no head: at this place none goes on, or it is their end, and they end
--- within one.
+-- `bytes` does not start with a head: `place` is the first offset at which no head can continue, or
+-- `bytes` ends at `place` within a head.
 abbrev pub IsNoResponse : List ℕ → ℕ → Type 0
 IsNoResponse bytes place = IsResponseRefused bytes place
     ⊎ ((place ≡ length bytes) × BeginsResponseHead bytes × NoResponseRead bytes)

@@ -1,15 +1,15 @@
--- How far bytes that come in pieces are searched for the end of the head of a request.
+-- The search for the end of the head of a request in partial input.
 use Rattle.std.specs.Prelude.{◌≡◌, ◌++◌, ℕ, List, [], ◌∷◌, get_or}
 use Rattle.std.specs.Prelude.{Some, None, Ok, Err}
 use Rattle.format_http_places.specs.Extents.{IsOf, IsTold}
 use Rattle.format_http_places.specs.declared.extent.HeadExtent.{HeadExtent}
 use Rattle.format_http_places.specs.declared.extent.HeadPlace.{HeadPlace}
 use Rattle.format_http_places.specs.declared.extent.HeadPlace.TheVariants as place
-use Rattle.exported.specs.Code.{done, incomplete, refused}
+use Rattle.exported.specs.Code.{done, incomplete, invalid}
 use Rattle.exported.specs.Turns.{CallsFrom}
-use Rattle.exported.specs.declared.http.extent.HttpHeadExtent.{HttpHeadExtent}
+use Rattle.exported.specs.declared.http.extent.HttpHeadState.{HttpHeadState}
 
--- where in a head the next byte is due, by its number
+-- the part of a head that is expected next, from its number
 abbrev pub place_at : ℕ → HeadPlace
 place_at n = get_or
     (place.Start ∷ place.Method ∷ place.TargetStart ∷ place.Target ∷ place.Version
@@ -17,24 +17,25 @@ place_at n = get_or
     ∷ place.Minor ∷ place.Return ∷ place.LineFeed ∷ place.Fields ∷ place.Name ∷ place.Value
     ∷ place.LastLineFeed ∷ []) n place.Done
 
--- What a state says: how much is passed, and what is due after that.
-abbrev pub head_extent_of : HttpHeadExtent → HeadExtent
+-- The extent that a state represents.
+abbrev pub head_extent_of : HttpHeadState → HeadExtent
 head_extent_of s = record { passed = s.passed; place = place_at s.place }
 
 -- the state of zeros
-abbrev pub nothing : HttpHeadExtent
+abbrev pub nothing : HttpHeadState
 nothing = record { passed = 0; place = 0 }
 
--- What a call says of its bytes, by its code: that many of the first are a head; or they begin with
--- none, and with more after them they can; or this is the first place at which no head goes on. The
--- state that it leaves is one of these bytes, whatever comes after them.
-pub record TellsHead (bytes : List ℕ) (code out : ℕ) (state : HttpHeadExtent) : Type 0 where
+-- `TellsHead bytes code out state`: the result of a call on `bytes`, by `code`. `done`: the first
+-- `out` bytes are a head. `incomplete`: there is no head, but more bytes can complete one.
+-- `refused`: `out` is the first offset at which no head can continue. `state` is a state of
+-- `bytes`, for any continuation.
+pub record TellsHead (bytes : List ℕ) (code out : ℕ) (state : HttpHeadState) : Type 0 where
   pub ends : code ≡ done → IsTold bytes (Ok (Some out))
   pub wants : code ≡ incomplete → IsTold bytes (Ok None)
-  pub never : code ≡ refused → IsTold bytes (Err (record { place = out }))
+  pub never : code ≡ invalid → IsTold bytes (Err (record { place = out }))
   pub kept : (more : List ℕ) → IsOf (head_extent_of state) (bytes ++ more)
 
--- Calls that follow one another, and all ask for more.
-abbrev pub HeadCalls : HttpHeadExtent → List ℕ → List (List ℕ) → HttpHeadExtent → Type 0
+-- Successive calls that all return `incomplete`.
+abbrev pub HeadCalls : HttpHeadState → List ℕ → List (List ℕ) → HttpHeadState → Type 0
 HeadCalls state bytes pieces last =
     CallsFrom (λ s. IsOf (head_extent_of s)) TellsHead state bytes pieces last

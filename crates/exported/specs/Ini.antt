@@ -9,8 +9,8 @@ use Rattle.exported.specs.declared.ini.Document.{Document}
 use Rattle.exported.specs.declared.ini.Entry.{Entry}
 use Rattle.exported.specs.declared.ini.Pair.{Pair}
 
--- The line is a key and a value, which stand at these places: the key before `=`, and the value
--- before the end of the line, which is the first part of `is_line`.
+-- `ShowsPair line places`: `line` consists of a key and a value at these spans. The key is followed
+-- by `=` and the value; the value by the end of the line, the first part of `is_line`.
 pub record ShowsPair (line : List ℕ) (places : Pair) : Type 0 where
   pub key : List ℕ
   pub value : List ℕ
@@ -26,19 +26,19 @@ EntryText = List ℕ × List ℕ
 abbrev pub entries_of : List SectionText → List EntryText
 entries_of sections = flat_map (λ s. ([], s.0) ∷ s.1) sections
 
--- the bytes of entries, one after the other
+-- the concatenated bytes of entries
 abbrev pub text_of : List EntryText → List ℕ
 text_of entries = flat_map (λ e. e.0 ++ e.1) entries
 
--- An entry stands at these places of the text: its key before its value, and the value before the
--- bytes of the others.
+-- `ShowsEntry text places entry others`: `entry` is at these spans of `text`, its key before its
+-- value, followed by the bytes of `others`.
 abbrev pub ShowsEntry : List ℕ → Entry → EntryText → List EntryText → Type 0
 ShowsEntry text places entry others =
     StandsAt text places.key entry.0 (entry.1 ++ text_of others)
     × StandsAt text places.value entry.1 (text_of others)
 
--- The text is the bytes of these entries, which stand there at these places, each at the places of
--- its number.
+-- `AreEntries text places entries`: `text` is the concatenation of `entries`, and `places` are
+-- their spans in `text`, in the same order.
 pub record AreEntries (text : List ℕ) (places : List Entry) (entries : List EntryText) : Type 0
   where
     pub whole : text ≡ text_of entries
@@ -54,12 +54,13 @@ pub record CountsDocument (input : List ℕ) (found : Document) (sections : List
     pub count : found.entries ≡ length (entries_of sections)
     pub bytes : found.text ≡ length (text_of (entries_of sections))
 
--- The input is a document, whose entries stand in this text at these places.
+-- `ShowsDocument input found text places`: `input` is a document with the counts of `found`, and
+-- its entries are at these spans of `text`.
 abbrev pub ShowsDocument : List ℕ → Document → List ℕ → List Entry → Type 0
 ShowsDocument input found text places =
     (sections : List SectionText) × CountsDocument input found sections
     × AreEntries text places (entries_of sections)
 
--- The input is a document, for which so much room is wanted.
+-- `WantsDocument input found`: `input` is a document that needs the sizes in `found`.
 abbrev pub WantsDocument : List ℕ → Document → Type 0
 WantsDocument input found = (sections : List SectionText) × CountsDocument input found sections

@@ -1,4 +1,4 @@
--- Values of JSON, one after the other.
+-- JSON values that successive calls return.
 use Rattle.std.specs.Prelude.{◌≡◌, ℕ, List}
 use Rattle.format_json_extents.specs.Walk.{IsNext, IsOfKind}
 use Rattle.format_json_extents.specs.declared.walk.Kind.{Kind}
@@ -6,7 +6,7 @@ use Rattle.format_json_extents.specs.declared.walk.Kind.TheVariants as kinds
 use Rattle.exported.specs.Span.{StandsAt, nowhere}
 use Rattle.exported.specs.declared.json.JsonItem.{JsonItem}
 
--- the number of what a value is
+-- the number of a type of values
 abbrev pub number_of : Kind → ℕ
 number_of kinds.Null = 0
 number_of kinds.False = 1
@@ -18,10 +18,10 @@ number_of kinds.Object = 6
 
 -- nothing
 abbrev pub no_item : JsonItem
-no_item = record { kind = number_of kinds.Null; place = nowhere }
+no_item = record { kind = number_of kinds.Null; span = nowhere }
 
--- After what may stand before it the input has a value, the longest there, of this kind and at
--- this place, and then comes the rest.
+-- `ShowsItem level input it`: after an optional separator, `input` has a value with the kind and
+-- the span in `it`, the longest one there, followed by the rest.
 pub record ShowsItem (level : ℕ) (input : List ℕ) (it : JsonItem) : Type 0 where
   pub text : List ℕ
   pub rest : List ℕ
@@ -29,4 +29,4 @@ pub record ShowsItem (level : ℕ) (input : List ℕ) (it : JsonItem) : Type 0 w
   pub is_next : IsNext level text input rest
   pub is_kind : IsOfKind level kind text
   pub is_number : it.kind ≡ number_of kind
-  pub place : StandsAt input it.place text rest
+  pub place : StandsAt input it.span text rest

@@ -4,7 +4,8 @@ use Rattle.format_json_extents.specs.Integer.{IsInteger, IsNatural}
 use Rattle.format_json_extents.specs.Number.{IsNumber}
 use Rattle.format_json_extents.specs.Texts.{IsLongest}
 
--- The bytes begin with a number, of which the longest has this integer, or has none.
+-- `BeginsInteger is bytes n`: `bytes` starts with a number, and `n` is the integer of the longest
+-- such number, or `None`.
 abbrev pub BeginsInteger : {A : Type 0} → (List ℕ → Option A → Type 0) → List ℕ → Option A → Type 0
 BeginsInteger is bytes n =
     (text rest : List ℕ) × IsLongest IsNumber text bytes rest × is text n

@@ -7,7 +7,8 @@ use Rattle.exported.specs.declared.json.string.JsonText.{JsonText}
 abbrev pub no_text : JsonText
 no_text = record { text = 0; length = 0 }
 
--- The bytes begin with a string of that many bytes with its quotes, of which this is the text.
+-- `IsText bytes found meant`: `bytes` starts with a string, `found.length` bytes long with its
+-- quotes, whose text is `meant`.
 pub record IsText (bytes : List ℕ) (found : JsonText) (meant : List ℕ) : Type 0 where
   pub text : List ℕ
   pub rest : List ℕ
@@ -20,7 +21,8 @@ pub record IsText (bytes : List ℕ) (found : JsonText) (meant : List ℕ) : Typ
 abbrev pub ShowsText : List ℕ → JsonText → Type 0
 ShowsText bytes found = (meant : List ℕ) × IsText bytes found meant
 
--- Its text stands first in the buffer, and after it what stood there.
+-- `IsWritten bytes found old new`: the buffer starts with the text of the string; the rest of the
+-- buffer is unchanged.
 abbrev pub IsWritten : List ℕ → JsonText → List ℕ → List ℕ → Type 0
 IsWritten bytes found old new =
     (meant : List ℕ) × IsText bytes found meant × (found.text ≤ length old)

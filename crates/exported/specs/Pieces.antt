@@ -1,8 +1,8 @@
--- Bytes in pieces.
+-- Continuations of partial input.
 use Rattle.std.specs.Prelude.{◌<◌, ℕ, List, length}
 use Rattle.std.specs.List.{All}
 use Rattle.winnow.specs.Following.{FitsBehind, most_bytes}
 
--- What may come after bytes: as many that 64 bits count the bits of all.
+-- `MayFollow input more`: `more` may follow `input`: 64 bits can count the bits of both together.
 abbrev pub MayFollow : List ℕ → List ℕ → Type 0
 MayFollow input more = FitsBehind (All (λ b. b < 256)) length most_bytes input more

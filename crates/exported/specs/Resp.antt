@@ -1,4 +1,4 @@
--- What is told of replies.
+-- Results for replies.
 use Rattle.std.specs.Prelude.{◌≡◌, ◌+◌, ℕ, ℤ, pos, List, ◌++◌, length, suc}
 use Rattle.std.specs.Borrow.{Bor}
 use Rattle.std.specs.declared.alloc.Global.{Global}
@@ -17,7 +17,8 @@ use Rattle.exported.specs.declared.resp.Reply.{Reply}
 abbrev pub Found : Type 0
 Found = Replies Global
 
--- The bytes begin with this reply, in which no more than that many arrays stand in one another.
+-- `IsReply level input reply rest`: `input` starts with `reply`, whose arrays are nested at most
+-- `level` deep, followed by `rest`.
 abbrev pub IsReply : ℕ → List ℕ → Found → List ℕ → Type 0
 IsReply level input reply rest = First (ReplyText Resp2 level) input reply rest
 
@@ -37,10 +38,10 @@ NoReplyForGood level input =
 
 -- the reply of nothing
 abbrev pub no_reply : Reply
-no_reply = record { kind = 0; number = pos 0; elements = 0; place = nowhere; length = 0 }
+no_reply = record { kind = 0; number = pos 0; elements = 0; span = nowhere; length = 0 }
 
--- The place of an array is that of the texts of its elements: they stand after its first line, and
--- then comes the rest.
+-- `AreElements level input rest elements it`: the span of the array in `it` holds the encodings of
+-- `elements`. It follows the first line of the array, and is followed by `rest`.
 pub record AreElements (level : ℕ) (input rest : List ℕ) (elements : List Found) (it : Reply)
     : Type 0 where
   pub inner : ℕ
@@ -48,37 +49,39 @@ pub record AreElements (level : ℕ) (input rest : List ℕ) (elements : List Fo
   pub bytes : List ℕ
   pub are : EachText (ReplyText Resp2 inner) elements bytes
   pub behind_line : IsBehindFeed input (bytes ++ rest)
-  pub stand : StandsAt input it.place bytes rest
+  pub stand : StandsAt input it.span bytes rest
 
--- What it is, its number, and how many elements it has are these.
+-- `Tells it kind number elements`: `it` has this kind, this number, and this number of elements.
 pub record Tells (it : Reply) (kind : ℕ) (number : ℤ) (elements : ℕ) : Type 0 where
   pub is_kind : it.kind ≡ kind
   pub is_number : it.number ≡ number
   pub count : it.elements ≡ elements
 
--- It has this text, which stands before the line end and the rest, and neither number nor elements.
+-- `TellsText kind input rest text it`: `it` has the text `text`, followed by a line ending and
+-- `rest`, and neither a number nor elements.
 abbrev pub TellsText : ℕ → List ℕ → List ℕ → List ℕ → Reply → Type 0
 TellsText kind input rest text it =
-    Tells it kind (pos 0) 0 × StandsAt input it.place text (line_end ++ rest)
+    Tells it kind (pos 0) 0 × StandsAt input it.span text (line_end ++ rest)
 
--- What is told of a reply of the input, after which the rest comes, by what it is: one of RESP2.
+-- `IsShownBy level input rest opened it`: `it` describes a RESP2 reply of `input` that is followed
+-- by `rest`, by the kind of the reply.
 abbrev pub IsShownBy : ℕ → List ℕ → List ℕ → Opened Global → Reply → Type 0
 IsShownBy level input rest (Reply-F.Simple text) it = TellsText 0 input rest text.now it
 IsShownBy level input rest (Reply-F.Error text) it = TellsText 1 input rest text.now it
 IsShownBy level input rest (Reply-F.Integer number) it =
-    Tells it 2 number 0 × (it.place ≡ nowhere)
+    Tells it 2 number 0 × (it.span ≡ nowhere)
 IsShownBy level input rest (Reply-F.Bulk text) it = TellsText 3 input rest text.now it
-IsShownBy level input rest Reply-F.NullBulk it = Tells it 4 (pos 0) 0 × (it.place ≡ nowhere)
+IsShownBy level input rest Reply-F.NullBulk it = Tells it 4 (pos 0) 0 × (it.span ≡ nowhere)
 IsShownBy level input rest (Reply-F.Array list) it =
     Tells it 5 (pos 0) (length list.items) × AreElements level input rest list.items it
-IsShownBy level input rest Reply-F.NullArray it = Tells it 6 (pos 0) 0 × (it.place ≡ nowhere)
+IsShownBy level input rest Reply-F.NullArray it = Tells it 6 (pos 0) 0 × (it.span ≡ nowhere)
 IsShownBy level input rest kind it = ⊥
 
 abbrev pub IsShown : ℕ → List ℕ → List ℕ → Found → Reply → Type 0
 IsShown level input rest reply it =
     IsShownBy level input rest (out-Reply (Bor (List ℕ)) Global reply) it
 
--- The input begins with a reply, of which this is told.
+-- `ShowsReply begins level input it`: `input` begins with a reply that `it` describes.
 pub record ShowsReply (begins : List ℕ → Found → List ℕ → Type 0) (level : ℕ) (input : List ℕ)
     (it : Reply) : Type 0 where
   pub reply : Found

@@ -2,15 +2,15 @@
 use Rattle.std.specs.Prelude.{◌≡◌, ℕ, List, ◌++◌, length}
 use Rattle.exported.specs.declared.span.Span.{Span}
 
--- These bytes stand at this place of the input, and then comes the rest: so of bytes that stand
--- there more than once it is the place after which the rest is left.
+-- `StandsAt input place bytes rest`: the span `place` of `input` holds `bytes`, followed by `rest`.
+-- If `bytes` occurs several times, `rest` determines the occurrence.
 pub record StandsAt (input : List ℕ) (place : Span) (bytes rest : List ℕ) : Type 0 where
   pub before : List ℕ
   pub splits : input ≡ before ++ (bytes ++ rest)
   pub begins : place.offset ≡ length before
   pub ends : place.length ≡ length bytes
 
--- the place of that many bytes after that many others
+-- the span of `length` bytes at `offset`
 abbrev pub span_of : ℕ → ℕ → Span
 span_of offset length = record { offset = offset; length = length }
 

@@ -3,8 +3,8 @@ use Rattle.std.specs.Prelude.{◌≡◌, ℕ, List, [], Option, Ok}
 use Rattle.std.specs.Str.{IsUtf8, chars}
 use Rattle.std.specs.declared.alloc.Global.{Global}
 use Rattle.std.specs.declared.vec.Vec.{Vec}
-use Rattle.exported.specs.Code.{no_memory, no_text, refused}
-use Rattle.exported.specs.declared.toml.TomlDocument.{TomlDocument}
+use Rattle.exported.specs.Code.{invalid, invalid_utf8, no_memory}
+use Rattle.exported.specs.declared.toml.TomlResult.{TomlResult}
 use Rattle.format_toml.specs.Toml.{DocumentText}
 use Rattle.format_toml.specs.declared.expected.Expected.{Expected}
 use Rattle.format_toml.specs.declared.expected.Expected.TheVariants as lacks
@@ -21,9 +21,9 @@ use Rattle.format_toml_tree.specs.declared.roles.Refusal.TheVariants as refusals
 use Rattle.format_toml_tree.specs.declared.tree.Tree.{Tree}
 use Rattle.format_toml_tree.specs.declared.value.Item.{Item}
 
--- ---- faults
+-- ---- errors
 
--- the number of what is expected
+-- the number of an expected element
 abbrev pub lack_of : Expected → ℕ
 lack_of lacks.Key = 1
 lack_of lacks.EqualsSign = 2
@@ -32,7 +32,7 @@ lack_of lacks.TableName = 4
 lack_of lacks.ClosingBracket = 5
 lack_of lacks.LineEnd = 6
 
--- the number of why a line is refused
+-- the number of the reason why a line is invalid
 abbrev pub refusal_of : Refusal → ℕ
 refusal_of refusals.Defined = 7
 refusal_of refusals.NoTable = 8
@@ -51,27 +51,27 @@ place_of (faults.Refused at why) = at.offset
 place_of (faults.NotUtf8 at) = at.offset
 place_of faults.OutOfMemory = 0
 
--- the code that a fault is answered by
+-- the code that reports an error
 abbrev pub code_of : Fault → ℕ
-code_of (faults.Unexpected at expected) = refused
-code_of (faults.Refused at why) = refused
-code_of (faults.NotUtf8 at) = no_text
+code_of (faults.Unexpected at expected) = invalid
+code_of (faults.Refused at why) = invalid
+code_of (faults.NotUtf8 at) = invalid_utf8
 code_of faults.OutOfMemory = no_memory
 
--- What is told of bytes is a fault of them, which is answered by this code, with its place and its
--- number.
-pub record IsFaultOf (code level : ℕ) (bytes : List ℕ) (out : TomlDocument) : Type 0 where
+-- `IsFaultOf code level bytes out`: `out` has the offset and the number of an error of `bytes`, and
+-- `code` reports it.
+pub record IsFaultOf (code level : ℕ) (bytes : List ℕ) (out : TomlResult) : Type 0 where
   pub fault : Fault
   pub is_code : code_of fault ≡ code
   pub tells : Tells Global level bytes fault
-  pub place : out.place ≡ place_of fault
-  pub number : out.fault ≡ fault_of fault
+  pub place : out.error_offset ≡ place_of fault
+  pub number : out.error ≡ fault_of fault
 
-abbrev pub IsRefusedDocument : ℕ → List ℕ → TomlDocument → Type 0
-IsRefusedDocument level bytes out = IsFaultOf refused level bytes out
+abbrev pub IsRefusedDocument : ℕ → List ℕ → TomlResult → Type 0
+IsRefusedDocument level bytes out = IsFaultOf invalid level bytes out
 
-abbrev pub IsNoText : ℕ → List ℕ → TomlDocument → Type 0
-IsNoText level bytes out = IsFaultOf no_text level bytes out
+abbrev pub IsNoText : ℕ → List ℕ → TomlResult → Type 0
+IsNoText level bytes out = IsFaultOf invalid_utf8 level bytes out
 
 -- ---- documents
 
@@ -80,12 +80,12 @@ abbrev pub ShowsTree : Tree Global → List ℕ → List TomlNode → Type 0
 ShowsTree tree text nodes = (given : Given Global) → HoldsTree tree.slots.items given
     → AreNodesOf given text nodes
 
--- So many nodes and bytes are wanted.
-abbrev pub WantsTree : Tree Global → TomlDocument → Type 0
+-- `WantsTree tree found`: `tree` needs the sizes in `found`.
+abbrev pub WantsTree : Tree Global → TomlResult → Type 0
 WantsTree tree found = IsSizeOf tree (record { nodes = found.nodes; text = found.text })
 
--- The bytes are UTF-8 and lines of TOML, of which the standard refuses none, and the nodes are
--- those of the tree that they give.
+-- `ShowsDocument level bytes text nodes`: `bytes` is UTF-8, its lines are TOML, the standard allows
+-- all of them, and `nodes` and `text` are the nodes of the tree that they define.
 pub record ShowsDocument (level : ℕ) (bytes text : List ℕ) (nodes : List TomlNode) : Type 0 where
   pub is_text : IsUtf8 bytes
   pub lines : Vec (Option (Item Global)) Global
@@ -94,7 +94,8 @@ pub record ShowsDocument (level : ℕ) (bytes text : List ℕ) (nodes : List Tom
   pub gives : Gives (empty, []) 0 lines.items (Ok given)
   pub nodes_are : AreNodesOf given text nodes
 
--- The bytes are UTF-8 and a document, for which so much room is wanted.
-abbrev pub WantsDocument : ℕ → List ℕ → TomlDocument → Type 0
+-- `WantsDocument level bytes found`: `bytes` is UTF-8, and a document that needs the sizes in
+-- `found`.
+abbrev pub WantsDocument : ℕ → List ℕ → TomlResult → Type 0
 WantsDocument level bytes found = IsUtf8 bytes
     × ((tree : Tree Global) × IsDocument Global level bytes tree × WantsTree tree found)

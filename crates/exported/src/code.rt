@@ -1,35 +1,35 @@
 //! How a call ended.
 
-/// The bytes were read, and what was found is written.
+/// Success. The result is written.
 pub const DONE: u32 = 0;
 
-/// The bytes are not what is read. Where the function says so, the place is written.
-pub const REFUSED: u32 = 1;
+/// Invalid input. If the function documents it, the offset of the error is written.
+pub const INVALID: u32 = 1;
 
-/// The bytes are not yet what is read, and with more after them they may be.
+/// Incomplete input: more bytes are needed.
 pub const INCOMPLETE: u32 = 2;
 
-/// A request for memory was refused.
+/// Memory allocation failed.
 pub const NO_MEMORY: u32 = 3;
 
-/// The bytes are no UTF-8, where text is asked for.
-pub const NO_TEXT: u32 = 4;
+/// Input is not valid UTF-8.
+pub const INVALID_UTF8: u32 = 4;
 
-/// The buffer has too few entries. How many are wanted is written, and the buffer is left as it
-/// was, where the function does not say otherwise.
-pub const TOO_SMALL: u32 = 5;
+/// Buffer too small. The required sizes are written, and the buffer is unchanged unless the
+/// function documents otherwise.
+pub const BUFFER_TOO_SMALL: u32 = 5;
 
-/// More levels are asked for than `MOST_LEVELS`.
-pub const TOO_DEEP: u32 = 6;
+/// Depth limit too large: at most 512 levels are supported. That number is `MAX_DEPTH`.
+pub const MAX_DEPTH_TOO_LARGE: u32 = 6;
 
-/// A pointer is null where something is to be read or written.
+/// Null pointer. Memory would be read or written through it.
 pub const NULL: u32 = 7;
 
-/// A length is more than `PTRDIFF_MAX` bytes.
+/// Length too large: at most `PTRDIFF_MAX` bytes are supported.
 pub const TOO_LONG: u32 = 8;
 
-/// Nothing more is told: what stands there is said at the function.
+/// No more items. Each function documents the end that it reports.
 pub const END: u32 = 9;
 
-/// The number is no integer, or does not fit as many bits as are asked for.
-pub const NO_INTEGER: u32 = 10;
+/// Number is not an integer or out of range. The function determines the range.
+pub const NOT_AN_INTEGER: u32 = 10;

@@ -5,19 +5,19 @@ ghost use Rattle.format_csv_records.specs.Buffers.{IsForGood, IsSized, NoneForGo
 ghost use Rattle.format_csv_records.specs.Buffers.{ShowsFields};
 ghost use Rattle.format_csv_records.specs.Dialects.{IsRecord};
 ghost use Rattle.format_csv_records.specs.Early.{BeginsNone, GoesOn};
-ghost use Rattle.exported.specs.Code.{done, incomplete, refused, too_small};
+ghost use Rattle.exported.specs.Code.{buffer_too_small, done, incomplete, invalid};
 ghost use Rattle.exported.specs.Csv.{IsRefusedAt, NoRecord, ShowsRecord, WantsRecord};
 ghost use Rattle.exported.specs.Csv.{dialect_of};
 ghost use Rattle.exported.specs.Span.{span_of};
 
 pub mod extent;
 
-use crate::code::{DONE, INCOMPLETE, REFUSED, TOO_SMALL};
+use crate::code::{BUFFER_TOO_SMALL, DONE, INCOMPLETE, INVALID};
 use crate::span::Span;
 use format_csv_records::buffers::{RecordSize, record_size, write_fields};
 use format_csv_records::dialect::{Dialect, LineEnds};
 
-/// What a record has.
+/// The sizes of a record, or the offset of an error.
 #[repr(C)]
 #[derive(Clone, Copy, Drop)]
 pub struct Record {
@@ -25,22 +25,21 @@ pub struct Record {
     pub fields: usize,
     /// How many bytes the fields have together, as they are written.
     pub text: usize,
-    /// How many bytes the record has where it was read, the line end among them.
+    /// The length of the record in the input in bytes, including its line ending.
     pub length: usize,
-    /// Where the bytes are refused: how many stand before the first with which no record goes on.
-    /// Else 0.
-    pub place: usize,
+    /// The offset of the first invalid byte; 0 otherwise.
+    pub error_offset: usize,
 }
 
-/// A refusal at a place, or no record.
+/// Returns a record without fields, with the offset of an error.
 pub(crate) fn none_at(place: usize) -> Record
-    ensures { result.place ≡ place }
+    ensures { result.error_offset ≡ place }
 {
     Record {
         fields: 0,
         text: 0,
         length: 0,
-        place,
+        error_offset: place,
     }
 }
 
@@ -66,49 +65,62 @@ fn write_record(
     out: &mut Record,
 ) -> u32
     requires { IsSized dialect bytes.now size }
-    ensures nowhere { out.new.place ≡ 0 }
+    ensures nowhere { out.new.error_offset ≡ 0 }
     ensures sized { (out.new.fields ≡ size.fields) × (out.new.text ≡ size.text)
         × (out.new.length ≡ size.length) }
     ensures record { result ≡ done
         → ShowsFields span_of dialect bytes.now size (take out.new.text text.new)
         (take out.new.fields fields.new) }
-    ensures small { result ≡ too_small
+    ensures small { result ≡ buffer_too_small
         → (length fields.old < out.new.fields) ⊎ (length text.old < out.new.text) }
-    ensures kept { result ≡ too_small → (fields.new ≡ fields.old) × (text.new ≡ text.old) }
-    ensures codes { (result ≡ done) ⊎ (result ≡ too_small) }
+    ensures kept { result ≡ buffer_too_small → (fields.new ≡ fields.old) × (text.new ≡ text.old) }
+    ensures codes { (result ≡ done) ⊎ (result ≡ buffer_too_small) }
 {
     *out = Record {
         fields: size.fields,
         text: size.text,
         length: size.length,
-        place: 0,
+        error_offset: 0,
     };
     if write_fields(dialect, bytes, size, text, fields) {
         DONE
     } else {
-        TOO_SMALL
+        BUFFER_TOO_SMALL
     }
 }
 
-/// The record of comma separated values (RFC 4180) with which the bytes begin. A line end stands
-/// after it, or the end of the bytes: a carriage return and a line feed where `line_feeds` is 0,
-/// and else a line feed alone. A field in quotes may have any bytes, and each quote in it is
-/// doubled; one without has no quote, comma, carriage return or line feed. No bytes begin with no
-/// record, and a line end alone is a record of one empty field.
+/// Parses a record of comma-separated values (RFC 4180) at the start of `bytes`.
 ///
-/// `DONE`: the bytes of the fields, without the quotes round them and with each quote once, are
-/// written into `text`, one field after the other, and that many places there, in order. `REFUSED`:
-/// the bytes begin with no record; written is the first place at which none goes on: what stands
-/// before it begins one, and with the byte there none begins. `TOO_SMALL`: they begin with one that
-/// wants more entries or more bytes than the buffers have; how many of both is written. But for
-/// `DONE` the buffers are left as they were.
+/// The record is followed by a line ending or the end of the input. A line ending is a carriage
+/// return and a line feed if `line_feeds` is 0, and a line feed otherwise. A quoted field may have
+/// any bytes, and quotes in it are doubled. An unquoted field has no quote, comma, carriage return
+/// or line feed. Empty input does not start with a record. A line ending on its own is a record of
+/// one empty field.
 ///
-/// No memory is asked for. A record is passed over twice, so that nothing is written where there is
-/// no room.
+/// `DONE`: the contents of the fields are written into `text`, one field after another, without the
+/// quotes around them and with doubled quotes replaced by single ones. The span of each field in
+/// `text` is written into `fields`, in order.
 ///
-/// The caller owes `bytes_length` bytes at `bytes` that can be read and that nothing changes while
-/// the call runs, `text_length` bytes at `text` and `fields_length` entries at `fields` that can be
-/// written, room for one record at `out`, each apart from the others, and 16 KiB of stack.
+/// The function does not allocate. It scans a record twice, so that it writes nothing if a buffer
+/// is too small.
+///
+/// # Errors
+///
+/// `INVALID`: `bytes` does not start with a record. The first offset at which no record can
+/// continue is written: the bytes before it are a prefix of a record, and together with the byte
+/// there they are not.
+///
+/// `BUFFER_TOO_SMALL`: the record has more fields or more bytes than the buffers. The required
+/// numbers of both are written.
+///
+/// After an error the buffers are unchanged.
+///
+/// # Safety
+///
+/// `bytes` must be valid for reads of `bytes_length` bytes, which must not change during the call.
+/// `text` must be valid for writes of `text_length` bytes, `fields` for writes of `fields_length`
+/// entries, and `out` for writes of one record. None of these may overlap. The call needs 16 KiB of
+/// stack.
 #[unsafe(no_mangle)]
 pub extern "C" fn exported_csv_record(
     bytes: &[u8],
@@ -120,44 +132,54 @@ pub extern "C" fn exported_csv_record(
     ensures record { result ≡ done
         → ShowsRecord (IsRecord (dialect_of line_feeds)) bytes.now out.new
         (take out.new.text text.new) (take out.new.fields fields.new) }
-    ensures small { result ≡ too_small
+    ensures small { result ≡ buffer_too_small
         → WantsRecord (IsRecord (dialect_of line_feeds)) bytes.now out.new
         × ((length fields.old < out.new.fields) ⊎ (length text.old < out.new.text)) }
     ensures kept { (result ≡ done → ⊥) → (fields.new ≡ fields.old) × (text.new ≡ text.old) }
-    ensures refused { result ≡ refused → NoRecord (dialect_of line_feeds) bytes.now
-        × IsRefusedAt (dialect_of line_feeds) bytes.now out.new.place }
-    ensures nowhere { (result ≡ refused → ⊥) → out.new.place ≡ 0 }
-    ensures codes { (result ≡ done) ⊎ ((result ≡ too_small) ⊎ (result ≡ refused)) }
+    ensures refused { result ≡ invalid → NoRecord (dialect_of line_feeds) bytes.now
+        × IsRefusedAt (dialect_of line_feeds) bytes.now out.new.error_offset }
+    ensures nowhere { (result ≡ invalid → ⊥) → out.new.error_offset ≡ 0 }
+    ensures codes { (result ≡ done) ⊎ ((result ≡ buffer_too_small) ⊎ (result ≡ invalid)) }
 {
     *out = none_at(0);
     let dialect = dialect(line_feeds);
     match record_size(dialect, bytes) {
         Ok(Some(size)) => write_record(dialect, bytes, size, text, fields, out),
-        Ok(None) => REFUSED,
+        Ok(None) => INVALID,
         Err(fault) => {
             *out = none_at(fault.offset);
-            REFUSED
+            INVALID
         }
     }
 }
 
-/// The same record where the bytes come in pieces: a record or a refusal that it answers is that of
-/// all longer bytes too.
+/// Parses the same record from partial input. A record or an error that it returns is also that of
+/// every continuation.
 ///
-/// `DONE`, `TOO_SMALL`: as for a record that is whole. `INCOMPLETE`: no record with its line end is
-/// there, and with three bytes more at most they can begin with one. `REFUSED`: whatever comes
-/// after the bytes, they begin with no record, and that is answered as soon as the byte is there
-/// at which none goes on, whose place is written: so of `x"`, 1. A field in quotes that are not
-/// closed goes on for ever, so the caller bounds how many bytes are held. The last record may have
-/// no line end: where no more bytes come, the call for whole ones reads it.
+/// `DONE`: as for complete input.
 ///
-/// Each call reads from the first byte on, and asks for no memory.
+/// `INCOMPLETE`: `bytes` contains no record with its line ending, and at most three more bytes can
+/// complete one.
 ///
-/// The caller owes `bytes_length` bytes at `bytes` that can be read and that nothing changes while
-/// the call runs, `text_length` bytes at `text` and `fields_length` entries at `fields` that can be
-/// written, room for one record at `out`, each apart from the others, and 16 KiB of stack.
+/// A quoted field without a closing quote never ends, so the caller must limit how many bytes are
+/// buffered. The last record may have no line ending: at the end of the input, parse it with the
+/// function for complete input. Each call parses from the first byte, and does not allocate.
+///
+/// # Errors
+///
+/// `INVALID`: `bytes` does not start with a record, regardless of what follows. This is returned as
+/// soon as the first invalid byte is there, and its offset is written: 1 for `x"`.
+///
+/// `BUFFER_TOO_SMALL`: as for complete input.
+///
+/// # Safety
+///
+/// `bytes` must be valid for reads of `bytes_length` bytes, which must not change during the call.
+/// `text` must be valid for writes of `text_length` bytes, `fields` for writes of `fields_length`
+/// entries, and `out` for writes of one record. None of these may overlap. The call needs 16 KiB of
+/// stack.
 #[unsafe(no_mangle)]
-pub extern "C" fn exported_csv_record_in_pieces(
+pub extern "C" fn exported_csv_record_partial(
     bytes: &[u8],
     line_feeds: u32,
     text: &mut [u8],
@@ -167,17 +189,17 @@ pub extern "C" fn exported_csv_record_in_pieces(
     ensures record { result ≡ done
         → ShowsRecord (IsForGood (dialect_of line_feeds)) bytes.now out.new
         (take out.new.text text.new) (take out.new.fields fields.new) }
-    ensures small { result ≡ too_small
+    ensures small { result ≡ buffer_too_small
         → WantsRecord (IsForGood (dialect_of line_feeds)) bytes.now out.new
         × ((length fields.old < out.new.fields) ⊎ (length text.old < out.new.text)) }
     ensures kept { (result ≡ done → ⊥) → (fields.new ≡ fields.old) × (text.new ≡ text.old) }
-    ensures refused { result ≡ refused → BeginsNone (dialect_of line_feeds) bytes.now
-        × IsRefusedAt (dialect_of line_feeds) bytes.now out.new.place
-        × (out.new.place < length bytes.now) }
-    ensures nowhere { (result ≡ refused → ⊥) → out.new.place ≡ 0 }
+    ensures refused { result ≡ invalid → BeginsNone (dialect_of line_feeds) bytes.now
+        × IsRefusedAt (dialect_of line_feeds) bytes.now out.new.error_offset
+        × (out.new.error_offset < length bytes.now) }
+    ensures nowhere { (result ≡ invalid → ⊥) → out.new.error_offset ≡ 0 }
     ensures incomplete { result ≡ incomplete → NoneForGood (dialect_of line_feeds) bytes.now
         × GoesOn (dialect_of line_feeds) bytes.now }
-    ensures codes { (result ≡ done) ⊎ ((result ≡ too_small) ⊎ ((result ≡ refused)
+    ensures codes { (result ≡ done) ⊎ ((result ≡ buffer_too_small) ⊎ ((result ≡ invalid)
         ⊎ (result ≡ incomplete))) }
 {
     *out = none_at(0);
@@ -196,7 +218,7 @@ pub extern "C" fn exported_csv_record_in_pieces(
                 return INCOMPLETE;
             }
             *out = none_at(fault.offset);
-            REFUSED
+            INVALID
         }
     }
 }

@@ -1,19 +1,19 @@
-//! The heads of requests; and, in modules of their own, those of responses, where a head ends whose
-//! bytes come in pieces, and chunked bodies.
+//! Heads of requests. Submodules have the heads of responses, the end of a head in partial input,
+//! and chunked bodies.
 
 ghost use Rattle.std.specs.Prelude.{◌≡◌, ◌⊎◌, ◌<◌, List, length, take, ℕ};
 ghost use Rattle.format_http.specs.Heads.Head.{IsHead, Pair, Request};
 ghost use Rattle.format_http.specs.Heads.Head.{BeginsHead, NoHead};
 ghost use Rattle.format_http_places.specs.Places.{IsWanted, ShowsHead};
 ghost use Rattle.format_http_places.specs.Refusals.{IsRefused};
-ghost use Rattle.exported.specs.Code.{done, incomplete, refused, too_small};
+ghost use Rattle.exported.specs.Code.{buffer_too_small, done, incomplete, invalid};
 ghost use Rattle.exported.specs.Http.{IsNoHead, places_of};
 
 pub mod chunked;
 pub mod extent;
 pub mod response;
 
-use crate::code::{DONE, INCOMPLETE, REFUSED, TOO_SMALL};
+use crate::code::{BUFFER_TOO_SMALL, DONE, INCOMPLETE, INVALID};
 use format_http_places::places;
 pub use format_http_places::places::{Field, Span};
 use format_http_places::read::{HeadError, read_head_into};
@@ -28,20 +28,20 @@ pub struct Head {
     pub target: Span,
     /// How many fields there are.
     pub fields: usize,
-    /// How many bytes the head has, the empty line after the fields among them.
+    /// The length of the head in bytes, including the empty line after the fields.
     pub length: usize,
-    /// Where the bytes are refused: how many stand before the place. Else 0.
-    pub place: usize,
+    /// The offset of the error in bytes; 0 otherwise.
+    pub error_offset: usize,
     /// The number before the point of the version, below 10.
     pub major: u8,
     /// The number after the point of the version, below 10.
     pub minor: u8,
 }
 
-/// The head of nothing, with a number of fields and the place of a refusal.
+/// Returns an empty head with a number of fields and the offset of an error.
 fn none(fields: usize, place: usize) -> Head
     ensures fields { result.fields ≡ fields }
-    ensures place { result.place ≡ place }
+    ensures place { result.error_offset ≡ place }
 {
     let nowhere = Span {
         offset: 0,
@@ -52,7 +52,7 @@ fn none(fields: usize, place: usize) -> Head
         target: nowhere,
         fields,
         length: 0,
-        place,
+        error_offset: place,
         major: 0,
         minor: 0,
     }
@@ -61,46 +61,54 @@ fn none(fields: usize, place: usize) -> Head
 /// A head that was found.
 fn head_of(found: places::Head) -> Head
     ensures places { places_of result ≡ found }
-    ensures place { result.place ≡ 0 }
+    ensures place { result.error_offset ≡ 0 }
 {
     Head {
         method: found.method,
         target: found.target,
         fields: found.fields,
         length: found.length,
-        place: 0,
+        error_offset: 0,
         major: found.major,
         minor: found.minor,
     }
 }
 
-/// The head of a request of HTTP/1.1 (RFC 9112) with which the bytes begin: a request line, field
-/// lines one after the other, and an empty line. What stands after it is not looked at.
+/// Parses the head of an HTTP/1.1 request (RFC 9112) at the start of `bytes`: a request line, field
+/// lines, and an empty line. The bytes after it are not read.
 ///
-/// `DONE`: the places of its parts are written, and of that many fields, in order. `REFUSED`: the
-/// bytes begin with no head; written is the first place at which none goes on, which is their end
-/// where they end within one. `TOO_SMALL`: they begin with one that has more fields than the buffer
-/// has entries; how many it has is written. Where it does not answer `DONE`, any entry of the
-/// buffer may be written: the fields are written as they are read.
+/// `DONE`: the offsets of the parts of the head are written, and those of its fields, in order.
 ///
-/// No empty line is passed before the request line: a server that is to be lenient, as section 2.2
-/// of RFC 9112 has it, passes one CRLF there itself. The bytes are read once, and no memory is
-/// asked for.
+/// Empty lines before the request line are not skipped. A lenient server (RFC 9112, section 2.2)
+/// must skip one CRLF there itself. The bytes are scanned once. The function does not allocate.
 ///
-/// The caller owes `bytes_length` bytes at `bytes` that can be read and that nothing changes while
-/// the call runs, `fields_length` entries at `fields` that can be written, room for one head at
-/// `out`, each apart from the others, and 16 KiB of stack.
+/// # Errors
+///
+/// `INVALID`: `bytes` does not start with a head. The first offset at which no head can continue is
+/// written; it is the end of `bytes` if they end within a head.
+///
+/// `BUFFER_TOO_SMALL`: the head has more fields than the buffer has entries. The number of fields
+/// is written.
+///
+/// After an error the contents of the buffer are unspecified, because the fields are written during
+/// parsing.
+///
+/// # Safety
+///
+/// `bytes` must be valid for reads of `bytes_length` bytes, which must not change during the call.
+/// `fields` must be valid for writes of `fields_length` entries, and `out` for writes of one head.
+/// None of these may overlap. The call needs 16 KiB of stack.
 #[unsafe(no_mangle)]
 pub extern "C" fn exported_http_head(bytes: &[u8], fields: &mut [Field], out: &mut Head) -> u32
     ensures head { result ≡ done
         → ShowsHead bytes.now (places_of out.new) (take out.new.fields fields.new) }
-    ensures small { result ≡ too_small → IsWanted bytes.now out.new.fields
+    ensures small { result ≡ buffer_too_small → IsWanted bytes.now out.new.fields
         × (length fields.old < out.new.fields) }
-    ensures refused { result ≡ refused → (line : Request) (pairs : List Pair) (rest : List ℕ)
+    ensures refused { result ≡ invalid → (line : Request) (pairs : List Pair) (rest : List ℕ)
         → IsHead line pairs bytes.now rest → ⊥ }
-    ensures place { result ≡ refused → IsNoHead bytes.now out.new.place }
-    ensures nowhere { (result ≡ refused → ⊥) → out.new.place ≡ 0 }
-    ensures codes { (result ≡ done) ⊎ ((result ≡ too_small) ⊎ (result ≡ refused)) }
+    ensures place { result ≡ invalid → IsNoHead bytes.now out.new.error_offset }
+    ensures nowhere { (result ≡ invalid → ⊥) → out.new.error_offset ≡ 0 }
+    ensures codes { (result ≡ done) ⊎ ((result ≡ buffer_too_small) ⊎ (result ≡ invalid)) }
 {
     match read_head_into(bytes, fields) {
         Ok(found) => {
@@ -109,48 +117,57 @@ pub extern "C" fn exported_http_head(bytes: &[u8], fields: &mut [Field], out: &m
         }
         Err(HeadError::TooManyFields(count)) => {
             *out = none(count, 0);
-            TOO_SMALL
+            BUFFER_TOO_SMALL
         }
         Err(HeadError::Incomplete) => {
             *out = none(0, bytes.len());
-            REFUSED
+            INVALID
         }
         Err(HeadError::Refused(place)) => {
             *out = none(0, place);
-            REFUSED
+            INVALID
         }
     }
 }
 
-/// The same head where the bytes come in pieces: it answers as soon as the empty line is there.
+/// Parses the same head from partial input. It succeeds as soon as the empty line is there.
 ///
-/// `DONE`, `TOO_SMALL`: as for a head that is whole. `INCOMPLETE`: the bytes begin with no head,
-/// and with more after them they can. `REFUSED`: whatever comes after the bytes, they begin with
-/// no head; written is the first place at which none goes on: with the bytes before it a head can
-/// begin, and with these and the byte there none does.
+/// `DONE`: as for complete input.
 ///
-/// Each call reads from the first byte on.
+/// `INCOMPLETE`: `bytes` does not start with a head, but more bytes can complete one.
 ///
-/// The caller owes `bytes_length` bytes at `bytes` that can be read and that nothing changes while
-/// the call runs, `fields_length` entries at `fields` that can be written, room for one head at
-/// `out`, each apart from the others, and 16 KiB of stack.
+/// Each call parses from the first byte.
+///
+/// # Errors
+///
+/// `INVALID`: `bytes` does not start with a head, regardless of what follows. The offset of the
+/// first invalid byte is written: the bytes before it are a prefix of a head, and together with the
+/// byte there they are not.
+///
+/// `BUFFER_TOO_SMALL`: as for complete input.
+///
+/// # Safety
+///
+/// `bytes` must be valid for reads of `bytes_length` bytes, which must not change during the call.
+/// `fields` must be valid for writes of `fields_length` entries, and `out` for writes of one head.
+/// None of these may overlap. The call needs 16 KiB of stack.
 #[unsafe(no_mangle)]
-pub extern "C" fn exported_http_head_in_pieces(
+pub extern "C" fn exported_http_head_partial(
     bytes: &[u8],
     fields: &mut [Field],
     out: &mut Head,
 ) -> u32
     ensures head { result ≡ done
         → ShowsHead bytes.now (places_of out.new) (take out.new.fields fields.new) }
-    ensures small { result ≡ too_small → IsWanted bytes.now out.new.fields
+    ensures small { result ≡ buffer_too_small → IsWanted bytes.now out.new.fields
         × (length fields.old < out.new.fields) }
-    ensures refused { result ≡ refused → NoHead bytes.now }
-    ensures place { result ≡ refused → IsRefused bytes.now out.new.place }
-    ensures nowhere { (result ≡ refused → ⊥) → out.new.place ≡ 0 }
+    ensures refused { result ≡ invalid → NoHead bytes.now }
+    ensures place { result ≡ invalid → IsRefused bytes.now out.new.error_offset }
+    ensures nowhere { (result ≡ invalid → ⊥) → out.new.error_offset ≡ 0 }
     ensures incomplete { result ≡ incomplete → BeginsHead bytes.now
         × ((line : Request) (pairs : List Pair) (rest : List ℕ)
         → IsHead line pairs bytes.now rest → ⊥) }
-    ensures codes { (result ≡ done) ⊎ ((result ≡ too_small) ⊎ ((result ≡ refused)
+    ensures codes { (result ≡ done) ⊎ ((result ≡ buffer_too_small) ⊎ ((result ≡ invalid)
         ⊎ (result ≡ incomplete))) }
 {
     match read_head_into(bytes, fields) {
@@ -160,7 +177,7 @@ pub extern "C" fn exported_http_head_in_pieces(
         }
         Err(HeadError::TooManyFields(count)) => {
             *out = none(count, 0);
-            TOO_SMALL
+            BUFFER_TOO_SMALL
         }
         Err(HeadError::Incomplete) => {
             *out = none(0, 0);
@@ -168,7 +185,7 @@ pub extern "C" fn exported_http_head_in_pieces(
         }
         Err(HeadError::Refused(place)) => {
             *out = none(0, place);
-            REFUSED
+            INVALID
         }
     }
 }

@@ -4,13 +4,13 @@ ghost use Rattle.std.specs.Prelude.{◌≡◌, ◌⊎◌, ◌<◌, ◌^◌, leng
 ghost use Rattle.readers.specs.Document.{IsRefusedDocument};
 ghost use Rattle.readers.specs.Pair.{IsRefusedPair};
 ghost use Rattle.readers.specs.Sections.{pair_text};
-ghost use Rattle.exported.specs.Code.{done, no_memory, refused, too_small};
+ghost use Rattle.exported.specs.Code.{buffer_too_small, done, invalid, no_memory};
 ghost use Rattle.exported.specs.Ini.{AreEntries, ShowsDocument, ShowsPair, WantsDocument, text_of};
 
 pub mod dialects;
 pub mod entries;
 
-use crate::code::{DONE, NO_MEMORY, REFUSED, TOO_SMALL};
+use crate::code::{BUFFER_TOO_SMALL, DONE, INVALID, NO_MEMORY};
 use crate::ini::entries::{bytes_of, copy_entries, entries_of, place_entries};
 use crate::span::{NOWHERE, Span};
 use readers::fault::Fault;
@@ -25,24 +25,32 @@ pub struct Pair {
     pub key: Span,
     /// The value.
     pub value: Span,
-    /// Where the line is refused: how many bytes stand before the place. Else 0.
-    pub place: usize,
+    /// The offset of the error in bytes; 0 otherwise.
+    pub error_offset: usize,
 }
 
-/// The key and the value of one line: a key of one or more ASCII letters or digits, `=`, a value of
-/// bytes other than a line feed, which may be none, and at most one line feed.
+/// Parses a line of the form `key=value`. The key consists of one or more ASCII letters or digits.
+/// The value consists of any bytes except line feeds, and may be empty. The line may end with one
+/// line feed.
 ///
-/// `DONE`: their places are written. `REFUSED`: the bytes are no such line; written is the length
-/// of their longest beginning that begins one.
+/// `DONE`: the spans of the key and of the value are written.
 ///
-/// The caller owes `bytes_length` bytes at `bytes` that can be read and that nothing changes while
-/// the call runs, room for one pair at `out`, apart from them, and 16 KiB of stack.
+/// # Errors
+///
+/// `INVALID`: `bytes` is not such a line. The length of its longest prefix that is a prefix of such
+/// a line is written.
+///
+/// # Safety
+///
+/// `bytes` must be valid for reads of `bytes_length` bytes, which must not change during the call,
+/// and `out` must be valid for writes of one pair. They must not overlap. The call needs 16 KiB of
+/// stack.
 #[unsafe(no_mangle)]
 pub extern "C" fn exported_ini_pair(bytes: &[u8], out: &mut Pair) -> u32
     ensures pair { result ≡ done → ShowsPair bytes.now out.new }
-    ensures refused { result ≡ refused → IsRefusedPair bytes.now out.new.place }
-    ensures nowhere { (result ≡ refused → ⊥) → out.new.place ≡ 0 }
-    ensures codes { (result ≡ done) ⊎ (result ≡ refused) }
+    ensures refused { result ≡ invalid → IsRefusedPair bytes.now out.new.error_offset }
+    ensures nowhere { (result ≡ invalid → ⊥) → out.new.error_offset ≡ 0 }
+    ensures codes { (result ≡ done) ⊎ (result ≡ invalid) }
 {
     match ini::pair(bytes) {
         Ok((key, value)) => {
@@ -55,7 +63,7 @@ pub extern "C" fn exported_ini_pair(bytes: &[u8], out: &mut Pair) -> u32
                     offset: key.len() + 1,
                     length: value.len(),
                 },
-                place: 0,
+                error_offset: 0,
             };
             DONE
         }
@@ -63,9 +71,9 @@ pub extern "C" fn exported_ini_pair(bytes: &[u8], out: &mut Pair) -> u32
             *out = Pair {
                 key: NOWHERE,
                 value: NOWHERE,
-                place,
+                error_offset: place,
             };
-            REFUSED
+            INVALID
         }
         Err(Fault::NoMemory) => unreachable!(),
     }
@@ -75,13 +83,13 @@ pub extern "C" fn exported_ini_pair(bytes: &[u8], out: &mut Pair) -> u32
 #[repr(C)]
 #[derive(Clone, Copy, Drop)]
 pub struct Entry {
-    /// The key of a pair. The head of a section has none, and by that it is known: a key has bytes.
+    /// The key of a pair. It is empty for the head of a section, and only there.
     pub key: Span,
     /// The value of a pair, or the name of a section. It may have no bytes.
     pub value: Span,
 }
 
-/// What a document has.
+/// The sizes of a document, or the offset of an error.
 #[repr(C)]
 #[derive(Clone, Copy, Drop)]
 pub struct Document {
@@ -89,15 +97,15 @@ pub struct Document {
     pub entries: usize,
     /// How many bytes the keys, the values and the names have together.
     pub text: usize,
-    /// Where the document is refused: how many bytes stand before the place. Else 0.
-    pub place: usize,
+    /// The offset of the error in bytes; 0 otherwise.
+    pub error_offset: usize,
 }
 
 /// The document of nothing.
 const NONE: Document = Document {
     entries: 0,
     text: 0,
-    place: 0,
+    error_offset: 0,
 };
 
 /// Writes entries where there is room.
@@ -110,49 +118,60 @@ fn write_entries(
     requires { length (text_of (map pair_text found.now)) < 2 ^ 63 }
     ensures count { out.new.entries ≡ length found.now }
     ensures bytes { out.new.text ≡ length (text_of (map pair_text found.now)) }
-    ensures nowhere { out.new.place ≡ 0 }
+    ensures nowhere { out.new.error_offset ≡ 0 }
     ensures entries { result ≡ done
         → AreEntries (take out.new.text text.new) (take out.new.entries entries.new)
         (map pair_text found.now) }
-    ensures small { result ≡ too_small
+    ensures small { result ≡ buffer_too_small
         → (length entries.old < out.new.entries) ⊎ (length text.old < out.new.text) }
-    ensures kept { result ≡ too_small → (entries.new ≡ entries.old) × (text.new ≡ text.old) }
-    ensures codes { (result ≡ done) ⊎ (result ≡ too_small) }
+    ensures kept { result ≡ buffer_too_small → (entries.new ≡ entries.old) × (text.new ≡ text.old) }
+    ensures codes { (result ≡ done) ⊎ (result ≡ buffer_too_small) }
 {
     let (count, total) = (found.len(), bytes_of(found));
     *out = Document {
         entries: count,
         text: total,
-        place: 0,
+        error_offset: 0,
     };
     if entries.len() < count || text.len() < total {
-        return TOO_SMALL;
+        return BUFFER_TOO_SMALL;
     }
     copy_entries(found, &mut text[..total]);
     place_entries(found, &mut entries[..count]);
     DONE
 }
 
-/// A document of sections: each a name in brackets, and pairs, a key of ASCII letters or digits,
-/// `=` with spaces and tabs round it, and a value that ends before `;` and the end of its line,
-/// without the white space after it. White space, and comments from `;` to the end of a line,
-/// stand before, between and after them. Names and values are UTF-8, and no pair stands before the
-/// first section.
+/// Parses a document of sections, each a name in brackets followed by pairs.
 ///
-/// `DONE`: the bytes of its entries are written into `text`, those of the key before those of the
-/// value and one entry after the other, and that many places there, in order: of each section its
-/// head, and then its pairs. `REFUSED`: the bytes are no document; written is the length of their
-/// longest beginning that is made of such parts, each of which is one where it stands in all of the
-/// bytes: a pair ends where its line does, so of `[a]`, a line feed, and `x=` before a byte that is
-/// no UTF-8 it is 4. `TOO_SMALL`: they are one that wants more entries or more bytes than the
-/// buffers have; how many of both is written, and the buffers are left as they were. `NO_MEMORY`.
+/// A pair is a key of ASCII letters or digits, `=` with optional spaces and tabs around it, and a
+/// value. The value ends before `;` or the end of its line, without the whitespace there.
+/// Whitespace, and comments from `;` to the end of a line, may precede, separate and follow these
+/// parts. Names and values are UTF-8. Pairs before the first section are invalid.
 ///
-/// While it runs it holds up to 100 bytes of memory for each byte of the document, also where it
-/// then answers `REFUSED` or `TOO_SMALL`.
+/// `DONE`: the bytes of the entries are written into `text`, one entry after another, each key
+/// before its value. Their spans are written into `entries`, in order: the head of each section,
+/// and then its pairs.
 ///
-/// The caller owes `bytes_length` bytes at `bytes` that can be read and that nothing changes while
-/// the call runs, `text_length` bytes at `text` and `entries_length` entries at `entries` that can
-/// be written, room for one document at `out`, each apart from the others, and 16 KiB of stack.
+/// A call holds up to 100 bytes of memory for each byte of the document, even if it then returns
+/// `INVALID` or `BUFFER_TOO_SMALL`.
+///
+/// # Errors
+///
+/// `INVALID`: `bytes` is not a document. The length of the longest prefix that consists of such
+/// parts is written; each part is determined in the context of all bytes. A pair extends to the end
+/// of its line: for `[a]`, a line feed, and `x=` before a byte that is not UTF-8, the length is 4.
+///
+/// `BUFFER_TOO_SMALL`: the document needs more entries or more bytes than the buffers have. The
+/// required numbers of both are written, and the buffers are unchanged.
+///
+/// `NO_MEMORY`.
+///
+/// # Safety
+///
+/// `bytes` must be valid for reads of `bytes_length` bytes, which must not change during the call.
+/// `text` must be valid for writes of `text_length` bytes, `entries` for writes of `entries_length`
+/// entries, and `out` for writes of one document. None of these may overlap. The call needs 16 KiB
+/// of stack.
 #[unsafe(no_mangle)]
 pub extern "C" fn exported_ini_document(
     alloc: Global,
@@ -163,12 +182,12 @@ pub extern "C" fn exported_ini_document(
 ) -> u32
     ensures document { result ≡ done → ShowsDocument bytes.now out.new
         (take out.new.text text.new) (take out.new.entries entries.new) }
-    ensures small { result ≡ too_small → WantsDocument bytes.now out.new
+    ensures small { result ≡ buffer_too_small → WantsDocument bytes.now out.new
         × ((length entries.old < out.new.entries) ⊎ (length text.old < out.new.text)) }
-    ensures kept { result ≡ too_small → (entries.new ≡ entries.old) × (text.new ≡ text.old) }
-    ensures refused { result ≡ refused → IsRefusedDocument bytes.now out.new.place }
-    ensures nowhere { (result ≡ refused → ⊥) → out.new.place ≡ 0 }
-    ensures codes { (result ≡ done) ⊎ ((result ≡ too_small) ⊎ ((result ≡ refused)
+    ensures kept { result ≡ buffer_too_small → (entries.new ≡ entries.old) × (text.new ≡ text.old) }
+    ensures refused { result ≡ invalid → IsRefusedDocument bytes.now out.new.error_offset }
+    ensures nowhere { (result ≡ invalid → ⊥) → out.new.error_offset ≡ 0 }
+    ensures codes { (result ≡ done) ⊎ ((result ≡ buffer_too_small) ⊎ ((result ≡ invalid)
         ⊎ (result ≡ no_memory))) }
 {
     *out = NONE;
@@ -178,8 +197,8 @@ pub extern "C" fn exported_ini_document(
             None => NO_MEMORY,
         },
         Err(Fault::Refused(place)) => {
-            out.place = place;
-            REFUSED
+            out.error_offset = place;
+            INVALID
         }
         Err(Fault::NoMemory) => NO_MEMORY,
     }

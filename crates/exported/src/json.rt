@@ -7,21 +7,21 @@ ghost use Rattle.format_json_extents.specs.Standard.{IsTextByStandard, IsValueBy
 ghost use Rattle.format_json_extents.specs.Texts.{IsLongest, NoneStands, Then};
 ghost use Rattle.format_json_extents.specs.Value.{IsText, IsValue};
 ghost use Rattle.format_json_extents.specs.Walk.{EndsItems, IsLead};
-ghost use Rattle.exported.specs.Code.{done, end, most_levels, no_text, refused, too_deep};
+ghost use Rattle.exported.specs.Code.{done, end, invalid, invalid_utf8, max_depth_too_large};
+ghost use Rattle.exported.specs.Code.{supported_depth};
 ghost use Rattle.exported.specs.Json.{ShowsItem, no_item, number_of};
 
 pub mod integer;
 pub mod step;
 pub mod string;
 
-use crate::code::{DONE, END, NO_TEXT, REFUSED, TOO_DEEP};
+use crate::code::{DONE, END, INVALID, INVALID_UTF8, MAX_DEPTH_TOO_LARGE};
 use crate::span::{NOWHERE, Span};
 use format_json_extents::walk::Kind;
 use format_json_extents::{value, walk};
 
-/// How many levels of arrays and objects in one another may be asked for. Each takes some of the
-/// stack.
-pub const MOST_LEVELS: usize = 512;
+/// The largest supported depth limit for nested arrays and objects. Each level takes some stack.
+pub const MAX_DEPTH: usize = 512;
 
 /// The word null.
 pub const JSON_NULL: usize = 0;
@@ -44,24 +44,25 @@ pub const JSON_ARRAY: usize = 5;
 /// An object: its place has the brackets round it.
 pub const JSON_OBJECT: usize = 6;
 
-/// A value, or a name in an object; or a bracket, by `exported_json_step` alone.
+/// A value, a name in an object, or a bracket. Only `exported_json_step` returns brackets.
 #[repr(C)]
 #[derive(Clone, Copy, Drop)]
 pub struct JsonItem {
-    /// What it is: a number of those from `JSON_NULL` to `JSON_END_OBJECT`. Those after
-    /// `JSON_OBJECT` are of `exported_json_step` alone; else a name is a string.
+    /// The kind of the item: one of the constants from `JSON_NULL` to `JSON_END_OBJECT`. Only
+    /// `exported_json_step` returns those after `JSON_OBJECT`; `exported_json_next` returns a name
+    /// as a string.
     pub kind: usize,
     /// Its bytes.
-    pub place: Span,
+    pub span: Span,
 }
 
 /// Nothing.
 pub(crate) const NO_ITEM: JsonItem = JsonItem {
     kind: JSON_NULL,
-    place: NOWHERE,
+    span: NOWHERE,
 };
 
-/// The number of what a value is.
+/// Returns the number of a type of values.
 fn number_of(kind: Kind) -> usize
     ensures { result ≡ number_of kind }
 {
@@ -76,116 +77,146 @@ fn number_of(kind: Kind) -> usize
     }
 }
 
-/// Whether a text is one of JSON (RFC 8259): a value with white space round it, in which no more
-/// than `levels` arrays and objects stand in one another. What has a surrogate that is escaped
-/// alone, as `\ud800`, is none, since no character is meant by it, though the grammar of the
-/// standard has it.
+/// Checks that a text is a JSON text (RFC 8259): a value, with optional whitespace around it, whose
+/// arrays and objects are nested at most `max_depth` deep.
 ///
-/// `DONE`: it is. `REFUSED`: it is not. `NO_TEXT`: it is no UTF-8. `TOO_DEEP`: more than 512
-/// levels are asked for.
+/// A text with an unpaired surrogate escape such as `\ud800` is rejected, because it denotes no
+/// character, although the grammar of the standard allows it.
 ///
-/// The caller owes `text_length` bytes at `text` that can be read and that nothing changes while
-/// the call runs, and 512 KiB of stack.
+/// `DONE`: the text is a JSON text.
+///
+/// # Errors
+///
+/// `INVALID`: the text is not a JSON text.
+///
+/// `INVALID_UTF8`: the text is not UTF-8.
+///
+/// `MAX_DEPTH_TOO_LARGE`: `max_depth` is above 512.
+///
+/// # Safety
+///
+/// `text` must be valid for reads of `text_length` bytes, which must not change during the call.
+/// The call needs 512 KiB of stack.
 #[unsafe(no_mangle)]
-pub extern "C" fn exported_json_check(text: &[u8], levels: usize) -> u32
-    ensures is { result ≡ done → IsUtf8 text.now × IsText levels text.now }
-    ensures refused { result ≡ refused → IsUtf8 text.now × (IsText levels text.now → ⊥) }
-    ensures standard { levels ≤ most_levels
-        → (result ≡ done) ↔ IsTextByStandard levels text.now }
-    ensures text { result ≡ no_text → IsUtf8 text.now → ⊥ }
-    ensures deep { (result ≡ too_deep) ↔ (most_levels < levels) }
-    ensures codes { (result ≡ done) ⊎ ((result ≡ refused) ⊎ ((result ≡ no_text)
-        ⊎ (result ≡ too_deep))) }
+pub extern "C" fn exported_json_check(text: &[u8], max_depth: usize) -> u32
+    ensures is { result ≡ done → IsUtf8 text.now × IsText max_depth text.now }
+    ensures refused { result ≡ invalid → IsUtf8 text.now × (IsText max_depth text.now → ⊥) }
+    ensures standard { max_depth ≤ supported_depth
+        → (result ≡ done) ↔ IsTextByStandard max_depth text.now }
+    ensures text { result ≡ invalid_utf8 → IsUtf8 text.now → ⊥ }
+    ensures deep { (result ≡ max_depth_too_large) ↔ (supported_depth < max_depth) }
+    ensures codes { (result ≡ done) ⊎ ((result ≡ invalid) ⊎ ((result ≡ invalid_utf8)
+        ⊎ (result ≡ max_depth_too_large))) }
 {
-    if levels > MOST_LEVELS {
-        return TOO_DEEP;
+    if max_depth > MAX_DEPTH {
+        return MAX_DEPTH_TOO_LARGE;
     }
     if str::from_utf8(text).is_err() {
-        return NO_TEXT;
+        return INVALID_UTF8;
     }
-    if value::is_text(levels, text) {
+    if value::is_text(max_depth, text) {
         DONE
     } else {
-        REFUSED
+        INVALID
     }
 }
 
-/// The longest value of JSON (RFC 8259) with which the bytes begin, in which no more than `levels`
-/// arrays and objects stand in one another: how many bytes it has is written. White space before
-/// it is not passed. Bytes of 128 and above are not looked at: the value is JSON where it is UTF-8.
-/// Values are those of `exported_json_check`.
+/// Finds the longest JSON value (RFC 8259) at the start of `bytes` whose arrays and objects are
+/// nested at most `max_depth` deep.
 ///
-/// `DONE`: it is found. `REFUSED`: the bytes begin with none, and 0 is written. `TOO_DEEP`: more
-/// than 512 levels are asked for, and 0 is written.
+/// Whitespace before the value is not skipped. Bytes of 128 and above are not checked: the value is
+/// JSON if it is UTF-8. Values are those of `exported_json_check`.
 ///
-/// The caller owes `bytes_length` bytes at `bytes` that can be read and that nothing changes while
-/// the call runs, room for one length at `out`, apart from them, and 512 KiB of stack.
+/// `DONE`: the length of the value in bytes is written.
+///
+/// # Errors
+///
+/// `INVALID`: `bytes` does not start with a value. 0 is written.
+///
+/// `MAX_DEPTH_TOO_LARGE`: `max_depth` is above 512. 0 is written.
+///
+/// # Safety
+///
+/// `bytes` must be valid for reads of `bytes_length` bytes, which must not change during the call,
+/// and `out` must be valid for writes of one length. They must not overlap. The call needs 512 KiB
+/// of stack.
 #[unsafe(no_mangle)]
-pub extern "C" fn exported_json_value(bytes: &[u8], levels: usize, out: &mut usize) -> u32
-    ensures found { result ≡ done → IsLongest (IsValue levels) (take out.new bytes.now) bytes.now
+pub extern "C" fn exported_json_value(bytes: &[u8], max_depth: usize, out: &mut usize) -> u32
+    ensures found { result ≡ done → IsLongest (IsValue max_depth) (take out.new bytes.now) bytes.now
         (drop out.new bytes.now) × (out.new ≤ length bytes.now) }
-    ensures refused { result ≡ refused → NoneStands (IsValue levels) bytes.now }
+    ensures refused { result ≡ invalid → NoneStands (IsValue max_depth) bytes.now }
     ensures standard { result ≡ done → IsUtf8 (take out.new bytes.now)
-        → IsValueByStandard levels (take out.new bytes.now) }
-    ensures longest { levels ≤ most_levels → (value rest : List ℕ)
-        → IsValueByStandard levels value → bytes.now ≡ value ++ rest
+        → IsValueByStandard max_depth (take out.new bytes.now) }
+    ensures longest { max_depth ≤ supported_depth → (value rest : List ℕ)
+        → IsValueByStandard max_depth value → bytes.now ≡ value ++ rest
         → (result ≡ done) × (length value ≤ out.new) }
     ensures none { (result ≡ done → ⊥) → out.new ≡ 0 }
-    ensures deep { (result ≡ too_deep) ↔ (most_levels < levels) }
-    ensures codes { (result ≡ done) ⊎ ((result ≡ refused) ⊎ (result ≡ too_deep)) }
+    ensures deep { (result ≡ max_depth_too_large) ↔ (supported_depth < max_depth) }
+    ensures codes { (result ≡ done) ⊎ ((result ≡ invalid) ⊎ (result ≡ max_depth_too_large)) }
 {
     *out = 0;
-    if levels > MOST_LEVELS {
-        return TOO_DEEP;
+    if max_depth > MAX_DEPTH {
+        return MAX_DEPTH_TOO_LARGE;
     }
     let mut left = bytes;
-    match value::read_value(levels, &mut left) {
+    match value::read_value(max_depth, &mut left) {
         Some(found) => {
             *out = found.len();
             DONE
         }
-        None => REFUSED,
+        None => INVALID,
     }
 }
 
-/// The next value of JSON (RFC 8259), for a walk through a text that was checked: the longest value
-/// that stands after white space, a comma or a colon at most, and white space, in which no more
-/// than `levels` arrays and objects stand in one another.
+/// Finds the next JSON value (RFC 8259) of a walk through a text that was checked. It is the
+/// longest value after whitespace, at most one comma or colon, and whitespace, whose arrays and
+/// objects are nested at most `max_depth` deep.
 ///
-/// From the start of the text it reads the text's value. What an array has in it is read from
-/// after its first byte on: a value at each call, of the bytes after the place of the last one.
-/// What an object has in it are names and values in turn. Their levels are one less than those of
-/// the value that they stand in. So a walk through all levels reads each byte once for each level
-/// that it stands in; a walk by `exported_json_step` reads each byte once, however deep it stands,
-/// in a time that is linear in the text. Of bytes that were not checked as a text, more than JSON
-/// allows is passed, as a comma before the first value.
+/// At the start of the text this is the value of the text. To walk through an array, start after
+/// its first byte, and call the function for each element with the bytes after the span of the
+/// previous one. An object gives its names and values alternately. For the values in an array or
+/// object, pass one level less.
 ///
-/// `DONE`: what it is and its place are written. `END`: after white space stands a closing
-/// bracket, or nothing. `REFUSED`: neither stands there. `TOO_DEEP`: more than 512 levels are asked
-/// for. With these three all that is written is 0.
+/// A walk through all levels scans each byte once for each level that contains it. A walk by
+/// `exported_json_step` scans each byte once, at any depth, in time linear in the text. If the
+/// bytes were not checked as a text, more is accepted than JSON allows, such as a comma before the
+/// first value.
 ///
-/// The caller owes `bytes_length` bytes at `bytes` that can be read and that nothing changes while
-/// the call runs, room for one item at `out`, apart from them, and 512 KiB of stack.
+/// `DONE`: the kind of the value and its span are written.
+///
+/// `END`: whitespace is followed by a closing bracket or the end of the input. Zeros are written.
+///
+/// # Errors
+///
+/// `INVALID`: there is neither a value nor an end. Zeros are written.
+///
+/// `MAX_DEPTH_TOO_LARGE`: `max_depth` is above 512. Zeros are written.
+///
+/// # Safety
+///
+/// `bytes` must be valid for reads of `bytes_length` bytes, which must not change during the call,
+/// and `out` must be valid for writes of one item. They must not overlap. The call needs 512 KiB of
+/// stack.
 #[unsafe(no_mangle)]
-pub extern "C" fn exported_json_next(bytes: &[u8], levels: usize, out: &mut JsonItem) -> u32
-    ensures item { result ≡ done → ShowsItem levels bytes.now out.new }
+pub extern "C" fn exported_json_next(bytes: &[u8], max_depth: usize, out: &mut JsonItem) -> u32
+    ensures item { result ≡ done → ShowsItem max_depth bytes.now out.new }
     ensures end { result ≡ end → EndsItems bytes.now }
-    ensures refused { result ≡ refused → NoneStands (Then IsLead (IsValue levels)) bytes.now
+    ensures refused { result ≡ invalid → NoneStands (Then IsLead (IsValue max_depth)) bytes.now
         × (EndsItems bytes.now → ⊥) }
     ensures none { (result ≡ done → ⊥) → out.new ≡ no_item }
-    ensures deep { (result ≡ too_deep) ↔ (most_levels < levels) }
-    ensures codes { (result ≡ done) ⊎ ((result ≡ end) ⊎ ((result ≡ refused)
-        ⊎ (result ≡ too_deep))) }
+    ensures deep { (result ≡ max_depth_too_large) ↔ (supported_depth < max_depth) }
+    ensures codes { (result ≡ done) ⊎ ((result ≡ end) ⊎ ((result ≡ invalid)
+        ⊎ (result ≡ max_depth_too_large))) }
 {
     *out = NO_ITEM;
-    if levels > MOST_LEVELS {
-        return TOO_DEEP;
+    if max_depth > MAX_DEPTH {
+        return MAX_DEPTH_TOO_LARGE;
     }
     if walk::is_end(bytes) {
         return END;
     }
     let mut left = bytes;
-    match walk::read_next(levels, &mut left) {
+    match walk::read_next(max_depth, &mut left) {
         Some(text) => {
             let place = Span {
                 offset: bytes.len() - left.len() - text.len(),
@@ -193,10 +224,10 @@ pub extern "C" fn exported_json_next(bytes: &[u8], levels: usize, out: &mut Json
             };
             *out = JsonItem {
                 kind: number_of(walk::kind_of(text)),
-                place,
+                span: place,
             };
             DONE
         }
-        None => REFUSED,
+        None => INVALID,
     }
 }

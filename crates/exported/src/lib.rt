@@ -1,12 +1,12 @@
 //! Readers for callers in C and in Rust, as a static library.
 //!
-//! A function takes the caller's bytes as a pointer and their number, and says by a code how it
-//! ended; what it found it writes where the caller says. It answers places in the caller's own
-//! bytes, so nothing that it takes memory for outlives the call.
+//! A function takes the caller's bytes as a pointer and a length, returns a code, and writes its
+//! result where the caller specifies. Results are offsets in the caller's own bytes, so no memory
+//! that a function allocates outlives the call.
 //!
-//! Values of JSON are those that the crates `format_json_values` and `format_json_pieces` read:
-//! what has a surrogate that is escaped alone, as `\ud800`, is none, though the grammar of the
-//! standard has it.
+//! JSON values are those that the crates `format_json_values` and `format_json_pieces` parse: an
+//! unpaired surrogate escape such as `\ud800` is rejected, although the grammar of the standard
+//! allows it.
 #![tactic(auto)]
 
 pub mod calc;

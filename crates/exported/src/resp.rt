@@ -4,7 +4,8 @@ ghost use Rattle.std.specs.Prelude.{◌≡◌, ◌<◌, ◌⊎◌, ◌↔◌, Li
 ghost use Rattle.winnow.specs.InTurn.{First};
 ghost use Rattle.format_resp.specs.Extents.{IsOf};
 ghost use Rattle.format_resp.specs.Resp.{ReplyText};
-ghost use Rattle.exported.specs.Code.{done, incomplete, most_levels, no_memory, refused, too_deep};
+ghost use Rattle.exported.specs.Code.{done, incomplete, invalid, max_depth_too_large, no_memory};
+ghost use Rattle.exported.specs.Code.{supported_depth};
 ghost use Rattle.exported.specs.Extent.{TellsEnd, extent_of};
 ghost use Rattle.exported.specs.Resp.{IsReply, IsReplyForGood, NoReply, NoReplyForGood, ShowsReply};
 ghost use Rattle.exported.specs.Resp.{no_reply};
@@ -12,11 +13,11 @@ ghost use Rattle.exported.specs.Resp.{no_reply};
 pub mod extent;
 pub mod places;
 
-use crate::code::{DONE, INCOMPLETE, NO_MEMORY, REFUSED, TOO_DEEP};
-use crate::json::MOST_LEVELS;
+use crate::code::{DONE, INCOMPLETE, INVALID, MAX_DEPTH_TOO_LARGE, NO_MEMORY};
+use crate::json::MAX_DEPTH;
 use crate::resp::extent::{extent_at, state_at};
 use crate::resp::places::reply_at;
-use crate::span::{MOST_IN_PIECES, NOWHERE, Span};
+use crate::span::{MAX_PARTIAL, NOWHERE, Span};
 use format_resp::extent::Refused;
 use format_resp::read::read_reply;
 use format_resp::reply::Protocol;
@@ -49,34 +50,35 @@ pub const RESP_NULL_ARRAY: usize = 6;
 #[repr(C)]
 #[derive(Clone, Copy, Drop)]
 pub struct Reply {
-    /// What it is: a number of those from `RESP_SIMPLE` to `RESP_NULL_ARRAY`.
+    /// The kind of the reply: one of the constants from `RESP_SIMPLE` to `RESP_NULL_ARRAY`.
     pub kind: usize,
-    /// The number that an integer is. Else 0.
+    /// The number of an integer; 0 otherwise.
     pub number: i64,
-    /// How many elements an array has. Else 0.
+    /// The number of elements of an array; 0 otherwise.
     pub elements: usize,
     /// The bytes of a string or of an error, or those of the elements of an array, which are
-    /// replies, one after the other. Else nothing.
-    pub place: Span,
+    /// consecutive replies; zeros otherwise.
+    pub span: Span,
     /// How many bytes the reply has.
     pub length: usize,
 }
 
-/// How far bytes that come in pieces were searched for the end of the reply that they begin with.
-/// Its numbers are for the calls alone, and all zeros say that nothing was passed: so it is begun
-/// for each reply.
+/// The state of a search for the end of a reply in input that arrives in chunks. Only the functions
+/// of this library may interpret its fields. All zeros is the initial state; start from it for each
+/// reply.
 #[repr(C)]
 #[derive(Clone, Copy, Drop)]
-pub struct RespExtent {
-    /// What is due: 0 where nothing was passed, 1 for a line, 2 for the bytes of a string.
+pub struct RespReplyState {
+    /// The part that is expected next: 0 in the initial state, 1 for a line, 2 for the bytes of a
+    /// string.
     pub due: usize,
     /// How many bytes were passed.
     pub passed: usize,
-    /// How many of the bytes after the next one have no part of a line end.
+    /// The number of bytes after the next one that are not part of a line ending.
     pub sought: usize,
     /// How many bytes the string has.
     pub bulk: usize,
-    /// How many replies are due, by the lower 64 bits of their number.
+    /// The number of expected replies, its lower 64 bits.
     pub low: usize,
     /// By the upper 64 bits.
     pub high: usize,
@@ -87,96 +89,118 @@ pub(crate) const NONE: Reply = Reply {
     kind: RESP_SIMPLE,
     number: 0,
     elements: 0,
-    place: NOWHERE,
+    span: NOWHERE,
     length: 0,
 };
 
-/// The reply of Redis (RESP2, the second version of its protocol) with which the bytes begin, in
-/// which no more than `levels` arrays stand in one another. The elements of an array are read by
-/// further calls, of the bytes at its place and of those after each element.
+/// Parses the Redis reply (RESP2, the second version of the protocol) at the start of `bytes`,
+/// whose arrays are nested at most `max_depth` deep.
 ///
-/// An integer may have a sign before it and zeros first, a size zeros first; `-1` is the size of a
-/// null.
+/// To parse the elements of an array, call the function with the bytes in its span, and then with
+/// those after each element. An integer may have a sign and leading zeros, a size leading zeros.
+/// `-1` is the size of a null.
 ///
-/// `DONE`: the reply is written. `REFUSED`: the bytes begin with none. `TOO_DEEP`: more than 512
-/// levels are asked for. `NO_MEMORY`. With these three all that is written is 0.
+/// `DONE`: the reply is written.
 ///
-/// While it runs it holds up to 32 bytes of memory for each byte of the reply, and 2 KiB for each
-/// level of arrays that has begun.
+/// A call holds up to 32 bytes of memory for each byte of the reply, and 2 KiB for each level of
+/// arrays that has started.
 ///
-/// The caller owes `bytes_length` bytes at `bytes` that can be read and that nothing changes while
-/// the call runs, room for one reply at `out`, apart from them, and 512 KiB of stack.
+/// # Errors
+///
+/// `INVALID`: `bytes` does not start with a reply.
+///
+/// `MAX_DEPTH_TOO_LARGE`: `max_depth` is above 512.
+///
+/// `NO_MEMORY`.
+///
+/// After an error only zeros are written.
+///
+/// # Safety
+///
+/// `bytes` must be valid for reads of `bytes_length` bytes, which must not change during the call,
+/// and `out` must be valid for writes of one reply. They must not overlap. The call needs 512 KiB
+/// of stack.
 #[unsafe(no_mangle)]
 pub extern "C" fn exported_resp_reply(
     alloc: Global,
     bytes: &[u8],
-    levels: usize,
+    max_depth: usize,
     out: &mut Reply,
 ) -> u32
-    ensures reply { result ≡ done → ShowsReply (IsReply levels) levels bytes.now out.new }
-    ensures refused { result ≡ refused → NoReply levels bytes.now }
-    ensures deep { (result ≡ too_deep) ↔ (most_levels < levels) }
+    ensures reply { result ≡ done → ShowsReply (IsReply max_depth) max_depth bytes.now out.new }
+    ensures refused { result ≡ invalid → NoReply max_depth bytes.now }
+    ensures deep { (result ≡ max_depth_too_large) ↔ (supported_depth < max_depth) }
     ensures none { (result ≡ done → ⊥) → out.new ≡ no_reply }
-    ensures codes { (result ≡ done) ⊎ ((result ≡ refused) ⊎ ((result ≡ too_deep)
+    ensures codes { (result ≡ done) ⊎ ((result ≡ invalid) ⊎ ((result ≡ max_depth_too_large)
         ⊎ (result ≡ no_memory))) }
 {
     *out = NONE;
-    if levels > MOST_LEVELS {
-        return TOO_DEEP;
+    if max_depth > MAX_DEPTH {
+        return MAX_DEPTH_TOO_LARGE;
     }
     let mut whole = Partial::new(bytes);
     whole.complete();
-    match read_reply(alloc, Protocol::Resp2, levels, &mut whole) {
+    match read_reply(alloc, Protocol::Resp2, max_depth, &mut whole) {
         Ok(found) => {
-            *out = reply_at(bytes, levels, &found, whole.into_inner().len());
+            *out = reply_at(bytes, max_depth, &found, whole.into_inner().len());
             DONE
         }
         Err(error) => {
             if ParserError::<Partial<&[u8]>>::is_memory(&error) {
                 NO_MEMORY
             } else {
-                REFUSED
+                INVALID
             }
         }
     }
 }
 
-/// The same reply where the bytes come in pieces: what it answers is that of all longer bytes too.
+/// Parses the same reply from partial input. Its result is also that of every continuation.
 ///
-/// `DONE`, `TOO_DEEP`, `NO_MEMORY`: as for a reply that is whole. `INCOMPLETE`: more bytes may be
-/// needed; that no more are asked for once the reply is there is tested, not proved. `REFUSED`:
-/// whatever comes after the bytes, they begin with no reply. With these two all that is written is
-/// 0 too.
+/// `DONE`: as for complete input.
 ///
-/// Each call reads from the first byte on, and holds as much memory as that for a whole reply.
+/// `INCOMPLETE`: more bytes may be needed. Zeros are written. It is tested, but not proved, that
+/// this is not returned once the reply is complete.
 ///
-/// The caller owes `bytes_length` bytes at `bytes` that can be read and that nothing changes while
-/// the call runs, room for one reply at `out`, apart from them, and 512 KiB of stack.
+/// Each call parses from the first byte, and holds as much memory as a call for a complete reply.
+///
+/// # Errors
+///
+/// `INVALID`: `bytes` does not start with a reply, regardless of what follows. Zeros are written.
+///
+/// `MAX_DEPTH_TOO_LARGE`, `NO_MEMORY`: as for complete input.
+///
+/// # Safety
+///
+/// `bytes` must be valid for reads of `bytes_length` bytes, which must not change during the call,
+/// and `out` must be valid for writes of one reply. They must not overlap. The call needs 512 KiB
+/// of stack.
 #[unsafe(no_mangle)]
-pub extern "C" fn exported_resp_reply_in_pieces(
+pub extern "C" fn exported_resp_reply_partial(
     alloc: Global,
     bytes: &[u8],
-    levels: usize,
+    max_depth: usize,
     out: &mut Reply,
 ) -> u32
-    ensures reply { result ≡ done → ShowsReply (IsReplyForGood levels) levels bytes.now out.new }
-    ensures refused { result ≡ refused → NoReplyForGood levels bytes.now }
-    ensures deep { (result ≡ too_deep) ↔ (most_levels < levels) }
+    ensures reply { result ≡ done
+        → ShowsReply (IsReplyForGood max_depth) max_depth bytes.now out.new }
+    ensures refused { result ≡ invalid → NoReplyForGood max_depth bytes.now }
+    ensures deep { (result ≡ max_depth_too_large) ↔ (supported_depth < max_depth) }
     ensures none { (result ≡ done → ⊥) → out.new ≡ no_reply }
-    ensures codes { (result ≡ done) ⊎ ((result ≡ refused) ⊎ ((result ≡ too_deep)
+    ensures codes { (result ≡ done) ⊎ ((result ≡ invalid) ⊎ ((result ≡ max_depth_too_large)
         ⊎ ((result ≡ incomplete) ⊎ (result ≡ no_memory)))) }
 {
     *out = NONE;
-    if levels > MOST_LEVELS {
-        return TOO_DEEP;
+    if max_depth > MAX_DEPTH {
+        return MAX_DEPTH_TOO_LARGE;
     }
-    if bytes.len() > MOST_IN_PIECES {
-        return REFUSED;
+    if bytes.len() > MAX_PARTIAL {
+        return INVALID;
     }
     let mut pieces = Partial::new(bytes);
-    match read_reply(alloc, Protocol::Resp2, levels, &mut pieces) {
+    match read_reply(alloc, Protocol::Resp2, max_depth, &mut pieces) {
         Ok(found) => {
-            *out = reply_at(bytes, levels, &found, pieces.into_inner().len());
+            *out = reply_at(bytes, max_depth, &found, pieces.into_inner().len());
             DONE
         }
         Err(error) => {
@@ -185,38 +209,51 @@ pub extern "C" fn exported_resp_reply_in_pieces(
             } else if ParserError::<Partial<&[u8]>>::is_incomplete(&error) {
                 INCOMPLETE
             } else {
-                REFUSED
+                INVALID
             }
         }
     }
 }
 
-/// Where the reply of Redis (RESP2) ends whose bytes come in pieces: what a call passed, no call
-/// looks at again, so all calls for a reply take a time that is linear in its bytes, however many
-/// there are. The bytes of the reply are then read by one call for a whole one, which also says
-/// whether it has more levels than are asked for: here they are not counted.
+/// Finds the end of a Redis reply (RESP2) in input that arrives in chunks.
 ///
-/// For the first call the numbers of `state` are zeros. Each further call for the same reply has
-/// the state that the last one left, and all of the bytes of the last one with more after them.
+/// No call looks again at bytes that an earlier call scanned, so all calls for a reply take time
+/// linear in its length. To obtain the reply, pass its bytes to `exported_resp_reply`, which also
+/// checks the nesting depth; here it is not checked.
 ///
-/// `DONE`: that many of the first bytes are a reply, and whatever follows, no other reply stands
-/// first. For the next one, zeros are put into the state. `INCOMPLETE`: the bytes begin with none
-/// as yet: its last line is not ended, or bytes of a string are wanting. `REFUSED`: whatever comes
-/// after the bytes, they begin with none; a line that is none of a reply is refused where it ends.
-/// With these two 0 is written.
+/// For the first call, `state` must be all zeros. Each further call for the same reply must have
+/// the state that the previous call left, and the bytes of the previous call followed by more
+/// bytes.
 ///
-/// Of a state that calls left for other bytes, or that is changed, what is told may be wrong;
-/// nothing outside of the bytes is read then either.
+/// `DONE`: `bytes` starts with a reply, whose length is written. It starts with no other reply,
+/// regardless of what follows. Reset the state to zeros for the next reply.
 ///
-/// The caller owes a state at `state` that can be read and written, `bytes_length` bytes at `bytes`
-/// that can be read and that nothing changes while the call runs, room for one length at `out`,
-/// each apart from the others, and 16 KiB of stack.
+/// `INCOMPLETE`: `bytes` does not start with a reply yet: its last line has not ended, or bytes of
+/// a string are missing. 0 is written.
+///
+/// If `state` belongs to other bytes or was modified, the result may be wrong, but nothing outside
+/// `bytes` is read.
+///
+/// # Errors
+///
+/// `INVALID`: `bytes` does not start with a reply, regardless of what follows. 0 is written. An
+/// invalid line is rejected at its end.
+///
+/// # Safety
+///
+/// `state` must be valid for reads and writes of one state, and `out` for writes of one length.
+/// `bytes` must be valid for reads of `bytes_length` bytes, which must not change during the call.
+/// None of these may overlap. The call needs 16 KiB of stack.
 #[unsafe(no_mangle)]
-pub extern "C" fn exported_resp_extent(state: &mut RespExtent, bytes: &[u8], out: &mut usize) -> u32
+pub extern "C" fn exported_resp_extent(
+    state: &mut RespReplyState,
+    bytes: &[u8],
+    out: &mut usize,
+) -> u32
     ensures told { IsOf (extent_of state.old) bytes.now
         → TellsEnd bytes.now result out.new state.new }
     ensures none { (result ≡ done → ⊥) → out.new ≡ 0 }
-    ensures codes { (result ≡ done) ⊎ ((result ≡ incomplete) ⊎ (result ≡ refused)) }
+    ensures codes { (result ≡ done) ⊎ ((result ≡ incomplete) ⊎ (result ≡ invalid)) }
 {
     *out = 0;
     let mut extent = extent_at(*state);
@@ -228,6 +265,6 @@ pub extern "C" fn exported_resp_extent(state: &mut RespExtent, bytes: &[u8], out
             DONE
         }
         Ok(None) => INCOMPLETE,
-        Err(Refused) => REFUSED,
+        Err(Refused) => INVALID,
     }
 }

@@ -5,11 +5,11 @@ ghost use Rattle.exported.specs.Span.{EndsWith, StandsAt};
 
 use format_csv_records::buffers::FieldPlace;
 
-/// A place in the caller's bytes: that many of them, from one on.
+/// A span of the caller's bytes: an offset and a length.
 #[repr(C)]
 #[derive(Clone, Copy, Drop)]
 pub struct Span {
-    /// How many bytes stand before it.
+    /// The offset in bytes.
     pub offset: usize,
     /// How many bytes it has.
     pub length: usize,
@@ -32,7 +32,7 @@ pub(crate) const NOWHERE: Span = Span {
     length: 0,
 };
 
-/// The place of the first bytes of what the input ends with.
+/// Returns the span of the first `count` bytes of `rest`, a suffix of `input`.
 pub fn first_of(input: &[u8], rest: &[u8], count: usize) -> Span
     requires ends { EndsWith input.now rest.now }
     ensures { (text behind : List ℕ) → rest.now ≡ text ++ behind → length text ≡ count
@@ -44,5 +44,5 @@ pub fn first_of(input: &[u8], rest: &[u8], count: usize) -> Span
     }
 }
 
-/// As many bytes as may come in pieces: 64 bits count the bits of no more.
-pub(crate) const MOST_IN_PIECES: usize = 2305843009213693951;
+/// The maximum length of partial input: 64 bits can count its bits.
+pub(crate) const MAX_PARTIAL: usize = 2305843009213693951;

@@ -18,13 +18,17 @@ pub struct Position {
     pub column: usize,
 }
 
-/// The line and the column of the place after the first `offset` bytes. That they are is proved of
-/// UTF-8 and a place at an end of it or between two of its characters, and elsewhere tested alone:
-/// bytes that are no text count as the characters do that stand for them where they are printed,
-/// and a place after the end is the end.
+/// Computes the line and the column of the position after the first `offset` bytes.
 ///
-/// The caller owes `bytes_length` bytes at `bytes` that can be read and that nothing changes while
-/// the call runs, room for one position at `out`, apart from them, and 16 KiB of stack.
+/// This is proved for UTF-8 and an offset on a character boundary, and otherwise only tested. Bytes
+/// that are not UTF-8 count as the replacement characters that are printed for them, and an offset
+/// after the end counts as the end.
+///
+/// # Safety
+///
+/// `bytes` must be valid for reads of `bytes_length` bytes, which must not change during the call,
+/// and `out` must be valid for writes of one position. They must not overlap. The call needs 16 KiB
+/// of stack.
 #[unsafe(no_mangle)]
 pub extern "C" fn exported_text_position(bytes: &[u8], offset: usize, out: &mut Position) -> u32
     ensures place { IsUtf8 bytes.now → IsCharBoundary bytes.now offset

@@ -1,14 +1,15 @@
 //! Documents of TOML.
 
 ghost use Rattle.std.specs.Prelude.{◌≡◌, ◌<◌, ◌⊎◌, ◌↔◌, length, take};
-ghost use Rattle.exported.specs.Code.{done, most_levels, no_memory, no_text, refused, too_deep};
-ghost use Rattle.exported.specs.Code.{too_small};
+ghost use Rattle.exported.specs.Code.{done, invalid, invalid_utf8, max_depth_too_large, no_memory};
+ghost use Rattle.exported.specs.Code.{supported_depth};
+ghost use Rattle.exported.specs.Code.{buffer_too_small};
 ghost use Rattle.exported.specs.Toml.{IsNoText, IsRefusedDocument, ShowsDocument, ShowsTree};
 ghost use Rattle.exported.specs.Toml.{WantsDocument, WantsTree, code_of, fault_of, lack_of};
 ghost use Rattle.exported.specs.Toml.{place_of, refusal_of};
 
-use crate::code::{DONE, NO_MEMORY, NO_TEXT, REFUSED, TOO_DEEP, TOO_SMALL};
-use crate::json::MOST_LEVELS;
+use crate::code::{BUFFER_TOO_SMALL, DONE, INVALID, INVALID_UTF8, MAX_DEPTH_TOO_LARGE, NO_MEMORY};
+use crate::json::MAX_DEPTH;
 use format_toml_document::{Document, Expected, Fault, Refusal, Tree, from_bytes};
 pub use format_toml_nodes::node::{
     Span, TOML_ARRAY, TOML_BOOLEAN, TOML_FLOAT, TOML_INTEGER, TOML_LOCAL_DATE,
@@ -18,102 +19,103 @@ pub use format_toml_nodes::node::{
 use format_toml_nodes::nodes::{size_of, write_nodes};
 use std::alloc::Global;
 
-/// Nothing is refused.
-pub const TOML_FAULT_NONE: usize = 0;
+/// No error.
+pub const TOML_ERROR_NONE: usize = 0;
 
 /// A key or a table is expected.
-pub const TOML_FAULT_KEY: usize = 1;
+pub const TOML_ERROR_KEY: usize = 1;
 
 /// The equals sign after a key is expected.
-pub const TOML_FAULT_EQUALS_SIGN: usize = 2;
+pub const TOML_ERROR_EQUALS_SIGN: usize = 2;
 
-/// A value is expected, of no more levels than are asked for.
-pub const TOML_FAULT_VALUE: usize = 3;
+/// A value is expected, nested no deeper than the depth limit.
+pub const TOML_ERROR_VALUE: usize = 3;
 
 /// The name of a table is expected.
-pub const TOML_FAULT_TABLE_NAME: usize = 4;
+pub const TOML_ERROR_TABLE_NAME: usize = 4;
 
 /// A bracket after the name of a table is expected.
-pub const TOML_FAULT_CLOSING_BRACKET: usize = 5;
+pub const TOML_ERROR_CLOSING_BRACKET: usize = 5;
 
 /// The end of the line is expected.
-pub const TOML_FAULT_LINE_END: usize = 6;
+pub const TOML_ERROR_LINE_END: usize = 6;
 
 /// The line defines what is defined already.
-pub const TOML_FAULT_DEFINED: usize = 7;
+pub const TOML_ERROR_DEFINED: usize = 7;
 
 /// The line takes a value for a table.
-pub const TOML_FAULT_NO_TABLE: usize = 8;
+pub const TOML_ERROR_NOT_A_TABLE: usize = 8;
 
 /// The line adds to a table that is closed: an inline table, or by dotted keys one of a header.
-pub const TOML_FAULT_CLOSED: usize = 9;
+pub const TOML_ERROR_CLOSED: usize = 9;
 
-/// The line adds a table to what is no array of tables.
-pub const TOML_FAULT_NO_TABLES: usize = 10;
+/// The line adds a table to a key that is not an array of tables.
+pub const TOML_ERROR_NOT_AN_ARRAY_OF_TABLES: usize = 10;
 
-/// What was read of a document.
+/// The sizes of a document, or an error.
 #[repr(C)]
 #[derive(Clone, Copy, Drop)]
-pub struct TomlDocument {
+pub struct TomlResult {
     /// How many nodes there are.
     pub nodes: usize,
     /// How many bytes their names and texts have together.
     pub text: usize,
-    /// Where the bytes are no document: how many stand before the place. Else 0.
-    pub place: usize,
-    /// Why they are none: a number of those from `TOML_FAULT_NONE` to `TOML_FAULT_NO_TABLES`.
-    pub fault: usize,
+    /// The offset of the error in bytes; 0 otherwise.
+    pub error_offset: usize,
+    /// The error: one of the constants from `TOML_ERROR_NONE` to
+    /// `TOML_ERROR_NOT_AN_ARRAY_OF_TABLES`.
+    pub error: usize,
 }
 
 /// The document of nothing.
-const NONE: TomlDocument = TomlDocument {
+const NONE: TomlResult = TomlResult {
     nodes: 0,
     text: 0,
-    place: 0,
-    fault: TOML_FAULT_NONE,
+    error_offset: 0,
+    error: TOML_ERROR_NONE,
 };
 
-/// The number of what is expected.
+/// Returns the number of an expected element.
 fn number_of_lack(expected: Expected) -> usize
     ensures { result ≡ lack_of expected }
 {
     match expected {
-        Expected::Key => TOML_FAULT_KEY,
-        Expected::EqualsSign => TOML_FAULT_EQUALS_SIGN,
-        Expected::Value => TOML_FAULT_VALUE,
-        Expected::TableName => TOML_FAULT_TABLE_NAME,
-        Expected::ClosingBracket => TOML_FAULT_CLOSING_BRACKET,
-        Expected::LineEnd => TOML_FAULT_LINE_END,
+        Expected::Key => TOML_ERROR_KEY,
+        Expected::EqualsSign => TOML_ERROR_EQUALS_SIGN,
+        Expected::Value => TOML_ERROR_VALUE,
+        Expected::TableName => TOML_ERROR_TABLE_NAME,
+        Expected::ClosingBracket => TOML_ERROR_CLOSING_BRACKET,
+        Expected::LineEnd => TOML_ERROR_LINE_END,
     }
 }
 
-/// The number of why a line is refused.
+/// Returns the number of an error.
 fn number_of_refusal(why: Refusal) -> usize
     ensures { result ≡ refusal_of why }
 {
     match why {
-        Refusal::Defined => TOML_FAULT_DEFINED,
-        Refusal::NoTable => TOML_FAULT_NO_TABLE,
-        Refusal::Closed => TOML_FAULT_CLOSED,
-        Refusal::NoTables => TOML_FAULT_NO_TABLES,
+        Refusal::Defined => TOML_ERROR_DEFINED,
+        Refusal::NoTable => TOML_ERROR_NOT_A_TABLE,
+        Refusal::Closed => TOML_ERROR_CLOSED,
+        Refusal::NoTables => TOML_ERROR_NOT_AN_ARRAY_OF_TABLES,
     }
 }
 
-/// Writes why bytes are no document, and where.
-fn write_fault(fault: Fault, out: &mut TomlDocument) -> u32
+/// Writes an error and its offset.
+fn write_fault(fault: Fault, out: &mut TomlResult) -> u32
     ensures code { result ≡ code_of fault }
-    ensures place { out.new.place ≡ place_of fault }
-    ensures fault { out.new.fault ≡ fault_of fault }
+    ensures place { out.new.error_offset ≡ place_of fault }
+    ensures fault { out.new.error ≡ fault_of fault }
 {
     let (place, number, code) = match fault {
-        Fault::Unexpected { at, expected } => (at.offset, number_of_lack(expected), REFUSED),
-        Fault::Refused { at, why } => (at.offset, number_of_refusal(why), REFUSED),
-        Fault::NotUtf8 { at } => (at.offset, TOML_FAULT_NONE, NO_TEXT),
-        Fault::OutOfMemory => (0, TOML_FAULT_NONE, NO_MEMORY),
+        Fault::Unexpected { at, expected } => (at.offset, number_of_lack(expected), INVALID),
+        Fault::Refused { at, why } => (at.offset, number_of_refusal(why), INVALID),
+        Fault::NotUtf8 { at } => (at.offset, TOML_ERROR_NONE, INVALID_UTF8),
+        Fault::OutOfMemory => (0, TOML_ERROR_NONE, NO_MEMORY),
     };
-    *out = TomlDocument {
-        place,
-        fault: number,
+    *out = TomlResult {
+        error_offset: place,
+        error: number,
         ..NONE
     };
     code
@@ -124,19 +126,19 @@ fn write_tree<'t>(
     tree: &Tree<'t, Global>,
     text: &mut [u8],
     nodes: &mut [TomlNode],
-    out: &mut TomlDocument,
+    out: &mut TomlResult,
 ) -> u32
-    ensures nowhere { (out.new.place ≡ 0) × (out.new.fault ≡ 0) }
+    ensures nowhere { (out.new.error_offset ≡ 0) × (out.new.error ≡ 0) }
     ensures sized { WantsTree tree.now out.new }
     ensures tree { result ≡ done → ShowsTree tree.now (take out.new.text text.new)
         (take out.new.nodes nodes.new) }
-    ensures small { result ≡ too_small
+    ensures small { result ≡ buffer_too_small
         → (length nodes.old < out.new.nodes) ⊎ (length text.old < out.new.text) }
-    ensures kept { result ≡ too_small → (nodes.new ≡ nodes.old) × (text.new ≡ text.old) }
-    ensures codes { (result ≡ done) ⊎ (result ≡ too_small) }
+    ensures kept { result ≡ buffer_too_small → (nodes.new ≡ nodes.old) × (text.new ≡ text.old) }
+    ensures codes { (result ≡ done) ⊎ (result ≡ buffer_too_small) }
 {
     let size = size_of(tree);
-    *out = TomlDocument {
+    *out = TomlResult {
         nodes: size.nodes,
         text: size.text,
         ..NONE
@@ -144,57 +146,73 @@ fn write_tree<'t>(
     if write_nodes(tree, size, text, nodes) {
         DONE
     } else {
-        TOO_SMALL
+        BUFFER_TOO_SMALL
     }
 }
 
-/// The document of TOML 1.0 (toml.io/en/v1.0.0) that bytes are, in whose values no more than
-/// `levels` arrays and inline tables stand in one another. What the standard leaves open is as most
-/// readers have it: an integer has 64 bits, and a float is its text.
+/// Parses a document of TOML 1.0 (toml.io/en/v1.0.0) whose values have arrays and inline tables
+/// nested at most `max_depth` deep.
+///
+/// Where the standard leaves a choice, this follows most parsers: integers have 64 bits, and floats
+/// are returned as text.
 ///
 /// `DONE`: the nodes of the document are written into `nodes`, and the bytes of their names and
-/// texts into `text`. A node is a table, an array or another value. The nodes stand in the order
-/// in which the document first speaks of them: the first is the table that has all others, and a
-/// table or an array stands before what is in it. Each says which node it is in, which is the first
-/// in it, and which the next beside it, so that a loop walks them. `REFUSED`: the bytes are no
-/// document; written is why, and where: at the first line that is none of TOML, where it goes on as
-/// none does, or at the beginning of the first line that the standard refuses for what those before
-/// it say. `NO_TEXT`: they are no UTF-8; written is where the longest beginning ends that is.
-/// `TOO_SMALL`: they are a document that wants more nodes or more bytes than the buffers have; how
-/// many of both is written. `NO_MEMORY`. `TOO_DEEP`: more than 512 levels are asked for. But for
-/// `DONE` the buffers are left as they were.
+/// texts into `text`. A node is a table, an array or another value. Nodes are in the order in which
+/// the document first mentions them. The first is the root table, and a table or an array precedes
+/// its contents. Each node has the index of its parent, of its first child and of its next sibling,
+/// so that a loop can walk them.
 ///
-/// While it runs it holds up to 600 bytes of memory for each byte of the document.
+/// A call holds up to 600 bytes of memory for each byte of the document.
 ///
-/// The caller owes `bytes_length` bytes at `bytes` that can be read and that nothing changes while
-/// the call runs, `text_length` bytes at `text` and `nodes_length` entries at `nodes` that can be
-/// written, room for one document at `out`, each apart from the others, and 1 MiB of stack.
+/// # Errors
+///
+/// `INVALID`: `bytes` is not a document. The reason and the offset are written. For the first line
+/// that is not valid TOML, this is the first offset at which no document can continue; for a line
+/// that the standard forbids because of earlier lines, the start of that line.
+///
+/// `INVALID_UTF8`: `bytes` is not UTF-8. The length of the longest prefix that is UTF-8 is written.
+///
+/// `BUFFER_TOO_SMALL`: the document needs more nodes or more bytes than the buffers have. The
+/// required numbers of both are written.
+///
+/// `MAX_DEPTH_TOO_LARGE`: `max_depth` is above 512.
+///
+/// `NO_MEMORY`.
+///
+/// After an error the buffers are unchanged.
+///
+/// # Safety
+///
+/// `bytes` must be valid for reads of `bytes_length` bytes, which must not change during the call.
+/// `text` must be valid for writes of `text_length` bytes, `nodes` for writes of `nodes_length`
+/// entries, and `out` for writes of one document. None of these may overlap. The call needs 1 MiB
+/// of stack.
 #[unsafe(no_mangle)]
 pub extern "C" fn exported_toml_document(
     alloc: Global,
     bytes: &[u8],
-    levels: usize,
+    max_depth: usize,
     text: &mut [u8],
     nodes: &mut [TomlNode],
-    out: &mut TomlDocument,
+    out: &mut TomlResult,
 ) -> u32
-    ensures document { result ≡ done → ShowsDocument levels bytes.now
+    ensures document { result ≡ done → ShowsDocument max_depth bytes.now
         (take out.new.text text.new) (take out.new.nodes nodes.new) }
-    ensures small { result ≡ too_small → WantsDocument levels bytes.now out.new
+    ensures small { result ≡ buffer_too_small → WantsDocument max_depth bytes.now out.new
         × ((length nodes.old < out.new.nodes) ⊎ (length text.old < out.new.text)) }
     ensures kept { (result ≡ done → ⊥) → (nodes.new ≡ nodes.old) × (text.new ≡ text.old) }
-    ensures refused { result ≡ refused → IsRefusedDocument levels bytes.now out.new }
-    ensures text { result ≡ no_text → IsNoText levels bytes.now out.new }
-    ensures deep { (result ≡ too_deep) ↔ (most_levels < levels) }
-    ensures codes { (result ≡ done) ⊎ ((result ≡ too_small) ⊎ ((result ≡ refused)
-        ⊎ ((result ≡ no_text) ⊎ ((result ≡ no_memory) ⊎ (result ≡ too_deep))))) }
+    ensures refused { result ≡ invalid → IsRefusedDocument max_depth bytes.now out.new }
+    ensures text { result ≡ invalid_utf8 → IsNoText max_depth bytes.now out.new }
+    ensures deep { (result ≡ max_depth_too_large) ↔ (supported_depth < max_depth) }
+    ensures codes { (result ≡ done) ⊎ ((result ≡ buffer_too_small) ⊎ ((result ≡ invalid)
+        ⊎ ((result ≡ invalid_utf8) ⊎ ((result ≡ no_memory) ⊎ (result ≡ max_depth_too_large))))) }
 {
     *out = NONE;
-    if levels > MOST_LEVELS {
-        return TOO_DEEP;
+    if max_depth > MAX_DEPTH {
+        return MAX_DEPTH_TOO_LARGE;
     }
     let mut document = Document::new(alloc);
-    match from_bytes(alloc, levels, bytes, &mut document) {
+    match from_bytes(alloc, max_depth, bytes, &mut document) {
         Ok(tree) => write_tree(&tree, text, nodes, out),
         Err(fault) => write_fault(fault, out),
     }

@@ -50,7 +50,8 @@ abbrev pub number_from : ℕ → List ℕ → ℕ
 number_from n [] = n
 number_from n (c ∷ cs) = if is_digit c then number_from (10 * n + (c - 48)) cs else n
 
--- The first character is one of a kind, and these are after it.
+-- `TakesOne test tokens rest`: `tokens` starts with a character for which `test` is true, followed
+-- by `rest`.
 abbrev pub TakesOne : (ℕ → Bool) → List ℕ → List ℕ → Type 0
 TakesOne test tokens rest = (c : ℕ) × (tokens ≡ c ∷ rest) × (test c ≡ true)
 
@@ -71,7 +72,8 @@ CharItem meant tokens o rest =
     (c : ℕ) × (more : List ℕ) × (tokens ≡ c ∷ more) × (meant c ≡ Some o)
     × (rest ≡ behind is_white more)
 
--- what a part answers of the characters left, and what it leaves
+-- `AnswersItem item tokens result rest`: parsing `item` at `tokens` gives `result` and leaves
+-- `rest`.
 abbrev pub AnswersItem : {O : Type 0} → Items ℕ O → List ℕ → Option O → List ℕ → Type 0
 AnswersItem item tokens None rest = NoItem item tokens × (rest ≡ tokens)
 AnswersItem item tokens (Some o) rest = item tokens o rest
@@ -135,12 +137,12 @@ pair_value Rest v w x = CanDivide w64 v w × (x ≡ int_rem v w)
 pair_value Power v w x = IsPower v w x
 pair_value Equals v w x = ((v ≡ w) × (x ≡ pos 1)) ⊎ ((v ≢ w) × (x ≡ pos 0))
 
--- What is given, if anything is.
+-- `GivesOption given result`: `result` holds a given value, or is `None` if no value is given.
 abbrev pub GivesOption : (ℤ → Type 0) → Option ℤ → Type 0
 GivesOption given None = (x : ℤ) → given x → ⊥
 GivesOption given (Some x) = given x
 
--- an answer that has what is given, or backtracks
+-- The result with this output, or a backtrack for `None`.
 abbrev pub IsAnswerOf : Option ℤ → Answer ℤ → Type 0
 IsAnswerOf None answer = answer ≡ Err backtrack
 IsAnswerOf (Some x) answer = answer ≡ Ok x
@@ -150,15 +152,15 @@ abbrev pub IsDigitTaken : List ℕ → ℤ → List ℕ → Type 0
 IsDigitTaken tokens d rest =
     (c : ℕ) × (tokens ≡ c ∷ rest) × (is_digit c ≡ true) × (d ≡ pos (c - 48))
 
--- What stands for a number that has been read: the number where it fits, and else nothing.
+-- `StandsFor value n`: `value` holds the number `n`, or is `None` if `n` does not fit.
 abbrev pub StandsFor : Option ℤ → ℕ → Type 0
 StandsFor None n = 2 ^ 63 ≤ n
 StandsFor (Some v) n = (v ≡ pos n) × (n < 2 ^ 63)
 
 -- ---- formulas
 
--- The text is white space and a formula, and its value is v: that of the tree over its items that
--- keeps the powers.
+-- `HasFormula text v`: `text` is whitespace followed by a formula of the value `v`, which is that
+-- of the tree of its items that respects precedence.
 abbrev pub HasFormula : List ℕ → ℤ → Type 0
 HasFormula text v =
     (tree : Tree ℤ Sign Mark Pair) × (all : Bool)
@@ -170,9 +172,8 @@ HasFormula text v =
 abbrev pub IsValue : List ℕ → ℤ → Type 0
 IsValue text v = HasFormula text v × ((w : ℤ) → HasFormula text w → w ≡ v)
 
--- A fault: the text is no formula that has a value, and the place, in bytes from its start, is at
--- an
--- end of it or between two of its characters; or a request for memory was refused.
+-- `IsFormulaFault text fault`: either `text` is not a formula that has a value, and the offset in
+-- bytes is a character boundary of it, or memory allocation failed.
 abbrev pub IsFormulaFault : List ℕ → Fault → Type 0
 IsFormulaFault text (Refused n) =
     ((v : ℤ) → HasFormula text v → ⊥) × IsBoundary width (chars text) n

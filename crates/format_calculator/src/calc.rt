@@ -26,7 +26,7 @@ use winnow::error::{EmptyError, HasKind, ParserError};
 use winnow::laws::{Likeness, expression_reads_the_one_tree};
 use winnow::stream::Stream;
 
-/// Numbers are alike where they are equal.
+/// Equality of numbers.
 struct Equal;
 
 impl Likeness<i64> for Equal {
@@ -60,20 +60,25 @@ fn formula<'i, A: Allocator + Copy>(alloc: A, input: &mut &'i str) -> Result<i64
     parser.parse_next(input)
 }
 
-/// The value of a text that is a formula of whole numbers.
+/// Returns the value of a text that is a formula of whole numbers.
 ///
-/// White space (spaces, tabs, line feeds and carriage returns) may stand before the formula and
-/// after each number and operator. Operators are, the strongest first: `!` after a number, its
-/// factorial, of power 13; `+` and `-` before one, of power 12; `^`, a power, of 9, joined from the
-/// right; `*`, `/` and `%` of 7 and `+` and `-` of 5, joined from the left; and `=` of 3, which is
-/// 1 where both sides are equal and else 0, and is not joined with another one. `/` cuts towards 0,
-/// and `%` has the sign of its left side. `0^0` is 1.
+/// Whitespace (spaces, tabs, line feeds and carriage returns) may precede the formula and follow
+/// each number and operator. The operators, by decreasing precedence, are:
 ///
-/// Other texts are refused, and so is a number or a result outside `i64`, a divisor of 0, a
-/// negative exponent and the factorial of a negative number. The place of a refusal is in bytes
-/// from the start, never inside a character; where an operator refuses, it is after what was read.
-/// A formula with an operator before an operand or between two asks for memory; a refused request
-/// is the fault `NoMemory`.
+/// - `!` after a number, its factorial, of power 13;
+/// - `+` and `-` before a number, of power 12;
+/// - `^`, exponentiation, of power 9, right-associative;
+/// - `*`, `/` and `%` of power 7, left-associative;
+/// - `+` and `-` of power 5, left-associative;
+/// - `=` of power 3, not associative, which is 1 if both sides are equal and 0 otherwise.
+///
+/// `/` rounds toward 0, and `%` has the sign of its left side. `0^0` is 1.
+///
+/// Other texts are rejected, and so is a number or a result outside `i64`, a divisor of 0, a
+/// negative exponent and the factorial of a negative number. The offset of an error is in bytes
+/// from the start, never inside a character. If an operator fails, it is the end of the input that
+/// was read. A formula with an operator before an operand or between two allocates; if that fails,
+/// the error is `NoMemory`.
 ///
 /// ```
 /// use format_calculator::calc;

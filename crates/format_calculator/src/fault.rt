@@ -1,6 +1,6 @@
-//! Why a reader gives no answer.
+//! The errors of readers.
 
-/// Why a reader gives no answer.
+/// The error of a reader.
 ///
 /// ```
 /// use format_calculator::calc;
@@ -10,8 +10,8 @@
 /// ```
 #[derive(Clone, Copy, Debug, PartialEq)]
 pub enum Fault {
-    /// The input is refused at this place, in bytes from its start.
+    /// The input is invalid at this offset, in bytes from its start.
     Refused(usize),
-    /// A request for memory was refused.
+    /// Memory allocation failed.
     NoMemory,
 }

@@ -1,4 +1,4 @@
--- What is read by the dialect of commas and double quotes may go on, or never does.
+-- Lemmas about prefixes of records in the dialect of commas and double quotes.
 use Rattle.std.specs.Prelude.{◌≡◌, ◌<◌, ℕ, List, [], ◌++◌, length, Bool, true, false}
 use Rattle.std.specs.Prelude.{MatchBool, Ok, Err}
 use Rattle.std.specs.declared.vec.Vec.{Vec}
@@ -24,7 +24,6 @@ use Rattle.winnow.specs.Input.{Input, is_end_of_refl}
 use Rattle.winnow.specs.Kind.{Kind, backtrack}
 use Rattle.winnow.specs.Partial.{with_flag}
 
--- what was read may go on
 pub read_goes_on : (d : Dialect) (ends : LineEnd) → d ≡ commas ends → (bytes : List ℕ) (is : Bool)
     (fields : List (List ℕ)) (rest : List ℕ) → ReadsRecord d bytes (Ok is) fields rest
     → MayGoOn ends bytes
@@ -36,7 +35,7 @@ read_goes_on d ends same bytes true fields rest it =
 read_goes_on d ends same bytes false fields rest (e, behind, none) =
     let P : List ℕ → Type 0 = λ l. MayGoOn ends l in subst P (sym e) (none_goes_on (commas ends))
 
--- a refusal is for good where its place lies before the end
+-- an error before the end of the bytes is final
 pub refused_told : (d : Dialect) (ends : LineEnd) → d ≡ commas ends → (bytes : List ℕ)
     (fault : RecordFault) → IsRefused d bytes fault
     → MatchBool (leb (length bytes) fault.offset) (MayGoOn ends bytes) (NeverGoesOn ends bytes)
@@ -49,7 +48,6 @@ refused_told d ends same bytes fault it =
       | inr (is, near) ↦ rw is (never_goes_on (commas ends) bytes fault here near)
     ]
 
--- and then none is read, for good
 pub never_reads : {A E : Type 0} (ends : LineEnd) {kind : E → Kind} (i : Input ℕ) (bytes : List ℕ)
     (error : E) → i ≡ with_flag (bytes_input bytes) true → kind error ≡ backtrack
     → NeverGoesOn ends bytes

@@ -1,5 +1,5 @@
--- Where the bytes are a table that is answered, and where one of their records is ragged that is
--- told, but for want of memory: the cases of `TableTold` exclude each other.
+-- Bytes that are a table give that table, and a ragged record is reported, unless an allocation
+-- fails: the cases of `TableTold` exclude each other.
 use Rattle.std.specs.Prelude.{◌≡◌, ℕ, List, [], ◌∷◌, ◌++◌, length, Result, Ok, Err}
 use Rattle.std.specs.List.{All, AllZip}
 use Rattle.std.specs.declared.vec.Vec.{Vec}
@@ -57,7 +57,8 @@ module _ {A : Type 0} where
       odd (sym has ∙ All-head (HasWidth width) is.found is.behind
       (behind_all width is.before (is.found ∷ is.behind) (subst Q is.whole wide)))
 
-  -- What is answered where the bytes are this table: one of the same fields.
+  -- `Answers inner_kind table result`: `result` is a table with the same fields as `table`, or out
+  -- of memory.
   abbrev pub Answers : {I X : Type 0} → (X → Kind) → Table A
       → Result (Table A) (TableFault (ParseFault I X Needed)) → Type 0
   Answers inner_kind table (Ok other) =
@@ -127,7 +128,7 @@ module _ {A : Type 0} where
       it.is_one are.is_one in
       (omega (arith, n, m, places, it.place_is, are.place_is), (widths, w ∙ e ∙ sym v))
 
-  -- What is answered where this record of the bytes is ragged: that.
+  -- `AnswersRagged inner_kind ragged result`: `result` reports `ragged`, or out of memory.
   abbrev pub AnswersRagged : {I X : Type 0} → (X → Kind) → Ragged
       → Result (Table A) (TableFault (ParseFault I X Needed)) → Type 0
   AnswersRagged inner_kind ragged (Ok table) = ⊥
@@ -160,7 +161,8 @@ module _ {A : Type 0} where
       ragged_same document.items more.items ragged other
       (document_one ends bytes document more are too) odd is
 
-  -- But for want of memory the bytes are answered that are a table, and where a record is ragged.
+  -- `IsAnswered inner_kind ends bytes result`: if `bytes` is a document, `result` is its table or
+  -- its first ragged record, or out of memory.
   abbrev pub IsAnswered : {I X : Type 0} → (X → Kind) → LineEnd → List ℕ
       → Result (Table A) (TableFault (ParseFault I X Needed)) → Type 0
   IsAnswered inner_kind ends bytes result =
@@ -169,7 +171,6 @@ module _ {A : Type 0} where
       × ((ragged : Ragged) → IsRagged document.items ragged
       → AnswersRagged inner_kind ragged result))
 
-  -- what is told answers it
   pub told_answers : {I X : Type 0} (inner_kind : X → Kind) (ends : LineEnd) (bytes : List ℕ)
       (result : Result (Table A) (TableFault (ParseFault I X Needed)))
       → TableTold inner_kind ends bytes result → IsAnswered inner_kind ends bytes result
@@ -178,7 +179,6 @@ module _ {A : Type 0} where
     λ ragged is. ragged_answered kind ends bytes ragged document result are is told,
   )
 
-  -- what a document's records are answers it
   pub table_answers : {I X : Type 0} {inner_kind : X → Kind} {bytes : List ℕ}
       {document : Vec (Vec (Vec ℕ A) A) A} (ends : LineEnd)
       (result : Result (Table A) (TableFault (ParseFault I X Needed)))

@@ -1,5 +1,5 @@
--- Comma separated values (RFC 4180, section 2): what is written for fields and records, and where
--- records and documents stand.
+-- Comma separated values (RFC 4180, section 2): the encodings of fields and records, and the
+-- grammars of records and documents.
 use Rattle.std.specs.Prelude.{◌≡◌, ◌⊎◌, ◌<◌, ℕ, List, [], ◌∷◌, ◌++◌, length}
 use Rattle.std.specs.declared.vec.Vec.{Vec}
 use Rattle.format_csv.specs.declared.LineEnd.{LineEnd}
@@ -39,12 +39,12 @@ module _ {A : Type 0} where
   RecordText = InList (AtLeast 1 (PartedText (Itself 44) FieldText))
 
 module _ {A : Type 0} (ends : LineEnd) where
-  -- There are bytes, and they begin with a record and a line end, or are a record.
+  -- The bytes are not empty, and start with a record followed by a line ending, or are a record.
   unfoldable pub IsRecord : Grammar ℕ (Vec (Vec ℕ A) A)
   IsRecord bytes fields rest =
       (0 < length bytes) × (text : List ℕ) × RecordText fields text
       × ((bytes ≡ text ++ (line_end ends ++ rest)) ⊎ ((bytes ≡ text) × (rest ≡ [])))
 
-  -- records, as many as stand one after the other
+  -- zero or more consecutive records
   abbrev pub AreRecords : Grammar ℕ (Vec (Vec (Vec ℕ A) A) A)
   AreRecords = Listed IsRecord 0

@@ -1,4 +1,4 @@
--- Which bytes some more make begin with a record, and which none do.
+-- Definitions of bytes that can be extended to start with a record, and of bytes that cannot.
 use Rattle.std.specs.Prelude.{ℕ, List}
 use Rattle.format_csv_records.specs.Early.{BeginsNone, GoesOn}
 use Rattle.format_csv.specs.Instance.{commas}

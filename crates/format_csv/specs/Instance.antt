@@ -20,7 +20,7 @@ use Rattle.format_csv.specs.declared.LineEnd.TheVariants.{CrLf, Lf}
 use Rattle.winnow.specs.Texts.{BothText, EachText, EitherText, InList, Itself, PartedText, Spelled}
 use Rattle.winnow.specs.Texts.{TokenOfText}
 
--- The dialect of commas and double quotes with these line ends.
+-- `ends_as ends`: the line endings of the dialect that correspond to `ends`.
 abbrev pub ends_as : LineEnd → LineEnds
 ends_as CrLf = by.CrLf
 ends_as Lf = by.Lf

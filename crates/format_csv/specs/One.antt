@@ -1,5 +1,5 @@
--- No bytes are a document of two lists of records: of each place in it, the text of one field alone
--- stands there.
+-- Uniqueness of documents: bytes encode at most one list of records, since at most one field starts
+-- at each offset.
 use Rattle.std.specs.Prelude.{◌≡◌, ℕ, List, [], ◌∷◌, ◌++◌, length}
 use Rattle.std.specs.List.{AllZip}
 use Rattle.std.specs.declared.vec.Vec.{Vec}
@@ -82,7 +82,7 @@ module _ {A : Type 0} where
       (λ o tokens x. tt) tt)
 
 module _ {A : Type 0} (ends : LineEnd) where
-  -- what stands after the text of a record
+  -- the rest after the text of a record
   behind_text : (bytes : List ℕ) (list : Vec (Vec ℕ A) A) (rest : List ℕ)
       → IsRecord ends bytes list rest → (text : List ℕ) × (behind : List ℕ)
       × RecordText list text × (bytes ≡ text ++ behind) × MayBegin IsBreak behind
@@ -99,7 +99,6 @@ module _ {A : Type 0} (ends : LineEnd) where
       let (zs, ws, u, f, can) = behind_text bytes p other b in
       (split_one fields fields_unique record_text_one o p xs zs ys ws t u may can (sym e ∙ f)).0
 
-  -- in no bytes no record stands
   pub no_bytes : {P : Type 0} (bytes : List ℕ) (o : Vec (Vec ℕ A) A) (rest : List ℕ)
       → IsRecord ends bytes o rest → [] ≡ bytes → P
   unfolding IsRecord

@@ -1,4 +1,4 @@
--- Records of which the line end is there: they are those of every longer input.
+-- Lemmas about records with a line ending: every longer input starts with the same record.
 use Rattle.std.specs.Prelude.{◌≡◌, ◌⊎◌, false, true, ℕ, List, ◌++◌, length, Result, Ok, Err}
 use Rattle.std.specs.Prelude.{IfErr, IfOk}
 use Rattle.std.specs.Borrow.{Bor}
@@ -18,7 +18,8 @@ use Rattle.winnow.specs.Exact.{Reads}
 use Rattle.winnow.specs.Cut.{ReadsOrAsks}
 use Rattle.winnow.specs.Grammar.{Both, Grammar, Literally, NoneStands}
 
--- Bytes begin with a record and a line end.
+-- `IsLine ends bytes list rest`: `bytes` starts with the record `list` and a line ending, followed
+-- by `rest`.
 abbrev pub IsLine : {A : Type 0} → LineEnd → Grammar ℕ (Vec (Vec ℕ A) A)
 IsLine ends bytes list rest =
     (text : List ℕ) × RecordText list text × (bytes ≡ text ++ (line_end ends ++ rest))
@@ -69,7 +70,7 @@ module _ {A : Type 0} (ends : LineEnd) where
         refl,
       )
 
-  -- where none is read, none stands
+  -- if reading the line ending fails, the bytes do not start with a record
   pub line_fails : {E : Type 0} {kind : E → Kind} {g : Grammar ℕ (Vec (Vec ℕ A) A)}
       {i j : Input ℕ} {result : Result (Vec (Vec ℕ A) A) E} (end : Bor (List ℕ))
       → end.now ≡ line_end ends → i.status.cut ≡ false
@@ -88,7 +89,6 @@ module _ {A : Type 0} (ends : LineEnd) where
         )
       ]
 
-  -- whatever follows
   pub line_grown : (bytes : List ℕ) (list : Vec (Vec ℕ A) A) (rest more : List ℕ)
       → IsLine ends bytes list rest → IsRecord ends (bytes ++ more) list (rest ++ more)
   unfolding IsRecord
@@ -108,7 +108,7 @@ module _ {A : Type 0} (ends : LineEnd) where
         inl whole,
       )
 
-  -- a record with its line end, of a cut input, is read
+  -- a record with its line ending is read from partial input
   pub line_reads : {E : Type 0} {kind : E → Kind} (i : Input ℕ) (bytes rest : List ℕ)
       (list : Vec (Vec ℕ A) A) (j : Input ℕ) → i ≡ with_flag (bytes_input bytes) true
       → j ≡ with_flag (bytes_input rest) true

@@ -1,4 +1,4 @@
--- What the parsers read, and that it is what is written.
+-- The grammars of the parsers, and proofs that they agree with the encodings.
 use Rattle.std.specs.Prelude.{◌≡◌, ◌⊎◌, ◌↔◌, ◌<◌, ℕ, Bool, IsTrue, List, [], ◌∷◌, ◌++◌, length}
 use Rattle.std.specs.Prelude.{None, Result, ⊤}
 use Rattle.std.specs.Borrow.{Bor}
@@ -62,7 +62,7 @@ pub in_quotes_unique : IsUnique InQuotesRead
 in_quotes_unique = either_unique (both_unique (λ _ b. b) (byte_unique 34) (byte_unique 34))
     (token_of_unique (λ b. b) (Others Tells) 34)
 
--- a closing quote, after which no other one stands
+-- a closing quote that is not followed by another quote
 abbrev pub IsClosed : List ℕ → Type 0
 IsClosed bytes = (rest : List ℕ) × (bytes ≡ 34 ∷ rest) × NotFirst (λ b. b ≡ 34) rest
 
@@ -207,7 +207,7 @@ AnyEnd end = Either
     (Literally counted_reading (λ s xs. xs ≡ s.now) (λ _ slice. slice) end))
     (Made (λ (_ : Unit {0}) o (u : Unit {0}). ⊤) tt (NoTokens counted_reading))
 
--- a line end, or the end of the bytes
+-- a line ending, or the end of the bytes
 unfoldable pub EndRead : LineEnd → Grammar ℕ (Unit {0})
 EndRead ends bytes u rest = (bytes ≡ line_end ends ++ rest) ⊎ ((bytes ≡ []) × (rest ≡ []))
 
@@ -301,7 +301,7 @@ module _ {A : Type 0} (ends : LineEnd) where
       (both_unique (λ _ fields. fields) (ahead_unique (Token (λ b. b))) fields_unique)
       (end_unique ends))
 
-  -- a record takes bytes: its line end, or all that there are
+  -- a record consumes bytes: its line ending, or all bytes
   pub record_takes : TakesTokens (IsRecord {A = A} ends)
   unfolding IsRecord
   record_takes = record {

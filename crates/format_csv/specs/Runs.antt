@@ -30,11 +30,11 @@ use Rattle.winnow.specs.Texts.Fronts.{begins_wider, may_begin_more, none_begins,
 use Rattle.winnow.specs.Texts.Tokens.{divides_either, divides_others, divides_seen}
 use Rattle.winnow.specs.Texts.Tokens.{divides_where}
 
--- Bytes that are no quotes.
+-- A run of bytes other than quotes.
 abbrev pub UnquotedRun : Grammar ℕ (Bor (List ℕ))
 UnquotedRun = RunOf counted_reading (λ b. b ≡ 34 → ⊥) (λ b. b ≡ 34)
 
--- what is no byte of a field without quotes
+-- a byte that cannot occur in a field without quotes
 abbrev IsSpecial : ℕ → Type 0
 IsSpecial b =
     (b ≡ 34) ⊎ ((b ≡ 34 → ⊥) × ((b ≡ 44) ⊎ ((b ≡ 44 → ⊥) × IsBreak b)))
@@ -47,7 +47,7 @@ PlainRun = RunOf counted_reading IsPlain IsSpecial
 abbrev pub TwoQuotes : Grammar ℕ (Unit {0})
 TwoQuotes bytes u rest = bytes ≡ 34 ∷ 34 ∷ rest
 
--- The bytes between quotes, as many as stand, in a list.
+-- The longest run of bytes between quotes, in a list.
 abbrev pub BytesRead : {A : Type 0} → Grammar ℕ (Vec ℕ A)
 BytesRead = Gathered (λ list os. list.items ≡ os) (Many InQuotesRead (from_to 0 None))
 
@@ -67,7 +67,7 @@ plain_same = run_same counted_reading (λ b. b) (Others Special) (34, 44, 13, 10
     (divides_either (divides_where (λ b. b ≡ 34)) (divides_either (divides_where (λ b. b ≡ 44))
     (divides_either (divides_where (λ b. b ≡ 13)) (divides_where (λ b. b ≡ 10)))))))
 
--- ---- a run fails for want of memory alone
+-- ---- the only error of a run is out of memory
 
 unquoted_or_not : (b : ℕ) → (b ≡ 34 → ⊥) ⊎ (b ≡ 34)
 unquoted_or_not b = elim (eqb_tells b 34) [
@@ -133,7 +133,6 @@ plain_read list slice bytes rest (front, all, split, shown, ends) same =
       ),
     )
 
--- a run that is copied, or memory is wanted
 pub plain_kept : {A X E : Type 0} {kind : E → Kind} (made : Result (Vec ℕ A) X)
     (slice : Bor (List ℕ)) (start rest : List ℕ) (r : Result (Vec ℕ A) E)
     → IfOk made (λ list. list.items ≡ slice.now)
@@ -198,7 +197,7 @@ none_more bytes ends none b more (inr (_, (told, e))) =
     let P : List ℕ → Type 0 = λ l. MayBegin (λ b. b ≡ 34) l in
     true_is_false (sym (told.1 (subst P e ends)))
 
--- where no two quotes stand after a run, these are all
+-- if a run is not followed by two quotes, it is the last
 pub all_read : {A E : Type 0} {kind : E → Kind} {e : E} (slice : Bor (List ℕ))
     (start mid here now : List ℕ) (list : Vec ℕ A) → Each InQuotesRead start list.items here
     → IsEndOf counted_reading (counted_input here) (counted_input start)

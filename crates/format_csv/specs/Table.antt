@@ -23,7 +23,8 @@ use Rattle.winnow.specs.Exact.Whole.{IsWant, ReadsAll}
 use Rattle.winnow.specs.Grammar.{Each}
 use Rattle.winnow.specs.Grammar.Known.{Listed}
 
--- All before this place are such, and what stands there is one of those.
+-- `IsFirst such those xs place`: the item of `xs` at index `place` satisfies `those`, and all items
+-- before it satisfy `such`.
 pub record IsFirst {X : Type 0} (such those : X → Type 0) (xs : List X) (place : ℕ) : Type 0 where
   pub before : List X
   pub found : X
@@ -33,11 +34,11 @@ pub record IsFirst {X : Type 0} (such those : X → Type 0) (xs : List X) (place
   pub all_such : All such before
   pub is_one : those found
 
--- A record of that many fields.
+-- `HasWidth width fields`: the record has `width` fields.
 abbrev pub HasWidth : {A : Type 0} → ℕ → Vec (Vec ℕ A) A → Type 0
 HasWidth width fields = length fields.items ≡ width
 
--- A record of that many fields, which are not as many as are wanted.
+-- `IsOdd wants has fields`: the record has `has` fields, and `has` differs from `wants`.
 abbrev pub IsOdd : {A : Type 0} → ℕ → ℕ → Vec (Vec ℕ A) A → Type 0
 IsOdd wants has fields = HasWidth has fields × (has ≡ wants → ⊥)
 
@@ -57,8 +58,9 @@ abbrev pub IsHeaded : {A : Type 0} → List (Vec (Vec ℕ A) A) → Table A → 
 IsHeaded all table = (all ≡ table.header ∷ table.records.items)
     × All (HasWidth (length table.header.items)) table.records.items
 
--- What all of the bytes are: a document of these records; or, but for want of memory, no document;
--- or none at all; or a document of which this record is the first that the header does not fit.
+-- The contract of `parse_table`: the bytes are a document of the table's records; or out of memory,
+-- or they are not a document; or they are empty; or they are a document in which `ragged` is the
+-- first record of another width.
 abbrev pub TableTold : {A I X : Type 0} → (X → Kind) → LineEnd → List ℕ
     → Result (Table A) (TableFault (ParseFault I X Needed)) → Type 0
 TableTold {A} inner_kind ends bytes (Ok table) = (document : Vec (Vec (Vec ℕ A) A) A)
@@ -104,7 +106,6 @@ FirstNamed header name None = All (OtherName name) header
 FirstNamed header name (Some place) = IsFirst (OtherName name) (IsNamed name) header place
 
 module _ {X : Type 0} (such : X → Type 0) (xs : List X) (place : ℕ) where
-  -- what stands at this place is one, and all before it are such
   pub first_at : {those : X → Type 0} (x : X) → x ≡ get_or xs place x → place < length xs
       → All such (take place xs) → those x → IsFirst such those xs place
   first_at x is within all one = record {
@@ -125,7 +126,7 @@ module _ {X : Type 0} (such : X → Type 0) (xs : List X) (place : ℕ) where
       → such x → All such (take (place + 1) xs)
   one_more x is within all it = All-more such xs place x within all (subst such is it)
 
-  -- none is left
+  -- nothing remains
   pub all_of : length xs ≤ place → All such (take place xs) → All such xs
   all_of past all = subst (All such) (take_all place xs past) all
 

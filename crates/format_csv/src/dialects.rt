@@ -9,8 +9,9 @@ use crate::LineEnd;
 use format_csv_records::dialect::{Dialect, LineEnds};
 use std::alloc::Allocator;
 
-/// A record of [`read_record`](crate::read_record) is one of `format_csv_records` by the dialect of
-/// commas, double quotes and this line end, of the same fields and with the same bytes left.
+/// Proves that records of [`read_record`](crate::read_record) are records of `format_csv_records`
+/// in the dialect of commas, double quotes and the same line ending, with the same fields and the
+/// same rest.
 pub fn a_record_is_one_of_commas<A: Allocator>(end: LineEnd)
     ensures { (bytes : List ℕ) (fields : Vec (Vec ℕ A) A) (rest : List ℕ)
         → IsRecord end bytes fields rest ↔ IsOfCommas end bytes fields rest }

@@ -1,11 +1,12 @@
-//! Comma separated values (RFC 4180, section 2), by what is written for them.
+//! Comma separated values (RFC 4180, section 2), specified by their encoding.
 //!
-//! A document is records with a line end after each, which the last may lack where it has bytes.
-//! So no bytes are a document of no record, and a line end alone is a record of one empty field.
+//! A document is a sequence of records with a line ending after each. The last record may lack it
+//! unless its encoding is empty. So empty input is a document without records, and a single line
+//! ending is a record of one empty field.
 //!
-//! Where this differs from the standard: a field without quotes may have any bytes but quotes,
-//! commas, carriage returns and line feeds, and one in quotes any bytes at all; lines may end by
-//! line feeds alone, where the caller says so; records may differ in how many fields they have.
+//! Differences from the standard: a field without quotes may contain any bytes except quotes,
+//! commas, carriage returns and line feeds. A field in quotes may contain any bytes. With
+//! `LineEnd::Lf` lines end with a line feed. Records may differ in their number of fields.
 #![tactic(auto)]
 
 ghost use Rattle.std.specs.Prelude.{◌≡◌, ⊤};
@@ -33,12 +34,12 @@ use winnow::stream::Range;
 use winnow::token::impls::Any;
 use winnow::token::{literal, take_till};
 
-/// What ends a line.
+/// A line ending.
 #[derive(Clone, Copy, Debug, PartialEq, Eq)]
 pub enum LineEnd {
-    /// A carriage return and a line feed, as the standard has it.
+    /// A carriage return and a line feed, as specified in RFC 4180.
     CrLf,
-    /// A line feed alone.
+    /// Only a line feed.
     Lf,
 }
 
@@ -56,7 +57,7 @@ impl LineEnd {
 /// The bytes of the fields of a record, without the quotes round them, and each quote there once.
 pub type Record<A> = Vec<Vec<u8, A>, A>;
 
-/// Bytes that are no quotes, as many as stand.
+/// Parses the longest run of bytes other than quotes.
 fn read_unquoted<'i>(input: &mut &'i [u8]) -> Result<&'i [u8], ErrMode<EmptyError>>
     ensures { Reads bytes_reading ⟦<ErrMode<EmptyError> as HasKind>⟧.kind UnquotedRun
         (bytes_input input.old.now) result (bytes_input input.new.now) }
@@ -91,8 +92,8 @@ impl<'i, A: Allocator> Rule<&'i [u8], Vec<u8, A>> for BytesInQuotes<A> {
     ghost takes = { λ _ never. absurd never };
 }
 
-/// The bytes between the quotes of a field, of two quotes one: runs of bytes that are none, with
-/// two quotes between.
+/// Parses the contents of a field in quotes: runs of bytes other than quotes, separated by doubled
+/// quotes. Each doubled quote gives one quote.
 fn read_in_quotes<'i, A: Allocator + Copy>(
     alloc: A,
     input: &mut &'i [u8],
@@ -154,7 +155,7 @@ fn read_quoted<'i, A: Allocator + Copy>(
     delimited(b'"', bytes, b'"').read(input)
 }
 
-/// Bytes of a field without quotes, as many as stand.
+/// Parses the longest run of bytes that may occur in a field without quotes.
 fn read_plain_run<'i>(input: &mut &'i [u8]) -> Result<&'i [u8], ErrMode<EmptyError>>
     ensures { Reads bytes_reading ⟦<ErrMode<EmptyError> as HasKind>⟧.kind PlainRun
         (bytes_input input.old.now) result (bytes_input input.new.now) }
@@ -265,7 +266,7 @@ impl<'i> Rule<&'i [u8], ()> for RecordEnd {
     ghost takes = { λ _ never. absurd never };
 }
 
-/// A line end, or the end of the bytes.
+/// Parses a line ending, or matches the end of the input.
 fn read_end<'i>(end: LineEnd, input: &mut &'i [u8]) -> Result<(), ErrMode<EmptyError>>
     ensures { Reads bytes_reading ⟦<ErrMode<EmptyError> as HasKind>⟧.kind (EndRead end)
         (bytes_input input.old.now) result (bytes_input input.new.now) }
@@ -289,8 +290,8 @@ impl<'i, A: Allocator> Rule<&'i [u8], Record<A>> for Line<A> {
     ghost takes = { λ r _. record_takes r.1 };
 }
 
-/// The record that the bytes begin with, which a line end or the end of the bytes stands after.
-/// What is left is after that line end. No bytes begin with no record.
+/// Parses the record at the start of the input. It must be followed by a line ending, which is
+/// consumed, or by the end of the input. Empty input does not start with a record.
 ///
 /// ```
 /// use format_csv::{LineEnd, read_record};
@@ -313,12 +314,16 @@ pub fn read_record<'i, A: Allocator + Copy>(
     terminated(preceded(peek(Any), fields), end).read(input)
 }
 
-/// The records of a document, where all of the bytes are one. Else a fault: it says that they are
-/// none, and where the records ended, which is tested and not proved; or it is out of memory.
+/// Parses all of the bytes as a document and returns its records.
 ///
-/// All records are held at once, each field in a list of its own: 10 megabytes of line feeds want
-/// 1.3
-/// gigabytes. `format_csv_records::records::Records` holds one at a time, in one buffer.
+/// All records are in memory at once, and each field is a list of its own: 10 megabytes of line
+/// feeds need 1.3 gigabytes. `format_csv_records::records::Records` holds one record at a time, in
+/// one buffer.
+///
+/// # Errors
+///
+/// The bytes are not a document, with the offset where the records ended (which is tested and not
+/// proved); or memory allocation failed.
 ///
 /// ```
 /// use format_csv::{LineEnd, parse_document};

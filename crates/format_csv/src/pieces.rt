@@ -38,7 +38,7 @@ fn read_line<'i, A: Allocator + Copy>(
     terminated(fields, literal(end.bytes())).read(input)
 }
 
-/// Whether some more bytes make these begin with a record; else none do, whatever they are.
+/// Returns whether `bytes` can be extended so that they start with a record.
 fn may_go_on<A: Allocator + Copy>(alloc: A, end: LineEnd, bytes: &[u8]) -> Result<bool, AllocError>
     ensures { IfOk result (λ goes_on. MatchBool goes_on (MayGoOn end bytes.now)
         (NeverGoesOn end bytes.now)) }
@@ -52,11 +52,13 @@ fn may_go_on<A: Allocator + Copy>(alloc: A, end: LineEnd, bytes: &[u8]) -> Resul
     }
 }
 
-/// As [`read_record`](crate::read_record), from an input to which more may come. A record is read
-/// there once its line end is: it is that of every longer input. Where this backtracks none of them
-/// begins with one, and that is said as soon as it is so: more is asked for, by `Incomplete`, only
-/// where no record with its line end stands first, and some longer input begins with one. Want of
-/// memory aside. A complete input is read as by `read_record`.
+/// Like [`read_record`](crate::read_record), for partial input.
+///
+/// On partial input a record is returned only if its line ending is there; every longer input then
+/// starts with the same record. It backtracks as soon as no longer input starts with a record. It
+/// returns `Incomplete` only if the input does not start with a record and its line ending, and
+/// some longer input starts with a record. Any call may fail with out of memory instead. Complete
+/// input is parsed as by `read_record`.
 ///
 /// ```
 /// use format_csv::LineEnd;

@@ -48,7 +48,7 @@ pub struct Ragged {
     pub wants: usize,
 }
 
-/// Why bytes are no table. `F` is the fault of a document.
+/// The reason why bytes are not a table. `F` is the error of a document.
 ///
 /// ```
 /// use format_csv::LineEnd;
@@ -63,8 +63,8 @@ pub struct Ragged {
 /// ```
 #[derive(Debug, PartialEq, Drop)]
 pub enum TableFault<F> {
-    /// They are no document, and where its records ended (which is tested and not proved); or a
-    /// request for memory was refused.
+    /// The bytes are not a document, with the offset where the records ended (which is tested and
+    /// not proved); or memory allocation failed.
     Document(F),
     /// There are none, so there is no header.
     Empty,
@@ -101,13 +101,16 @@ fn table_of<F, A: Allocator>(records: Vec<Record<A>, A>) -> Result<Table<A>, Tab
     }
 }
 
-/// The table that all of the bytes are: a document ([`parse_document`]) whose first record is the
-/// header, and whose other records have as many fields as that. A header alone is a table of no
-/// records. A line end alone, after the header, is a record of one field.
+/// Parses all of the bytes as a table: a document ([`parse_document`]) whose first record is the
+/// header, and whose other records have as many fields as the header. A single header is a table
+/// without records. An empty line after the header is a record of one field.
 ///
-/// Else `Width` says which record is the first that has more fields or fewer; `Empty` that there
-/// are no bytes; and `Document` that the bytes are no document, and where its records ended, or
-/// that a request for memory was refused.
+/// # Errors
+///
+/// - `Width`: the first record whose number of fields differs from the header's.
+/// - `Empty`: there are no bytes.
+/// - `Document`: the bytes are not a document, with the offset where the records ended; or memory
+///   allocation failed.
 ///
 /// ```
 /// use format_csv::LineEnd;

@@ -1,4 +1,4 @@
--- What is found of bytes, and what a buffer has room for.
+-- Lemmas about the search for a record in the bytes held, and about the capacity of the buffer.
 use Rattle.std.specs.Prelude.{◌≡◌, ◌⊎◌, ◌≤◌, ◌+◌, ◌*◌, ℕ, List, [], ◌++◌, drop, length, max}
 use Rattle.std.specs.Prelude.{Bool, MatchBool, None, Ok, Option, Some, true}
 use Rattle.std.proofs.KnownBytes.{Consumes-trans, Consumes-nil}

@@ -1,4 +1,4 @@
--- What stands in a buffer after a read.
+-- Lemmas about the contents of a buffer after a read.
 use Rattle.std.proofs.Common.{◌≡◌, ◌∙◌, ◌≤◌, ◌+◌, ◌++◌, ℕ, List, length, take, drop, ap}
 use Rattle.std.proofs.Common.{drop_at, length-take-le, take_at}
 use lib.Seq.{take-add, take-append-le}

@@ -1,4 +1,4 @@
--- What a call that passes a byte order mark reads.
+-- Lemmas about the bytes read by a call that skips a byte order mark.
 use Rattle.std.specs.Prelude.{◌≡◌, ◌⊎◌, ◌≤◌, ◌<◌, ◌^◌, ℕ, List, ◌∷◌, length, drop, Option}
 use Rattle.std.specs.Prelude.{Ok, Err, true, false}
 use Rattle.std.specs.Io.KnownBytes.{IsAtEnd}

@@ -1,4 +1,4 @@
--- What a call tells of the bytes that came, and of all that are to come.
+-- Lemmas about the result of a call, for the bytes held and for all bytes of the source.
 use Rattle.std.specs.Prelude.{◌≡◌, ◌⊎◌, ◌≤◌, ◌<◌, ◌-◌, ◌+◌, ◌^◌, ℕ, List, [], ◌∷◌, ◌++◌, length}
 use Rattle.std.specs.Prelude.{drop, Bool}
 use Rattle.std.specs.Prelude.{true, false, Option, Some, None, Result, Ok, Err}
@@ -83,7 +83,7 @@ held_taken d held bytes rest new result fields same told is =
     let Q : List ℕ → Type 0 = λ l. ReadsRecord d l result fields new in
     subst Q same (subst P (sym left) told)
 
--- ---- what is told of some bytes whatever follows, of longer bytes
+-- ---- results for some bytes that also hold for all longer bytes
 
 none_first : {b : ℕ} {bs : List ℕ} → b ∷ bs ≡ [] → ⊥
 none_first e = cc
@@ -98,7 +98,7 @@ longer : (bytes before back ys : List ℕ) → bytes ≡ before ++ back
     → bytes ++ ys ≡ before ++ (back ++ ys)
 longer bytes before back ys e = ap (λ l. l ++ ys) e ∙ append_assoc before back ys
 
--- by why they are refused, since then what stands there is known
+-- by cases of the error, since it determines the byte at that offset
 refused_why : (d : Dialect) (bytes ys : List ℕ) (offset : ℕ) (why : Refusal)
     → IsRefused d bytes (record { offset = offset; why = why }) → BeginsNone d bytes
     → IsRefused d (bytes ++ ys) (record { offset = offset; why = why })
@@ -154,7 +154,7 @@ pub refused_on : (d : Dialect) (bytes ys : List ℕ) (at : RecordFault) → IsRe
     → BeginsNone d bytes → IsRefused d (bytes ++ ys) at
 refused_on d bytes ys at it never = refused_why d bytes ys at.offset at.why it never
 
--- ---- an answer
+-- ---- the result of a call
 
 one_for_good : (d : Dialect) (bytes : List ℕ) (fields : List (List ℕ)) (rest : List ℕ)
     → BeginsForGood d bytes → IsRecord d bytes fields rest → IsForGood d bytes fields rest
@@ -192,7 +192,7 @@ answer_taken d bytes IsOver start (Err (Refused fault)) fields rest (inr over)
 answer_taken d bytes IsOver start (Err (Failed e)) fields rest either it = absurd it
 answer_taken d bytes IsOver start (Err OutOfMemory) fields rest either it = it
 
--- ---- an answer of all bytes that are to come
+-- ---- the result for all bytes of the source
 
 over_all : (d : Dialect) (bytes ys : List ℕ) (start : ℕ) (result : Result Bool ReadError)
     (fields : List (List ℕ)) (rest : List ℕ) → ys ≡ []

@@ -1,4 +1,4 @@
--- What is found of bytes that come in pieces.
+-- The result of the search for a record in bytes that arrive in chunks.
 use Rattle.std.specs.Prelude.{◌≡◌, ◌⊎◌, ◌≤◌, ◌*◌, ◌++◌, ℕ, List, length, ⊤}
 use Rattle.format_csv_records.specs.Buffers.{IsForGood, NoneForGood}
 use Rattle.format_csv_records.specs.Early.{BeginsNone, GoesOn}
@@ -10,22 +10,22 @@ use Rattle.format_csv_reader.specs.declared.error.ReadError.TheVariants.{Refused
 use Rattle.format_csv_reader.specs.declared.finds.Found.{Found}
 use Rattle.format_csv_reader.specs.declared.finds.Found.TheVariants.{Enough, Never}
 
--- Such an error says nothing of the bytes: the reader failed, or memory was refused.
+-- An error that does not depend on the bytes: the reader failed, or memory allocation failed.
 abbrev pub IsOfReader : ReadError → Type 0
 IsOfReader (Refused fault) = ⊥
 IsOfReader (Failed error) = ⊤
 IsOfReader OutOfMemory = ⊤
 
--- Some record stands first, whatever follows.
+-- The bytes start with a record, for any continuation.
 abbrev pub BeginsForGood : Dialect → List ℕ → Type 0
 BeginsForGood d bytes = (fields : List (List ℕ)) × (rest : List ℕ) × IsForGood d bytes fields rest
 
--- More bytes decide: no record is theirs whatever follows, and with more bytes one is.
+-- More bytes are needed: no record is final, and with some more bytes one is.
 abbrev pub WantsMore : Dialect → List ℕ → Type 0
 WantsMore d bytes = GoesOn d bytes × NoneForGood d bytes
 
--- What is found of bytes, of which the last may have come: a record stands first whatever follows,
--- or nothing follows; or none stands there whatever follows.
+-- `IsFound d bytes IsOver found`: `Enough` if `bytes` starts with a record for any continuation, or
+-- `IsOver` (no more bytes follow); `Never` if no continuation starts with a record.
 abbrev pub IsFound : Dialect → List ℕ → Type 0 → Found → Type 0
 IsFound d bytes IsOver Enough = BeginsForGood d bytes ⊎ IsOver
 IsFound d bytes IsOver (Never fault) = IsRefused d bytes fault × BeginsNone d bytes

@@ -17,7 +17,7 @@ held_of it = record {
 abbrev pub IsHeld : {A : Type 0} → Inside A → Type 0
 IsHeld it = (it.start ≤ it.filled) × (it.filled ≤ length it.bytes.items)
 
--- What is held grew by what a reader gave, and lost.
+-- `Grew old new before after`: `new` is `old` followed by the bytes that the reader gave.
 pub record Grew (old new : List ℕ) (before after : Option (List ℕ)) : Type 0 where
   pub read : List ℕ
   pub grew : new ≡ old ++ read

@@ -1,4 +1,4 @@
--- A byte order mark of UTF-8 that stands first of a table.
+-- A UTF-8 byte order mark at the start of a table.
 use Rattle.std.specs.Prelude.{◌≡◌, ◌⊎◌, ◌≤◌, ◌+◌, ℕ, List, ◌∷◌, ◌++◌, length, Bool, true}
 use Rattle.std.specs.Prelude.{false, Option, Result, Ok, Err}
 use Rattle.std.specs.Io.KnownBytes.{Consumes, IsAtEnd}
@@ -7,8 +7,9 @@ use Rattle.format_csv_reader.specs.Finds.{IsOfReader}
 use Rattle.format_csv_reader.specs.Told.{offset_after}
 use Rattle.format_csv_reader.specs.declared.error.ReadError.{ReadError}
 
--- What a call answers that has these bytes, and what it leaves of them: those after a mark; all, of
--- which none stands first, whatever follows; or all, where the reader failed or memory was refused.
+-- The result of skipping a byte order mark, and the rest: the bytes after a mark; all bytes, if
+-- they do not start with a mark for any continuation or no more bytes follow; or all bytes, if the
+-- reader or an allocation failed.
 abbrev pub IsMarkRead : List ℕ → Type 0 → Result Bool ReadError → List ℕ → Type 0
 IsMarkRead bytes IsOver (Ok true) rest = bytes ≡ 239 ∷ 187 ∷ 191 ∷ rest
 IsMarkRead bytes IsOver (Ok false) rest =

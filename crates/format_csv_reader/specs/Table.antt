@@ -1,4 +1,4 @@
--- What a clause sees of a reader of a table.
+-- The state of a table reader, as contracts see it.
 use Rattle.std.specs.Prelude.{ℕ}
 use Rattle.format_csv_records.specs.Extents.{IsOf}
 use Rattle.format_csv_records.specs.declared.dialect.Dialect.{Dialect}
@@ -21,6 +21,6 @@ table_of it = record {
   offset = it.offset;
 }
 
--- What was looked at is of the bytes that are held.
+-- The extent is of the bytes held.
 abbrev pub IsBegun : {R A : Type 0} → Inside R A → Type 0
 IsBegun it = IsOf it.dialect it.extent it.buffer.bytes

@@ -1,4 +1,5 @@
--- What a call of a reader tells: of the bytes that were held and read, and of all that are to come.
+-- The result of a call of a reader, in terms of the bytes held and read, and of all bytes of the
+-- source.
 use Rattle.std.specs.Prelude.{◌≡◌, ◌⊎◌, ◌+◌, ◌-◌, ◌^◌, ℕ, List, [], ◌++◌, length, min, ⊤, Bool}
 use Rattle.std.specs.Prelude.{true, false, Option, Some, None, Result, Ok, Err}
 use Rattle.std.specs.Io.KnownBytes.{Consumes, IsAtEnd}
@@ -18,19 +19,20 @@ use Rattle.format_csv_reader.specs.declared.error.TableFault.{TableFault}
 abbrev pub offset_after : ℕ → ℕ → ℕ
 offset_after start count = min (start + count) (2 ^ 64 - 1)
 
--- The fault of a record, as one of the table in which it begins at this offset.
+-- `IsFaultAt start at fault`: `fault` is the error `at` of a record that starts at offset `start`
+-- of the table.
 abbrev pub IsFaultAt : ℕ → RecordFault → TableFault → Type 0
 IsFaultAt start at fault = (fault.why ≡ at.why) × (fault.offset ≡ offset_after start at.offset)
 
--- The bytes, of which the first stands at this offset, are refused there.
+-- `IsRefusedAt d bytes start fault`: `bytes` starts at offset `start` of the table, and `fault` is
+-- the first error there.
 abbrev pub IsRefusedAt : Dialect → List ℕ → ℕ → TableFault → Type 0
 IsRefusedAt d bytes start fault =
     (at : RecordFault) × IsRefused d bytes at × IsFaultAt start at fault
 
--- What a call answers that has these bytes, the last of which may have come; which fields it
--- leaves, and which bytes. A record is one whatever follows, or ends with the last byte; a refusal
--- is one whatever follows, or by the end of the bytes; and where the reader failed more bytes would
--- decide.
+-- The result of a call that has `bytes`, its fields, and the rest. `IsOver` is that no more bytes
+-- follow. A record, or an error in the bytes, is final or `IsOver` holds. If the reader failed,
+-- more bytes are needed.
 abbrev pub IsAnswer : Dialect → List ℕ → Type 0 → ℕ → Result Bool ReadError → List (List ℕ)
     → List ℕ → Type 0
 IsAnswer d bytes IsOver start (Ok true) fields rest =
@@ -53,8 +55,8 @@ pub record Reads (d : Dialect) (old new : List ℕ) (before after : Option (List
   pub moved : end ≡ offset_after start (length (old ++ read) - length new)
   pub small : IsSmall d size room (old ++ read)
 
--- What a call answers where all bytes are these: the record that stands first, that there are none,
--- or where and why no record stands there.
+-- The result of a call if `bytes` are all bytes: the record at their start, or `false` if there are
+-- none, or the offset and the reason of the error.
 abbrev pub IsOfAll : Dialect → List ℕ → ℕ → Result Bool ReadError → List (List ℕ) → List ℕ
     → Type 0
 IsOfAll d bytes start (Ok true) fields rest = IsRecord d bytes fields rest
@@ -64,14 +66,15 @@ IsOfAll d bytes start (Err (Refused fault)) fields rest =
 IsOfAll d bytes start (Err (Failed error)) fields rest = (rest ≡ bytes) × (fields ≡ [])
 IsOfAll d bytes start (Err OutOfMemory) fields rest = (rest ≡ bytes) × (fields ≡ [])
 
--- So of all bytes that are to come and those that are left of them, where they are known.
+-- Like `IsOfAll`, for the remaining bytes of the source before and after the call, if they are
+-- known.
 abbrev pub ReadsOfAll : Dialect → Option (List ℕ) → Option (List ℕ) → ℕ → Result Bool ReadError
     → List (List ℕ) → Type 0
 ReadsOfAll d None after start result fields = ⊤
 ReadsOfAll d (Some bytes) None start result fields = ⊥
 ReadsOfAll d (Some bytes) (Some rest) start result fields = IsOfAll d bytes start result fields rest
 
--- What a part answers of the bytes that are held, where no more are to be read.
+-- The result of taking a record from the bytes held, without reading more.
 abbrev pub IsTaken : Dialect → List ℕ → ℕ → Result Bool ReadError → List (List ℕ) → List ℕ
     → Type 0
 IsTaken d bytes start (Err (Failed error)) fields rest = ⊥

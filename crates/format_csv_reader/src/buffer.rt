@@ -31,7 +31,7 @@ impl<A: Allocator> Model for Buffer<A> {
 }
 
 impl<A: Allocator> Buffer<A> {
-    /// Nothing is held, and no memory is asked for yet.
+    /// Returns an empty buffer, without allocating.
     pub(crate) fn new(alloc: A) -> Buffer<A>
         ensures { (result.bytes ≡ []) × (result.size ≡ 0) }
     {
@@ -68,7 +68,7 @@ impl<A: Allocator> Buffer<A> {
         self.start += count;
     }
 
-    /// Reads once, and answers how many bytes came: none at the end of the source alone.
+    /// Reads once and returns the number of bytes read, which is 0 only at the end of the source.
     pub(crate) fn fill<R: Read>(&mut self, source: &mut R) -> Result<usize, ReadError>
         ensures grew { Grew self.old.bytes self.new.bytes (R.remaining source.old)
             (R.remaining source.new) }

@@ -3,7 +3,7 @@
 use format_csv_records::read::Refusal;
 use std::io;
 
-/// The first place in a table at which no record can go on, and why.
+/// The first offset in a table at which no record can continue, and the reason.
 ///
 /// ```
 /// use format_csv_reader::error::TableFault;
@@ -14,7 +14,7 @@ use std::io;
 /// ```
 #[derive(Clone, Copy, Debug, PartialEq, Eq)]
 pub struct TableFault {
-    /// How many bytes of the table stand before the byte at which no record can go on.
+    /// The offset in the table of the byte that cannot continue a record.
     pub offset: u64,
     /// Why.
     pub why: Refusal,
@@ -29,10 +29,10 @@ pub struct TableFault {
 /// ```
 #[derive(Clone, Copy, Debug)]
 pub enum ReadError {
-    /// No record stands first of the bytes that are not read yet.
+    /// The bytes that are not read yet do not start with a record.
     Refused(TableFault),
     /// The reader failed.
     Failed(io::Error),
-    /// A request for memory was refused.
+    /// Memory allocation failed.
     OutOfMemory,
 }

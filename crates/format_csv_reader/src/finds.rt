@@ -1,4 +1,4 @@
-//! Whether a record stands first of bytes that come in pieces.
+//! The search for a record at the start of bytes that arrive in chunks.
 
 ghost use Rattle.std.specs.Prelude.{◌++◌, List, ℕ, MatchOption, MatchResult};
 ghost use Rattle.std.specs.Io.KnownBytes.{IsAtEnd};
@@ -14,16 +14,16 @@ use format_csv_records::read::RecordFault;
 use std::alloc::Allocator;
 use std::io::Read;
 
-/// What is found of the bytes that are held.
+/// The result of the search in the bytes held.
 pub(crate) enum Found {
-    /// They begin with a record, whatever follows; or no more come.
+    /// The bytes start with a record for any continuation, or no more bytes follow.
     Enough,
-    /// They begin with no record, whatever follows.
+    /// No continuation of the bytes starts with a record.
     Never(RecordFault),
 }
 
-/// What is found of these bytes, if more do not decide. What was looked at before is not looked at
-/// again.
+/// Returns the result for `held`, or `None` if more bytes are needed. Bytes that `extent` has
+/// passed are not examined again.
 #[tactic(none)]
 fn look(dialect: Dialect, held: &[u8], extent: &mut RecordExtent) -> Option<Found>
     requires { IsOf dialect extent.old held.now }
@@ -38,7 +38,7 @@ fn look(dialect: Dialect, held: &[u8], extent: &mut RecordExtent) -> Option<Foun
     }
 }
 
-/// Reads until it is known what stands first.
+/// Reads until the bytes decide whether they start with a record.
 #[tactic(none)]
 pub(crate) fn find<R: Read, A: Allocator>(
     dialect: Dialect,

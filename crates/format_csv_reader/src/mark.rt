@@ -1,4 +1,4 @@
-//! Whether a byte order mark stands first.
+//! The search for a byte order mark at the start of a table.
 
 ghost use Rattle.std.specs.Prelude.{◌⊎◌, ◌≤◌, length, MatchResult};
 ghost use Rattle.std.specs.Io.KnownBytes.{IsAtEnd};
@@ -10,7 +10,7 @@ use crate::error::ReadError;
 use std::alloc::Allocator;
 use std::io::Read;
 
-/// Reads until so many bytes are held, or there are no more.
+/// Reads until the buffer holds the requested number of bytes, or the source ends.
 #[tactic(none)]
 pub(crate) fn fill_to<R: Read, A: Allocator>(
     source: &mut R,

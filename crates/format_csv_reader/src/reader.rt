@@ -1,4 +1,4 @@
-//! Records of a table, one after the other, of which the bytes come from a reader.
+//! A reader of the records of a table, one by one, whose bytes come from a `Read`.
 //!
 //! ```
 //! use format_csv_reader::reader::Reader;
@@ -69,8 +69,7 @@ impl<R, A: Allocator> Model for Reader<R, A> {
 }
 
 impl<R: Read, A: Allocator> Reader<R, A> {
-    /// The table of which this reader gives the bytes, and none is read yet. No memory is asked for
-    /// before the first record.
+    /// Creates a reader of the table that `source` gives. It neither reads nor allocates.
     pub fn new(dialect: Dialect, source: R, alloc: A) -> Reader<R, A>
         ensures { (result.dialect ≡ dialect) × (result.source ≡ source)
             × (result.buffer.bytes ≡ []) × (result.offset ≡ 0) }
@@ -99,14 +98,14 @@ impl<R: Read, A: Allocator> Reader<R, A> {
         self.buffer.size()
     }
 
-    /// Passes a byte order mark of UTF-8 (the bytes EF BB BF) that stands first of what is left: so
-    /// it is called before the first record. `true` says that one was passed. It reads until three
-    /// bytes are there, or there are no more.
+    /// Skips a UTF-8 byte order mark (the bytes EF BB BF) at the start of the remaining bytes, and
+    /// returns whether there was one. Call it before the first record. It reads until it holds
+    /// three bytes, or the source ends.
     ///
     /// # Errors
     ///
-    /// [`ReadError::Failed`] and [`ReadError::OutOfMemory`], as [`Reader::next_record`] says. No
-    /// byte is passed, and the next call goes on.
+    /// [`ReadError::Failed`] and [`ReadError::OutOfMemory`], as for [`Reader::next_record`]. No
+    /// byte is consumed, and the next call resumes.
     ///
     /// ```
     /// use format_csv_reader::reader::Reader;
@@ -140,22 +139,22 @@ impl<R: Read, A: Allocator> Reader<R, A> {
         }
     }
 
-    /// Reads the next record. `true` says that one was read; `false` that none is left, as the
-    /// reader gave no more bytes. The last record may have no line end. More bytes are read only
-    /// where those that came do not say what stands first. What was in the fields before does not
-    /// matter; at `false` and at an error there are none.
+    /// Reads the next record into `fields`. Returns `true` if a record was read, and `false` at the
+    /// end of the source. The last record may lack its line ending. It reads more bytes only if the
+    /// bytes held do not decide the result. Old contents of `fields` are discarded; after `false`
+    /// and after an error it has no fields.
     ///
     /// # Errors
     ///
-    /// At each, the bytes of the record that is begun are kept, and none is passed.
+    /// After each error the bytes of the incomplete record are kept, and none is consumed.
     ///
-    /// - [`ReadError::Refused`]: no record stands first. The fault tells the first byte of the
-    ///   table at which none can go on, or its end, and why. The next call says the same, if no
-    ///   bytes came.
-    /// - [`ReadError::Failed`]: the reader failed, though more bytes were needed. The next call
-    ///   reads again, and goes on. A read that was interrupted is no failure.
-    /// - [`ReadError::OutOfMemory`]: a request for memory was refused, for the buffer or the
-    ///   fields. The next call goes on.
+    /// - [`ReadError::Refused`]: the bytes do not start with a record. The error holds the offset
+    ///   in the table of the first byte that cannot continue a record, or of its end, and the
+    ///   reason. The next call returns the same error if no bytes arrived.
+    /// - [`ReadError::Failed`]: the reader failed while more bytes were needed. The next call reads
+    ///   again and resumes. Interrupted reads are retried.
+    /// - [`ReadError::OutOfMemory`]: the buffer or the fields could not be allocated. The next call
+    ///   resumes.
     #[tactic(none)]
     pub fn next_record<B: Allocator>(
         &mut self,

@@ -10,8 +10,8 @@ use std::io::{self, ErrorKind, Read};
 /// How many bytes a buffer has room for at first.
 const FIRST_SIZE: usize = 8192;
 
-/// Reads once into the bytes after the first `filled`, and answers how many came: none at the end
-/// of the source alone. A read that was interrupted is tried again.
+/// Reads once into `bytes`, after the first `filled`, and returns the number of bytes read, which
+/// is 0 only at the end of the source. Interrupted reads are retried.
 pub(crate) fn read_behind<R: Read>(
     source: &mut R,
     bytes: &mut [u8],
@@ -40,8 +40,8 @@ pub(crate) fn read_behind<R: Read>(
     }
 }
 
-/// Moves the bytes from `start` to `filled` to the front where no fewer bytes stand before them,
-/// which are not needed: so all moves together cost no more than those bytes.
+/// Moves the bytes from `start` to `filled` to the front if at least as many unused bytes precede
+/// them. So all moves together cost no more than those unused bytes.
 fn move_to_front<A: Allocator>(bytes: &mut Vec<u8, A>, start: &mut usize, filled: &mut usize)
     requires start { start.old ≤ filled.old }
     requires filled { filled.old ≤ length bytes.old.items }

@@ -1,4 +1,4 @@
-//! What stands first of the bytes that are held, taken from them.
+//! Removal of the record at the start of the bytes held.
 
 ghost use Rattle.std.specs.Prelude.{◌≡◌, ◌≤◌, ◌-◌, length};
 ghost use Rattle.format_csv_records.specs.Extents.{IsOf};
@@ -14,7 +14,8 @@ use format_csv_records::read::{RecordError, RecordFault, read_record_into};
 use format_csv_records::record::ByteRecord;
 use std::alloc::Allocator;
 
-/// The fault of a record, as one of the table in which it begins at this offset.
+/// Converts the error of a record that starts at offset `start` of the table to an error of the
+/// table.
 pub(crate) fn fault_at(start: u64, fault: RecordFault) -> TableFault
     ensures { IsFaultAt start fault result }
 {
@@ -43,7 +44,7 @@ fn read_held<A: Allocator, B: Allocator>(
     told
 }
 
-/// So, and after a record the next one is due, of which nothing is looked at.
+/// Takes the record, and resets the extent for the next one.
 pub(crate) fn take_record<A: Allocator, B: Allocator>(
     dialect: Dialect,
     buffer: &mut Buffer<A>,

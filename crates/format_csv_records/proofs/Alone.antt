@@ -1,4 +1,5 @@
--- No bytes begin with two fields, and how a record goes on after fields that are read.
+-- Uniqueness of fields: bytes start with at most one field; and how a record continues after its
+-- first fields.
 use Rattle.std.specs.Prelude.{◌≡◌, ◌⊎◌, ℕ, List, [], ◌∷◌, ◌++◌}
 use Rattle.std.specs.List.{All}
 use Rattle.std.proofs.Common.{refl, sym, ap, subst, inl, inr, ◌∙◌, append_assoc, eq-eqb}
@@ -78,7 +79,8 @@ end_apart quote x xs tail ys not e = elim (is_or_not x quote) [
       other (same_first f)
 ]
 
--- two texts between quotes begin alike with the same byte, and go on alike
+-- if two equal texts start with the contents of quotes, these start with the same byte, and the
+-- rests are equal
 byte_apart : (quote x z : ℕ) (xs zs tail other : List ℕ)
     → doubled quote (x ∷ xs) ++ tail ≡ doubled quote (z ∷ zs) ++ other
     → (x ≡ z) × (doubled quote xs ++ tail ≡ doubled quote zs ++ other)
@@ -161,7 +163,7 @@ doubled_run quote (x ∷ run) all = doubled_other quote x run (All-head (IsOther
 
 -- ---- fields
 
--- what may stand after a field
+-- a byte that may follow a field
 abbrev pub IsStop : Dialect → ℕ → Type 0
 IsStop d b = (b ≡ d.delimiter) ⊎ IsBreak b
 
@@ -179,7 +181,6 @@ stops_not_plain d (b ∷ rest) (inl is) = λ plain. plain.1.0 is
 stops_not_plain d (b ∷ rest) (inr (inl is)) = λ plain. plain.1.1.0 is
 stops_not_plain d (b ∷ rest) (inr (inr is)) = λ plain. plain.1.1.1 is
 
--- a text in quotes, with what is after it
 pub quoted_behind : (quote : ℕ) (field rest : List ℕ)
     → (quote ∷ (doubled quote field ++ quote ∷ [])) ++ rest
     ≡ quote ∷ (doubled quote field ++ (quote ∷ rest))
@@ -210,7 +211,6 @@ text_first d apart bytes field text rest (inr (is, all)) e stop =
       subst P (sym f) (plain_not_quote d apart field rest all stop),
     )
 
--- one field alone stands first
 pub field_apart : (d : Dialect) (bytes field rest other behind : List ℕ)
     → FieldFirst d bytes field rest → FieldFirst d bytes other behind
     → (field ≡ other) × (rest ≡ behind)
@@ -223,7 +223,6 @@ field_apart d bytes field rest other behind (inr (f, all, stop, not)) (inl (here
 field_apart d bytes field rest other behind (inr (e, all, a, n)) (inr (f, each, b, m)) =
     runs_apart (IsPlain d) field rest other behind all a each b (sym e ∙ f)
 
--- none stands where a quote is open
 pub open_apart : (d : Dialect) (bytes field rest : List ℕ) → OpenFirst d bytes
     → FieldFirst d bytes field rest → ⊥
 open_apart d bytes field rest (here, e, (done, run, f, all)) (inl (there, g, (h, not))) =

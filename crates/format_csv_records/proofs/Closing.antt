@@ -1,4 +1,4 @@
--- What a record is of which all bytes are passed, and how one that is not whole goes on.
+-- Lemmas about records whose bytes are all passed, and about how an incomplete record continues.
 use Rattle.std.specs.Prelude.{◌≡◌, ◌≤◌, ◌<◌, ◌+◌, ℕ, List, [], ◌∷◌, ◌++◌, length, drop}
 use Rattle.std.specs.Prelude.{MatchBool, Bool, true, false}
 use Rattle.std.specs.List.{All}
@@ -29,7 +29,8 @@ use Rattle.format_csv_records.proofs.Whole.{SoFar, done_fields, last_field, so_f
 
 -- ---- what ends a record
 
--- with these bytes what is begun is a field and a line end
+-- `Closes d field begun`: some bytes after `begun` make it the encoding of `field` and a line
+-- ending
 record Closes (d : Dialect) (field begun : List ℕ) : Type 0 where
   pub text : List ℕ
   pub end : List ℕ
@@ -92,7 +93,7 @@ closes_at d place.Return not field begun (text, is, ends, e) = record {
 }
 closes_at d place.Done not field begun it = absurd (not refl)
 
--- what is passed, with a line end
+-- the fields of the passed bytes, if a line ending follows
 abbrev row_of : {d : Dialect} {so : List ℕ → List ℕ → Type 0} {text fields : ℕ} {front : List ℕ}
     → Passed d so text fields front → List (List ℕ)
 row_of it = it.done ++ it.field ∷ []

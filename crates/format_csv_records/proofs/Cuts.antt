@@ -72,7 +72,7 @@ unfolding last_of
 last_append start [] n = refl
 last_append start (end ∷ ends) n = last_append end ends n
 
--- ---- a field by its place
+-- ---- a field by its index
 
 pub field_cut : (start : ℕ) (ends bytes : List ℕ) (i : ℕ) → i < length ends
     → Some (take (get_or ends i 0 - start_of start ends i) (drop (start_of start ends i) bytes))
@@ -111,7 +111,7 @@ field_within start [] size i h lt = absurd (omega arith)
 field_within start (e ∷ es) size zero h lt = (h.0, rises_first e es size h.1)
 field_within start (e ∷ es) size (suc i) h lt = field_within e es size i h.1 (omega arith)
 
--- what is added is after what is begun
+-- added bytes follow those of the field that is being read
 pub begun_more : {E : Type 0} (r : Result (Unit {0}) E) (new old more : List ℕ) (k : ℕ)
     → new ≡ (if is_ok r then old ++ more else old) → k ≤ length old
     → OnOk r (drop k new ≡ drop k old ++ more)

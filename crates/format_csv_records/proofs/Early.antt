@@ -1,4 +1,4 @@
--- A record that is not ended goes on, and one that is refused within its bytes never does.
+-- A record that has not ended can be continued; one with an error before its end never can.
 use Rattle.std.specs.Prelude.{◌≡◌, ◌<◌, ◌≤◌, ℕ, List, [], ◌∷◌, ◌++◌, length}
 use Rattle.std.specs.List.{All}
 use Rattle.std.proofs.Common.{refl, subst, sym, ap, inl, inr, ◌∙◌, arith, append_assoc}
@@ -17,7 +17,7 @@ use Rattle.format_csv_records.specs.declared.read.Refusal.TheVariants.{QuoteInFi
 use Rattle.format_csv_records.specs.declared.read.Refusal.TheVariants.{ByteBehindQuote}
 use Rattle.format_csv_records.specs.declared.read.Refusal.TheVariants.{OpenQuote, WrongLineEnd}
 
--- ---- fields that stand, with what ends their record
+-- ---- complete fields, with bytes that end their record
 
 record Ended (d : Dialect) (bytes : List ℕ) (fields : List (List ℕ)) : Type 0 where
   pub more : List ℕ
@@ -119,7 +119,7 @@ ended d (field ∷ (next ∷ fields)) bytes rest (text, behind, t, e, them) =
       );
     }
 
--- bytes with which, and one more at most, a record stands, whether its line end is there or not
+-- `bytes` followed by at most one more byte starts with a record, with or without its line ending
 pub record_goes_on : (d : Dialect) (bytes more : List ℕ) (fields : List (List ℕ)) (rest : List ℕ)
     → length more ≤ 1 → All (λ b. b < 256) more → IsRecord d (bytes ++ more) fields rest
     → GoesOn d bytes
@@ -144,7 +144,7 @@ record_goes_on d bytes more fields rest one known (some, them) =
       );
     }
 
--- no bytes: a line end is a record of one empty field
+-- empty input: a line ending is a record of one empty field
 pub none_goes_on : (d : Dialect) → GoesOn d []
 unfolding AreFields
 none_goes_on d =
@@ -160,7 +160,7 @@ none_goes_on d =
       );
     }
 
--- what lacks where no byte stands
+-- the missing bytes, if the error is at the end of the bytes
 lacks_one : (d : Dialect) → d.quote < 256 → (why : Refusal) (before more : List ℕ)
     → Lacks d why before more [] → (length more ≤ 1) × All (λ b. b < 256) more
 lacks_one d small QuoteInField before more (is, none, ends) = absurd none
@@ -177,7 +177,7 @@ no_bytes : (bytes : List ℕ) → length bytes ≡ 0 → bytes ≡ []
 no_bytes [] e = refl
 no_bytes (b ∷ bytes) e = absurd (omega (arith, e))
 
--- refused at the end of the bytes
+-- an error at the end of the bytes
 pub open_goes_on : (d : Dialect) → d.quote < 256 → (bytes : List ℕ) (fault : RecordFault)
     → IsRefused d bytes fault → length bytes ≤ fault.offset → GoesOn d bytes
 open_goes_on d small bytes fault (before, back, more, fields, e, size, on, lacks, none) far =
@@ -194,7 +194,7 @@ open_goes_on d small bytes fault (before, back, more, fields, e, size, on, lacks
     subst P (sym (e ∙ ap (λ l. before ++ l) nothing ∙ append-nil before))
     (record_goes_on d before more fields [] one known on)
 
--- refused at one of them
+-- an error before the end of the bytes
 none_within : (d : Dialect) (before back : List ℕ) → (back ≡ [] → ⊥) → NoneWith d before back
     → BeginsNone d (before ++ back)
 none_within d before [] some none more fields rest it = absurd (some refl)

@@ -1,4 +1,4 @@
--- Where records end, and where none does.
+-- Lemmas about the ends of records.
 use Rattle.std.specs.Prelude.{◌≡◌, ◌<◌, ℕ, List, [], ◌∷◌, ◌++◌, length}
 use Rattle.std.proofs.Common.{refl, sym, ap, subst, inl, inr, ◌∙◌, arith}
 use Rattle.format_csv_records.specs.Apart.{IsApart, IsBreak}
@@ -23,7 +23,6 @@ ends_stop d Either (b ∷ bytes) rest (inl (end, inl is, e)) =
 ends_stop d Either (b ∷ bytes) rest (inl (end, inr is, e)) =
     inr (inr (same_first (e ∙ ap (λ l. l ++ rest) is)))
 
--- a line end begins with a carriage return or a line feed
 pub ends_break : (ends : LineEnds) (b : ℕ) (bytes rest : List ℕ) → EndsHere ends (b ∷ bytes) rest
     → IsBreak b
 ends_break ends b bytes rest (inr (e, left)) = cc
@@ -34,7 +33,6 @@ ends_break Either b bytes rest (inl (end, inl is, e)) =
 ends_break Either b bytes rest (inl (end, inr is, e)) =
     inr (same_first (e ∙ ap (λ l. l ++ rest) is))
 
--- a record does not end where a delimiter stands
 pub ends_apart : (d : Dialect) → IsApart d.delimiter d.quote → (bytes rest more : List ℕ)
     → EndsHere d.ends bytes rest → bytes ≡ d.delimiter ∷ more → ⊥
 ends_apart d apart [] rest more it e = cc
@@ -58,13 +56,12 @@ lone_return Either tail rest not (inl (end, inl is, e)) =
 lone_return Either tail rest not (inl (end, inr is, e)) =
     let h : 13 ≡ 10 = same_first (e ∙ ap (λ l. l ++ rest) is) in omega (arith, h)
 
--- each dialect has a line end
+-- each dialect has a non-empty line ending
 pub some_end : (ends : LineEnds) → (end : List ℕ) × IsLineEnd ends end × (0 < length end)
 some_end CrLf = (13 ∷ 10 ∷ [], refl, omega arith)
 some_end Lf = (10 ∷ [], refl, omega arith)
 some_end Either = (10 ∷ [], inr refl, omega arith)
 
--- no line end is empty
 pub end_some : (ends : LineEnds) (end : List ℕ) → IsLineEnd ends end → 0 < length end
 end_some CrLf end is = omega (arith, ap (λ l. length l) is)
 end_some Lf end is = omega (arith, ap (λ l. length l) is)

@@ -1,4 +1,4 @@
--- What is told of bytes that are passed.
+-- Lemmas about the results for passed bytes.
 use Rattle.std.specs.Prelude.{◌≡◌, ◌≤◌, ◌<◌, ◌+◌, ℕ, List, [], ◌∷◌, ◌++◌, length, drop}
 use Rattle.std.specs.Prelude.{Option, Some, None, Result, Ok, Err}
 use Rattle.std.proofs.Common.{refl, sym, ap, subst, inl, inr, ◌∙◌, arith, append_assoc}
@@ -115,7 +115,7 @@ said : (d : Dialect) (old new : RecordExtent) (fresh : List ℕ)
     → Says new led.2 result
 said d old new fresh result led = led.7
 
--- where nothing is said all bytes are passed
+-- if the result is `None`, all bytes are passed
 pub open_after : (d : Dialect) → IsApart d.delimiter d.quote → (old new : RecordExtent)
     (bytes : List ℕ) → IsOf d old bytes → IsLed d old (drop old.passed bytes) new (Ok None)
     → Passed d (IsBegun d new.place) new.text new.fields bytes × (new.passed ≡ length bytes)

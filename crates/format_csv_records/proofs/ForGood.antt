@@ -25,7 +25,7 @@ module _ (d : Dialect) (apart : IsApart d.delimiter d.quote) (bytes rest : List 
       ∙ append_assoc it.before (t.text ++ left) more
       ∙ ap (λ l. it.before ++ l) (append_assoc t.text left more)
 
-  -- a line end stands after the last field
+  -- a line ending follows the last field
   for_good : (end : List ℕ) → EndsHere d.ends left end → 0 < length left
       → IsForGood d bytes (fields ++ field ∷ []) end
   for_good end (inr (none, over)) some = absurd (omega (arith, some, ap (λ l. length l) none))

@@ -1,4 +1,4 @@
--- Bytes begin with one record, and where they are refused with none.
+-- Bytes start with at most one record, and with none if there is an error.
 use Rattle.std.specs.Prelude.{◌≡◌, ℕ, List, [], ◌∷◌, ◌++◌}
 use Rattle.std.proofs.Common.{refl, sym, ap, subst, inl, inr, ◌∙◌, arith}
 use Rattle.std.proofs.lemmas.List.{append-nil}
@@ -12,7 +12,7 @@ use Rattle.format_csv_records.specs.declared.read.RecordFault.{RecordFault}
 use Rattle.format_csv_records.proofs.Alone.{field_apart, same_first, same_others, text_first}
 use Rattle.format_csv_records.proofs.Ending.{ends_apart, ends_stop}
 
--- after one line end this is left
+-- the rest after a line ending is unique
 line_end_one : (ends : LineEnds) (end other rest left : List ℕ) → IsLineEnd ends end
     → IsLineEnd ends other → end ++ rest ≡ other ++ left → rest ≡ left
 line_end_one CrLf end other rest left is too e =

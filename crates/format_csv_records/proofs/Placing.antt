@@ -138,7 +138,7 @@ places_more made offset (f ∷ fields) field =
     ap (λ l. made offset (length f) ∷ l) (places_more made (offset + length f) fields field
     ∙ ap (λ o. places_of made (offset + length f) fields ++ made o (length field) ∷ []) e)
 
--- what is put of these fields: that many bytes, and that many places
+-- the bytes of these fields and their offsets that were stored, and the numbers of both
 pub record Put {P : Type 0} (made : ℕ → ℕ → P) (fields : List (List ℕ)) (old new : List ℕ)
     (before after : List P) (end count : ℕ) : Type 0 where
   pub total : end ≡ length (text_of fields)

@@ -1,4 +1,4 @@
--- How many bytes of a kind stand first, and what is read between quotes.
+-- Lemmas about runs of bytes of one class, and about the contents of quotes.
 use Rattle.std.specs.Prelude.{◌≡◌, ◌≤◌, ◌<◌, ◌+◌, ℕ, List, [], ◌∷◌, ◌++◌, length, take}
 use Rattle.std.specs.Prelude.{drop}
 use Rattle.std.specs.List.{All}
@@ -54,7 +54,7 @@ pub take_quote : (quote : ℕ) (rest : List ℕ) (n : ℕ) → n < length rest
 take_quote quote rest n less e = take_more rest n 0 less
     ∙ ap (λ b. take n rest ++ b ∷ []) (same_first (sym (drop_more rest n 0 less) ∙ e))
 
--- what is read of a field in quotes, with what was added to the field that is begun
+-- the contents of quotes that were read, and the bytes added to the current field
 pub record Between (quote : ℕ) (input rest base begun : List ℕ) : Type 0 where
   pub done : List ℕ
   pub whole : input ≡ doubled quote done ++ rest

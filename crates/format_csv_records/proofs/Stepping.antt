@@ -1,4 +1,4 @@
--- What is passed of a record with a byte more, and where none goes on with it.
+-- Lemmas about passing one more byte of a record, and about bytes that no record continues with.
 use Rattle.std.specs.Prelude.{◌≡◌, ◌≤◌, ◌+◌, ◌-◌, ℕ, List, [], ◌∷◌, ◌++◌, length, take}
 use Rattle.std.specs.Prelude.{Some}
 use Rattle.std.specs.List.{All}
@@ -23,7 +23,8 @@ use Rattle.format_csv_records.proofs.Whole.{done_more}
 
 -- ---- what is passed
 
--- with these bytes more so much is begun of the field, which is that much longer
+-- `Grows so run n such`: `run` continues an incomplete field that satisfies `so` to one that
+-- satisfies `such`, with `n` more bytes of text
 abbrev pub Grows : (List ℕ → List ℕ → Type 0) → List ℕ → ℕ → (List ℕ → List ℕ → Type 0) → Type 0
 Grows so run n such = (field begun : List ℕ) → so field begun
     → (new : List ℕ) × (length new ≡ length field + n) × such new (begun ++ run)
@@ -171,7 +172,7 @@ grows_two d field begun is =
           ∙ sym (doubled_append q field (q ∷ []))),
     )
 
--- a byte, by what it makes of what is begun
+-- a byte, by its effect on the current field
 pub keeps_byte : (d : Dialect) (at next : RecordPlace) (b n : ℕ) → n ≤ 1
     → Grows (IsBegun d at) (b ∷ []) n (IsBegun d next) → (more others : ℕ) → more ≡ n
     → others ≡ 0 → (text fields : ℕ)
@@ -187,7 +188,7 @@ keeps_run d at run n size grows text fields front it =
     grown d (IsBegun d at) (IsBegun d at) run (length run) text fields (text + n) fields front grows
     (omega arith) (omega (arith, size)) refl it
 
--- a byte, by what it makes of what is begun, at a step that says so
+-- a byte, by its effect on the current field, for a step that has this effect
 pub goes_step : (d : Dialect) (at next : RecordPlace) (b c n : ℕ) → b ≡ c → n ≤ 1
     → Grows (IsBegun d at) (c ∷ []) n (IsBegun d next) → (step : Step)
     → (step.place ≡ next) × (step.text ≡ n) × (step.fields ≡ 0) → IsTurn d at b (Goes step)
@@ -203,7 +204,7 @@ goes_step d at next b c n same less grows step (is, text_is, none) =
           text fields front it),
     )
 
--- what is after a text is so after a field that has it
+-- a lemma for complete texts also holds for fields with such a text
 pub turn_text : (d : Dialect) (at : RecordPlace) (b : ℕ)
     → ((field begun : List ℕ) → IsBegun d at field begun → IsFieldText d field begun)
     → (step : Step) → IsBehind d b (Some step) → IsTurn d at b (Goes step)

@@ -16,7 +16,7 @@ use Rattle.format_csv_records.specs.declared.read.Refusal.{Refusal}
 use Rattle.format_csv_records.specs.declared.turns.Step.{Step}
 use Rattle.format_csv_records.specs.declared.turns.Turn.TheVariants.{Goes}
 
--- some of the bytes are passed, and these are left
+-- the scan has passed some of the bytes, and `rest` remains
 pub record Walking (d : Dialect) (from at : Step) (fresh rest : List ℕ) : Type 0 where
   pub taken : List ℕ
   pub splits : fresh ≡ taken ++ rest
@@ -92,7 +92,7 @@ walks d from at fresh left why it stopped = (
   omega (arith, it.few.1, ap (λ l. length l) it.splits, length-append it.taken left.now),
 )
 
--- from an extent to the next, by a walk from its place
+-- from an extent to the next, by a scan from its state
 pub led : (d : Dialect) (old : RecordExtent) (bytes fresh : List ℕ) (from : Step)
     (walked : Walked) (result : Result (Option RecordSize) RecordFault)
     → fresh ≡ take (length bytes - old.passed) (drop old.passed bytes)

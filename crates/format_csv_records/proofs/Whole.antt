@@ -21,7 +21,7 @@ use Rattle.format_csv_records.proofs.Alone.{text_first}
 use Rattle.format_csv_records.proofs.Ending.{end_some, ends_apart, ends_stop, lone_return, some_end}
 use Rattle.format_csv_records.proofs.Runs.{doubled_behind}
 
--- ---- the text of the field that stands first
+-- ---- the text of the first field
 
 pub record FirstText (d : Dialect) (bytes field left : List ℕ) : Type 0 where
   pub text : List ℕ
@@ -108,9 +108,9 @@ pub last_field : (d : Dialect) (field text behind rest : List ℕ) → IsFieldTe
 unfolding AreFields
 last_field d field text behind rest t ends = (text, behind, t, refl, ends)
 
--- ---- nothing else stands
+-- ---- uniqueness of records
 
--- what stands after the first field of a record
+-- the bytes after the first field of a record
 pub record Behind (d : Dialect) (bytes : List ℕ) (fields : List (List ℕ)) (rest : List ℕ)
     : Type 0 where
   pub field : List ℕ
@@ -137,7 +137,7 @@ behind_first d apart bytes (field ∷ (next ∷ fields)) rest (text, more, t, e,
   way = inr (more, next ∷ fields, refl, it);
 }
 
--- after fields with their delimiters stand the others
+-- fields with their delimiters are followed by the other fields of the record
 done_apart : (d : Dialect) → IsApart d.delimiter d.quote → (done : List (List ℕ))
     (before here : List ℕ) (fields : List (List ℕ)) (rest : List ℕ) → Done d done before
     → AreFields d (before ++ here) fields rest
@@ -159,7 +159,7 @@ done_apart d apart (field ∷ done) before here fields rest (text, more, t, e, o
           (subst P (sym (same_others (left ∙ is))) them)
     ]
 
--- none stands where a field is read, and the record neither goes on nor ends after it
+-- there is no record if its field is followed neither by a delimiter nor by a line ending
 none_behind : (d : Dialect) → IsApart d.delimiter d.quote → (bytes field left : List ℕ)
     (fields : List (List ℕ)) (rest : List ℕ) → FieldFirst d bytes field left
     → NotFirst (λ b. b ≡ d.delimiter) left → (EndsHere d.ends left rest → ⊥)
@@ -268,7 +268,7 @@ module _ (d : Dialect) (apart : IsApart d.delimiter d.quote) (bytes rest : List 
         subst P (sym e) (subst Q (sym (it.whole ∙ ap (λ l. it.before ++ l) t.split))
         (ended left end ends))
 
-    -- a record with this after its last field
+    -- a record with `more` after its last field
     closes : (before more : List ℕ) → before ≡ it.before ++ (first_text d rest field left f).text
         → EndsHere d.ends more [] → 0 < length more
         → IsRecord d (before ++ more) (fields ++ field ∷ []) []
@@ -279,7 +279,7 @@ module _ (d : Dialect) (apart : IsApart d.delimiter d.quote) (bytes rest : List 
         let P : List ℕ → Type 0 = λ l. AreFields d l (fields ++ field ∷ []) [] in
         (omega (arith, some, length-append before more), subst P (sym g) (ended more [] ends))
 
-    -- so with each line end
+    -- this holds for each line ending
     ends_a_field : EndsAField d (it.before ++ (first_text d rest field left f).text)
     ends_a_field end is = (
       fields ++ field ∷ [],
@@ -287,7 +287,7 @@ module _ (d : Dialect) (apart : IsApart d.delimiter d.quote) (bytes rest : List 
           (inl (end, is, sym (append-nil end))) (end_some d.ends end is),
     )
 
-    -- no record goes on so
+    -- no record continues with this byte
     goes_not : (b : ℕ) (bs after : List ℕ) → left ≡ b ∷ bs → (b ≡ d.delimiter → ⊥)
         → ((end : List ℕ) → EndsHere d.ends (b ∷ after) end → ⊥) → (before : List ℕ)
         → before ≡ it.before ++ (first_text d rest field left f).text
@@ -302,7 +302,7 @@ module _ (d : Dialect) (apart : IsApart d.delimiter d.quote) (bytes rest : List 
         none_behind d apart (t.text ++ (b ∷ after)) field (b ∷ after) fs end
         (t.again b bs after is) not (ends end) o
 
-    -- no record goes on after a carriage return that lacks a line feed
+    -- no record continues after a carriage return without a line feed
     none_return : (bs : List ℕ) → left ≡ 13 ∷ bs → NotFirst (λ c. c ≡ 10) bs → (before : List ℕ)
         → before ≡ it.before ++ (first_text d rest field left f).text
         → NoneWith d (before ++ (13 ∷ [])) bs

@@ -1,4 +1,4 @@
--- What is written reads back.
+-- Lemmas about written records: reading them returns the same fields.
 use Rattle.std.specs.Prelude.{◌≡◌, ◌<◌, ◌+◌, ℕ, List, [], ◌∷◌, ◌++◌, length, take, drop}
 use Rattle.std.specs.Prelude.{◌-◌, Bool, true, false, MatchBool, if◌then◌else◌, is_ok, OnOk}
 use Rattle.std.specs.Prelude.{Result, Ok, Err}
@@ -154,7 +154,7 @@ reads_back d fields old new it = (
       ),
 )
 
--- whether others stand before the last field, told by a test
+-- the text of the last field, with a test for whether it is the only one
 pub last_by : (d : Dialect) (others : List (Bor (List ℕ))) (alone : Bool) (last text : List ℕ)
     → MatchBool alone (others ≡ []) (others ≡ [] → ⊥) → IsLastOf d alone last text
     → IsLast d (bytes_of others) last text

@@ -15,7 +15,7 @@ pub record IsApart (delimiter quote : ℕ) : Type 0 where
 abbrev pub IsBreak : ℕ → Type 0
 IsBreak b = (b ≡ 13) ⊎ (b ≡ 10)
 
--- Why two bytes make no dialect; the first reason is told.
+-- The reason why two bytes do not make a dialect; the first one that applies.
 abbrev pub WhyNone : ℕ → ℕ → DialectFault → Type 0
 WhyNone delimiter quote DelimiterIsQuote = delimiter ≡ quote
 WhyNone delimiter quote DelimiterEndsLines = (delimiter ≡ quote → ⊥) × IsBreak delimiter

@@ -8,12 +8,11 @@ use Rattle.format_csv_records.specs.declared.buffers.RecordSize.{RecordSize}
 use Rattle.format_csv_records.specs.declared.dialect.Dialect.{Dialect}
 use Rattle.format_csv_records.specs.declared.read.RecordFault.{RecordFault}
 
--- The bytes of fields, one after the other.
+-- The concatenated bytes of fields.
 abbrev pub text_of : List (List ℕ) → List ℕ
 text_of fields = flat_map (λ f. f) fields
 
--- The places of fields that stand one after the other from this offset on, each made of an offset
--- and a length.
+-- The positions of consecutive fields from this offset on, each made from an offset and a length.
 unfoldable pub places_of : {P : Type 0} → (ℕ → ℕ → P) → ℕ → List (List ℕ) → List P
 places_of made offset [] = []
 places_of made offset (field ∷ fields) =
@@ -27,8 +26,9 @@ IsForGood d bytes fields rest = (more : List ℕ) → IsRecord d (bytes ++ more)
 abbrev pub NoneForGood : Dialect → List ℕ → Type 0
 NoneForGood d bytes = (fields : List (List ℕ)) (rest : List ℕ) → IsForGood d bytes fields rest → ⊥
 
--- The bytes begin with a record of these fields, which has that many fields, bytes of these, and
--- bytes; and whether its line end is there, so that it is that of all longer bytes too.
+-- The bytes start with a record of these fields, and `size` holds its number of fields, the length
+-- of their bytes, its own length, and whether its line ending is there. With a line ending all
+-- longer bytes start with the same record.
 pub record SizedAs (d : Dialect) (bytes : List ℕ) (fields : List (List ℕ)) (size : RecordSize)
     : Type 0 where
   pub is_record : IsRecord d bytes fields (drop size.length bytes)
@@ -42,7 +42,8 @@ pub record SizedAs (d : Dialect) (bytes : List ℕ) (fields : List (List ℕ)) (
 abbrev pub IsSized : Dialect → List ℕ → RecordSize → Type 0
 IsSized d bytes size = (fields : List (List ℕ)) × SizedAs d bytes fields size
 
--- What a size is of: a record, where one stands first; no bytes; or why none stands there.
+-- The contract of the size of a record: the record at the start of the bytes; or no bytes; or the
+-- error.
 abbrev pub SizesRecord : Dialect → List ℕ → Result (Option RecordSize) RecordFault → Type 0
 SizesRecord d bytes (Ok (Some size)) = IsSized d bytes size
 SizesRecord d bytes (Ok None) = bytes ≡ []
@@ -57,13 +58,13 @@ ShowsFields made d bytes size text places = (fields : List (List ℕ)) × SizedA
 
 -- ---- what the parts do
 
--- Bytes are put at a place of a text, if there is room for them, and this is the place after.
+-- `bytes` are written at offset `at` if there is room, and `end` is the offset after them.
 pub record Puts (bytes : List ℕ) (at : ℕ) (old new : List ℕ) (end : ℕ) : Type 0 where
   pub is_end : end ≡ at + length bytes
   pub same : length new ≡ length old
   pub there : end ≤ length old → take end new ≡ take at old ++ bytes
 
--- A field is put there, and what is left after it is as much shorter.
+-- A field is written at `at`, and at least as many bytes of the input are consumed.
 abbrev pub FieldPut : List ℕ → List ℕ → List ℕ → ℕ → List ℕ → List ℕ → ℕ → Type 0
 FieldPut field bytes rest at old new end =
     Puts field at old new end × (end + length rest ≤ at + length bytes)
@@ -73,7 +74,8 @@ pub record Placed {P : Type 0} (place : P) (number : ℕ) (old new : List P) : T
   pub same : length new ≡ length old
   pub there : number < length old → take (number + 1) new ≡ take number old ++ place ∷ []
 
--- The fields of the record that stands first are put, as far as there is room, and their size told.
+-- The fields of the first record are written, as far as there is room, and `size` is the record's
+-- size.
 pub record PutsFields {P : Type 0} (made : ℕ → ℕ → P) (d : Dialect) (bytes old new : List ℕ)
     (before after : List P) (size : RecordSize) : Type 0 where
   pub fields : List (List ℕ)

@@ -11,6 +11,6 @@ commas_apart = record {
   quote_stays = (λ e. omega (arith, e), λ e. omega (arith, e));
 }
 
--- Commas between fields, double quotes round them, and these line ends.
+-- The dialect with commas between fields, double quotes around them, and these line endings.
 abbrev pub commas_by : LineEnds → Dialect
 commas_by ends = record { delimiter = 44; quote = 34; ends = ends; apart = commas_apart }

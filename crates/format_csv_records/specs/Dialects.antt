@@ -1,5 +1,5 @@
--- Comma separated values by a dialect (RFC 4180, section 2): what is written for fields, and where
--- records stand.
+-- Comma separated values by a dialect (RFC 4180, section 2): the encodings of fields, and the
+-- grammar of records.
 use Rattle.std.specs.Prelude.{◌≡◌, ◌⊎◌, ◌<◌, ◌==◌, ℕ, List, [], ◌∷◌, ◌++◌, length, if◌then◌else◌}
 use Rattle.std.specs.List.{All}
 use Rattle.format_csv_records.specs.declared.dialect.LineEnds.{LineEnds}
@@ -10,25 +10,25 @@ use Rattle.format_csv_records.specs.declared.dialect.Dialect.{Dialect}
 abbrev pub IsPlain : Dialect → ℕ → Type 0
 IsPlain d b = (b ≡ d.quote → ⊥) × ((b ≡ d.delimiter → ⊥) × ((b ≡ 13 → ⊥) × (b ≡ 10 → ⊥)))
 
--- What is written between the quotes of a field: each quote twice, every other byte once.
+-- The encoding between the quotes of a field: each quote twice, every other byte once.
 unfoldable pub doubled : ℕ → List ℕ → List ℕ
 doubled quote [] = []
 doubled quote (b ∷ bs) =
     if b == quote then quote ∷ quote ∷ doubled quote bs else b ∷ doubled quote bs
 
--- What is written for a field: in quotes, or as it is where all its bytes are plain.
+-- The encodings of a field: in quotes, or unchanged if all its bytes are plain.
 abbrev pub IsFieldText : Dialect → List ℕ → List ℕ → Type 0
 IsFieldText d field text =
     (text ≡ d.quote ∷ (doubled d.quote field ++ d.quote ∷ []))
     ⊎ ((text ≡ field) × All (IsPlain d) field)
 
--- What ends a record.
+-- A line ending of a record.
 abbrev pub IsLineEnd : LineEnds → List ℕ → Type 0
 IsLineEnd CrLf end = end ≡ 13 ∷ 10 ∷ []
 IsLineEnd Lf end = end ≡ 10 ∷ []
 IsLineEnd Either end = (end ≡ 13 ∷ 10 ∷ []) ⊎ (end ≡ 10 ∷ [])
 
--- A record ends here: by a line end, after which this is left, or where there are no more bytes.
+-- A record ends here: at a line ending followed by `rest`, or at the end of the bytes.
 abbrev pub EndsHere : LineEnds → List ℕ → List ℕ → Type 0
 EndsHere ends bytes rest = ((end : List ℕ) × IsLineEnd ends end × (bytes ≡ end ++ rest))
     ⊎ ((bytes ≡ []) × (rest ≡ []))
@@ -43,6 +43,6 @@ AreFields d bytes (field ∷ (next ∷ fields)) rest = (text : List ℕ) × (beh
     × IsFieldText d field text × (bytes ≡ text ++ (d.delimiter ∷ behind))
     × AreFields d behind (next ∷ fields) rest
 
--- There are bytes, and they begin with a record of these fields, after which this is left.
+-- The bytes are not empty and start with a record of these fields, followed by `rest`.
 abbrev pub IsRecord : Dialect → List ℕ → List (List ℕ) → List ℕ → Type 0
 IsRecord d bytes fields rest = (0 < length bytes) × AreFields d bytes fields rest

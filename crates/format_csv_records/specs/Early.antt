@@ -1,10 +1,10 @@
--- Which bytes some more make begin with a record, and which none do.
+-- Definitions of bytes that can be extended to start with a record, and of bytes that cannot.
 use Rattle.std.specs.Prelude.{◌<◌, ◌≤◌, ℕ, List, ◌++◌, length}
 use Rattle.std.specs.List.{All}
 use Rattle.format_csv_records.specs.Dialects.{IsRecord}
 use Rattle.format_csv_records.specs.declared.dialect.Dialect.{Dialect}
 
--- With three bytes more at most they begin with a record of these fields, whatever follows.
+-- With at most three more bytes they start with a record of these fields, for any continuation.
 pub record GoesOn (d : Dialect) (bytes : List ℕ) : Type 0 where
   pub more : List ℕ
   pub known : All (λ b. b < 256) more
@@ -13,7 +13,7 @@ pub record GoesOn (d : Dialect) (bytes : List ℕ) : Type 0 where
   pub rest : List ℕ
   pub begins : (after : List ℕ) → IsRecord d ((bytes ++ more) ++ after) fields (rest ++ after)
 
--- Whatever is after them, they begin with none.
+-- No continuation of the bytes starts with a record.
 abbrev pub BeginsNone : Dialect → List ℕ → Type 0
 BeginsNone d bytes = (more : List ℕ) (fields : List (List ℕ)) (rest : List ℕ)
     → IsRecord d (bytes ++ more) fields rest → ⊥

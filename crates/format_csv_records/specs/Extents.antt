@@ -1,4 +1,4 @@
--- Where a record ends: what of some bytes is passed, and what is told of them.
+-- The scanner for the end of a record: the bytes passed, and the results.
 use Rattle.std.specs.Prelude.{◌≡◌, ◌⊎◌, ◌≤◌, ◌<◌, ◌+◌, ℕ, List, [], ◌∷◌, ◌++◌, length, true}
 use Rattle.std.specs.Prelude.{Option, Some, None, Result, Ok, Err}
 use Rattle.std.specs.List.{All}
@@ -19,9 +19,10 @@ use Rattle.format_csv_records.specs.declared.turns.Step.{Step}
 use Rattle.format_csv_records.specs.declared.turns.Turn.{Turn}
 use Rattle.format_csv_records.specs.declared.turns.Turn.TheVariants.{Ends, Goes, Never}
 
--- What of the last field is passed at a place, and what this is of the field: nothing; plain bytes;
--- a quote, and what is written after it; and the closing quote; its text, and what is begun of a
--- line end; or this and a line end.
+-- `IsBegun d at field begun`: in state `at` of the scanner the last field has the encoded bytes
+-- `begun`, whose text is `field`. These are empty; plain bytes; an opening quote and encoded bytes;
+-- these with a closing quote; the text of the field with a carriage return; or the text with its
+-- line ending.
 abbrev pub IsBegun : Dialect → RecordPlace → List ℕ → List ℕ → Type 0
 IsBegun d place.Field field begun = (field ≡ []) × (begun ≡ [])
 IsBegun d place.Plain field begun = (begun ≡ field) × All (IsPlain d) field × (0 < length field)
@@ -32,8 +33,8 @@ IsBegun d place.Return field begun = (text : List ℕ) × IsFieldText d field te
 IsBegun d place.Done field begun = (text : List ℕ) × (end : List ℕ) × IsFieldText d field text
     × IsLineEnd d.ends end × (begun ≡ text ++ end)
 
--- These bytes are passed: fields with a delimiter after each, and so much of one more. They have
--- that many bytes of text, and that many fields are before the last.
+-- `front` is passed: complete fields with a delimiter after each, and a part of one more. The
+-- fields have `text` bytes, and `fields` of them precede the last.
 pub record Passed (d : Dialect) (so : List ℕ → List ℕ → Type 0) (text fields : ℕ)
     (front : List ℕ) : Type 0 where
   pub done : List (List ℕ)
@@ -55,9 +56,9 @@ pub record IsOf (d : Dialect) (extent : RecordExtent) (bytes : List ℕ) : Type 
   pub size : length front ≡ extent.passed
   pub passed : Passed d (IsBegun d extent.place) extent.text extent.fields front
 
--- What is told of some bytes: the size of the record that they begin with, whatever follows; or
--- that no record is theirs whatever follows, and with more bytes one is; or the first byte at which
--- no record goes on, whatever follows.
+-- The contract of a scan: the size of the record at the start, for any continuation; or `None`, if
+-- no record is final and some continuation has one; or the first byte that cannot continue a
+-- record.
 abbrev pub IsTold : Dialect → List ℕ → Result (Option RecordSize) RecordFault → Type 0
 IsTold d bytes (Ok (Some size)) = IsSized d bytes size × (size.ended ≡ true)
 IsTold d bytes (Ok None) = GoesOn d bytes × NoneForGood d bytes
@@ -71,19 +72,20 @@ Keeps d at text fields taken next more others = (front : List ℕ)
     → Passed d (IsBegun d at) text fields front
     → Passed d (IsBegun d next) more others (front ++ taken)
 
--- After what is passed no record goes on with the byte, for this reason.
+-- After the passed bytes no record continues with byte `b`, for this reason.
 abbrev pub IsNever : Dialect → RecordPlace → ℕ → Refusal → Type 0
 IsNever d at b why = (text fields : ℕ) (front bs : List ℕ)
     → Passed d (IsBegun d at) text fields front
     → IsRefused d (front ++ b ∷ bs) (record { offset = length front; why = why })
 
--- no byte is left, or none of the record, or one with which no record goes on
+-- the scan stops: the record is complete, or no bytes remain, or no record continues with the next
+-- byte
 abbrev pub IsStopped : Dialect → RecordPlace → List ℕ → Option Refusal → Type 0
 IsStopped d at left None = (at ≡ place.Done) ⊎ (left ≡ [])
 IsStopped d at left (Some why) = (at ≡ place.Done → ⊥)
     × ((b : ℕ) × (more : List ℕ) × (left ≡ b ∷ more) × IsNever d at b why)
 
--- Of these bytes the first are passed, as many as can be, and the others are left.
+-- The scan passes the longest possible prefix of the bytes; `left` is the rest.
 abbrev pub Walks : Dialect → Step → List ℕ → Walked → Type 0
 Walks d old fresh new = (taken : List ℕ) × (fresh ≡ taken ++ new.left.now)
     × Keeps d old.place old.text old.fields taken new.at.place new.at.text new.at.fields
@@ -91,7 +93,7 @@ Walks d old fresh new = (taken : List ℕ) × (fresh ≡ taken ++ new.left.now)
     × (new.at.text + length new.left.now ≤ old.text + length fresh)
     × (new.at.fields + length new.left.now ≤ old.fields + length fresh)
 
--- what an extent says, with this reason why no record goes on, or with none
+-- the result of an extent, with the reason `why` if no record can continue
 abbrev pub Says : RecordExtent → Option Refusal → Result (Option RecordSize) RecordFault → Type 0
 Says new why (Ok (Some size)) = (why ≡ None) × (new.place ≡ place.Done)
     × (size.fields ≡ new.fields + 1) × (size.text ≡ new.text) × (size.length ≡ new.passed)
@@ -103,8 +105,8 @@ Says new why (Err fault) = (why ≡ Some fault.why) × (fault.offset ≡ new.pas
 abbrev pub IsFew : RecordExtent → Type 0
 IsFew extent = (extent.text ≤ extent.passed) × (extent.fields ≤ extent.passed)
 
--- From one extent to the next: some of the new bytes are passed, and what is said is said of what
--- is begun there and of what is left. Nothing is asked of the bytes that were passed before.
+-- From one extent to the next: some of the new bytes are passed, and the result depends on the new
+-- state and the rest. The bytes that were passed before do not matter.
 abbrev pub IsLed : Dialect → RecordExtent → List ℕ → RecordExtent
     → Result (Option RecordSize) RecordFault → Type 0
 IsLed d old fresh new result = (taken : List ℕ) × (left : List ℕ) × (why : Option Refusal)
@@ -114,8 +116,8 @@ IsLed d old fresh new result = (taken : List ℕ) × (left : List ℕ) × (why :
 
 -- ---- one byte
 
--- After a text that is a field the byte is of the record; or it is no delimiter, and no record ends
--- with it there.
+-- The byte after the complete last field continues the record; or it is not a delimiter, and no
+-- record ends with it there.
 abbrev pub IsBehind : Dialect → ℕ → Option Step → Type 0
 IsBehind d b (Some step) = (step.text ≤ 1) × (step.fields ≤ 1)
     × ((text fields : ℕ) (front : List ℕ) → Passed d (IsFieldText d) text fields front
@@ -123,8 +125,8 @@ IsBehind d b (Some step) = (step.text ≤ 1) × (step.fields ≤ 1)
 IsBehind d b None = (b ≡ d.delimiter → ⊥)
     × ((after rest : List ℕ) → EndsHere d.ends (b ∷ after) rest → ⊥)
 
--- The byte is of the record, with so much more; or the record was at its end; or none goes on with
--- it.
+-- The byte continues the record, with this step; or the record has ended; or no record continues
+-- with it.
 abbrev pub IsTurn : Dialect → RecordPlace → ℕ → Turn → Type 0
 IsTurn d at b (Goes step) = (step.text ≤ 1) × (step.fields ≤ 1)
     × ((text fields : ℕ)
@@ -132,7 +134,7 @@ IsTurn d at b (Goes step) = (step.text ≤ 1) × (step.fields ≤ 1)
 IsTurn d at b Ends = at ≡ place.Done
 IsTurn d at b (Never why) = (at ≡ place.Done → ⊥) × IsNever d at b why
 
--- These bytes, that many, are text of the field.
+-- `IsRun d at run n`: `run` has `n` bytes, all of them contents of the field.
 abbrev pub IsRun : Dialect → RecordPlace → List ℕ → ℕ → Type 0
 IsRun d at run n =
     (length run ≡ n) × ((text fields : ℕ) → Keeps d at text fields run at (text + n) fields)

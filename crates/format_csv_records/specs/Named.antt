@@ -6,7 +6,7 @@ use Rattle.format_csv_records.specs.Records.{field_at}
 abbrev pub NoneNamed : List (List ℕ) → List ℕ → Type 0
 NoneNamed fields name = (k : ℕ) → field_at fields k ≡ Some name → ⊥
 
--- The field at this place is this one, and none before it.
+-- `NamedAt fields name place`: `place` is the index of the first field equal to `name`.
 abbrev pub NamedAt : List (List ℕ) → List ℕ → ℕ → Type 0
 NamedAt fields name place = (field_at fields place ≡ Some name)
     × ((k : ℕ) → k < place → field_at fields k ≡ Some name → ⊥)

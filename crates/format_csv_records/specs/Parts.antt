@@ -1,4 +1,4 @@
--- What the parts of a reader of records read.
+-- The grammars of the parts of a record reader.
 use Rattle.std.specs.Prelude.{◌≡◌, ◌⊎◌, ◌≤◌, ℕ, List, [], ◌∷◌, ◌++◌, length, take, drop}
 use Rattle.std.specs.Prelude.{⊤}
 use Rattle.std.specs.List.{All}
@@ -25,7 +25,7 @@ abbrev pub Begins : (ℕ → Type 0) → List ℕ → Type 0
 Begins these [] = ⊥
 Begins these (b ∷ bs) = these b
 
--- that many of these stand first, and no more
+-- the longest prefix of bytes that satisfy `these` has length `n`
 abbrev pub SoMany : (ℕ → Type 0) → List ℕ → ℕ → Type 0
 SoMany these bytes n = (n ≤ length bytes) × All these (take n bytes) × NotFirst these (drop n bytes)
 
@@ -33,7 +33,8 @@ SoMany these bytes n = (n ≤ length bytes) × All these (take n bytes) × NotFi
 abbrev pub IsOther : ℕ → ℕ → Type 0
 IsOther quote b = b ≡ quote → ⊥
 
--- between quotes these bytes, of which the closing quote is there
+-- `bytes` starts with the encoding of `field` in quotes and a closing quote, followed by `rest`,
+-- which does not start with a quote
 abbrev pub Closed : ℕ → List ℕ → List ℕ → List ℕ → Type 0
 Closed quote bytes field rest =
     (bytes ≡ doubled quote field ++ (quote ∷ rest)) × NotFirst (λ b. b ≡ quote) rest
@@ -43,14 +44,14 @@ abbrev pub Unclosed : ℕ → List ℕ → Type 0
 Unclosed quote bytes = (done : List ℕ) × (run : List ℕ) × (bytes ≡ doubled quote done ++ run)
     × All (IsOther quote) run
 
--- a field stands first, as long as it may be
+-- the bytes start with a field of maximal length
 abbrev pub FieldFirst : Dialect → List ℕ → List ℕ → List ℕ → Type 0
 FieldFirst d bytes field rest =
     ((here : List ℕ) × (bytes ≡ d.quote ∷ here) × Closed d.quote here field rest)
     ⊎ ((bytes ≡ field ++ rest) × All (IsPlain d) field × NotFirst (IsPlain d) rest
     × NotFirst (λ b. b ≡ d.quote) bytes)
 
--- a quote that nothing closes stands first
+-- the bytes start with a quote that is never closed
 abbrev pub OpenFirst : Dialect → List ℕ → Type 0
 OpenFirst d bytes = (here : List ℕ) × (bytes ≡ d.quote ∷ here) × Unclosed d.quote here
 
@@ -60,20 +61,20 @@ Done d [] before = before ≡ []
 Done d (field ∷ fields) before = (text : List ℕ) × (more : List ℕ) × IsFieldText d field text
     × (before ≡ text ++ (d.delimiter ∷ more)) × Done d fields more
 
--- no record ends here: that many bytes of a line end stand here, and no byte more of one
+-- no record ends here: `begun` bytes of a line ending match, and the next does not
 abbrev pub EndsNowhere : LineEnds → List ℕ → ℕ → Type 0
 EndsNowhere ends [] begun = ⊥
 EndsNowhere ends (b ∷ bs) begun =
     ((begun ≡ 0) × ((after : List ℕ) (rest : List ℕ) → EndsHere ends (b ∷ after) rest → ⊥))
     ⊎ ((begun ≡ 1) × (b ≡ 13) × IsLineEnd ends (13 ∷ 10 ∷ []) × NotFirst (λ c. c ≡ 10) bs)
 
--- why a record neither ends nor goes on with the byte that stands first
+-- the reason why a record neither ends nor continues with the first byte
 abbrev pub WhyNot : ℕ → List ℕ → Refusal → Type 0
 WhyNot quote bytes QuoteInField = Begins (λ b. b ≡ quote) bytes
 WhyNot quote bytes WrongLineEnd = Begins IsBreak bytes
 WhyNot quote bytes ByteBehindQuote = Begins (λ b. (b ≡ quote → ⊥) × (IsBreak b → ⊥)) bytes
 WhyNot quote bytes OpenQuote = ⊥
 
--- No byte order mark of UTF-8 stands first.
+-- The bytes do not start with a UTF-8 byte order mark.
 abbrev pub NoMark : List ℕ → Type 0
 NoMark bytes = (rest : List ℕ) → bytes ≡ 239 ∷ 187 ∷ 191 ∷ rest → ⊥

@@ -1,14 +1,14 @@
--- The fields of a record, of which all bytes stand in one buffer.
+-- The fields of a record whose bytes are all in one buffer.
 use Rattle.std.specs.Prelude.{◌≤◌, ◌-◌, ℕ, zero, suc, List, [], ◌∷◌, take, drop, length}
 use Rattle.std.specs.Prelude.{Option, Some, None}
 use Rattle.format_csv_records.specs.declared.record.ByteRecord.TheInside.{Inside}
 
--- the fields that end at these places, from a start on
+-- the fields that end at the offsets `ends`, from offset `start` on
 unfoldable pub cut : ℕ → List ℕ → List ℕ → List (List ℕ)
 cut start [] bytes = []
 cut start (end ∷ ends) bytes = take (end - start) (drop start bytes) ∷ cut end ends bytes
 
--- the last of the places, or the start
+-- the last of the offsets, or `start`
 unfoldable pub last_of : ℕ → List ℕ → ℕ
 last_of start [] = start
 last_of start (end ∷ ends) = last_of end ends
@@ -18,7 +18,7 @@ unfoldable pub Rises : ℕ → List ℕ → ℕ → Type 0
 Rises start [] size = start ≤ size
 Rises start (end ∷ ends) size = (start ≤ end) × Rises end ends size
 
--- What a clause sees of a record: its bytes, and where each field ends.
+-- The state of a record as contracts see it: its bytes, and the end of each field.
 pub record Row : Type 0 where
   pub bytes : List ℕ
   pub ends : List ℕ
@@ -37,13 +37,13 @@ begun_of row = drop (last_of 0 row.ends) row.bytes
 abbrev pub IsWhole : Row → Type 0
 IsWhole row = Rises 0 row.ends (length row.bytes)
 
--- The field at a place, counted from 0, if there is one.
+-- The field at an index, counted from 0, if there is one.
 unfoldable pub field_at : List (List ℕ) → ℕ → Option (List ℕ)
 field_at [] place = None
 field_at (field ∷ fields) zero = Some field
 field_at (field ∷ fields) (suc place) = field_at fields place
 
--- where the field at a place starts
+-- the start of the field at an index
 unfoldable pub start_of : ℕ → List ℕ → ℕ → ℕ
 start_of start [] place = start
 start_of start (end ∷ ends) zero = start

@@ -13,15 +13,15 @@ use Rattle.format_csv_records.specs.declared.read.RecordFault.{RecordFault}
 use Rattle.format_csv_records.specs.declared.read.RecordError.{RecordError}
 use Rattle.format_csv_records.specs.declared.read.RecordError.TheVariants.{OutOfMemory, Refused}
 
--- Each line end of the dialect makes a record of the bytes before: they end with a field, and no
--- line end is begun there.
+-- Each line ending of the dialect makes `before` a record: it ends with a complete field, without a
+-- part of a line ending.
 abbrev pub EndsAField : Dialect → List ℕ → Type 0
 EndsAField d before = (end : List ℕ) → IsLineEnd d.ends end
     → (fields : List (List ℕ)) × IsRecord d (before ++ end) fields []
 
--- What would have made a record of the bytes before, and what stands there: a quote or a plain byte
--- after a field; no byte, where a quote is open; a carriage return or a line feed that is no line
--- end; or what is no line feed after a carriage return.
+-- `Lacks d why before more back`: `more` would make `before` a record, but `back` starts with a
+-- quote or a plain byte after a field; is empty, if a quote is open; starts with a carriage return
+-- or line feed that is not a line ending; or does not have a line feed after a carriage return.
 abbrev pub Lacks : Dialect → Refusal → List ℕ → List ℕ → List ℕ → Type 0
 Lacks d QuoteInField before more back =
     IsLineEnd d.ends more × Begins (λ b. b ≡ d.quote) back × EndsAField d before
@@ -31,28 +31,28 @@ Lacks d OpenQuote before more back = (more ≡ d.quote ∷ []) × (back ≡ [])
 Lacks d WrongLineEnd before more back = (IsLineEnd d.ends more × Begins IsBreak back)
     ⊎ ((more ≡ 10 ∷ []) × ((front : List ℕ) × (before ≡ front ++ 13 ∷ [])))
 
--- No record begins with the bytes before and the byte that stands after them, whatever follows; or
--- none stands after them, and they begin with no record.
+-- No continuation of `before` and the next byte starts with a record; or there is no next byte, and
+-- `before` does not start with a record.
 abbrev pub NoneWith : Dialect → List ℕ → List ℕ → Type 0
 NoneWith d before [] = (fields : List (List ℕ)) (rest : List ℕ) → IsRecord d before fields rest → ⊥
 NoneWith d before (b ∷ bs) = (after : List ℕ) (fields : List (List ℕ)) (rest : List ℕ)
     → IsRecord d (before ++ (b ∷ after)) fields rest → ⊥
 
--- This is the first place at which no record can go on: what is before it begins one, and no record
--- begins with that and the byte there.
+-- `fault.offset` is the first offset at which no record can continue: the bytes before it are a
+-- prefix of a record, and with the next byte they are not.
 abbrev pub IsRefused : Dialect → List ℕ → RecordFault → Type 0
 IsRefused d bytes fault = (before : List ℕ) × (back : List ℕ) × (more : List ℕ)
     × (fields : List (List ℕ)) × (bytes ≡ before ++ back) × (length before ≡ fault.offset)
     × IsRecord d (before ++ more) fields [] × Lacks d fault.why before more back
     × NoneWith d before back
 
--- What an error says of the bytes; want of memory says nothing of them.
+-- The facts that an error states about the bytes; out of memory states nothing.
 abbrev pub IsNoRecord : Dialect → List ℕ → RecordError → Type 0
 IsNoRecord d bytes (Refused fault) = IsRefused d bytes fault
 IsNoRecord d bytes OutOfMemory = ⊤
 
--- What a call with these bytes answers, which fields it leaves, and which bytes: a record, where
--- one stands first; that there are no bytes; or an error, and all stays.
+-- The contract of a call with `bytes`, its fields and the rest: the record at the start; or that
+-- there are no bytes; or an error that leaves all bytes.
 abbrev pub ReadsRecord : Dialect → List ℕ → Result Bool RecordError → List (List ℕ) → List ℕ
     → Type 0
 ReadsRecord d bytes (Ok true) fields rest = IsRecord d bytes fields rest

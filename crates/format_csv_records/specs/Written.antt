@@ -1,4 +1,4 @@
--- What is written for a record: quotes where a field needs them.
+-- The encoding that is written for a record: quotes only for fields that need them.
 use Rattle.std.specs.Prelude.{◌≡◌, ◌⊎◌, ℕ, List, [], ◌∷◌, ◌++◌, map, Bool, true}
 use Rattle.std.specs.Prelude.{Result, Ok, Err, ⊤}
 use Rattle.std.specs.Borrow.{Bor}
@@ -8,24 +8,24 @@ use Rattle.format_csv_records.specs.declared.dialect.Dialect.{Dialect}
 use Rattle.format_csv_records.specs.declared.write.WriteError.{WriteError}
 use Rattle.format_csv_records.specs.declared.write.WriteError.TheVariants.{NoFields, OutOfMemory}
 
--- What is written for a field: as it is where all its bytes are plain, else in quotes.
+-- The text that is written for a field: unchanged if all its bytes are plain, in quotes otherwise.
 abbrev pub IsWritten : Dialect → List ℕ → List ℕ → Type 0
 IsWritten d field text = ((text ≡ field) × All (IsPlain d) field)
     ⊎ ((text ≡ d.quote ∷ (doubled d.quote field ++ d.quote ∷ [])) × (All (IsPlain d) field → ⊥))
 
--- What is written for fields, with a delimiter after each.
+-- The text that is written for fields, with a delimiter after each.
 unfoldable pub Wrote : Dialect → List (List ℕ) → List ℕ → Type 0
 Wrote d [] before = before ≡ []
 Wrote d (field ∷ fields) before = (text : List ℕ) × (more : List ℕ) × IsWritten d field text
     × (before ≡ text ++ (d.delimiter ∷ more)) × Wrote d fields more
 
--- What is written for the last field, after others: two quotes, where it is empty and alone.
+-- The text that is written for the last field: two quotes, if it is empty and the only field.
 abbrev pub IsLast : Dialect → List (List ℕ) → List ℕ → List ℕ → Type 0
 IsLast d others last text =
     ((others ≡ []) × (last ≡ []) × (text ≡ d.quote ∷ d.quote ∷ []))
     ⊎ (((others ≡ []) × (last ≡ []) → ⊥) × IsWritten d last text)
 
--- A record is written after what was there: its fields with delimiters between, and a line end.
+-- A record is appended to the old bytes: its fields separated by delimiters, and a line ending.
 pub record Writes (d : Dialect) (fields : List (List ℕ)) (old new : List ℕ) : Type 0 where
   pub others : List (List ℕ)
   pub last : List ℕ
@@ -42,18 +42,18 @@ pub record Writes (d : Dialect) (fields : List (List ℕ)) (old new : List ℕ) 
 abbrev pub bytes_of : List (Bor (List ℕ)) → List (List ℕ)
 bytes_of fields = map (λ f. f.now) fields
 
--- so for the last field, of which it is known whether others stand before it
+-- like `IsLast`, with a test for whether it is the only field
 abbrev pub IsLastOf : Dialect → Bool → List ℕ → List ℕ → Type 0
 IsLastOf d alone last text =
     ((alone ≡ true) × (last ≡ []) × (text ≡ d.quote ∷ d.quote ∷ []))
     ⊎ (((alone ≡ true) × (last ≡ []) → ⊥) × IsWritten d last text)
 
--- The record that was written stands there, whatever follows.
+-- The new bytes start with the record that was written, for any continuation.
 abbrev pub ReadsBack : Dialect → List (List ℕ) → List ℕ → List ℕ → Type 0
 ReadsBack d fields old new = (text : List ℕ) × (new ≡ old ++ text)
     × ((rest : List ℕ) → IsRecord d (text ++ rest) fields rest)
 
--- What a call with these fields answers, and what is there before and after it.
+-- The contract of a call with these fields: its result, and the bytes before and after it.
 abbrev pub WritesRecord : Dialect → List (List ℕ) → List ℕ → Result (Unit {0}) WriteError → List ℕ
     → Type 0
 WritesRecord d fields old (Ok u) new = Writes d fields old new × ReadsBack d fields old new

@@ -1,8 +1,8 @@
-//! Records written into two buffers of the caller: the bytes of all fields, one after the other,
-//! and the place of each. No memory is asked for.
+//! Output of records into two buffers of the caller: the concatenated bytes of all fields, and the
+//! position of each. It does not allocate.
 //!
-//! The record that stands first is sized by [`record_size`], and written by [`write_fields`] where
-//! the buffers have room for it.
+//! [`record_size`] returns the size of the record at the start of the bytes, and [`write_fields`]
+//! writes its fields, if the buffers have room for them.
 
 ghost use Rattle.std.specs.Prelude.{◌≡◌, ◌⊎◌, ◌+◌, ◌<◌, ◌≤◌, ◌^◌, ◌∷◌, [], List, ℕ, length, take};
 ghost use Rattle.std.specs.Prelude.{MatchBool, MatchOption, MatchResult};
@@ -20,10 +20,10 @@ use crate::read::{
 
 /// How the place of a field is written: a type of its own, or the offset and the length.
 pub trait FieldPlace: Copy + Drop {
-    // The place of that many bytes after that many others: the offset, and then the length.
+    // The position of bytes, from their offset and their length.
     ghost made: { ℕ → ℕ → Self };
 
-    /// The place of `length` bytes that stand after `offset` others.
+    /// Creates the position of `length` bytes at `offset`.
     fn of(offset: usize, length: usize) -> Self
         ensures { result ≡ made offset length };
 }
@@ -37,7 +37,7 @@ impl FieldPlace for (usize, usize) {
     }
 }
 
-// Of what is sized no place is written.
+// The unit type stores no position, for callers that only need the size.
 impl FieldPlace for () {
     ghost made = { λ _ _. tt };
 
@@ -53,14 +53,14 @@ pub struct RecordSize {
     /// How many bytes the fields have together, as they are meant: without the quotes round them,
     /// and with each quote once.
     pub text: usize,
-    /// How many bytes the record has where it was read, the line end among them.
+    /// The length of the record in the input in bytes, including its line ending.
     pub length: usize,
-    /// Whether its line end is there. Else the bytes end with it, and with more of them the record
-    /// may be another, or none.
+    /// Whether its line ending is there. If it is false, the bytes end with the record; with more
+    /// bytes the record may be different, or there may be none.
     pub ended: bool,
 }
 
-// What stands after a field: the bytes that are left, and how many are put in all.
+// The state after a field: the rest of the bytes, and the offset after the bytes written so far.
 #[derive(Clone, Copy, Drop)]
 pub struct Behind<'i> {
     rest: &'i [u8],
@@ -74,7 +74,7 @@ pub(crate) fn is_some(bytes: &[u8]) -> bool
     !bytes.is_empty()
 }
 
-// Puts a byte at a place of the text, if there is room for it.
+// Writes a byte at offset `at`, if there is room for it.
 #[inline(always)]
 fn put_byte(byte: u8, at: usize, text: &mut [u8])
     ensures { Puts (byte ∷ []) at text.old text.new (at + 1) }
@@ -84,7 +84,7 @@ fn put_byte(byte: u8, at: usize, text: &mut [u8])
     }
 }
 
-// How many of that many bytes have room from a place of the text on.
+// Returns how many of `count` bytes have room from offset `at` on.
 #[inline(always)]
 fn room_for(count: usize, at: usize, text: &[u8]) -> usize
     ensures few { result ≤ count }
@@ -95,8 +95,8 @@ fn room_for(count: usize, at: usize, text: &[u8]) -> usize
     if left < count { left } else { count }
 }
 
-// Puts the bytes of a field without quotes that stand first, as far as there is room, and tells how
-// many these are.
+// Writes the longest prefix of bytes of a field without quotes, as far as there is room, and
+// returns its length.
 #[inline(always)]
 fn put_plain(dialect: Dialect, bytes: &[u8], at: usize, text: &mut [u8]) -> usize
     requires { at + length bytes.now < 2 ^ 63 }
@@ -114,8 +114,8 @@ fn put_plain(dialect: Dialect, bytes: &[u8], at: usize, text: &mut [u8]) -> usiz
     room + plain_len(dialect, behind(bytes, room))
 }
 
-// Puts the bytes before the first quote, or all, as far as there is room, and tells how many these
-// are.
+// Writes the bytes before the first quote, or all, as far as there is room, and returns their
+// number.
 #[inline(always)]
 fn put_unquoted(quote: u8, bytes: &[u8], at: usize, text: &mut [u8]) -> usize
     requires { at + length bytes.now < 2 ^ 63 }
@@ -169,7 +169,7 @@ fn put_quoted<'i>(quote: u8, bytes: &'i [u8], at: usize, text: &mut [u8]) -> Opt
     }
 }
 
-// Puts the bytes of the field that stands first, unless a quote there is open.
+// Writes the bytes of the field at the start of `bytes`, unless its quote is never closed.
 #[inline(always)]
 fn put_field<'i>(
     dialect: Dialect,
@@ -192,7 +192,8 @@ fn put_field<'i>(
     })
 }
 
-// Puts the fields of the record that stands first, as far as there is room, and tells its size.
+// Writes the fields of the record at the start of `bytes`, as far as there is room, and returns its
+// size.
 #[inline(always)]
 fn put_fields<P: FieldPlace>(
     dialect: Dialect,
@@ -242,8 +243,8 @@ fn put_fields<P: FieldPlace>(
     }
 }
 
-/// The size of the record that the bytes begin with; `None` where there are no bytes. An error says
-/// where none can go on, and why.
+/// Returns the size of the record at the start of the bytes, or `None` if there are no bytes. An
+/// error holds the offset at which no record can continue, and the reason.
 ///
 /// ```
 /// use format_csv_records::buffers::record_size;
@@ -271,9 +272,9 @@ pub fn record_size(dialect: Dialect, bytes: &[u8]) -> Result<Option<RecordSize>,
     }
 }
 
-/// Writes the fields of the record that the bytes begin with into the first bytes of `text`, one
-/// after the other, and their places into the first entries of `places`, as many of both as the
-/// size of the record says. `false` says that one of them is too small; both then stay as they are.
+/// Writes the concatenated fields of the record at the start of the bytes to the start of `text`,
+/// and their positions to the first entries of `places`. The record's size gives the numbers of
+/// both. Returns `false` if one of the buffers is too small; both are then unchanged.
 ///
 /// ```
 /// use format_csv_records::buffers::{record_size, write_fields};

@@ -3,7 +3,7 @@
 ghost use Rattle.std.specs.Prelude.{◌≡◌, ◌⊎◌, ◌↔◌, IsTrue, MatchResult};
 ghost use Rattle.format_csv_records.specs.Apart.{IsApart, WhyNone};
 
-/// What ends a record.
+/// The line endings that end a record.
 ///
 /// ```
 /// use format_csv_records::dialect::LineEnds;
@@ -12,9 +12,9 @@ ghost use Rattle.format_csv_records.specs.Apart.{IsApart, WhyNone};
 /// ```
 #[derive(Clone, Copy, Debug, PartialEq, Eq)]
 pub enum LineEnds {
-    /// A carriage return and a line feed, as RFC 4180 has it (section 2, item 1).
+    /// A carriage return and a line feed, as specified in RFC 4180, section 2, item 1.
     CrLf,
-    /// A line feed alone.
+    /// Only a line feed.
     Lf,
     /// One or the other, at each record anew.
     Either,
@@ -38,7 +38,8 @@ pub enum DialectFault {
     QuoteEndsLines,
 }
 
-/// Which byte stands between two fields, which round a field, and what ends a record.
+/// A dialect: the byte between two fields, the byte around a field, and the line endings of
+/// records.
 ///
 /// ```
 /// use format_csv_records::dialect::{Dialect, LineEnds};
@@ -50,11 +51,11 @@ pub enum DialectFault {
 /// ```
 #[derive(Clone, Copy, Debug)]
 pub struct Dialect {
-    /// What stands between two fields.
+    /// The byte between two fields.
     pub delimiter: u8,
-    /// What stands round a field in quotes, and twice for itself there.
+    /// The byte around a field in quotes. It is doubled within the quotes.
     pub quote: u8,
-    /// What ends a record.
+    /// The line endings that end a record.
     pub ends: LineEnds,
     ghost apart: { IsApart delimiter quote },
 }
@@ -66,9 +67,9 @@ fn ends_lines(byte: u8) -> bool
 }
 
 impl Dialect {
-    /// The dialect of these, or why they make none: the delimiter, the quote, the carriage return
-    /// and the line feed must be four bytes. If there are two reasons, the first of
-    /// [`DialectFault`] is told.
+    /// Creates a dialect. The delimiter, the quote, the carriage return and the line feed must be
+    /// four different bytes. If there are two reasons for an error, returns the first one in
+    /// [`DialectFault`].
     ///
     /// ```
     /// use format_csv_records::dialect::{Dialect, DialectFault, LineEnds};

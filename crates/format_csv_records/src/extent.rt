@@ -1,8 +1,8 @@
-//! Where a record ends whose bytes come in pieces.
+//! An incremental scanner for the end of a record in bytes that arrive in chunks.
 //!
-//! What a call was given it passes, and no other call looks at it again: so a record is found in a
-//! time that is linear in its bytes, however many pieces there are, and is then written by one call
-//! of [`write_fields`](crate::buffers::write_fields).
+//! Each call resumes after the bytes that earlier calls passed. So the time to find a record is
+//! linear in its bytes, for any number of chunks. One call of
+//! [`write_fields`](crate::buffers::write_fields) then writes its fields.
 
 ghost use Rattle.std.specs.Prelude.{◌≡◌, ◌≤◌, ◌<◌, ◌+◌, ◌^◌, ◌++◌, ℕ, List, None, Ok, drop};
 ghost use Rattle.std.specs.Prelude.{length};
@@ -16,7 +16,7 @@ use crate::dialect::Dialect;
 use crate::read::{RecordFault, Refusal, behind};
 use crate::turns::{Step, Turn, after, run_len, turn_at};
 
-/// Where in a record the next byte is due.
+/// The position of the next byte in a record.
 ///
 /// ```
 /// use format_csv_records::dialect::Dialect;
@@ -34,16 +34,16 @@ pub enum RecordPlace {
     Plain,
     /// Between quotes.
     Quoted,
-    /// After a quote that stands between quotes: the closing one, or the first of two.
+    /// After a quote between quotes: the closing one, or the first of two.
     Quote,
-    /// After the carriage return of a line end.
+    /// After the carriage return of a line ending.
     Return,
     /// After the record.
     Done,
 }
 
-/// How far some bytes were searched for the end of the record that they begin with. What it has can
-/// be kept anywhere, and an extent be made of it again.
+/// The state of the search for the end of a record. Its fields can be stored anywhere, and an
+/// extent can be made of them again.
 ///
 /// ```
 /// use format_csv_records::dialect::Dialect;
@@ -61,7 +61,7 @@ pub struct RecordExtent {
     pub text: usize,
     /// How many fields were passed with the delimiter after them.
     pub fields: usize,
-    /// Where in the record the next byte is due.
+    /// The position of the next byte in the record.
     pub place: RecordPlace,
 }
 
@@ -69,13 +69,13 @@ pub struct RecordExtent {
 #[derive(Clone, Copy)]
 struct Walked<'i> {
     at: Step,
-    /// The bytes that are left.
+    /// The remaining bytes.
     left: &'i [u8],
-    /// Why no record goes on with the first of these, if none does.
+    /// The reason why no record continues with the first of these, if none does.
     why: Option<Refusal>,
 }
 
-/// That a byte is below 256, which the clauses of its callers ask for.
+/// Proves that a byte is below 256, as the contracts of its callers require.
 #[inline(always)]
 fn is_byte(byte: u8)
     ensures { byte < 256 }
@@ -141,21 +141,24 @@ impl RecordExtent {
         }
     }
 
-    /// The size of the record that the bytes begin with, whatever follows: of one whose line end is
-    /// there. The bytes are those of the call before, and more, and the dialect is the same: what
-    /// was passed then is not looked at again, so the time that all calls take is linear in the
-    /// bytes. In all of them a byte is looked at twice at most.
+    /// Returns the size of the record at the start of `bytes`, once its line ending is there; it is
+    /// then the record for any continuation. `bytes` must be those of the previous call, possibly
+    /// followed by more, and the dialect must be the same. Bytes that were passed are not examined
+    /// again, so the time of all calls together is linear in the bytes. In all calls together a
+    /// byte is examined at most twice.
     ///
-    /// `None` is for bytes that begin with no such record, and with more after them they can; where
-    /// none come, [`RecordExtent::finish`] says what they are. In each case
-    /// [`RecordExtent::passed`] bytes were passed: those of the record; all; those before the byte
-    /// that is refused. Called again, it goes on from there. What is told is told of the extent of
-    /// these bytes alone: of one that was taken for others, or in another dialect, it may be wrong.
+    /// It returns `None` if the bytes do not start with such a record, and some continuation does;
+    /// at the end of the input [`RecordExtent::finish`] returns the result.
+    /// [`RecordExtent::passed`] is then the number of all bytes; for a complete record it is its
+    /// length, and at an error the offset of the error. The next call resumes from there. The
+    /// result is specified only if the extent is of these bytes: if it was used for others, or in
+    /// another dialect, the result may be wrong.
     ///
     /// # Errors
     ///
-    /// A [`RecordFault`] tells the first byte at which no record can go on, whatever follows, and
-    /// why: never [`Refusal::OpenQuote`], since more bytes may close it.
+    /// A [`RecordFault`] holds the offset of the first byte at which no record can continue, for
+    /// any continuation, and the reason. It is never [`Refusal::OpenQuote`], since more bytes may
+    /// close the quote.
     ///
     /// ```
     /// use format_csv_records::buffers::write_fields;
@@ -207,7 +210,8 @@ impl RecordExtent {
         }
     }
 
-    /// Where the next byte is due, and what was passed.
+    /// Returns the state: the position of the next byte, and the numbers of bytes and fields
+    /// passed.
     #[inline(always)]
     fn begun(&self) -> Step
         ensures { (result.place ≡ self.now.place) × (result.text ≡ self.now.text)
@@ -220,8 +224,7 @@ impl RecordExtent {
         }
     }
 
-    /// What is said of the bytes that were passed, where no record goes on after them if there is a
-    /// reason.
+    /// Returns the result for the passed bytes. `why` is the reason if no record can continue.
     #[inline(always)]
     fn say(&self, why: Option<Refusal>) -> Result<Option<RecordSize>, RecordFault>
         requires { self.now.fields < 2 ^ 63 }
@@ -254,15 +257,15 @@ impl RecordExtent {
         }
     }
 
-    /// What [`record_size`](crate::buffers::record_size) says of the bytes, of which those that
-    /// were passed are not looked at again: it is for the bytes after which none come. A record may
-    /// end with them then, and no bytes are no record. It leaves the extent as
-    /// [`RecordExtent::advance`] does, which may be called with more bytes all the same.
+    /// Returns the same as [`record_size`](crate::buffers::record_size) for the bytes, without
+    /// examining the passed ones again: call it at the end of the input. A record may then end
+    /// without a line ending, and empty input has no record. It leaves the extent as
+    /// [`RecordExtent::advance`] does, which may still be called with more bytes.
     ///
     /// # Errors
     ///
-    /// A [`RecordFault`] tells the first byte at which no record can go on, or the end of the bytes
-    /// where one is wanting there, and why.
+    /// A [`RecordFault`] holds the offset of the first byte at which no record can continue, or of
+    /// the end of the bytes if a byte is missing there, and the reason.
     ///
     /// ```
     /// use format_csv_records::dialect::Dialect;
@@ -292,7 +295,8 @@ impl RecordExtent {
         }
     }
 
-    /// What the bytes are, where all were passed and no record was at its end.
+    /// Returns the result at the end of the input, if all bytes were passed and the record was not
+    /// complete.
     fn end(&self, bytes: &[u8]) -> Result<Option<RecordSize>, RecordFault>
         ensures { (d : Dialect) → (self.now.place ≡ RecordPlace.Done → ⊥)
             → Passed d (IsBegun d self.now.place) self.now.text self.now.fields bytes.now

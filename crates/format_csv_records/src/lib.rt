@@ -1,8 +1,8 @@
 //! Records of comma separated values in one buffer, by any dialect (RFC 4180, section 2).
 //!
-//! A [`Dialect`](dialect::Dialect) says which byte separates fields, which byte quotes them, and
-//! what ends a record. A [`ByteRecord`](record::ByteRecord) holds the fields of one record, all in
-//! one buffer, and is used again for the next.
+//! A [`Dialect`](dialect::Dialect) holds the byte that separates fields, the byte that quotes them,
+//! and the line endings of records. A [`ByteRecord`](record::ByteRecord) holds the fields of one
+//! record in one buffer, and is reused for the next.
 #![tactic(auto)]
 
 pub mod buffers;

@@ -1,8 +1,7 @@
 //! Records read into one buffer, by any dialect.
 //!
-//! These are loops over bytes and not parsers of the library: a byte of a field is looked at once
-//! and copied once, and the fields of a record are asked no memory for but where its two lists
-//! grow.
+//! These are loops over bytes instead of parsers of the library: each byte of a field is examined
+//! once and copied once, and memory is allocated only if one of the record's two lists grows.
 
 ghost use Rattle.std.specs.Prelude.{◌≡◌, ◌⊎◌, ◌+◌, ◌<◌, ◌++◌, ◌∷◌, [], drop, length, IfOk, ◌≤◌};
 ghost use Rattle.std.specs.Prelude.{◌^◌, MatchBool, MatchOption, MatchResult};
@@ -20,7 +19,7 @@ use crate::dialect::{Dialect, LineEnds};
 use crate::record::ByteRecord;
 use std::alloc::{AllocError, Allocator};
 
-/// Why no record can go on at a byte.
+/// The reason why no record can continue at a byte.
 ///
 /// ```
 /// use format_csv_records::dialect::Dialect;
@@ -38,19 +37,19 @@ use std::alloc::{AllocError, Allocator};
 /// ```
 #[derive(Clone, Copy, Debug, PartialEq, Eq)]
 pub enum Refusal {
-    /// A quote stands after bytes of a field without quotes.
+    /// A quote after bytes of a field without quotes.
     QuoteInField,
-    /// A byte of a field without quotes stands after a closing quote.
+    /// A byte of a field without quotes after a closing quote.
     ByteBehindQuote,
     /// The bytes end within quotes.
     OpenQuote,
-    /// A carriage return or a line feed is no line end of the dialect, or a line feed lacks after
-    /// a carriage return.
+    /// A carriage return or a line feed that is not a line ending of the dialect, or a carriage
+    /// return without a line feed.
     WrongLineEnd,
 }
 
-/// The first place at which no record can go on, and why: what stands before it begins a record,
-/// and with the byte there none begins.
+/// The first offset at which no record can continue, and the reason: the bytes before it are a
+/// prefix of a record, and with the next byte they are not.
 ///
 /// ```
 /// use format_csv_records::read::{RecordFault, Refusal};
@@ -60,7 +59,8 @@ pub enum Refusal {
 /// ```
 #[derive(Clone, Copy, Debug, PartialEq, Eq)]
 pub struct RecordFault {
-    /// How many bytes stand before the byte at which no record can go on. They begin a record.
+    /// The offset of the byte that cannot continue a record. The bytes before it are a prefix of a
+    /// record.
     pub offset: usize,
     /// Why.
     pub why: Refusal,
@@ -77,7 +77,7 @@ pub struct RecordFault {
 pub enum RecordError {
     /// The bytes begin with none.
     Refused(RecordFault),
-    /// A request for memory was refused.
+    /// Memory allocation failed.
     OutOfMemory,
 }
 
@@ -114,7 +114,7 @@ pub(crate) fn behind(bytes: &[u8], size: usize) -> &[u8]
     &bytes[size..]
 }
 
-// How many bytes of a field without quotes stand first.
+// Returns the length of the longest prefix of plain bytes.
 #[inline(always)]
 pub(crate) fn plain_len(dialect: Dialect, bytes: &[u8]) -> usize
     ensures { SoMany (IsPlain dialect) bytes.now result }
@@ -127,7 +127,7 @@ pub(crate) fn plain_len(dialect: Dialect, bytes: &[u8]) -> usize
     bytes.len()
 }
 
-// How many bytes stand before the first quote, or in all.
+// Returns the number of bytes before the first quote, or of all bytes.
 #[inline(always)]
 pub(crate) fn unquoted_len(quote: u8, bytes: &[u8]) -> usize
     ensures run { SoMany (IsOther quote) bytes.now result }
@@ -141,7 +141,6 @@ pub(crate) fn unquoted_len(quote: u8, bytes: &[u8]) -> usize
     bytes.len()
 }
 
-// Whether this byte stands first.
 #[inline(always)]
 pub(crate) fn first_is(bytes: &[u8], byte: u8) -> bool
     ensures { MatchBool result (bytes.now ≡ byte ∷ drop 1 bytes.now)
@@ -199,7 +198,7 @@ fn read_plain<A: Allocator>(
     Ok(())
 }
 
-// The field that stands first; or false if a quote there is open.
+// Reads the field at the start of the bytes. Returns false if a quote is never closed.
 fn read_field<A: Allocator>(
     dialect: Dialect,
     fields: &mut ByteRecord<A>,
@@ -224,7 +223,7 @@ fn read_field<A: Allocator>(
     Ok(true)
 }
 
-// Whether a line feed alone ends a record.
+// Returns whether a single line feed ends a record.
 #[inline(always)]
 pub(crate) fn by_line_feed(ends: LineEnds) -> bool
     ensures { MatchBool result (IsLineEnd ends (10 ∷ [])) (ends ≡ LineEnds.CrLf) }
@@ -246,8 +245,8 @@ pub(crate) fn by_both(ends: LineEnds) -> bool
     }
 }
 
-// What is left after a line end that stands first, or where there are no more bytes. Else how many
-// bytes of one stand there.
+// Skips a line ending and returns the rest, also at the end of the bytes. Otherwise returns the
+// number of bytes of a line ending that match.
 #[inline(always)]
 pub(crate) fn read_end<'i>(ends: LineEnds, rest: &'i [u8]) -> Result<&'i [u8], usize>
     ensures { MatchResult result (λ left. EndsHere ends rest.now left.now)
@@ -274,7 +273,7 @@ pub(crate) fn read_end<'i>(ends: LineEnds, rest: &'i [u8]) -> Result<&'i [u8], u
     }
 }
 
-// Why a record neither ends nor goes on with the byte that stands first.
+// Returns the reason why a record neither ends nor continues with the first byte.
 pub(crate) fn why_not(quote: u8, bytes: &[u8]) -> Refusal
     requires { 0 < length bytes.now }
     ensures { WhyNot quote bytes.now result }
@@ -286,7 +285,7 @@ pub(crate) fn why_not(quote: u8, bytes: &[u8]) -> Refusal
     }
 }
 
-// The fields of the record that stands first, and what is left after it.
+// Reads the fields of the record at the start of the bytes and returns the rest.
 fn read_fields<'i, A: Allocator>(
     dialect: Dialect,
     fields: &mut ByteRecord<A>,
@@ -321,13 +320,16 @@ fn read_fields<'i, A: Allocator>(
     }
 }
 
-/// Reads the record that the bytes begin with, and leaves what is after its line end. `true` says
-/// that one was read; `false` that there are no bytes. What was in the record before does not
-/// matter. At an error it has no fields, and the bytes stay as they are.
+/// Reads the record at the start of `bytes` into `fields`, and leaves the rest after its line
+/// ending. Returns `true` if a record was read, and `false` if there are no bytes. Old contents of
+/// `fields` are discarded. After an error it has no fields, and `bytes` is unchanged. It allocates
+/// only if one of the record's two buffers grows.
 ///
-/// `Refused` says that the bytes begin with no record, where none can go on, and why; `OutOfMemory`
-/// that a request for memory was refused. Memory is wanted only where the record's two buffers
-/// grow.
+/// # Errors
+///
+/// - `Refused`: the bytes do not start with a record. It holds the offset at which no record can
+///   continue, and the reason.
+/// - `OutOfMemory`: memory allocation failed.
 ///
 /// ```
 /// use format_csv_records::dialect::Dialect;

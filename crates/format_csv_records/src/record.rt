@@ -1,4 +1,4 @@
-//! Records whose fields stand in one buffer, which is used again for the next record.
+//! Records whose fields share one buffer, which is reused for the next record.
 
 ghost use Rattle.std.specs.Prelude.{◌≡◌, ◌++◌, ◌∷◌, [], ◌<◌, ◌≤◌, ◌^◌, ◌+◌, ◌-◌, ◌↔◌, length};
 ghost use Rattle.std.specs.Prelude.{IfSome, IsTrue, OnErr, OnOk, option_map, slice_index};
@@ -8,8 +8,8 @@ ghost use Rattle.format_csv_records.specs.Records.{begun_of, field_at, fields_of
 use std::alloc::{AllocError, Allocator};
 use std::marker::Model;
 
-/// The fields of a record: the bytes of all of them, one after the other, and where each ends. It
-/// is made once and read into again and again, so that memory is wanted for the longest record.
+/// The fields of a record: their concatenated bytes, and the end of each. It is created once and
+/// reused, so its memory is that of the longest record.
 ///
 /// ```
 /// use format_csv_records::dialect::Dialect;
@@ -37,7 +37,7 @@ impl<A: Allocator> Model for ByteRecord<A> {
     ghost invariant = { λ it. IsWhole (row_of it) };
 }
 
-// Where the field at a place starts and ends.
+// Returns the start and the end of the field at index `place`.
 fn bounds<A: Allocator>(ends: &Vec<usize, A>, place: usize) -> (usize, usize)
     requires { place < length ends.now.items }
     ensures start { result.0 ≡ start_of 0 ends.now.items place }
@@ -48,7 +48,7 @@ fn bounds<A: Allocator>(ends: &Vec<usize, A>, place: usize) -> (usize, usize)
 }
 
 impl<A: Allocator> ByteRecord<A> {
-    /// A record of no fields, which wants no memory yet.
+    /// Creates a record without fields. Does not allocate.
     pub fn new(alloc: A) -> ByteRecord<A>
     where
         A: Copy,
@@ -109,7 +109,7 @@ impl<A: Allocator> ByteRecord<A> {
         self.ends.clear();
     }
 
-    /// The field at a place, counted from 0.
+    /// Returns the field at index `place`, counted from 0.
     pub fn get(&self, place: usize) -> Option<&[u8]>
         ensures place { IfSome result (λ f. (place < length (fields_of self.now))
             × (place + 1 ≤ 2 ^ 64 - 1)) }
@@ -122,7 +122,6 @@ impl<A: Allocator> ByteRecord<A> {
         Some(&self.bytes.as_slice()[start..end])
     }
 
-    // Adds bytes to the field that is begun.
     pub(crate) fn add(&mut self, bytes: &[u8]) -> Result<(), AllocError>
         ensures fields { fields_of self.new ≡ fields_of self.old }
         ensures begun { OnOk result (begun_of self.new ≡ begun_of self.old ++ bytes.now) }
@@ -130,7 +129,6 @@ impl<A: Allocator> ByteRecord<A> {
         self.bytes.extend_from_slice(bytes)
     }
 
-    // Ends the field that is begun.
     pub(crate) fn end_field(&mut self) -> Result<(), AllocError>
         ensures fields { OnOk result
             (fields_of self.new ≡ fields_of self.old ++ begun_of self.old ∷ []) }
@@ -144,7 +142,7 @@ impl<A: Allocator> ByteRecord<A> {
     }
 }
 
-/// The fields of a record, one after the other.
+/// An iterator over the fields of a record.
 #[derive(Clone, Copy)]
 pub struct Fields<'f, A: Allocator> {
     fields: &'f ByteRecord<A>,

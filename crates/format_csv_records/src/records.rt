@@ -1,7 +1,7 @@
-//! Documents: records one after the other, a header, and a byte order mark.
+//! Documents: a sequence of records, a header, and a byte order mark.
 //!
-//! One record is held at a time, so memory is wanted for the longest record, and not for the
-//! document: 10 megabytes of line feeds take that of one empty record.
+//! One record is held at a time, so the memory needed is that of the longest record: 10 megabytes
+//! of line feeds need that of one empty record.
 
 ghost use Rattle.std.specs.Prelude.{◌≡◌, ◌∷◌, length, ◌-◌, List, ℕ, MatchOption, option_map};
 ghost use Rattle.format_csv_records.specs.Named.{FieldNamed, FirstNamed};
@@ -14,7 +14,7 @@ use crate::read::{RecordError, behind, first_is, read_record_into};
 use crate::record::ByteRecord;
 use std::alloc::Allocator;
 
-/// The records of a document, one after the other.
+/// The records of a document, in sequence.
 ///
 /// ```
 /// use format_csv_records::dialect::Dialect;
@@ -39,7 +39,7 @@ pub struct Records<'i> {
 }
 
 impl<'i> Records<'i> {
-    /// The records of these bytes, of which none is read.
+    /// Creates the sequence of the records of `bytes`, before the first.
     pub fn new(dialect: Dialect, bytes: &'i [u8]) -> Records<'i>
         ensures { (result.dialect ≡ dialect) × (result.bytes.now ≡ bytes.now)
             × (result.rest.now ≡ bytes.now) }
@@ -52,10 +52,10 @@ impl<'i> Records<'i> {
         }
     }
 
-    /// Reads the next record. `true` says that one was read; `false` that none is left. After an
-    /// error no record is read: the next call answers it again, out of memory aside. The offset of
-    /// a
-    /// fault counts from where the record begins, which [`offset`](Records::offset) tells.
+    /// Reads the next record into `fields`. Returns `true` if a record was read, and `false` after
+    /// the last one. After an error no more records are read: the next call returns the same error,
+    /// unless an allocation fails. The offset of an error counts from the start of the record,
+    /// which [`offset`](Records::offset) returns.
     pub fn next_record<A: Allocator>(
         &mut self,
         fields: &mut ByteRecord<A>,
@@ -68,8 +68,8 @@ impl<'i> Records<'i> {
         read_record_into(self.dialect, fields, &mut self.rest)
     }
 
-    /// How many bytes stand before those of the records that are not read yet.
-    /// `text_positions::excerpt::position_in` says line and column of an offset in all bytes.
+    /// Returns the offset of the next record. `text_positions::excerpt::position_in` returns the
+    /// line and column of an offset in all bytes.
     pub fn offset(&self) -> usize
         ensures { result ≡ length self.now.bytes.now - length self.now.rest.now }
     {
@@ -77,8 +77,8 @@ impl<'i> Records<'i> {
     }
 }
 
-/// What is after a byte order mark of UTF-8 (the bytes EF BB BF) that stands first; `None` where
-/// none does. The first field of a document that is read with its mark begins with it.
+/// Returns the rest after a UTF-8 byte order mark (the bytes EF BB BF), or `None` if `bytes` does
+/// not start with one. If the mark is not skipped, it is part of the first field.
 ///
 /// ```
 /// use format_csv_records::records::behind_mark;

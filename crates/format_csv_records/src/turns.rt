@@ -1,4 +1,4 @@
-//! What a byte is to a record, by the place at which it stands.
+//! The effect of one byte on a record, by the state of the scanner.
 
 ghost use Rattle.std.specs.Prelude.{◌≡◌, ◌≤◌, ◌<◌, ◌+◌, ◌^◌, ◌∷◌, ℕ, List, length, take};
 ghost use Rattle.format_csv_records.specs.Extents.{IsBehind, IsRun, IsTurn};
@@ -8,7 +8,7 @@ use crate::dialect::Dialect;
 use crate::extent::RecordPlace;
 use crate::read::{Refusal, by_both, by_line_feed, is_plain, plain_len, unquoted_len};
 
-/// Where the next byte is due, and how many bytes and fields more were passed.
+/// The state for the next byte, and the numbers of bytes and fields that were added.
 #[derive(Clone, Copy)]
 pub(crate) struct Step {
     pub place: RecordPlace,
@@ -16,18 +16,18 @@ pub(crate) struct Step {
     pub fields: usize,
 }
 
-/// What a byte is at a place.
+/// The effect of a byte in a state.
 #[derive(Clone, Copy)]
 pub(crate) enum Turn {
     /// It is of the record.
     Goes(Step),
     /// The record was at its end.
     Ends,
-    /// With it no record goes on, and why.
+    /// No record continues with the byte, and the reason.
     Never(Refusal),
 }
 
-/// The place, with no field more and that many bytes of text more.
+/// Returns the state `place` with `text` more bytes of text and no more fields.
 #[inline(always)]
 fn step_to(place: RecordPlace, text: usize) -> Step
     ensures { (result.place ≡ place) × (result.text ≡ text) × (result.fields ≡ 0) }
@@ -39,7 +39,8 @@ fn step_to(place: RecordPlace, text: usize) -> Step
     }
 }
 
-/// What a byte is after a text that is a field: the delimiter after it, or the first of a line end.
+/// Returns the effect of a byte after a complete field, if it is a delimiter or starts a line
+/// ending.
 #[inline(always)]
 fn step_behind(dialect: Dialect, byte: u8) -> Option<Step>
     ensures { IsBehind dialect byte result }
@@ -70,7 +71,7 @@ fn step_behind(dialect: Dialect, byte: u8) -> Option<Step>
     }
 }
 
-/// Why a record neither ends nor goes on with the byte.
+/// Returns the reason why a record neither ends nor continues with the byte.
 #[inline(always)]
 fn why_byte(quote: u8, byte: u8) -> Refusal
     ensures { (more : List ℕ) → WhyNot quote (byte ∷ more) result }
@@ -84,7 +85,7 @@ fn why_byte(quote: u8, byte: u8) -> Refusal
     }
 }
 
-/// What a byte is where a field begins.
+/// Returns the effect of a byte at the start of a field.
 #[inline(always)]
 fn turn_field(dialect: Dialect, byte: u8) -> Turn
     ensures { IsTurn dialect RecordPlace.Field byte result }
@@ -101,7 +102,7 @@ fn turn_field(dialect: Dialect, byte: u8) -> Turn
     }
 }
 
-/// What a byte is in a field without quotes.
+/// Returns the effect of a byte in a field without quotes.
 #[inline(always)]
 fn turn_plain(dialect: Dialect, byte: u8) -> Turn
     ensures { IsTurn dialect RecordPlace.Plain byte result }
@@ -115,7 +116,7 @@ fn turn_plain(dialect: Dialect, byte: u8) -> Turn
     }
 }
 
-/// What a byte is between quotes.
+/// Returns the effect of a byte between quotes.
 #[inline(always)]
 fn turn_quoted(dialect: Dialect, byte: u8) -> Turn
     ensures { IsTurn dialect RecordPlace.Quoted byte result }
@@ -126,7 +127,7 @@ fn turn_quoted(dialect: Dialect, byte: u8) -> Turn
     Turn::Goes(step_to(RecordPlace::Quoted, 1))
 }
 
-/// What a byte is after a quote that stands between quotes.
+/// Returns the effect of a byte after a quote within quotes.
 #[inline(always)]
 fn turn_quote(dialect: Dialect, byte: u8) -> Turn
     ensures { IsTurn dialect RecordPlace.Quote byte result }
@@ -140,7 +141,7 @@ fn turn_quote(dialect: Dialect, byte: u8) -> Turn
     }
 }
 
-/// What a byte is after the carriage return of a line end.
+/// Returns the effect of a byte after the carriage return of a line ending.
 #[inline(always)]
 fn turn_return(dialect: Dialect, byte: u8) -> Turn
     ensures { IsTurn dialect RecordPlace.Return byte result }
@@ -151,7 +152,7 @@ fn turn_return(dialect: Dialect, byte: u8) -> Turn
     Turn::Never(Refusal::WrongLineEnd)
 }
 
-/// What a byte is at a place.
+/// The effect of a byte in a state.
 #[inline(always)]
 pub(crate) fn turn_at(dialect: Dialect, place: RecordPlace, byte: u8) -> Turn
     ensures { IsTurn dialect place byte result }
@@ -166,7 +167,8 @@ pub(crate) fn turn_at(dialect: Dialect, place: RecordPlace, byte: u8) -> Turn
     }
 }
 
-/// How many of the first bytes are text of the field, and leave the place as it is.
+/// Returns the length of the longest prefix of bytes that belong to the field and leave the state
+/// unchanged.
 #[inline(always)]
 pub(crate) fn run_len(dialect: Dialect, place: RecordPlace, bytes: &[u8]) -> usize
     ensures few { result ≤ length bytes.now }
@@ -179,7 +181,7 @@ pub(crate) fn run_len(dialect: Dialect, place: RecordPlace, bytes: &[u8]) -> usi
     }
 }
 
-/// Both steps, one after the other.
+/// Returns the sum of two consecutive steps.
 #[inline(always)]
 pub(crate) fn after(one: Step, other: Step) -> Step
     requires text { one.text + other.text < 2 ^ 64 }

@@ -1,4 +1,4 @@
-//! Records written, by any dialect: in quotes stands what needs them.
+//! Appending records in any dialect, with quotes only for fields that need them.
 
 ghost use Rattle.std.specs.Prelude.{◌≡◌, ◌++◌, ◌∷◌, [], List, ℕ, length, MatchBool, OnOk};
 ghost use Rattle.format_csv_records.specs.Dialects.{IsLineEnd, IsRecord, doubled};
@@ -16,7 +16,7 @@ use std::alloc::{AllocError, Allocator};
 pub enum WriteError {
     /// There are no fields: a record has one or more.
     NoFields,
-    /// A request for memory was refused.
+    /// Memory allocation failed.
     OutOfMemory,
 }
 
@@ -92,7 +92,6 @@ fn write_others<A: Allocator>(
     Ok(())
 }
 
-// The last field, and whether others stand before it.
 fn write_last<A: Allocator>(
     dialect: Dialect,
     alone: bool,
@@ -116,7 +115,7 @@ fn none_of(others: &[&[u8]]) -> bool
     others.is_empty()
 }
 
-// Fields after others, one or more, and a line end.
+// Writes one or more fields after `others`, and a line ending.
 fn write_parts<A: Allocator>(
     dialect: Dialect,
     others: &[&[u8]],
@@ -131,14 +130,17 @@ fn write_parts<A: Allocator>(
     out.extend_from_slice(line_end(dialect.ends))
 }
 
-/// Writes a record after what is there: the fields, with delimiters between them, and a line end,
-/// which is a carriage return and a line feed where the dialect takes either. A field with a quote,
-/// a delimiter, a carriage return or a line feed is written in quotes, each quote there twice, and
-/// so is an empty field that is alone; any other as it is. What is written reads back as these
-/// fields, whatever stands after it.
+/// Appends a record: the fields, separated by delimiters, and a line ending. The line ending is a
+/// carriage return and a line feed if the dialect accepts either. A field with a quote, a
+/// delimiter, a carriage return or a line feed is written in quotes, with each quote doubled. So is
+/// an empty field that is the only one. Any other field is written unchanged. Reading the record
+/// returns the same fields, regardless of what follows.
 ///
-/// `NoFields` says that there are none; `OutOfMemory` that a request for memory was refused, and
-/// then nothing was added, which is tested and not proved.
+/// # Errors
+///
+/// - `NoFields`: there are no fields.
+/// - `OutOfMemory`: memory allocation failed. Nothing is appended then, which is tested and not
+///   proved.
 ///
 /// ```
 /// use format_csv_records::dialect::Dialect;

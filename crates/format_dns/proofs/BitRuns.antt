@@ -1,4 +1,4 @@
--- What is known of runs of the parsers of bits, and of a byte of bits.
+-- Lemmas about the parsers of bits, and about the bits of a byte.
 use Rattle.std.proofs.Common.{◌≡◌, ◌<◌, ◌≤◌, ◌+◌, ◌-◌, ◌*◌, ◌%◌, ◌^◌, ◌∙◌, ◌∷◌, ◌++◌, [], ℕ, Bool}
 use Rattle.std.proofs.Common.{true, List, Some, Ok, Err, ap, arith, inl, inr, length}
 use Rattle.std.proofs.Common.{refl}
@@ -33,15 +33,15 @@ use Rattle.winnow.specs.Needs.{need_in_bytes, with_need}
 use Rattle.winnow.specs.Short.{ShortKind}
 use Rattle.format_dns.specs.Header.{HasTooMany, LacksPart}
 
--- ---- parsers of that many bits
+-- ---- parsers of `count` bits
 
 -- Bits are left that can be read, and there are that many.
 pub record CanRead (count : ℕ) (i : Input Bool) : Type 0 where
   pub possible : i.left.possible ≡ true
   pub enough : count ≤ length i.left.tokens
 
--- The parser reads that many bits, whose number its output gives, and answers where they are left.
--- Where none is left it lacks `need` of them.
+-- The parser consumes `count` bits, whose number is that of its output, and succeeds if they are
+-- there. If no bit remains, it needs `need` of them.
 pub record ReadsBits {S O L : Type 0} (reading : Reading Bool L) (need count : ℕ)
     (run : Runs S Bool O) (s : S) (number : O → ℕ) (Fits : O → Type 0) : Type 0 where
   pub reads : (i : Input Bool) (o : O) (t : S) (j : Input Bool) → run s i (Ok o) t j
@@ -90,7 +90,6 @@ bool_must reading form i k j can (inr (inl (cannot, e, same))) =
 bool_must reading form i k j can (inr (inr (l, possible, none, kind, e, same))) =
     omega (arith, can.enough, ap (λ x. length x) none)
 
--- an error for want of bits has the kind of one that is too short
 pub short_of : {O T : Type 0} {k l : Kind} (need : ℕ) (i : Input T)
     → ◌≡◌ {A = Answer O} (Err k) (Err l) → ShortKind modal (Some need) i l
     → ShortKind modal (Some need) i k
@@ -114,7 +113,6 @@ bool_reads reading s = record {
   lacks = λ i k t j can none ran. bool_lacks reading i k j can ran.0;
 }
 
--- a take of that many bits
 take_must : {L : Type 0} (reading : Reading Bool L) (form : ErrorForm) (n count : ℕ)
     (i : Input Bool) (k : Kind) (j : Input Bool) → n ≡ count → count ≤ 8 → CanRead count i
     → BitTakeRuns (λ x. x) 8 reading form n i (Err k) j → ⊥

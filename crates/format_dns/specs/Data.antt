@@ -1,5 +1,5 @@
 -- The data of records (RFC 1035, sections 3.3 and 3.4; RFC 3596; RFC 2782). Here the message ends
--- where the data do, and each stand from a place to that end.
+-- where the data end, and each item extends from an offset to that end.
 use Rattle.std.specs.Prelude.{◌≡◌, ◌⊎◌, ◌≤◌, ◌<◌, ◌+◌, ℕ, List, [], length, eqb}
 use Rattle.std.specs.Prelude.{if◌then◌else◌}
 use Rattle.std.specs.Net.Addr.{ipv4_octets, ipv6_segments, segments_of}
@@ -22,26 +22,27 @@ use Rattle.format_dns.specs.declared.fault.Fault.{Fault}
 use Rattle.format_dns.specs.declared.fault.Fault.TheVariants.{Ends, Trailing}
 use Rattle.format_dns.specs.declared.name.Name as Names
 
--- What the data of the types A, AAAA and SRV consist of, which are those of the Internet alone.
+-- The contents of the data of the types A, AAAA and SRV, which exist only in the class of the
+-- Internet.
 abbrev pub internet_form : ℕ → Form
 internet_form kind =
     if eqb kind 1 then Four else if eqb kind 28 then Sixteen else if eqb kind 33 then Host else Any
 
--- What the data of a type and a class consist of: of NS, CNAME and PTR, SOA, MX and TXT in any
--- class, and of those of the Internet, which is the class 1.
+-- The contents of the data of a type and a class: of NS, CNAME and PTR, SOA, MX and TXT in any
+-- class, and of the types of the Internet in class 1.
 abbrev pub form_for : ℕ → ℕ → Form
 form_for kind class =
     if eqb kind 2 then OneName else if eqb kind 5 then OneName else if eqb kind 12 then OneName
     else if eqb kind 6 then Zone else if eqb kind 15 then Mail else if eqb kind 16 then Strings
     else if eqb class 1 then internet_form kind else Any
 
--- The same of data of no octets: of a message that updates a zone, there may be none of any type in
--- the classes 254 and 255 (RFC 2136, sections 2.4 and 2.5).
+-- Like `form_for`, for data without octets: in a message that updates a zone, records of any type
+-- in the classes 254 and 255 may have no data (RFC 2136, sections 2.4 and 2.5).
 abbrev pub empty_form : ℕ → ℕ → Form
 empty_form kind class =
     if eqb class 254 then Any else if eqb class 255 then Any else form_for kind class
 
--- The same of data of that many octets.
+-- Like `form_for`, for data of `size` octets.
 abbrev pub form_in : ℕ → ℕ → ℕ → Form
 form_in kind class size = if eqb size 0 then empty_form kind class else form_for kind class
 
@@ -57,7 +58,7 @@ form_of_data (Service service) = Host
 form_of_data (Other octets) = Any
 
 module _ (message : List ℕ) where
-  -- From a place on not that many octets stand: fewer, or more.
+  -- The message does not end `size` octets after `place`: there are fewer, or more.
   abbrev pub HasOtherSize : ℕ → ℕ → Fault → Type 0
   HasOtherSize place size fault =
       ((fault ≡ Ends place) × (length message < place + size))

@@ -1,4 +1,4 @@
--- Where a fault is no data stand.
+-- Lemmas that data with an error are not valid data.
 use Rattle.std.specs.Prelude.{◌≡◌, ◌⊎◌, ◌≤◌, ◌+◌, ◌-◌, ◌++◌, ℕ, List, [], ◌∷◌, length, Some}
 use Rattle.std.specs.declared.vec.Vec.{Vec}
 use Rattle.std.proofs.Common.{refl, sym, ap, subst, inl, inr, ◌∙◌, arith, length-append}
@@ -44,7 +44,7 @@ strings_none : (strings : List Label) (tokens rest : List ℕ) → length string
 strings_none [] tokens rest none e = omega (arith, ap (λ l. length l) e)
 strings_none (first ∷ strings) tokens rest none each = absurd (omega (arith, none))
 
--- where strings that stand are not all, another does
+-- if some strings are read and the bytes consist of more, another string follows
 string_next : (some all : List Label) (tokens rest : List ℕ) → Each IsString tokens some rest
     → Each IsString tokens all [] → NoneStands IsString rest → 1 ≤ length rest → ⊥
 string_next [] [] tokens rest e f none left =
@@ -71,7 +71,7 @@ unfolding Gathered Many
 each_read most tokens rest strings (xs, held, (each, least, stops)) =
     let P : List Label → Type 0 = λ l. Each IsString tokens l rest in subst P (sym held) each
 
--- they are no fewer than stand
+-- the strings read are all there are
 none_left : {A : Type 0} (tokens rest : List ℕ) (strings : Vec Label A)
     → StringsRead (length tokens) tokens strings rest → 1 ≤ length rest
     → NoneStands IsString rest
@@ -224,7 +224,7 @@ module _ (message : List ℕ) where
     no_held place fault (Service service) none is = no_service place fault service none is
     no_held place fault (Other octets) (e, past) at = omega (arith, past, at_length at)
 
-    -- where a fault is no data of the form are
+    -- if there is an error, there are no data of this form
     pub no_form : {A : Type 0} (place : ℕ) (form : Form) (fault : Fault) (it : Data A)
         → NoForm message pointers place form fault → IsOfForm message pointers place form it → ⊥
     no_form place form fault it none (is, stands) =

@@ -3,7 +3,8 @@
 use Rattle.std.specs.Prelude.{◌≡◌, ◌<◌, ◌++◌, ◌^◌, ℕ, List}
 use Rattle.std.specs.Int.{bytes_high_first}
 
--- The bytes are a number of that many bytes, and then the rest.
+-- `IsField width n bytes rest`: `bytes` starts with `n` in `width` big-endian bytes, followed by
+-- `rest`.
 pub record IsField (width n : ℕ) (bytes rest : List ℕ) : Type 0 where
   pub splits : bytes ≡ bytes_high_first width n ++ rest
   pub fits : n < 256 ^ width

@@ -22,8 +22,8 @@ pub record IsHighByte (response : Bool) (opcode : ℕ) (authoritative truncated 
       + bit_number truncated * 2 + bit_number desired) ∷ rest
   pub fits : opcode < 16
 
--- The first byte has this flag in its highest bit, what is reserved in three bits, and the response
--- code in four.
+-- The first byte has this flag in its highest bit, the reserved number in three bits, and the
+-- response code in four.
 pub record IsLowByte (available : Bool) (reserved code : ℕ) (bytes rest : List ℕ) : Type 0 where
   pub splits : bytes ≡ (bit_number available * 128 + reserved * 16 + code) ∷ rest
   pub reserved_fits : reserved < 8
@@ -51,26 +51,27 @@ pub record IsHeader (h : Header) (bytes rest : List ℕ) : Type 0 where
   pub counts : AreCounts h.question_count h.answer_count h.authority_count h.additional_count
       behind_low rest
 
--- After that many bytes of i a part of `size` bytes begins at j, which is not there: a whole input
--- backtracks, and a cut one asks for the bytes that the part lacks.
+-- After `passed` bytes of `i` a part of `size` bytes starts at `j`, and is incomplete: complete
+-- input backtracks, and partial input is incomplete with the number of missing bytes.
 pub record LacksPart (passed size : ℕ) (i : Input ℕ) (kind : Kind) (j : Input ℕ) : Type 0 where
   pub passes : length i.left.tokens ≡ passed + length j.left.tokens
   pub few : length j.left.tokens < size
   pub short : ShortKind modal (Some (size - length j.left.tokens)) j kind
 
--- After that many bytes of i are more than the bits can be counted of.
+-- After `passed` bytes of `i` there are more bytes than a count of their bits allows.
 pub record HasTooMany (passed : ℕ) (i : Input ℕ) (kind : Kind) (j : Input ℕ) : Type 0 where
   pub passes : length i.left.tokens ≡ passed + length j.left.tokens
   pub many : most_bytes < length j.left.tokens
   pub cuts : kind ≡ cut
 
--- a header has a part of that many bytes after that many
+-- a header has a part of `size` bytes at offset `passed`
 abbrev pub HasPart : ℕ → ℕ → Type 0
 HasPart passed size =
     ((size ≡ 1) × ((passed ≡ 2) ⊎ (passed ≡ 3)))
     ⊎ ((size ≡ 2) × ((passed ≡ 0) ⊎ ((half : ℕ) × (passed ≡ 4 + 2 * half) × (half < 4))))
 
--- Why no header stands first: a part of it is not there, or the bytes at one of flags are too many.
+-- The reason why the input does not start with a header: a part is incomplete, or too many bytes
+-- remain at one of the flag bytes.
 abbrev pub HasNoHeader : Input ℕ → Kind → Input ℕ → Type 0
 HasNoHeader i kind j =
     ((passed : ℕ) × (size : ℕ) × HasPart passed size × LacksPart passed size i kind j)

@@ -1,4 +1,4 @@
--- That what is read of a name is told of it.
+-- Lemmas that the parsers' results satisfy the contracts of names.
 use Rattle.std.specs.Prelude.{◌≡◌, ◌≤◌, ◌+◌, ◌-◌, ◌*◌, ◌++◌, ℕ, List, ◌∷◌}
 use Rattle.std.specs.Prelude.{length, Some, Bool, IsTrue, ◌↔◌, true, take, drop}
 use Rattle.std.specs.Prelude.{Result, Ok, Err, is_ok, is_err, false, if◌then◌else◌}
@@ -89,7 +89,7 @@ abbrev pub LabelsRead : {A : Type 0} → ℕ → Grammar ℕ (Vec Label A)
 LabelsRead {A} most = Gathered (λ (list : Vec Label A) labels. list.items ≡ labels)
     (Many IsLabel (from_to 0 (Some most)))
 
--- ---- what is after labels
+-- ---- the bytes after labels
 
 -- a length, and too few bytes for a label
 pub ending_cut : {tokens bytes : List ℕ} {b : ℕ} (place : ℕ) → tokens ≡ b ∷ bytes → 1 ≤ b → b ≤ 63
@@ -143,7 +143,7 @@ ending_pointer (inl (is, cut)) p =
 ending_pointer (inr (is, (b, rest, e, least, most))) p =
     omega (arith, most, same_first (sym e ∙ p.splits))
 
--- what fails after labels is nothing that a name has there, if that holds of others
+-- if the name after a pointer excludes its errors, so does a name with this pointer
 pub goes_one : {others : ℕ → List Label → Type 0} {faults : ℕ → ℕ → Fault → Type 0}
     → ((end to : ℕ) (fault : Fault) (more : List Label) → faults end to fault
     → others to more → ⊥) → (start end : ℕ) (rest : List ℕ) (fault : Fault)
@@ -162,7 +162,6 @@ goes_one {others} below start end rest fault here after labels behind
     let P : ℕ → Type 0 = λ t. others t more in
     below end to fault more f (subst P (one_pointer q p) o)
 
--- what is told of an ending that is this
 pub told_root : {tokens : List ℕ} (place : ℕ) (e : Ending) → e ≡ Root
     → EndingTold tokens place (Ok e) → IsRoot tokens
 told_root {tokens} place e is told =

@@ -1,4 +1,4 @@
--- Where a fault is no message stands.
+-- Lemmas that a message with an error is not a valid message.
 use Rattle.std.specs.Prelude.{◌≡◌, ◌⊎◌, ◌<◌, ◌+◌, ◌++◌, ℕ, List, length, take, Result, Ok, Err}
 use Rattle.std.specs.Int.{bytes_high_first}
 use Rattle.std.specs.Result.{IsErrAnd}
@@ -39,7 +39,7 @@ one_number e a b = one_field e (as_field a) (as_field b)
 number_of : (n : ℕ) (rest : List ℕ) → n < 65536 → IsNumber n (bytes_high_first 2 n ++ rest) rest
 number_of n rest fits = record { splits = refl; fits = fits }
 
--- the counts of two headers are alike
+-- the counts of two headers are equal
 abbrev SameCounts : Header → Header → Type 0
 SameCounts h g = (h.question_count ≡ g.question_count) × (h.answer_count ≡ g.answer_count)
     × (h.authority_count ≡ g.authority_count) × (h.additional_count ≡ g.additional_count)
@@ -182,7 +182,7 @@ module _ (message : List ℕ) (pointers : ℕ) where
   no_message fault it (inr (h, header, lacks)) m =
       no_section fault.section fault.entry fault.why h it (one_header header m.header) lacks m
 
-  -- what is said of a section is said of that of a fault
+  -- a property of the error's section, from that of a section equal to it
   pub section_stops : (A : Type 0) (h : Header) (s : Section) (fault : MessageFault)
       → (OfQuestions OfRecords : ℕ → ℕ → ℕ → Fault → Type 0) → BeginsWith message h
       → fault.section ≡ s
@@ -195,7 +195,6 @@ module _ (message : List ℕ) (pointers : ℕ) where
       λ x. SectionStops message pointers A OfQuestions OfRecords h x fault.entry fault.why in
       (h, header, subst P (sym is) stops)
 
-  -- what is told where a fault is passed on
   pub message_err : {A : Type 0} (fault : MessageFault) (r : Result (Message A) MessageFault)
       → IsErrAnd r (λ y. y ≡ fault)
       → WantsMessage message pointers A fault ⊎ HasNoMessage message pointers A fault

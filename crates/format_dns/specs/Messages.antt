@@ -17,7 +17,7 @@ use Rattle.format_dns.specs.declared.record.Records.{Records}
 abbrev pub BeginsWith : List ℕ → Header → Type 0
 BeginsWith message header = IsHeader header (take 12 message) []
 
--- what is told of the header of a message
+-- the contract of a message's header
 abbrev pub HeaderTold : List ℕ → Result Header MessageFault → Type 0
 HeaderTold message (Ok header) = BeginsWith message header
 HeaderTold message (Err fault) =
@@ -35,20 +35,20 @@ module _ (message : List ℕ) (pointers : ℕ) where
     pub additional : AreRecords message pointers it.authority.behind it.header.additional_count
         it.additional
 
-  -- All questions that the header counts stand, and end at this place.
+  -- All questions that the header counts are there, and end at offset `place`.
   abbrev pub QuestionsTo : Type 0 → Header → ℕ → Type 0
   QuestionsTo A header place = (questions : Questions A)
       × AreQuestions message pointers 12 header.question_count questions
       × (place ≡ questions.behind)
 
-  -- That many records stand from a place on, and end at another.
+  -- There are `count` records from offset `start` to offset `place`.
   abbrev pub RecordsTo : Type 0 → ℕ → ℕ → ℕ → Type 0
   RecordsTo A start count place = (records : Records A)
       × AreRecords message pointers start count records × (place ≡ records.behind)
 
-  -- After a header that many entries of the section stand, and no more for this reason, and all
-  -- sections before it stand: so it is said of questions and of records from a place on, of which
-  -- so many are wanted.
+  -- After a header and all earlier sections the section has `entry` entries, and the next fails for
+  -- this reason. `OfQuestions` and `OfRecords` state this for questions and records: the start, the
+  -- count, the number of entries, and the reason.
   abbrev pub SectionStops : Type 0 → (ℕ → ℕ → ℕ → Fault → Type 0) → (ℕ → ℕ → ℕ → Fault → Type 0)
       → Header → Section → ℕ → Fault → Type 0
   SectionStops A OfQuestions OfRecords header section.Header entry why = ⊥
@@ -71,13 +71,13 @@ module _ (message : List ℕ) (pointers : ℕ) where
   SectionLacks A =
       SectionStops A (QuestionsLack message pointers A) (RecordsLack message pointers A)
 
-  -- Memory is wanting for the entry after these.
+  -- Memory allocation failed for the entry after these.
   abbrev pub SectionWants : Type 0 → Header → Section → ℕ → Fault → Type 0
   SectionWants A =
       SectionStops A (QuestionsWant message pointers A) (RecordsWant message pointers A)
 
-  -- Why the bytes are no message: they end within the header, or an entry that it counts is not
-  -- where the one before it ends.
+  -- The reason why the bytes are not a message: they end within the header, or an entry that it
+  -- counts does not follow the one before it.
   abbrev pub HasNoMessage : Type 0 → MessageFault → Type 0
   HasNoMessage A fault =
       ((fault ≡ record { section = section.Header; entry = 0; why = Ends 0 })
@@ -85,13 +85,13 @@ module _ (message : List ℕ) (pointers : ℕ) where
       ⊎ ((header : Header) × BeginsWith message header
       × SectionLacks A header fault.section fault.entry fault.why)
 
-  -- The bytes begin with a header, and memory is wanting for an entry that it counts.
+  -- The bytes start with a header, and memory allocation failed for an entry that it counts.
   abbrev pub WantsMessage : Type 0 → MessageFault → Type 0
   WantsMessage A fault = (header : Header) × BeginsWith message header
       × SectionWants A header fault.section fault.entry fault.why
 
-  -- What is told of the message that bytes begin with: it is this; or for which entry memory is
-  -- wanting; or which is not there, and they are none.
+  -- The contract of a message: it is the one at the start of the bytes; or memory allocation failed
+  -- for an entry; or an entry is invalid, and the bytes do not start with a message.
   abbrev pub MessageTold : {A : Type 0} → Result (Message A) MessageFault → Type 0
   MessageTold (Ok it) = IsMessage it
   MessageTold {A} (Err fault) =

@@ -1,4 +1,4 @@
--- Of each place of a message: one name, or a fault.
+-- Uniqueness: at each offset of a message there is either one name or an error.
 use Rattle.std.specs.Prelude.{◌≡◌, ◌⊎◌, ◌≤◌, ◌<◌, ◌+◌, ◌-◌, ◌*◌, ◌++◌, ℕ, zero, suc, List}
 use Rattle.std.specs.Prelude.{length, None, take, drop}
 use Rattle.std.specs.Prelude.{Result, Ok, Err, slice_range}
@@ -23,7 +23,7 @@ use Rattle.format_dns.specs.declared.fault.Fault.TheVariants.{TooMany}
 use Rattle.format_dns.specs.declared.name.Name.{Name}
 use Rattle.format_dns.specs.Laws.{LabelsRead, goes_one, label_unique, root_pointer}
 
--- ---- one name, or a fault
+-- ---- either one name or an error
 
 module _ (message : List ℕ) where
   pub one_place : {place : ℕ} {tokens others : List ℕ} → At message place tokens
@@ -31,7 +31,7 @@ module _ (message : List ℕ) where
   one_place {place} {tokens} {others} (front, size, e) (other, size2, f) =
       (same_beginnings front other tokens others (size ∙ sym size2) (sym e ∙ f)).1
 
-  -- what is after the labels that stand at a place
+  -- the rest after the labels at an offset is unique
   one_rest : {start end end2 : ℕ} {here here2 : List Label} {rest rest2 : List ℕ}
       → AreLabels message start here end rest → AreLabels message start here2 end2 rest2
       → rest ≡ rest2
@@ -76,7 +76,7 @@ module _ (message : List ℕ) where
       (here2, end2, rest2, b, inr (to2, p2, prior2, (y, o2, out2, is2))) =
       omega (arith, is, is2, one_end a b)
 
-  -- one place is after a name
+  -- the offset after a name is unique
   pub one_behind : (pointers start : ℕ) (labels more : List Label) (behind other : ℕ)
       → IsName message pointers start labels behind → IsName message pointers start more other
       → behind ≡ other
@@ -149,7 +149,6 @@ module _ (message : List ℕ) where
       (octets_most here here2 b.tokens rest rest2 (subst Q (one_place a.starts b.starts)
       (each_here a)) (each_here b) (none_here b)) fits ends)
 
-  -- where a fault is there is no name
   pub no_name : (pointers room start : ℕ) (fault : Fault)
       → HasNoName message pointers room start fault
       → (labels : List Label) (behind : ℕ) → IsName message pointers start labels behind
@@ -162,7 +161,7 @@ module _ (message : List ℕ) where
       (λ left end to fault more f ((behind, o), few). no_name pointers left to fault f more behind o
       few) room start fault labels behind h is
 
-  -- what the labels that are read from a place on have before them, and of octets
+  -- facts about the labels read from an offset on: the bytes before them, and their octets
   read_from : (place most : ℕ) (tokens rest : List ℕ) {A : Type 0} (labels : Vec Label A)
       → place ≤ length message → tokens ≡ slice_range message place (length message)
       → LabelsRead most tokens labels rest → At message place tokens
@@ -233,7 +232,6 @@ module _ (message : List ℕ) where
         ],
       )
 
-  -- the labels that are read from a place on
   pub labels_at : (place most room : ℕ) (tokens rest : List ℕ) {A : Type 0} (labels : Vec Label A)
       → place ≤ length message → tokens ≡ slice_range message place (length message)
       → LabelsRead most tokens labels rest → room < 2 * most
@@ -256,7 +254,6 @@ module _ (message : List ℕ) where
         );
       }
 
-  -- why there is no name is told
   pub told_fault : (pointers room start : ℕ) (fault : Fault)
       → HasNoName message pointers room start fault
       → (fault ≡ NoMemory) ⊎ (HasNoName message pointers room start fault
@@ -298,7 +295,7 @@ module _ (message : List ℕ) where
           inr (to, p, prior, (more, (behind, subst P (omega (arith, is)) name), out, refl)),
         )
 
-    -- after labels stand as many bytes as they have octets
+    -- labels take as many bytes as their octets
     pub octets_at : end ≡ start + octets here
     octets_at =
         let (front, size, e) = a.starts in

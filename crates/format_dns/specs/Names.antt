@@ -15,17 +15,18 @@ use Rattle.format_dns.specs.declared.name.Ending.TheVariants.{Pointer, Root}
 abbrev pub Label : Type 0
 Label = Bor (List ℕ)
 
--- A length within these bounds in a byte, and that many bytes.
+-- `IsSized least most tokens label rest`: `tokens` starts with a length byte between `least` and
+-- `most`, and the bytes of `label`, followed by `rest`.
 abbrev pub IsSized : ℕ → ℕ → Grammar ℕ Label
 IsSized least most tokens label rest =
     (least ≤ length label.now) × (length label.now ≤ most)
     × (tokens ≡ length label.now ∷ (label.now ++ rest))
 
--- A label: its length, from 1 to 63, and that many bytes.
+-- A label: a length from 1 to 63, and its bytes.
 abbrev pub IsLabel : Grammar ℕ Label
 IsLabel = IsSized 1 63
 
--- A character string: its length and that many bytes (section 3.3).
+-- A character string: a length byte and its bytes (section 3.3).
 abbrev pub IsString : Grammar ℕ Label
 IsString = IsSized 0 255
 
@@ -51,24 +52,24 @@ abbrev pub IsCut : List ℕ → Type 0
 IsCut [] = ⊤
 IsCut (b ∷ bytes) = ((1 ≤ b) × (b ≤ 63) × (length bytes < b)) ⊎ ((192 ≤ b) × (bytes ≡ []))
 
--- One alone of the two highest bits is set.
+-- Exactly one of the two highest bits is set.
 abbrev pub IsReserved : List ℕ → Type 0
 IsReserved tokens =
     (b : ℕ) × (rest : List ℕ) × (tokens ≡ b ∷ rest) × (64 ≤ b) × (b < 192)
 
--- Why labels, a pointer or the root do not go on after labels, at a place.
+-- The reason why labels are not followed by a label, a pointer or the root at offset `place`.
 abbrev pub NoEnding : List ℕ → ℕ → Fault → Type 0
 NoEnding tokens place fault =
     ((fault ≡ Ends place) × IsCut tokens) ⊎ ((fault ≡ Reserved place) × IsReserved tokens)
 
--- what is told of some bytes that begin with no label
+-- the contract of an ending, for bytes that do not start with a label
 abbrev pub EndingTold : List ℕ → ℕ → Result Ending Fault → Type 0
 EndingTold tokens place (Ok Root) = IsRoot tokens
 EndingTold tokens place (Ok (Pointer to)) = IsPointer tokens to
 EndingTold tokens place (Err fault) = NoEnding tokens place fault
 
--- After labels stands the root, which ends a name; or a pointer to an earlier place than that of
--- the labels, at which others stand, and the name is both.
+-- The labels are followed by the root, which ends a name; or by a pointer to an offset before these
+-- labels, and the name consists of these labels and the ones at that offset.
 abbrev pub GoesOn : (ℕ → List Label → Type 0) → ℕ → List Label → ℕ → List ℕ → List Label
     → ℕ → Type 0
 GoesOn others start here end rest labels behind =
@@ -76,7 +77,8 @@ GoesOn others start here end rest labels behind =
     ⊎ ((to : ℕ) × IsPointer rest to × (to < start)
     × ((more : List Label) × others to more × (labels ≡ here ++ more) × (behind ≡ end + 2)))
 
--- After labels is no ending, or a pointer to no earlier place, or one to where no name begins.
+-- The labels are followed by an invalid ending, by a pointer to an offset that is not smaller, or
+-- by a pointer to an offset without a valid name.
 abbrev pub GoesNot : (ℕ → ℕ → Fault → Type 0) → ℕ → ℕ → List ℕ → Fault → Type 0
 GoesNot faults start end rest fault =
     NoEnding rest end fault
@@ -84,31 +86,31 @@ GoesNot faults start end rest fault =
     × (((fault ≡ NotPrior end) × (start ≤ to)) ⊎ ((to < start) × faults end to fault)))
 
 module _ (message : List ℕ) where
-  -- That many bytes of the message stand before these.
+  -- `At place tokens`: `tokens` is the part of the message from offset `place` on.
   abbrev pub At : ℕ → List ℕ → Type 0
   At place tokens = (front : List ℕ) × (length front ≡ place) × (message ≡ front ++ tokens)
 
-  -- From a place on labels stand, one after the other. After them, at `end`, are these bytes,
-  -- which begin with none.
+  -- `AreLabels start labels end behind`: from `start` to `end` there are consecutive `labels`,
+  -- followed by the bytes `behind`, which do not start with a label.
   pub record AreLabels (start : ℕ) (labels : List Label) (end : ℕ) (behind : List ℕ) : Type 0 where
     pub tokens : List ℕ
     pub starts : At start tokens
     pub each : Many IsLabel (from_to 0 None) tokens labels behind
     pub ends : At end behind
 
-  -- labels, and what a name has after them
+  -- a name: labels, and the ending after them
   abbrev pub NameBy : (ℕ → List Label → Type 0) → ℕ → List Label → ℕ → Type 0
   NameBy others start labels behind =
       (here : List Label) × (end : ℕ) × (rest : List ℕ) × AreLabels start here end rest
       × GoesOn others start here end rest labels behind
 
-  -- The labels of the name that begins at a place, by no more than that many pointers, one after
-  -- the other; and the place after what is written for it there.
+  -- `IsName pointers start labels behind`: the name at offset `start` has these labels, and follows
+  -- at most `pointers` pointers in sequence; its encoding there ends at offset `behind`.
   abbrev pub IsName : ℕ → ℕ → List Label → ℕ → Type 0
   IsName zero = NameBy (λ to more. ⊥)
   IsName (suc pointers) = NameBy (λ to more. (behind : ℕ) × IsName pointers to more behind)
 
-  -- From a place on labels stand, maybe not all that do, of more octets than these.
+  -- From offset `start` on there are labels, not necessarily all, with more than `room` octets.
   abbrev pub HasMore : ℕ → ℕ → Type 0
   HasMore start room =
       (tokens : List ℕ) × (here : List Label) × (rest : List ℕ) × At start tokens
@@ -123,15 +125,15 @@ module _ (message : List ℕ) where
       ⊎ ((here : List Label) × (end : ℕ) × (rest : List ℕ) × AreLabels start here end rest
       × (octets here ≤ room) × GoesNot (faults (room - octets here)) start end rest fault))
 
-  -- Why no name begins at a place, by no more than that many pointers, whose labels have no more
-  -- than that many octets.
+  -- `HasNoName pointers room start fault`: the reason why offset `start` has no name that follows
+  -- at most `pointers` pointers and whose labels have at most `room` octets.
   abbrev pub HasNoName : ℕ → ℕ → ℕ → Fault → Type 0
   HasNoName zero = FaultBy (λ room end to fault. fault ≡ TooMany end)
   HasNoName (suc pointers) = FaultBy (λ room end to fault. HasNoName pointers room to fault)
 
-  -- What is told of the name that begins at a place, by no more than that many pointers, whose
-  -- labels have no more than that many octets: it is that; or why there is none, and there is none;
-  -- or memory is wanting.
+  -- The contract of the name at an offset, for at most `pointers` pointers and labels of at most
+  -- `room` octets: it is that name; or the error is the reason why there is none; or memory
+  -- allocation failed.
   abbrev pub NameWithin : {A : Type 0} → ℕ → ℕ → ℕ → Result (Name A) Fault → Type 0
   NameWithin pointers room start (Ok name) =
       IsName pointers start name.labels.items name.behind × (octets name.labels.items ≤ room)
@@ -141,6 +143,6 @@ module _ (message : List ℕ) where
       × ((labels : List Label) (behind : ℕ) → IsName pointers start labels behind
       → octets labels ≤ room → ⊥))
 
-  -- The same of any name: it has 255 octets or less, of which the last is the root's.
+  -- The same contract for any name: it has at most 255 octets, including the octet of the root.
   abbrev pub NameTold : {A : Type 0} → ℕ → ℕ → Result (Name A) Fault → Type 0
   NameTold pointers = NameWithin pointers 254

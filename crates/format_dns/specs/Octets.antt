@@ -29,7 +29,6 @@ octets_least [] tokens rest e = omega arith
 octets_least (label ∷ labels) tokens rest (mid, (least, most, e), more) =
     omega (arith, least, octets_least labels mid rest more)
 
--- labels that stand have no more octets than all that do
 pub octets_most : (some all : List Label) (tokens other rest : List ℕ)
     → Each IsLabel tokens some other → Each IsLabel tokens all rest → NoneStands IsLabel rest
     → octets some ≤ octets all
@@ -54,7 +53,6 @@ module _ {message : List ℕ} {start end : ℕ} {here : List Label} {rest : List
   unfolding Many
   each_here = a.each.0
 
-  -- after all labels is none
   pub none_here : NoneStands IsLabel rest
   unfolding Many
   none_here =

@@ -1,4 +1,4 @@
--- Where a fault is no part stands.
+-- Lemmas that a part with an error is not a valid part.
 use Rattle.std.specs.Prelude.{◌≡◌, ◌⊎◌, ◌≤◌, ◌<◌, ◌+◌, ◌-◌, ◌++◌, ℕ, List, [], ◌∷◌, length, Result}
 use Rattle.std.specs.Prelude.{Ok, Err, drop, slice_range, take}
 use Rattle.std.specs.Result.{IsErrAnd}
@@ -15,7 +15,6 @@ use Rattle.format_dns.specs.declared.fault.Fault.TheVariants.{NoMemory}
 use Rattle.format_dns.specs.declared.question.Question.{Question}
 use Rattle.format_dns.specs.declared.question.Questions.{Questions}
 
--- what is told where a fault is passed on
 pub part_err : {X : Type 0} (Is : X → Type 0) (Fails : Fault → Type 0) {fault : Fault}
     (r : Result X Fault) → IsErrAnd r (λ y. y ≡ fault)
     → (fault ≡ NoMemory) ⊎ (Fails fault × ((part : X) → Is part → ⊥)) → PartTold Is Fails r
@@ -35,7 +34,8 @@ module _ {X : Type 0} (Is : ℕ → X → Type 0) (behind : X → ℕ) where
       (it, rows_push parts (behind first) place part rows is)
 
   module _ (one : (start : ℕ) (x y : X) → Is start x → Is start y → behind x ≡ behind y) where
-    -- where fewer end, one of more stands
+    -- if a shorter and a longer list of parts start at the same offset, the shorter is followed by
+    -- another part
     pub rows_next : (parts others : List X) (start place other : ℕ)
         → Rows Is behind start parts place → Rows Is behind start others other
         → length parts < length others → (y : X) × Is place y
@@ -70,7 +70,6 @@ module _ {X : Type 0} (Is : ℕ → X → Type 0) (behind : X → ℕ) where
         rows_end parts others (behind y) place other (subst P (one start x y a b) rows) more
         (omega (arith, same))
 
--- where one lacks after that many, there are not as many
 pub lack_fails : {X : Type 0} (Is : ℕ → X → Type 0) (behind : X → ℕ)
     (Fails : ℕ → Fault → Type 0) (start count entry : ℕ) (fault : Fault)
     → RowsLack Is behind Fails start count entry fault
@@ -80,7 +79,6 @@ lack_fails Is behind Fails start count entry fault (parts, place, rows, size, fe
 
 -- ---- questions
 
--- what is left of a message from a place on stands there
 pub at_from : (message : List ℕ) (place : ℕ) {tokens : List ℕ} → place ≤ length message
     → tokens ≡ slice_range message place (length message) → At message place tokens
 at_from message place enough is = (
@@ -92,7 +90,6 @@ at_from message place enough is = (
       (omega (arith, length-drop place message)))),
 )
 
--- what stands at a place ends no later than the message
 pub at_length : {message tokens : List ℕ} {place : ℕ} → At message place tokens
     → length message ≡ place + length tokens
 at_length {tokens = tokens} (front, size, e) =

@@ -1,4 +1,4 @@
--- Questions in a message (RFC 1035, section 4.1.2), and lists of what stands one after the other.
+-- Questions in a message (RFC 1035, section 4.1.2), and lists of consecutive parts.
 use Rattle.std.specs.Prelude.{◌≡◌, ◌⊎◌, ◌≤◌, ◌<◌, ◌+◌, ℕ, List, [], ◌∷◌, length, Result, Ok, Err}
 use Rattle.format_dns.specs.Fields.{AreAsked}
 use Rattle.format_dns.specs.Names.{At, HasNoName, IsName, Label, octets}
@@ -10,38 +10,38 @@ use Rattle.format_dns.specs.declared.name.Name.{Name}
 use Rattle.format_dns.specs.declared.question.Question.{Question}
 use Rattle.format_dns.specs.declared.question.Questions.{Questions}
 
--- What is told of a part of a message: it is that; or why it is not there, and it is not; or memory
--- is wanting.
+-- The contract of a part of a message: it is that part; or the error is the reason why there is
+-- none; or memory allocation failed.
 abbrev pub PartTold : {X : Type 0} → (X → Type 0) → (Fault → Type 0) → Result X Fault → Type 0
 PartTold Is Fails (Ok part) = Is part
 PartTold {X} Is Fails (Err fault) =
     (fault ≡ NoMemory) ⊎ (Fails fault × ((part : X) → Is part → ⊥))
 
--- Parts stand one after the other from a place to another. Each says which is after it.
+-- Consecutive parts from one offset to another. `behind` gives the offset after each part.
 abbrev pub Rows : {X : Type 0} → (ℕ → X → Type 0) → (X → ℕ) → ℕ → List X → ℕ → Type 0
 Rows Is behind start [] end = end ≡ start
 Rows Is behind start (part ∷ parts) end = Is start part × Rows Is behind (behind part) parts end
 
--- Fewer than that many stand, and after them the next fails.
+-- There are fewer than `count` parts, and after them the next fails.
 abbrev pub RowsFail : {X : Type 0} → (ℕ → X → Type 0) → (X → ℕ) → (ℕ → Fault → Type 0) → ℕ → ℕ
     → Fault → Type 0
 RowsFail {X} Is behind Fails start count fault =
     (parts : List X) × (place : ℕ) × Rows Is behind start parts place × (length parts < count)
     × Fails place fault
 
--- Memory is wanting, at whatever place.
+-- Memory allocation failed, at any offset.
 abbrev pub WantsMemory : ℕ → Fault → Type 0
 WantsMemory place fault = fault ≡ NoMemory
 
--- That many stand, fewer than are wanted, and after them the next fails.
+-- There are `entry` parts, fewer than `count`, and after them the next fails.
 abbrev pub RowsLack : {X : Type 0} → (ℕ → X → Type 0) → (X → ℕ) → (ℕ → Fault → Type 0) → ℕ → ℕ
     → ℕ → Fault → Type 0
 RowsLack {X} Is behind Fails start count entry fault =
     (parts : List X) × (place : ℕ) × Rows Is behind start parts place × (length parts ≡ entry)
     × (entry < count) × Fails place fault
 
--- What is told of the entries of a section: they are these; or after how many memory is wanting; or
--- after how many one is not there, and why, and they are none.
+-- The contract of a section: its entries; or the number of entries before a failed allocation; or
+-- the number before the first invalid entry, the reason, and that the section is invalid.
 abbrev pub SectionTold : {X : Type 0} → Section → (X → Type 0) → (ℕ → Fault → Type 0)
     → (ℕ → Fault → Type 0) → Result X MessageFault → Type 0
 SectionTold section Is Wants Fails (Ok entries) = Is entries
@@ -50,7 +50,7 @@ SectionTold {X} section Is Wants Fails (Err fault) =
     × (Wants fault.entry fault.why
     ⊎ (Fails fault.entry fault.why × ((entries : X) → Is entries → ⊥)))
 
--- What is told of fields at a place, of that many bytes together: they are these; or the message
+-- The contract of fields at an offset, of `size` bytes together: their values, or that the message
 -- ends within them.
 abbrev pub FieldsTold : {X : Type 0} → List ℕ → ℕ → (X → List ℕ → List ℕ → Type 0) → ℕ
     → Result X Fault → Type 0
@@ -60,7 +60,7 @@ FieldsTold message size Are place (Err fault) =
     (fault ≡ Ends place) × (length message < place + size)
 
 module _ (message : List ℕ) (pointers : ℕ) where
-  -- The name that begins at a place has these labels, of 255 octets or less with the root.
+  -- The name at an offset has these labels, of at most 255 octets with the root.
   abbrev pub IsShort : ℕ → List Label → ℕ → Type 0
   IsShort start labels behind =
       IsName message pointers start labels behind × (octets labels ≤ 254)
@@ -68,7 +68,7 @@ module _ (message : List ℕ) (pointers : ℕ) where
   abbrev pub HasName : {A : Type 0} → ℕ → Name A → Type 0
   HasName start name = IsShort start name.labels.items name.behind
 
-  -- At a place stands a name, and after it a type and a class.
+  -- At offset `start` there is a name, followed by a type and a class.
   pub record IsQuestion {A : Type 0} (start : ℕ) (question : Question A) : Type 0 where
     pub name : HasName start question.name
     pub tokens : List ℕ
@@ -77,39 +77,40 @@ module _ (message : List ℕ) (pointers : ℕ) where
     pub fields : AreAsked question.kind question.class tokens rest
     pub behind : question.behind ≡ question.name.behind + 4
 
-  -- Why no question is at a place: there is no name, or the message ends within what is after it.
+  -- The reason why there is no question at an offset: there is no name, or the message ends within
+  -- the fields after it.
   abbrev pub HasNoQuestion : ℕ → Fault → Type 0
   HasNoQuestion start fault =
       HasNoName message pointers 254 start fault
       ⊎ ((labels : List Label) × (behind : ℕ) × IsShort start labels behind
       × (fault ≡ Ends behind) × (length message < behind + 4))
 
-  -- That many questions stand one after the other from a place on.
+  -- There are `count` consecutive questions from offset `start` on.
   abbrev pub AreQuestions : {A : Type 0} → ℕ → ℕ → Questions A → Type 0
   AreQuestions {A} start count questions =
       Rows (λ place (question : Question A). IsQuestion place question)
       (λ question. question.behind) start questions.list.items questions.behind
       × (length questions.list.items ≡ count)
 
-  -- Why not that many do: fewer do, and after them is no question, for this reason.
+  -- There are fewer than `count` questions, and the next is invalid for this reason.
   abbrev pub HaveNoQuestions : Type 0 → ℕ → ℕ → Fault → Type 0
   HaveNoQuestions A =
       RowsFail (λ place (question : Question A). IsQuestion place question)
       (λ question. question.behind) HasNoQuestion
 
-  -- After that many questions, fewer than are wanted, is none, for this reason.
+  -- After `entry` questions, fewer than `count`, the next is invalid for this reason.
   abbrev pub QuestionsLack : Type 0 → ℕ → ℕ → ℕ → Fault → Type 0
   QuestionsLack A =
       RowsLack (λ place (question : Question A). IsQuestion place question)
       (λ question. question.behind) HasNoQuestion
 
-  -- After that many questions, fewer than are wanted, memory is wanting.
+  -- After `entry` questions, fewer than `count`, memory allocation failed.
   abbrev pub QuestionsWant : Type 0 → ℕ → ℕ → ℕ → Fault → Type 0
   QuestionsWant A =
       RowsLack (λ place (question : Question A). IsQuestion place question)
       (λ question. question.behind) WantsMemory
 
-  -- what is told of that many questions
+  -- the contract of `count` questions
   abbrev pub QuestionsTold : {A : Type 0} → ℕ → ℕ → Result (Questions A) Fault → Type 0
   QuestionsTold {A} start count =
       PartTold (AreQuestions start count) (HaveNoQuestions A start count)

@@ -1,4 +1,4 @@
--- Where a fault is no record stands.
+-- Lemmas that a record with an error is not a valid record.
 use Rattle.std.specs.Prelude.{◌≡◌, ◌+◌, ◌-◌, ℕ, List, take, slice_range}
 use Rattle.std.specs.Int.{bytes_high_first}
 use Rattle.std.proofs.Common.{sym, ap, subst, inl, inr, ◌∙◌, arith}
@@ -18,7 +18,6 @@ use Rattle.format_dns.specs.declared.fault.Fault.{Fault}
 use Rattle.format_dns.specs.declared.record.Record.{Record}
 use Rattle.format_dns.specs.declared.record.Records.{Records}
 
--- what stands before a place
 pub whole_is : {whole : List ℕ} (message : List ℕ) (place end : ℕ)
     → whole ≡ slice_range message 0 place → place ≡ end → whole ≡ take end message
 whole_is message place end is e =

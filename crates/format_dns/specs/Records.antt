@@ -11,8 +11,9 @@ use Rattle.format_dns.specs.declared.record.Record.{Record}
 use Rattle.format_dns.specs.declared.record.Records.{Records}
 
 module _ (message : List ℕ) (pointers : ℕ) where
-  -- At a place stands a name, after it a type, a class, a time to live and the length of the data,
-  -- and after these the data of the type and the class, in the message up to their end.
+  -- At offset `start` there is a name, followed by a type, a class, a time to live and the length
+  -- of the data. The data of this type and class follow, in the part of the message up to their
+  -- end.
   pub record IsRecord {A : Type 0} (start : ℕ) (it : Record A) : Type 0 where
     pub name : HasName message pointers start it.name
     pub tokens : List ℕ
@@ -25,16 +26,16 @@ module _ (message : List ℕ) (pointers : ℕ) where
     pub held : IsOfForm (take it.behind message) pointers (it.name.behind + 10)
         (form_in it.kind it.class size) it.data
 
-  -- The data of that many octets are not there: the message ends within them, or they are none of
-  -- the type and the class.
+  -- The data of `size` octets are invalid: the message ends within them, or they are not of this
+  -- type and class.
   abbrev pub HasNoData : ℕ → ℕ → ℕ → ℕ → Fault → Type 0
   HasNoData kind class start size fault =
       ((fault ≡ Ends start) × (length message < start + size))
       ⊎ ((start + size ≤ length message)
       × NoForm (take (start + size) message) pointers start (form_in kind class size) fault)
 
-  -- Why no record is at a place: there is no name, or the message ends within the fields after it,
-  -- or the data are not there.
+  -- The reason why there is no record at an offset: there is no name, the message ends within the
+  -- fields after it, or the data are invalid.
   abbrev pub HasNoRecord : ℕ → Fault → Type 0
   HasNoRecord start fault =
       HasNoName message pointers 254 start fault
@@ -44,29 +45,29 @@ module _ (message : List ℕ) (pointers : ℕ) where
       × At message behind tokens × AreRecordFields kind class time size tokens rest
       × HasNoData kind class (behind + 10) size fault)))
 
-  -- That many records stand one after the other from a place on.
+  -- There are `count` consecutive records from offset `start` on.
   abbrev pub AreRecords : {A : Type 0} → ℕ → ℕ → Records A → Type 0
   AreRecords {A} start count records =
       Rows (λ place (it : Record A). IsRecord place it) (λ it. it.behind) start records.list.items
       records.behind
       × (length records.list.items ≡ count)
 
-  -- Why not that many do: fewer do, and after them is no record, for this reason.
+  -- There are fewer than `count` records, and the next is invalid for this reason.
   abbrev pub HaveNoRecords : Type 0 → ℕ → ℕ → Fault → Type 0
   HaveNoRecords A =
       RowsFail (λ place (it : Record A). IsRecord place it) (λ it. it.behind) HasNoRecord
 
-  -- After that many records, fewer than are wanted, is none, for this reason.
+  -- After `entry` records, fewer than `count`, the next is invalid for this reason.
   abbrev pub RecordsLack : Type 0 → ℕ → ℕ → ℕ → Fault → Type 0
   RecordsLack A =
       RowsLack (λ place (it : Record A). IsRecord place it) (λ it. it.behind) HasNoRecord
 
-  -- After that many records, fewer than are wanted, memory is wanting.
+  -- After `entry` records, fewer than `count`, memory allocation failed.
   abbrev pub RecordsWant : Type 0 → ℕ → ℕ → ℕ → Fault → Type 0
   RecordsWant A =
       RowsLack (λ place (it : Record A). IsRecord place it) (λ it. it.behind) WantsMemory
 
-  -- what is told of that many records
+  -- the contract of `count` records
   abbrev pub RecordsTold : {A : Type 0} → ℕ → ℕ → Result (Records A) Fault → Type 0
   RecordsTold {A} start count =
       PartTold (AreRecords start count) (HaveNoRecords A start count)

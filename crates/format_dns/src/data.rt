@@ -14,8 +14,8 @@ use crate::name::{Name, read_name};
 use std::alloc::Allocator;
 use std::net::{Ipv4Addr, Ipv6Addr};
 
-/// The data of a record of a message `'m`. Those of an address or a service are of the class of the
-/// Internet (1) alone.
+/// The data of a record of a message `'m`. Addresses and services occur only in the class of the
+/// Internet (1).
 #[derive(Drop)]
 pub enum Data<'m, A: Allocator> {
     /// Of the type 1 (A): a host's address (RFC 1035, section 3.4.1).
@@ -71,7 +71,7 @@ pub struct StartOfAuthority<'m, A: Allocator> {
 pub struct Service<'m, A: Allocator> {
     /// The lower, the sooner it is tried.
     pub priority: u16,
-    /// The larger, the likelier it is chosen among those of one priority.
+    /// The larger it is, the more likely the record is chosen from those of the same priority.
     pub weight: u16,
     /// The port of the host.
     pub port: u16,
@@ -79,7 +79,7 @@ pub struct Service<'m, A: Allocator> {
     pub target: Name<'m, A>,
 }
 
-/// What the data of a type and a class consist of.
+/// The contents of the data of a type and a class.
 pub(crate) enum Form {
     /// An address of four octets.
     Four,
@@ -99,7 +99,7 @@ pub(crate) enum Form {
     Any,
 }
 
-/// What the data of a type that is of the Internet alone consist of.
+/// Returns the form of the data of a type that exists only in the class of the Internet.
 fn internet_form_of(kind: u16) -> Form
     ensures { result ≡ internet_form kind }
 {
@@ -111,7 +111,7 @@ fn internet_form_of(kind: u16) -> Form
     }
 }
 
-/// What the data of a type and a class consist of.
+/// The contents of the data of a type and a class.
 fn form_of(kind: u16, class: u16) -> Form
     ensures { result ≡ form_for kind class }
 {
@@ -130,7 +130,8 @@ fn form_of(kind: u16, class: u16) -> Form
     }
 }
 
-/// What data of no octets consist of: of a message that updates a zone, there may be none.
+/// Returns the form of data without octets. In a message that updates a zone, records may have no
+/// data.
 fn empty_form_of(kind: u16, class: u16) -> Form
     ensures { result ≡ empty_form kind class }
 {
@@ -140,7 +141,7 @@ fn empty_form_of(kind: u16, class: u16) -> Form
     }
 }
 
-/// What data of that many octets consist of, by their type and class.
+/// Returns the form of data of `length` octets, by their type and class.
 pub(crate) fn form_in(kind: u16, class: u16, length: u16) -> Form
     ensures { result ≡ form_in kind class length }
 {

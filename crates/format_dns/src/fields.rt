@@ -9,7 +9,7 @@ use winnow::Parser;
 use winnow::binary::impls::BeU32;
 use winnow::error::{EmptyError, ErrMode};
 
-/// What a record has between its name and its data.
+/// The fields of a record between its name and its data.
 #[derive(Clone, Copy)]
 pub(crate) struct RecordFields {
     pub(crate) kind: u16,
@@ -109,7 +109,7 @@ fn read_of_zone<'m>(input: &mut &'m [u8]) -> Result<OfZone, ErrMode<EmptyError>>
     })
 }
 
-/// The fields of a record that stand at a place.
+/// Reads the fields of a record at offset `place`.
 pub(crate) fn record_fields_at(message: &[u8], place: usize) -> Result<RecordFields, Fault>
     ensures { FieldsTold message.now 10
         (λ f. AreRecordFields f.kind f.class f.time_to_live f.length) place result }
@@ -123,7 +123,7 @@ pub(crate) fn record_fields_at(message: &[u8], place: usize) -> Result<RecordFie
     }
 }
 
-/// The number of two bytes that stands at a place.
+/// Reads a number of two bytes at offset `place`.
 pub(crate) fn short_at(message: &[u8], place: usize) -> Result<u16, Fault>
     ensures { FieldsTold message.now 2 (λ n. IsField 2 n) place result }
 {
@@ -136,7 +136,7 @@ pub(crate) fn short_at(message: &[u8], place: usize) -> Result<u16, Fault>
     }
 }
 
-/// The numbers of a service that stand at a place.
+/// Reads the numbers of a service at offset `place`.
 pub(crate) fn of_service_at(message: &[u8], place: usize) -> Result<OfService, Fault>
     ensures { FieldsTold message.now 6 (λ s. AreOfService s.priority s.weight s.port) place
         result }
@@ -150,7 +150,7 @@ pub(crate) fn of_service_at(message: &[u8], place: usize) -> Result<OfService, F
     }
 }
 
-/// The numbers of a zone that stand at a place.
+/// Reads the numbers of a zone at offset `place`.
 pub(crate) fn of_zone_at(message: &[u8], place: usize) -> Result<OfZone, Fault>
     ensures { FieldsTold message.now 20
         (λ z. AreOfZone z.serial z.refresh z.retry z.expire z.minimum) place result }

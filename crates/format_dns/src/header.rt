@@ -1,5 +1,5 @@
-//! The header of a message of the Domain Name System (RFC 1035, section 4.1.1), over bytes that are
-//! whole or come in pieces: two bytes of flags by their bits, the other numbers by their bytes.
+//! The header of a message of the Domain Name System (RFC 1035, section 4.1.1), over complete or
+//! partial input. The two bytes of flags are parsed by bits, the other numbers by bytes.
 #![tactic(auto)]
 
 ghost use Rattle.std.specs.Prelude.{◌≡◌, ◌⊎◌, ◌≤◌, ◌<◌, ◌+◌, ◌*◌, length, IfErr, IfOk, IsOk, ℕ};
@@ -20,7 +20,7 @@ use winnow::stream::{ByteStream, Partial};
 /// The header of a message.
 #[derive(Clone, Copy, Debug, PartialEq, Eq)]
 pub struct Header {
-    /// What names the question and its response.
+    /// The identifier of the question and its response.
     pub id: u16,
     /// Whether the message is a response, and no query.
     pub is_response: bool,
@@ -34,24 +34,24 @@ pub struct Header {
     pub recursion_desired: bool,
     /// Whether the server that responds can do so, for any query.
     pub recursion_available: bool,
-    /// What is reserved, a number of 3 bits.
+    /// The reserved bits, a number of 3 bits.
     pub reserved: u8,
     /// The response code, a number of 4 bits.
     pub response_code: u8,
-    /// How many entries stand in the question section.
+    /// The number of entries in the question section.
     pub question_count: u16,
-    /// How many records stand in the answer section.
+    /// The number of records in the answer section.
     pub answer_count: u16,
-    /// How many records stand in the authority section.
+    /// The number of records in the authority section.
     pub authority_count: u16,
-    /// How many records stand in the additional section.
+    /// The number of records in the additional section.
     pub additional_count: u16,
 }
 
 /// The parsers of the higher byte of flags.
 type High<I, E> = (Bool, Take<I, u8, E>, (Bool, Bool, Bool));
 
-/// What they answer.
+/// The output of the parsers of the flags.
 type HighFlags = (bool, u8, (bool, bool, bool));
 
 /// The parsers of the lower byte of flags.
@@ -161,10 +161,11 @@ fn counts<I: ByteStream + StreamIsPartial>(
     ))
 }
 
-/// The header of a message, with which any stream of bytes begins: twelve bytes, whatever they are.
+/// Parses the header of a message, from any stream of bytes: any twelve bytes are a header.
 ///
-/// Of fewer bytes there is none. The input is left before the part that is not there, a number of
-/// two bytes or a byte of flags; where more may come, it asks for the bytes that the part lacks.
+/// Fails on fewer bytes, and leaves the input before the incomplete part: a number of two bytes or
+/// a byte of flags. On partial input it returns `Incomplete` with the number of bytes that the part
+/// lacks.
 pub fn header_of<I: ByteStream + StreamIsPartial + Copy>(
     input: &mut I,
 ) -> Result<Header, ErrMode<EmptyError>>
@@ -224,8 +225,8 @@ pub fn read_header<'i>(input: &mut &'i [u8]) -> Result<Header, ErrMode<EmptyErro
     header_of(input)
 }
 
-/// The same over bytes that come in pieces: it answers as soon as twelve bytes are there, and asks
-/// for those that a part lacks.
+/// Like [`read_header`], for partial input: succeeds as soon as there are twelve bytes, and
+/// otherwise returns `Incomplete` with the number of bytes that a part lacks.
 ///
 /// ```
 /// use format_dns::header::read_header_in_pieces;

@@ -1,4 +1,4 @@
-//! Labels, one after the other.
+//! Sequences of labels.
 ghost use Rattle.format_dns.specs.Names.{IsLabel, IsString};
 ghost use Rattle.std.specs.Prelude.{◌≡◌, Some};
 ghost use Rattle.winnow.specs.Range.{from_to};
@@ -15,7 +15,7 @@ use winnow::error::{EmptyError, ErrMode, HasKind, ParserError};
 use winnow::stream::{Range, StreamIsPartial, ToUsize};
 use winnow::token::one_of;
 
-/// Tokens after their number, as often as they stand one after the other, up to `most` times.
+/// Parses consecutive slices, each after its length, up to `most` of them.
 fn read_sized<I, E, N, P, A>(
     alloc: A,
     most: usize,
@@ -39,8 +39,7 @@ where
     repeat(alloc, Range::from(..=most), length_take(count)).read(input)
 }
 
-/// The labels that the bytes begin with, each after its length from 1 to 63: as many as stand, up
-/// to `most`.
+/// Parses as many labels as there are, up to `most`, each after its length from 1 to 63.
 pub fn read_labels<'i, A: Allocator + Copy>(
     alloc: A,
     most: usize,
@@ -53,8 +52,7 @@ pub fn read_labels<'i, A: Allocator + Copy>(
     read_sized(alloc, most, one_of(1..=63), input)
 }
 
-/// The character strings that the bytes begin with, each after its length in one byte: as many as
-/// stand, up to `most`.
+/// Parses as many character strings as there are, up to `most`, each after its length in one byte.
 pub fn read_strings<'i, A: Allocator + Copy>(
     alloc: A,
     most: usize,

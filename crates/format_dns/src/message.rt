@@ -59,21 +59,19 @@ fn header_in(message: &[u8]) -> Result<Header, MessageFault>
     }
 }
 
-/// The message that the bytes begin with: a header of twelve bytes, and after it, one after the
-/// other, as many questions and records of the three sections as it counts, as [`read_question`]
-/// and [`read_record`] read each. Of pointers no more than `pointers` are followed, one after the
-/// other; 127 suffice where each leads to a label.
+/// Parses the message at the start of the bytes: a header of twelve bytes, followed by as many
+/// questions and records of the three sections as it counts. Each is parsed as by
+/// [`read_question`](crate::question::read_question) or
+/// [`read_record`](crate::record::read_record). At most `pointers` pointers are followed in
+/// sequence; 127 suffice if each leads to a label.
 ///
-/// Bytes after the last record are not read, and no fault: [`behind`](Message::behind) says where
-/// it ends.
+/// Bytes after the last record are not read, and are not an error: [`behind`](Message::behind) is
+/// the offset where the message ends.
 ///
-/// An error says which entry of which section is the first that is not there, and why and where;
-/// or that memory is wanting, and at which entry. A header that is not there is entry 0 of its
-/// section, and ends at place 0. Memory is asked for as entries are read, whatever the header
-/// counts: a message of twelve bytes wants none.
-///
-/// [`read_question`]: crate::question::read_question
-/// [`read_record`]: crate::record::read_record
+/// An error holds the section and the number of the first entry that is invalid, with the reason
+/// and the offset, or that could not be allocated. An incomplete header is entry 0 of its section,
+/// and ends at offset 0. Memory is allocated as entries are read, regardless of the header's
+/// counts: for a message of twelve bytes nothing is allocated.
 ///
 /// ```
 /// use format_dns::fault::{Fault, Section};

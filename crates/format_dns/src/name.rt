@@ -15,15 +15,15 @@ pub struct Name<'m, A: Allocator> {
     pub behind: usize,
 }
 
-/// What stands after labels.
+/// The ending of a sequence of labels.
 enum Ending {
     /// The root, which ends the name.
     Root,
-    /// A pointer to where the name goes on.
+    /// A pointer to the offset where the name continues.
     Pointer(usize),
 }
 
-/// What stands after labels, at this place, where no label does.
+/// Reads the ending at offset `place`, where no label follows.
 fn read_ending(rest: &[u8], place: usize) -> Result<Ending, Fault>
     requires { NoneStands IsLabel rest.now }
     ensures { EndingTold rest.now place result }
@@ -45,7 +45,7 @@ fn read_ending(rest: &[u8], place: usize) -> Result<Ending, Fault>
     }
 }
 
-/// The name that begins at a place, by as many `pointers` at most, whose labels have no more than
+/// Reads the name at an offset, following at most `pointers` pointers. Its labels may have at most
 /// `room` octets.
 fn read_within<'m, A: Allocator + Copy>(
     alloc: A,
@@ -90,16 +90,16 @@ fn read_within<'m, A: Allocator + Copy>(
     }
 }
 
-/// The name that begins at a place of a message, in bytes from its start: of 255 octets or less,
-/// with those of the lengths and of the root (RFC 1035, sections 2.3.4 and 4.1.4). Of pointers no
-/// more than `pointers` are followed, one after the other; 127 suffice where each leads to a label.
+/// Reads the name at offset `place` of a message, in bytes from its start. A name has at most 255
+/// octets, including those of the lengths and of the root (RFC 1035, sections 2.3.4 and 4.1.4). At
+/// most `pointers` pointers are followed in sequence; 127 suffice if each leads to a label.
 ///
-/// No more than 128 labels are looked at, whatever the message; each that is kept is copied, as a
-/// slice, once for each pointer by which it was come to. So the time is that of 128 labels times
-/// one more than `pointers`.
+/// At most 128 labels are examined, for any message. Each label in the result is copied, as a
+/// slice, once for each pointer that led to it. So the time is that of 128 labels times `pointers +
+/// 1`.
 ///
-/// An error says that no such name begins there, and where it fails first; or that memory is
-/// wanting.
+/// An error holds the reason why there is no such name and the first offset where it fails, or is
+/// out of memory.
 ///
 /// ```
 /// use format_dns::name::read_name;

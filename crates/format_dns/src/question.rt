@@ -15,9 +15,9 @@ use winnow::error::{EmptyError, ErrMode};
 /// A question of a message `'m`.
 #[derive(Drop)]
 pub struct Question<'m, A: Allocator> {
-    /// The name that is asked about.
+    /// The name in question.
     pub name: Name<'m, A>,
-    /// The number of the type of the records that are asked for; 255 is all.
+    /// The number of the type of the requested records; 255 means all.
     pub kind: u16,
     /// The number of their class; 1 is the Internet, 255 is any.
     pub class: u16,
@@ -25,7 +25,7 @@ pub struct Question<'m, A: Allocator> {
     pub behind: usize,
 }
 
-/// What a question has after its name.
+/// The fields of a question after its name.
 #[derive(Clone, Copy)]
 struct Asked {
     kind: u16,
@@ -43,7 +43,7 @@ fn read_asked<'m>(input: &mut &'m [u8]) -> Result<Asked, ErrMode<EmptyError>>
     Ok(Asked { kind, class })
 }
 
-/// The type and the class that stand at a place.
+/// Reads the type and the class at offset `place`.
 fn asked_at(message: &[u8], place: usize) -> Result<Asked, Fault>
     ensures { FieldsTold message.now 4 (λ asked. AreAsked asked.kind asked.class) place result }
 {
@@ -56,11 +56,11 @@ fn asked_at(message: &[u8], place: usize) -> Result<Asked, Fault>
     }
 }
 
-/// The question that begins at a place of a message, in bytes from its start. Of pointers no more
-/// than `pointers` are followed, one after the other, as by [`read_name`].
+/// Reads the question at offset `place` of a message, in bytes from its start. At most `pointers`
+/// pointers are followed in sequence, as by [`read_name`].
 ///
-/// An error says that no question begins there, and where it fails first: in its name, or where the
-/// message ends within the type and the class; or that memory is wanting.
+/// An error holds the reason why there is no question and the first offset where it fails: in its
+/// name, or where the message ends within the type and the class. Or it is out of memory.
 ///
 /// ```
 /// use format_dns::question::read_question;
@@ -91,20 +91,21 @@ pub fn read_question<'m, A: Allocator + Copy>(
     })
 }
 
-/// Questions of a message `'m`, one after the other.
+/// Consecutive questions of a message `'m`.
 #[derive(Drop)]
 pub struct Questions<'m, A: Allocator> {
-    /// The questions, in the order in which they stand.
+    /// The questions, in the order of the message.
     pub list: Vec<Question<'m, A>, A>,
     /// The place in the message, in bytes, after the last.
     pub behind: usize,
 }
 
-/// That many questions from a place of a message on, in bytes from its start, as [`read_question`]
-/// reads each: of a whole message from place 12 on, after its header, which says how many.
+/// Reads `count` questions from offset `place` of a message on, in bytes from its start, each as by
+/// [`read_question`]. In a complete message they start at offset 12, after the header, which holds
+/// their number.
 ///
-/// An error says why the first that is not there is not, and where; or that memory is wanting.
-/// Memory is asked for as questions are read, whatever the count is.
+/// An error holds the reason why the first invalid question is invalid and its offset, or is out of
+/// memory. Memory is allocated as questions are read, regardless of `count`.
 ///
 /// ```
 /// use format_dns::question::read_questions;
@@ -129,8 +130,8 @@ pub fn read_questions<'m, A: Allocator + Copy>(
     }
 }
 
-/// The same of a question section, with how many stand before the first that is not there, or that
-/// memory is wanting for.
+/// Like [`read_questions`], for a question section. The error also holds the number of questions
+/// before the one that is invalid or could not be allocated.
 pub(crate) fn questions_in<'m, A: Allocator + Copy>(
     alloc: A,
     pointers: usize,

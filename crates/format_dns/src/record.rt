@@ -27,14 +27,14 @@ pub struct Record<'m, A: Allocator> {
     pub behind: usize,
 }
 
-/// The record that begins at a place of a message, in bytes from its start. Of pointers no more
-/// than `pointers` are followed, one after the other, as by [`read_name`], for its name and for
-/// each in its data. The data go as far as their length says, and what their type has must end
-/// there. Of each type there may be none in the classes 254 (NONE) and 255 (ANY), as in a message
-/// that updates a zone (RFC 2136, sections 2.4 and 2.5).
+/// Reads the record at offset `place` of a message, in bytes from its start. At most `pointers`
+/// pointers are followed in sequence, as by [`read_name`], for its name and for each name in its
+/// data. The data have the given length, and must be exactly the contents of their type. In the
+/// classes 254 (NONE) and 255 (ANY) the data of any type may be empty, as in a message that updates
+/// a zone (RFC 2136, sections 2.4 and 2.5).
 ///
-/// An error says that no record begins there, and where it fails first: in its name, in the fields
-/// after it, or in the data; or that memory is wanting.
+/// An error holds the reason why there is no record and the first offset where it fails: in its
+/// name, in the fields after it, or in the data. Or it is out of memory.
 ///
 /// ```
 /// use format_dns::data::Data;
@@ -75,20 +75,21 @@ pub fn read_record<'m, A: Allocator + Copy>(
     })
 }
 
-/// Records of a message `'m`, one after the other.
+/// Consecutive records of a message `'m`.
 #[derive(Drop)]
 pub struct Records<'m, A: Allocator> {
-    /// The records, in the order in which they stand.
+    /// The records, in the order of the message.
     pub list: Vec<Record<'m, A>, A>,
     /// The place in the message, in bytes, after the last.
     pub behind: usize,
 }
 
-/// That many records from a place of a message on, in bytes from its start, as [`read_record`]
-/// reads each: of a whole message from the place after its questions on, section by section.
+/// Reads `count` records from offset `place` of a message on, in bytes from its start, each as by
+/// [`read_record`]. In a complete message they start at the offset after its questions, section by
+/// section.
 ///
-/// An error says why the first that is not there is not, and where; or that memory is wanting.
-/// Memory is asked for as records are read, whatever the count is.
+/// An error holds the reason why the first invalid record is invalid and its offset, or is out of
+/// memory. Memory is allocated as records are read, regardless of `count`.
 ///
 /// ```
 /// use format_dns::record::read_records;
@@ -113,8 +114,8 @@ pub fn read_records<'m, A: Allocator + Copy>(
     }
 }
 
-/// The same of a section, with how many stand before the first that is not there, or that memory is
-/// wanting for.
+/// Like [`read_records`], for a section. The error also holds the number of records before the one
+/// that is invalid or could not be allocated.
 pub(crate) fn records_in<'m, A: Allocator + Copy>(
     section: Section,
     alloc: A,

@@ -1,4 +1,4 @@
-//! Faults as people read them.
+//! Error messages.
 
 use crate::fault::{Fault, MessageFault, Section};
 use std::error::Error;
@@ -8,15 +8,15 @@ use std::fmt::{Display, Formatter};
 impl Display for Fault {
     fn fmt<W: fmt::Write>(&self, f: &mut Formatter<W>) -> fmt::Result {
         let (told, place) = match *self {
-            Fault::Ends(place) => ("the message or the data end within what begins", place),
-            Fault::Trailing(place) => ("octets of the data are left from here on,", place),
-            Fault::Reserved(place) => ("a label of a reserved kind", place),
-            Fault::NotPrior(place) => ("a pointer to no prior place", place),
-            Fault::TooMany(place) => ("a pointer more than are followed", place),
-            Fault::TooLong(place) => ("a name too long by the labels", place),
+            Fault::Ends(place) => ("incomplete element", place),
+            Fault::Trailing(place) => ("unexpected trailing data", place),
+            Fault::Reserved(place) => ("reserved label type", place),
+            Fault::NotPrior(place) => ("compression pointer without a prior target", place),
+            Fault::TooMany(place) => ("too many compression pointers", place),
+            Fault::TooLong(place) => ("name too long", place),
             Fault::NoMemory => return f.write_str("out of memory"),
         };
-        write!(f, "{told} at byte {place}")
+        write!(f, "{told} at offset {place}")
     }
 }
 
@@ -34,7 +34,7 @@ impl Display for Section {
     }
 }
 
-/// What people are told: entries of a section are counted from 0.
+/// The text of the error. Entries of a section are counted from 0.
 impl Display for MessageFault {
     fn fmt<W: fmt::Write>(&self, f: &mut Formatter<W>) -> fmt::Result {
         let (section, entry, why) = (self.section, self.entry, self.why);

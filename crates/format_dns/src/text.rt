@@ -1,4 +1,4 @@
-//! Names as text, and names that differ in the case of letters alone.
+//! Names as text, and equality of names up to the case of letters.
 ghost use Rattle.format_dns.specs.Alike.{AreSame};
 ghost use Rattle.std.specs.Prelude.{◌↔◌, IsTrue};
 
@@ -20,8 +20,8 @@ fn are_same(labels: &[&[u8]], others: &[&[u8]]) -> bool
 }
 
 impl<'m, A: Allocator> Name<'m, A> {
-    /// Whether the names are the same: label by label, but for the case of letters of ASCII (RFC
-    /// 1035, section 2.3.3; RFC 4343). Where they stand does not matter.
+    /// Returns whether the names are equal label by label, ignoring the case of ASCII letters (RFC
+    /// 1035, section 2.3.3; RFC 4343). Their offsets do not matter.
     ///
     /// ```
     /// use format_dns::name::read_name;
@@ -40,7 +40,7 @@ impl<'m, A: Allocator> Name<'m, A> {
     }
 }
 
-/// Writes a byte of a label as master files have it (RFC 1035, section 5.1).
+/// Writes a byte of a label as in master files (RFC 1035, section 5.1).
 fn write_byte<W: fmt::Write>(f: &mut Formatter<W>, byte: u8) -> fmt::Result {
     match byte {
         b'"' | b'$' | b'(' | b')' | b'.' | b';' | b'@' | b'\\' => {
@@ -51,9 +51,9 @@ fn write_byte<W: fmt::Write>(f: &mut Formatter<W>, byte: u8) -> fmt::Result {
     }
 }
 
-/// A name as in master files (RFC 1035, section 5.1): a dot after each label, and the root is a
-/// dot. A byte that means something else there has a backslash before it, and one that is no
-/// visible character of ASCII is a backslash and its number in three digits.
+/// Writes a name as in master files (RFC 1035, section 5.1): a dot after each label, and a dot for
+/// the root. A byte with a special meaning is preceded by a backslash. A byte that is not a visible
+/// ASCII character is a backslash and its number in three digits.
 ///
 /// ```
 /// use format_dns::name::read_name;

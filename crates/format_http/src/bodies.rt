@@ -1,18 +1,18 @@
-//! How long the body of a message of HTTP/1.1 is, by its head (RFC 9112, section 6.3), or why the
-//! message must be refused.
+//! The length of the body of an HTTP/1.1 message, determined by its head (RFC 9112, section 6.3),
+//! or the reason why the message must be rejected.
 //!
-//! The rules stand in [`IsBodyLength`](../specs/Bodies/Framing.antt), numbered as in the standard.
-//! Where the standard leaves a choice:
+//! The rules are in [`IsBodyLength`](../specs/Bodies/Framing.antt), numbered as in the standard.
+//! Choices where the standard leaves one:
 //!
-//! - Transfer-Encoding beside Content-Length is refused, in requests and in responses, which the
-//!   standard says ought to be handled as an error (rule 3); so is Transfer-Encoding in a message
-//!   of a version before 1.1 (section 6.1).
-//! - Content-Length fields that are a list of one numeral, as `42, 42`, are that numeral (rule 5).
-//!   `42, 042` are two, and so are `,42` and `42,`, since an element that is empty counts: Content-Length
-//!   is no list that may have empty elements (RFC 9110, section 8.6).
-//! - `chunked` before another coding, be it `chunked` once more, is refused, in requests and in
-//!   responses (section 6.1). Codings are told apart at commas, those inside of quotes too.
-//! - A length that 64 bits do not hold is refused.
+//! - Transfer-Encoding together with Content-Length is rejected, in requests and in responses; the
+//!   standard says that it ought to be handled as an error (rule 3). So is Transfer-Encoding in a
+//!   message of a version before 1.1 (section 6.1).
+//! - `chunked` before another coding, or twice, is rejected, in requests and in responses (section
+//!   6.1). Codings are separated at commas, including commas in quoted strings.
+//! - Content-Length fields that are a list of one repeated numeral, such as `42, 42`, have its
+//!   value (rule 5). `42, 042` are two different numerals. `,42` and `42,` are rejected: an empty
+//!   element differs from a numeral (RFC 9110, section 8.6).
+//! - A length that does not fit in 64 bits is rejected.
 pub mod framing;
 pub mod laws;
 mod lengths;

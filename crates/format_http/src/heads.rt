@@ -1,9 +1,9 @@
-//! Heads of requests of HTTP/1.1 (RFC 9112) by what is written for them: their request lines, their
-//! field lines, and all of a head; and the fields of a name.
+//! Heads of HTTP/1.1 requests (RFC 9112), specified by their encoding: request lines, field lines,
+//! and complete heads; and the lookup of fields by name.
 //!
-//! Where this differs from the standard: a target is visible bytes of ASCII, of which the grammar
-//! of URIs takes some; an empty line before the request line is no part of a head, nor is a line
-//! that goes on after white space.
+//! Differences from the standard: a target is any sequence of visible ASCII bytes, and the grammar
+//! of URIs accepts only some of these. An empty line before the request line, and a line that
+//! starts with whitespace to continue the previous one, are not part of a head.
 pub mod field_line;
 pub mod head;
 pub mod laws;

@@ -1,5 +1,5 @@
-//! Messages of HTTP/1.1 (RFC 9112): the heads of requests and responses, the length of the body of a
-//! message, the size lines of chunks, and the reasons for which a server must reject a request.
+//! Messages of HTTP/1.1 (RFC 9112): the heads of requests and responses, the length of a message's
+//! body, the size lines of chunks, and the reasons for which a server must reject a request.
 #![tactic(auto)]
 
 pub mod bodies;

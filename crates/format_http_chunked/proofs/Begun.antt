@@ -1,4 +1,4 @@
--- At each place a body can go on.
+-- Lemmas that a body can continue from each state.
 use Rattle.std.specs.Prelude.{◌≡◌, ◌<◌, ◌+◌, ◌++◌, ℕ, zero, suc, List, [], ◌∷◌, length, replicate}
 use Rattle.std.proofs.Common.{inl, inr, refl, sym, subst, ap, arith, length-append}
 use Rattle.std.proofs.lemmas.List.{length-replicate}

@@ -1,4 +1,4 @@
--- What a decoder says, of places that are due alike and after bytes that are taken.
+-- Lemmas about the results of a decoder, for equivalent states and after consumed bytes.
 use Rattle.std.specs.Prelude.{◌≡◌, ◌↔◌, ◌<◌, ◌++◌, ℕ, List, [], ◌∷◌, length, Option, Some, None}
 use Rattle.std.specs.Prelude.{Result, Ok, Err, IfErr}
 use Rattle.std.proofs.Common.{ap, arith, refl, subst, sym, ◌∙◌}
@@ -54,7 +54,7 @@ byte_taken at framing next b bytes rest e f step =
     taken_from at (place.Framing framing) next bytes rest [] [] e
     (subst P (sym f) (taken_byte (place.Framing framing) next b rest step))
 
--- ---- what is said
+-- ---- results
 
 pub taken_alike : (at other new : Place) (bytes rest given fields : List ℕ)
     → ((content trailers more : List ℕ) → IsDue at content trailers more
@@ -106,7 +106,7 @@ pub fault_from : (at : Place) (framing : Framing) (b : ℕ) (why : Fault)
 fault_from at framing b why e =
     let P : Place → Type 0 = λ k. (room left : ℕ) → IsFault k room left b why in subst P (sym e)
 
--- what is due after a byte can go on
+-- after a byte that leads to the next state, a body can continue
 pub goes_on : (at : Place) (framing : Framing) (next : Place) (b : ℕ)
     → at ≡ place.Framing framing → ((content trailers bytes : List ℕ)
     → IsFramingDue framing content trailers (b ∷ bytes) ↔ IsDue next content trailers bytes)
@@ -140,7 +140,7 @@ last_goes_on at it b e f g =
       subst P (sym (e ∙ ap (λ k. place.Trailers k) f)) (subst Q (sym g) (refl, (0, refl), refl)),
     )
 
--- where no data is due its line end is
+-- if no data remain in a chunk, its line ending is expected
 pub zero_alike : (at : Place) → at ≡ place.Data 0 → (content trailers more : List ℕ)
     → IsDue at content trailers more
     ↔ IsDue (place.Framing framing.DataEnd) content trailers more

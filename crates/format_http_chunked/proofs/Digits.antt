@@ -1,4 +1,4 @@
--- Sizes, and what is after size lines.
+-- Lemmas about sizes, and about the bytes after size lines.
 use Rattle.std.specs.Prelude.{◌≡◌, ◌⊎◌, ◌↔◌, ◌<◌, ◌≤◌, ◌+◌, ◌*◌, ◌^◌, ◌++◌, ℕ, zero, suc, List, []}
 use Rattle.std.specs.Prelude.{◌∷◌, length}
 use Rattle.std.proofs.Common.{inl, inr, arith, refl, sym, subst, ap, ◌∙◌, length-append}

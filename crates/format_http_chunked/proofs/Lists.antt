@@ -24,7 +24,7 @@ take_front [] [] = refl
 take_front [] (b ∷ bs) = refl
 take_front (b ∷ bs) rest = ap (λ l. b ∷ l) (take_front bs rest)
 
--- the first of some bytes, by how many are after them
+-- the prefix of some bytes, by the length of the rest
 pub front_is : (bytes front rest : List ℕ) (n : ℕ) → bytes ≡ front ++ rest
     → n ≡ length bytes - length rest → take n bytes ≡ front
 front_is bytes front rest n e many =

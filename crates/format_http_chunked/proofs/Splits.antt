@@ -1,4 +1,4 @@
--- What is after a text may be anything else.
+-- Lemmas that the continuation after a text can be replaced.
 use Rattle.std.specs.Prelude.{◌≡◌, ◌⊎◌, ◌↔◌, ℕ, zero, suc, List, [], ◌∷◌}
 use Rattle.std.proofs.Common.{inl, inr}
 use Rattle.format_http_chunked.specs.Bodies.{Extension, FieldLine, Given, IsQuotedByte, IsTokenByte}
@@ -6,7 +6,7 @@ use Rattle.format_http_chunked.specs.Bodies.{IsValueByte, IsWhite, LineEnd, Quot
 use Rattle.format_http_chunked.specs.Bodies.{Value}
 use Rattle.format_http_chunked.specs.Words.{Byte, Many, One, Some, Star, Times}
 
--- What stands after a text can be taken for other things that stand there.
+-- The continuation after a match of `A` can be replaced by another.
 abbrev pub Splits : ((List ℕ → Type 0) → List ℕ → Type 0) → Type 1
 Splits A = (next : List ℕ → Type 0) (bytes : List ℕ) → A next bytes
     → (rest : List ℕ) × next rest × ((other : List ℕ → Type 0) → other rest → A other bytes)
@@ -47,7 +47,7 @@ pub star : (A : (List ℕ → Type 0) → List ℕ → Type 0) → Splits A → 
 star A a next bytes (n, x) =
     let (rest, y, f) = times n A a next bytes x in (rest, y, λ other o. (n, f other o))
 
--- any number of texts are none, or one and any number
+-- repetitions of a text are empty, or one text and more repetitions
 pub opens : (A : (List ℕ → Type 0) → List ℕ → Type 0) → Splits A
     → (next : List ℕ → Type 0) (bytes : List ℕ)
     → Star A next bytes ↔ (next bytes ⊎ A (Star A next) bytes)

@@ -1,4 +1,4 @@
--- Where what is given out stands, in more bytes than a part of a call saw.
+-- Lemmas about the position of the output in the bytes, if a part of a call saw only some of them.
 use Rattle.std.specs.Prelude.{◌≡◌, ◌++◌, ◌∷◌, ◌-◌, ℕ, List, length, take, Result}
 use Rattle.std.proofs.Common.{ap, append_assoc, refl, sym, ◌∙◌}
 use Rattle.format_http_chunked.proofs.Lists.{front_is}
@@ -16,7 +16,7 @@ stands_then taken bytes ahead rest said e (before, f) = (
       ∙ sym (append_assoc taken before (content_of said ++ (trailers_of said ++ rest))),
 )
 
--- the first of some bytes, by how many are after them
+-- the prefix of some bytes, by the length of the rest
 pub front_before : (b : ℕ) (bytes ahead rest fields front : List ℕ) → bytes ≡ b ∷ ahead
     → ahead ≡ fields ++ rest → front ≡ take (length bytes - length rest) bytes
     → bytes ≡ front ++ rest

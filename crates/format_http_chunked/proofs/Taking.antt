@@ -1,4 +1,4 @@
--- What is taken of bytes, and what is due after it.
+-- Lemmas about consumed bytes, and the state after them.
 use Rattle.std.specs.Prelude.{◌≡◌, ◌⊎◌, ◌↔◌, ◌<◌, ◌≤◌, ◌-◌, ◌+◌, ◌++◌, ℕ, List, [], ◌∷◌}
 use Rattle.std.specs.Prelude.{length, take}
 use Rattle.std.proofs.Common.{inl, inr, arith, refl, sym, subst, ap, ◌∙◌, append_assoc}
@@ -161,7 +161,7 @@ passed_then at mid next xs ys f g content trailers more =
           )),
     )
 
--- where no byte of field lines is due there are none, and nothing is begun
+-- if the field lines may end here, the state is at the start of a field line
 none_due : (at : InField) → DueFields at [] → at ≡ field.Start
 none_due field.Start x = refl
 none_due field.Name x = absurd x
@@ -245,7 +245,7 @@ fields_end content trailers bytes = (there trailers, back)
         let P : List ℕ → Type 0 = λ k. AreFields k × (13 ∷ bytes ≡ k ++ 13 ∷ 10 ∷ []) in
         let (none, all) = subst P (sym t) ((0, refl), ap (λ l. 13 ∷ l) e) in (c, none, all)
 
--- no field line goes on
+-- no field line continues with this byte
 pub fields_never : (at : InField) (b : ℕ) → ((fields : List ℕ) → DueFields at (b ∷ fields) → ⊥)
     → (at ≡ field.Start → b ≡ 13 → ⊥) → IsNever (place.Trailers at) b
 fields_never at b none plain content [] bytes (c, due, e) =

@@ -1,4 +1,4 @@
--- What a decoder says of all bytes so far, by what it says of those of one call.
+-- The results of a decoder for all bytes so far, from its results for the bytes of one call.
 use Rattle.std.specs.Prelude.{◌≡◌, ◌≤◌, ◌↔◌, ◌^◌, ◌+◌, ◌++◌, ℕ, List, [], ◌∷◌, length, Result}
 use Rattle.std.specs.Prelude.{Ok, Err}
 use Rattle.std.proofs.Common.{refl, sym, subst, ap, ◌∙◌, append_assoc, arith}
@@ -68,7 +68,6 @@ module _ (front given fields : List ℕ) where
               (content, trailers, refl, refl, x),
         )
 
-    -- no body goes on with a byte that none does here
     none_goes_on : (b : ℕ) → IsNever at b → IsNone (front ++ b ∷ [])
     none_goes_on b never content trailers more x =
         let P : List ℕ → Type 0 = λ l. IsBody content trailers l in
@@ -76,7 +75,6 @@ module _ (front given fields : List ℕ) where
         (subst P (append_assoc front (b ∷ []) more) x) in
         never left others more y
 
-    -- some body goes on with a byte that one does here
     some_goes_on : (b : ℕ) → GoesOn at b → IsNone (front ++ b ∷ []) → ⊥
     some_goes_on b (content, trailers, more, x) none =
         let P : List ℕ → Type 0 = λ l. IsBody (given ++ content) (fields ++ trailers) l in

@@ -1,4 +1,4 @@
--- What is due in a size line after a byte.
+-- Lemmas about the state in a size line after a byte.
 use Rattle.std.specs.Prelude.{◌≡◌, ◌⊎◌, ◌↔◌, ◌<◌, ◌≤◌, ℕ, List, ◌∷◌}
 use Rattle.std.proofs.Common.{inl, inr, arith, subst, sym}
 use Rattle.format_http_chunked.proofs.Splits.{extension, opens, quoted_byte}
@@ -194,7 +194,7 @@ module _ (next : List ℕ → Type 0) (b : ℕ) (bytes : List ℕ) where
 
 -- ---- turns
 
--- the same bytes are due at two places
+-- the same bytes are expected in two states
 pub turn_by : (at other : Framing) (size b : ℕ) (turn : Turn)
     → ((content trailers bytes : List ℕ) → IsFramingDue at content trailers (b ∷ bytes)
     ↔ IsFramingDue other content trailers (b ∷ bytes))

@@ -65,7 +65,7 @@ Extension next = Spaced 59 (Some IsTokenByte (Given next))
 abbrev pub Extended : (List ℕ → Type 0) → List ℕ → Type 0
 Extended next = Star Extension (LineEnd next)
 
--- chunk-size chunk-ext CRLF, where chunk-size = 1*HEXDIG is the number of what is after
+-- chunk-size chunk-ext CRLF, where chunk-size = 1*HEXDIG is the number passed to `next`
 abbrev pub SizeLine : (ℕ → List ℕ → Type 0) → List ℕ → Type 0
 SizeLine next bytes =
     (digits : List ℕ) × (behind : List ℕ) × (0 < length digits)
@@ -88,15 +88,16 @@ Ending trailers bytes = AreFields trailers × (bytes ≡ trailers ++ 13 ∷ 10 �
 
 -- ---- the body: *chunk last-chunk trailer-section CRLF
 
--- That many bytes and CRLF stand first: they are the first of the content, and what is after them
--- is with what is after the line end as `next` says.
+-- The bytes start with `size` bytes of data and CRLF. The data are the start of the content, and
+-- `next` holds for the rest of the content and the rest of the bytes.
 abbrev pub ChunkData : ℕ → (List ℕ → List ℕ → Type 0) → List ℕ → List ℕ → Type 0
 ChunkData size next content bytes =
     (piece : List ℕ) × (more : List ℕ) × (behind : List ℕ) × (length piece ≡ size)
     × (content ≡ piece ++ more) × (bytes ≡ piece ++ 13 ∷ 10 ∷ behind) × next more behind
 
--- What is after the size line of a chunk of this size, where that many chunks follow: after the
--- last one, whose size is 0, the trailer section; after another its data, and those that follow.
+-- The bytes after the size line of a chunk of this size, followed by `n` more chunks. After the
+-- last one, whose size is 0, comes the trailer section; after any other come its data and the
+-- following chunks.
 abbrev pub Behind : ℕ → List ℕ → List ℕ → ℕ → List ℕ → Type 0
 Behind zero content trailers size bytes = (size ≡ 0) × (content ≡ []) × Ending trailers bytes
 Behind (suc n) content trailers size bytes =

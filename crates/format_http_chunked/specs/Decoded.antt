@@ -1,4 +1,4 @@
--- What a decoder says of a chunked body that comes in pieces.
+-- The results of a decoder for a chunked body that arrives in chunks.
 use Rattle.std.specs.Prelude.{◌≡◌, ◌≤◌, ◌<◌, ◌^◌, ◌↔◌, ◌++◌, ⊤, ℕ, List, [], ◌∷◌, length}
 use Rattle.std.specs.Prelude.{Result, Ok, Err}
 use Rattle.format_http_chunked.specs.Bodies.{IsBody}
@@ -14,15 +14,17 @@ use Rattle.format_http_chunked.specs.declared.places.Framing.TheVariants as fram
 use Rattle.format_http_chunked.specs.declared.places.Place.{Place}
 use Rattle.format_http_chunked.specs.declared.places.Place.TheVariants as place
 
--- These bytes were taken, and this much of content and trailers given out: whatever is after them,
--- all is a body exactly where what is due here is after them, with what is left of the two.
+-- `front` was consumed, and `given` and `fields` were returned: for any continuation, the whole is
+-- a body if and only if the continuation is accepted in this state, with the rest of content and
+-- trailers.
 abbrev pub IsAt : Place → List ℕ → List ℕ → List ℕ → Type 0
 IsAt at front given fields = (content trailers bytes : List ℕ)
     → IsBody content trailers (front ++ bytes)
     ↔ ((left : List ℕ) × (others : List ℕ) × (content ≡ given ++ left)
     × (trailers ≡ fields ++ others) × IsDue at left others bytes)
 
--- Some more bytes make these a body, and its content and trailers begin with what was given out.
+-- Some continuation makes these bytes a body, whose content and trailers start with the output so
+-- far.
 abbrev pub IsBegun : List ℕ → List ℕ → List ℕ → Type 0
 IsBegun front given fields =
     (left : List ℕ) × (others : List ℕ) × (more : List ℕ)
@@ -32,10 +34,10 @@ IsBegun front given fields =
 abbrev pub IsNone : List ℕ → Type 0
 IsNone bytes = (content trailers more : List ℕ) → IsBody content trailers (bytes ++ more) → ⊥
 
--- What a refusal says of a byte that is after these: no body goes on with it, where the first digit
--- of a size is due, or the rest of a size line, or the line end of data, or trailers; or it is a
--- digit of a size, and no body of less than 2 ^ 64 bytes of content goes on with it; or some body
--- does, and as many bytes as may be are between data, or are of trailers.
+-- The contract of an error at the byte after `front`. Either no body continues with it, and a size,
+-- the rest of a size line, the line ending of data, or trailers are expected. Or it is a digit of a
+-- size, and no body of less than 2 ^ 64 bytes of content continues with it. Or some body continues
+-- with it, and the limit of bytes between data or of trailers is reached.
 abbrev pub IsRefusal : Decoder → List ℕ → ℕ → Fault → Type 0
 IsRefusal decoder front byte fault.Size =
     (decoder.place ≡ place.Framing framing.Start) × IsNone (front ++ byte ∷ [])
@@ -69,11 +71,11 @@ trailers_of (Ok step.End) = []
 trailers_of (Ok step.More) = []
 trailers_of (Err why) = []
 
--- What a call says, where it leaves these bytes after those that were taken so far, and this was
--- given out so far: some data or some bytes of trailers; or that what was taken is a body, and this
--- is all of its content and its trailers; or that no byte is left, and what was taken is no body,
--- and begins one; or that with the byte that is left no body goes on, as the fault says, and what
--- was taken before it begins one.
+-- The contract of a call that leaves `rest`, in terms of all bytes consumed and all output so far.
+-- `Data` and `Trailers` are not empty. At `End` the consumed bytes are a body, and the output is
+-- its content and trailers. At `More` no byte remains, and the consumed bytes are a proper prefix
+-- of a body. At an error no body continues with the next byte, for the given reason, and the
+-- consumed bytes are a prefix of a body.
 abbrev pub Says : Decoder → List ℕ → List ℕ → List ℕ → List ℕ → Result Step Fault → Type 0
 Says decoder front given fields rest (Ok (step.Data chunk)) = 0 < length chunk.now
 Says decoder front given fields rest (Ok (step.Trailers some)) = 0 < length some.now
@@ -85,8 +87,8 @@ Says decoder front given fields rest (Err why) =
     (byte : ℕ) × (others : List ℕ) × (rest ≡ byte ∷ others)
     × IsRefusal decoder front byte why × IsBegun front given fields
 
--- What a call does, where these bytes were taken and this was given out before: it takes some of
--- the bytes that are there and leaves the rest, and gives out what is next of content and trailers.
+-- The contract of a call after `front` was consumed and `given` and `fields` were returned: it
+-- consumes some of the bytes, leaves the rest, and returns the next part of content or trailers.
 abbrev pub IsAnswer : Decoder → List ℕ → List ℕ → List ℕ → List ℕ → List ℕ → Result Step Fault
     → Type 0
 IsAnswer decoder front given fields bytes rest result =

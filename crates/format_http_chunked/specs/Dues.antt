@@ -1,4 +1,5 @@
--- What is due at each place of a chunked body: the rest of it, in the words of its grammar.
+-- The rest of a chunked body that is expected in each state of the decoder, in terms of its
+-- grammar.
 use Rattle.std.specs.Prelude.{◌≡◌, ◌⊎◌, ◌++◌, ◌↔◌, ℕ, List, [], ◌∷◌}
 use Rattle.std.specs.List.{AllByRecursion}
 use Rattle.std.specs.Str.Parse.{digits_value_after}
@@ -15,7 +16,7 @@ use Rattle.format_http_chunked.specs.declared.places.InLine.TheVariants as line
 use Rattle.format_http_chunked.specs.declared.places.Place.{Place}
 use Rattle.format_http_chunked.specs.declared.places.Place.TheVariants as place
 
--- what is due in a size line, where after it is what `next` says
+-- the rest of a size line that is expected in a state, followed by `next`
 abbrev pub DueInLine : InLine → (List ℕ → Type 0) → List ℕ → Type 0
 DueInLine line.Behind next = Extended next
 DueInLine line.White next = Extension (Extended next)
@@ -29,20 +30,20 @@ DueInLine line.Quotes next = Star QuotedByte (Byte 34 (Extended next))
 DueInLine line.Escape next = One IsValueByte (Star QuotedByte (Byte 34 (Extended next)))
 DueInLine line.Return next = Byte 10 next
 
--- what is due in the digits of a size that make this number so far
+-- the rest of a size whose digits so far make this number
 abbrev pub DueDigits : ℕ → (ℕ → List ℕ → Type 0) → List ℕ → Type 0
 DueDigits number next bytes =
     (digits : List ℕ) × (behind : List ℕ) × AllByRecursion IsHexDigit digits
     × (bytes ≡ digits ++ behind) × Extended (next (digits_value_after 16 number digits)) behind
 
--- what is due of field lines
+-- the rest of field lines that is expected in a state
 abbrev pub DueFields : InField → List ℕ → Type 0
 DueFields field.Start = AreFields
 DueFields field.Name = Many IsTokenByte (Byte 58 (Many IsValueByte (LineEnd AreFields)))
 DueFields field.Value = Many IsValueByte (LineEnd AreFields)
 DueFields field.Return = Byte 10 AreFields
 
--- what is due between what is given out
+-- the rest that is expected in a state between outputs
 abbrev pub IsFramingDue : Framing → List ℕ → List ℕ → List ℕ → Type 0
 IsFramingDue framing.Start content trailers bytes = IsBody content trailers bytes
 IsFramingDue (framing.Digits number) content trailers bytes =
@@ -54,7 +55,8 @@ IsFramingDue framing.DataReturn content trailers bytes = Byte 10 (IsBody content
 IsFramingDue framing.LastReturn content trailers bytes =
     (content ≡ []) × (trailers ≡ []) × (bytes ≡ 10 ∷ [])
 
--- What is due at a place: with this content, these bytes of trailers, and these bytes in all.
+-- `IsDue at content trailers bytes`: in state `at` the rest of a body may be `bytes`, with this
+-- content and these bytes of trailers.
 abbrev pub IsDue : Place → List ℕ → List ℕ → List ℕ → Type 0
 IsDue (place.Framing at) content trailers bytes = IsFramingDue at content trailers bytes
 IsDue (place.Data size) content trailers bytes =

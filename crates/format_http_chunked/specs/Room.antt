@@ -23,7 +23,7 @@ Spends old new bytes rest (Ok step.End) = IsSpent old new bytes rest 0
 Spends old new bytes rest (Ok step.More) = IsSpent old new bytes rest 0
 Spends old new bytes rest (Err why) = IsSpent old new bytes rest 0
 
--- the same of a part of a call
+-- likewise for a part of a call
 abbrev pub PartSpends : Decoder → Decoder → List ℕ → List ℕ → Result (Option Step) Fault → Type 0
 PartSpends old new bytes rest (Ok (Some said)) = Spends old new bytes rest (Ok said)
 PartSpends old new bytes rest (Ok None) = IsSpent old new bytes rest 0

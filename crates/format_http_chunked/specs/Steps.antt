@@ -1,4 +1,4 @@
--- What a byte is to a decoder, and what it says of bytes.
+-- The effect of a byte on a decoder, and the results for bytes.
 use Rattle.std.specs.Prelude.{◌≡◌, ◌⊎◌, ◌≤◌, ◌<◌, ◌^◌, ◌↔◌, ◌++◌, ⊤, ℕ, List, [], ◌∷◌, length}
 use Rattle.std.specs.Prelude.{Option, Some, None, Result, Ok, Err}
 use Rattle.format_http_chunked.specs.Bodies.{Behind, IsHexDigit}
@@ -17,7 +17,8 @@ use Rattle.format_http_chunked.specs.declared.places.InField.TheVariants as fiel
 use Rattle.format_http_chunked.specs.declared.places.Place.{Place}
 use Rattle.format_http_chunked.specs.declared.places.Place.TheVariants as place
 
--- After the byte this is due; or what is after the size line; or nothing, whatever follows.
+-- The contract of a step: the next state in a size line after the byte; or the end of the size
+-- line; or that no line continues with the byte.
 abbrev pub IsTurn : Framing → ℕ → ℕ → Turn → Type 0
 IsTurn at size byte (Goes next) =
     (content trailers bytes : List ℕ) → IsFramingDue at content trailers (byte ∷ bytes)
@@ -28,16 +29,16 @@ IsTurn at size byte Ends =
 IsTurn at size byte Never =
     (content trailers bytes : List ℕ) → IsFramingDue at content trailers (byte ∷ bytes) → ⊥
 
--- No body goes on with the byte at this place.
+-- No body continues with the byte in this state.
 abbrev pub IsNever : Place → ℕ → Type 0
 IsNever at byte = (content trailers bytes : List ℕ) → IsDue at content trailers (byte ∷ bytes) → ⊥
 
--- Each body that goes on with the byte at this place has 2 ^ 64 bytes of content or more.
+-- Each body that continues with the byte in this state has at least 2 ^ 64 bytes of content.
 abbrev pub IsTooLarge : Place → ℕ → Type 0
 IsTooLarge at byte = (content trailers bytes : List ℕ)
     → IsDue at content trailers (byte ∷ bytes) → 2 ^ 64 ≤ length content
 
--- some body goes on with the byte at this place
+-- some body continues with the byte in this state
 abbrev pub GoesOn : Place → ℕ → Type 0
 GoesOn at byte = (content : List ℕ) × (trailers : List ℕ) × (bytes : List ℕ)
     × IsDue at content trailers (byte ∷ bytes)
@@ -80,9 +81,9 @@ IsBetweenData at byte =
     ((it : Framing) × (at ≡ place.Framing it))
     ⊎ ((at ≡ place.Trailers field.Start) × (byte ≡ 13))
 
--- Why the byte is refused at this place, where that many bytes more are let between pieces of data,
--- and that many of trailers: none goes on with it; or none of less than 2 ^ 64 bytes does; or some
--- does, and it is one too many.
+-- The reason to reject the byte in this state, if `room` more bytes are allowed between data, and
+-- `left` more of trailers: no body continues with it; or none of less than 2 ^ 64 bytes; or some
+-- body does, and a limit is exceeded.
 abbrev pub IsFault : Place → ℕ → ℕ → ℕ → Fault → Type 0
 IsFault at room left byte fault.Size = (at ≡ place.Framing framing.Start) × IsNever at byte
 IsFault at room left byte fault.SizeLine = IsInSizeLine at × IsNever at byte
@@ -94,16 +95,18 @@ IsFault at room left byte fault.Trailers = IsInTrailers at × IsNever at byte
 IsFault at room left byte fault.TrailersTooLong =
     IsTrailerByte at byte × GoesOn at byte × (left ≡ 0)
 
--- Bytes of field lines are taken between two places: what was due first is due exactly where these
--- bytes are the first of the trailers, and what is due now is after them.
+-- `ArePassed old new fields`: bytes of field lines lead from one state to another. The bytes are
+-- accepted in `old` if and only if they are the start of the trailers and the rest is accepted in
+-- `new`.
 abbrev pub ArePassed : InField → InField → List ℕ → Type 0
 ArePassed old new fields = (content trailers more : List ℕ)
     → IsDue (place.Trailers old) content trailers (fields ++ more)
     ↔ ((others : List ℕ) × (trailers ≡ fields ++ others)
     × IsDue (place.Trailers new) content others more)
 
--- Of some bytes the first are taken, and others left: whatever is after those, what was due first
--- is due exactly where what is due now is after them, with so much content and trailers less.
+-- `IsTaken old new bytes rest given fields`: a prefix of `bytes` was consumed, and `rest` remains.
+-- For any continuation of the prefix, it is accepted in `old` if and only if the continuation is
+-- accepted in `new`, with `given` and `fields` removed from content and trailers.
 abbrev pub IsTaken : Place → Place → List ℕ → List ℕ → List ℕ → List ℕ → Type 0
 IsTaken old new bytes rest given fields =
     (taken : List ℕ) × (bytes ≡ taken ++ rest)
@@ -111,7 +114,7 @@ IsTaken old new bytes rest given fields =
     ↔ ((left : List ℕ) × (others : List ℕ) × (content ≡ given ++ left)
     × (trailers ≡ fields ++ others) × IsDue new left others more))
 
--- What the decoder says of the bytes that it takes.
+-- The result of the decoder for the bytes that it consumes.
 abbrev pub IsSaid : Decoder → Decoder → List ℕ → List ℕ → Result Step Fault → Type 0
 IsSaid old new bytes rest (Ok (step.Data chunk)) =
     IsTaken old.place new.place bytes rest chunk.now [] × (0 < length chunk.now)
@@ -125,7 +128,7 @@ IsSaid old new bytes rest (Err fault) =
     IsTaken old.place new.place bytes rest [] [] × ((byte : ℕ) × (others : List ℕ)
     × (rest ≡ byte ∷ others) × IsFault new.place new.room new.trailer_room byte fault)
 
--- The same of a part of a call, which may have nothing to say as yet.
+-- Like `IsSaid`, for a part of a call, which may not have a result yet.
 abbrev pub IsPart : Decoder → Decoder → List ℕ → List ℕ → Result (Option Step) Fault → Type 0
 IsPart old new bytes rest (Ok (Some said)) = IsSaid old new bytes rest (Ok said)
 IsPart old new bytes rest (Ok None) =

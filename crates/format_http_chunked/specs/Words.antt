@@ -1,5 +1,5 @@
--- Words for grammars of bytes. Each is of what is after: `A next bytes` says that a text of A
--- stands first in the bytes, and after it what `next` says.
+-- Combinators for grammars of bytes with a continuation: `A next bytes` holds if `bytes` starts
+-- with a match of `A`, and `next` holds for the rest.
 use Rattle.std.specs.Prelude.{◌≡◌, ◌⊎◌, ℕ, zero, suc, List, [], ◌∷◌}
 
 -- one byte of these
@@ -20,7 +20,7 @@ Many these next (b ∷ bytes) = next (b ∷ bytes) ⊎ (these b × Many these ne
 abbrev pub Some : (ℕ → Type 0) → (List ℕ → Type 0) → List ℕ → Type 0
 Some these next = One these (Many these next)
 
--- that many texts
+-- `n` consecutive matches
 abbrev pub Times : ℕ → ((List ℕ → Type 0) → List ℕ → Type 0) → (List ℕ → Type 0) → List ℕ
     → Type 0
 Times zero A next bytes = next bytes

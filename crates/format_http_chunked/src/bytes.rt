@@ -43,7 +43,7 @@ pub(crate) fn is_quoted(byte: u8) -> bool
         || byte >= 128
 }
 
-/// What a hexadecimal digit counts.
+/// Returns the value of a hexadecimal digit.
 #[inline]
 pub(crate) fn digit_of(byte: u8) -> Option<u64>
     ensures some { IfSome result (λ value. IsHexDigit byte × (value ≡ digit_value byte)

@@ -29,8 +29,8 @@ use crate::framing::{place_after, taken_of};
 use crate::places::{Framing, InField, Place};
 use crate::state::{ChunkedState, numbers_of, place_of};
 
-/// How many bytes a decoder takes of what a sender could make endless: zeros before a size,
-/// extensions, fields. Data has no limit here but that of its chunk, 2<sup>64</sup> - 1 bytes.
+/// The limits on bytes that a sender could repeat forever: zeros before a size, extensions, fields.
+/// Data have no limit here except that of a chunk, 2<sup>64</sup> - 1 bytes.
 ///
 /// ```
 /// use format_http_chunked::decoder::{Decoder, Fault, Limits};
@@ -42,8 +42,8 @@ use crate::state::{ChunkedState, numbers_of, place_of};
 /// ```
 #[derive(Clone, Copy, Debug, PartialEq, Eq)]
 pub struct Limits {
-    /// Between data, and before and after all of them: of a size line with its extensions, and of
-    /// the line ends beside it.
+    /// The maximal number of bytes between data, before the first and after the last: a size line
+    /// with its extensions, and the adjacent line endings.
     pub size_line: usize,
     /// Of the trailer section, without the line end after it.
     pub trailers: usize,
@@ -61,7 +61,7 @@ pub const SAFE_LIMITS: Limits = Limits {
     trailers: 8192,
 };
 
-/// Why a byte is refused: the one that the input then begins with.
+/// The reason why a byte is rejected. It is the first byte of the input after the call.
 ///
 /// ```
 /// use format_http_chunked::decoder::{Decoder, Fault, SAFE_LIMITS};
@@ -74,23 +74,23 @@ pub const SAFE_LIMITS: Limits = Limits {
 /// ```
 #[derive(Clone, Copy, Debug, PartialEq, Eq)]
 pub enum Fault {
-    /// A size line is due, and begins with no hexadecimal digit.
+    /// A size line does not start with a hexadecimal digit.
     Size,
-    /// No size line goes on with it: it is in no extension, or in no line end.
+    /// No size line continues with the byte: it is not part of an extension or of a line ending.
     SizeLine,
     /// With this digit the size is 2<sup>64</sup> or more.
     SizeTooLarge,
-    /// More bytes than [`Limits::size_line`] lets would stand before the next data, or the end.
+    /// More than [`Limits::size_line`] bytes would precede the next data, or the end.
     SizeLineTooLong,
-    /// A carriage return and a line feed are due after the data of a chunk.
+    /// The data of a chunk is not followed by a carriage return and a line feed.
     DataEnd,
-    /// No field line goes on with it, nor the line end after the trailer section.
+    /// Neither a field line nor the line ending after the trailer section continues with the byte.
     Trailers,
     /// The trailer section would have more bytes than [`Limits::trailers`] lets.
     TrailersTooLong,
 }
 
-/// What bytes are.
+/// The part of a body that bytes belong to.
 ///
 /// ```
 /// use format_http_chunked::decoder::Step;
@@ -101,17 +101,17 @@ pub enum Fault {
 pub enum Step<'i> {
     /// Data of a chunk, one byte or more.
     Data(&'i [u8]),
-    /// Bytes of the trailer section, one or more: after one another all of them are field lines,
-    /// whole ones, each with its line end. The line end after the section is none of them.
+    /// One or more bytes of the trailer section. Concatenated, all of them are complete field
+    /// lines, each with its line ending. They do not include the line ending after the section.
     Trailers(&'i [u8]),
-    /// The body is whole. What is left of the input is after it.
+    /// The body is complete. The remaining input follows it.
     End,
     /// All bytes are taken, and more are needed.
     More,
 }
 
-/// How far a body was decoded. It is a few words, and holds none of the bytes: a copy of it goes on
-/// from the same place.
+/// The state of decoding a chunked body. It is a few words, and holds none of the bytes: a copy of
+/// it resumes from the same position.
 ///
 /// ```
 /// use format_http_chunked::decoder::{Decoder, SAFE_LIMITS, Step};
@@ -124,9 +124,9 @@ pub enum Step<'i> {
 /// ```
 #[derive(Clone, Copy, Debug, PartialEq, Eq)]
 pub struct Decoder {
-    /// Where in the body the next byte is due.
+    /// The position of the next byte in the body.
     place: Place,
-    /// How many bytes more may stand before the next data.
+    /// The number of bytes allowed before the next data.
     room: usize,
     /// How many bytes more the trailer section may have.
     trailer_room: usize,
@@ -198,8 +198,8 @@ impl Decoder {
         }
     }
 
-    /// The decoder that numbers say, which may be any: where `place` is 0 one of which nothing is
-    /// taken, with the limits for a server, whatever the others are.
+    /// Creates the decoder for these numbers, which may have any values. If `place` is 0, it is a
+    /// new decoder with the limits for a server, regardless of the other numbers.
     ///
     /// ```
     /// use format_http_chunked::decoder::{Decoder, SAFE_LIMITS, Step};
@@ -226,7 +226,7 @@ impl Decoder {
         }
     }
 
-    /// Takes a byte of which nothing is given out.
+    /// Consumes a byte that is not part of the output.
     fn pass_byte<'i>(
         &mut self,
         at: Framing,
@@ -254,7 +254,7 @@ impl Decoder {
         }
     }
 
-    /// Takes data of a chunk, of which that many bytes are due.
+    /// Consumes data of a chunk. `size` is the number of bytes of data that remain.
     fn pass_data<'i>(&mut self, size: u64, input: &mut &'i [u8]) -> Step<'i>
         requires due { self.old.place ≡ place.Data size }
         requires some { 0 < size }
@@ -337,7 +337,7 @@ impl Decoder {
         }
     }
 
-    /// Takes the bytes that are there, up to what is to be said.
+    /// Consumes bytes up to the next result.
     fn run<'i>(&mut self, input: &mut &'i [u8]) -> Result<Step<'i>, Fault>
         ensures told { IsSaid self.old self.new input.old.now input.new.now result }
         ensures spent { Spends self.old self.new input.old.now input.new.now result }
@@ -354,26 +354,29 @@ impl Decoder {
         }
     }
 
-    /// Takes the first bytes of the input, and says what they are: data, bytes of trailers, or the
-    /// end; or takes all, and says that more are needed. Each byte is to be passed once: after
-    /// [`Step::More`] the next input is what follows the last one.
+    /// Consumes the first bytes of the input and returns their kind: data, bytes of trailers, or
+    /// the end. If more bytes are needed, it consumes all of them and returns [`Step::More`]. Each
+    /// byte must be passed once: after [`Step::More`] the next input is the continuation of the
+    /// last one.
     ///
-    /// Of all bytes that are taken, in all calls, the data are the content of the chunked body that
-    /// they begin, in order, wherever they are cut; `End` comes where it is whole, and `More` where
-    /// it is not, and can still be. An error is for the first byte with which none goes on. That
-    /// byte is not taken, so it is what the input then begins with, and is refused again.
+    /// For the bytes consumed in all calls, the data are the content of the chunked body, in order,
+    /// however the bytes are divided. It returns `End` when the body is complete, and `More` while
+    /// it is incomplete and can be completed. An error is for the first byte that cannot continue a
+    /// body. That byte is not consumed, so the input then starts with it, and the next call rejects
+    /// it again.
     ///
-    /// Bytes of size lines and trailers are looked at once, those of data not at all: the time is
-    /// linear in the bytes, however they are cut. Extensions are passed over, and field lines are
-    /// given out as they stand; `format_http::heads` reads them. White space may stand around the
-    /// marks of an extension (RFC 9112, section 7.1.1), and a line feed alone is no line end.
+    /// Bytes of size lines and trailers are examined once, and those of data not at all: the time
+    /// is linear in the bytes, however they are divided. Extensions are skipped, and field lines
+    /// are returned unchanged; `format_http::heads` reads them. Whitespace may surround the
+    /// delimiters of an extension (RFC 9112, section 7.1.1). A single line feed is not a line
+    /// ending.
     ///
     /// # Errors
     ///
-    /// A [`Fault`] says why. [`Fault::SizeTooLarge`] is for a body of 2<sup>64</sup> bytes or more,
-    /// which the standard lets, and the two that are too long are for the limits, where some body
-    /// goes on with the byte; with any other, no body begins with the bytes up to that one, and the
-    /// fault says what is due there.
+    /// The [`Fault`] is the reason. [`Fault::SizeTooLarge`] is for a body of 2<sup>64</sup> bytes
+    /// or more, which the standard allows. The two errors for excessive length are for the limits;
+    /// some body continues with the byte. With any other error no body starts with the bytes up to
+    /// that one, and the error names the part that is expected.
     ///
     /// ```
     /// use format_http_chunked::decoder::{Decoder, SAFE_LIMITS, Step};

@@ -1,4 +1,4 @@
-//! Where in the trailer section the next byte is due.
+//! The position of the next byte in the trailer section.
 #![tactic(auto)]
 
 ghost use Rattle.format_http_chunked.specs.Dues.{DueFields};
@@ -9,7 +9,7 @@ ghost use Rattle.std.specs.Prelude.{◌≡◌, ◌↔◌, ◌++◌, ◌∷◌, �
 use crate::bytes::{is_token, is_value};
 use crate::places::InField;
 
-/// Where in field lines the next byte is due after this one; none where no field line goes on with
+/// Returns the position in field lines after this byte, or `None` if no field line continues with
 /// it.
 #[inline]
 pub(crate) fn field_behind(at: InField, byte: u8) -> Option<InField>
@@ -52,8 +52,8 @@ pub(crate) fn field_behind(at: InField, byte: u8) -> Option<InField>
     }
 }
 
-/// Passes bytes of field lines, as many as stand first or the room lets: where the next one is due,
-/// the room that is left, and what is after them.
+/// Consumes the longest prefix of field lines that `room` allows. Returns the position of the next
+/// byte, the remaining room, and the rest.
 pub(crate) fn pass_fields<'i>(
     at: InField,
     room: usize,

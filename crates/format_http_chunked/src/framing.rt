@@ -1,4 +1,4 @@
-//! What a byte is between what is given out.
+//! The effect of a byte that is not part of the output.
 #![tactic(auto)]
 
 ghost use Rattle.format_http_chunked.specs.Bodies.{Behind};
@@ -14,7 +14,7 @@ use crate::decoder::Fault;
 use crate::lines::{Turn, turn_at};
 use crate::places::{Framing, InField, InLine, Place};
 
-/// Where the next byte is due after the size line of a chunk of this size.
+/// Returns the position after the size line of a chunk of this size.
 fn place_behind(size: u64) -> Place
     ensures { (content trailers bytes : List ℕ)
         → ((n : ℕ) × Behind n content trailers size bytes) ↔ IsDue result content trailers bytes }
@@ -25,7 +25,7 @@ fn place_behind(size: u64) -> Place
     }
 }
 
-/// Where the next byte is due after this one in a size line; none where no line goes on with it.
+/// Returns the position after this byte in a size line, or `None` if no line continues with it.
 fn behind_in_line(at: InLine, size: u64, byte: u8) -> Option<Place>
     ensures some { IfSome result (λ next. (content trailers bytes : List ℕ)
         → IsFramingDue (framing.Line at size) content trailers (byte ∷ bytes)
@@ -49,7 +49,7 @@ fn number_after(number: u64, digit: u64) -> Option<u64>
     number.checked_mul(16)?.checked_add(digit)
 }
 
-/// Where the next byte is due after this one in the digits of a size.
+/// Returns the position after this byte in the digits of a size.
 fn after_digit(number: u64, byte: u8) -> Result<Place, Fault>
     ensures ok { IfOk result (λ next. (content trailers bytes : List ℕ)
         → IsFramingDue (framing.Digits number) content trailers (byte ∷ bytes)
@@ -69,7 +69,7 @@ fn after_digit(number: u64, byte: u8) -> Result<Place, Fault>
     }
 }
 
-/// Where the next byte is due after this one, which is none that is given out.
+/// Returns the position after this byte, which is not part of the output.
 pub(crate) fn place_after(at: Framing, byte: u8) -> Result<Place, Fault>
     ensures ok { IfOk result (λ next. (content trailers bytes : List ℕ)
         → IsFramingDue at content trailers (byte ∷ bytes)
@@ -102,7 +102,7 @@ pub(crate) fn place_after(at: Framing, byte: u8) -> Result<Place, Fault>
     }
 }
 
-/// How many bytes of those that are there are data, of which that many are due.
+/// Returns how many of `there` bytes are data, if `size` bytes of data remain.
 pub(crate) fn taken_of(size: u64, there: usize) -> usize
     requires some { 0 < size }
     requires there { 0 < there }

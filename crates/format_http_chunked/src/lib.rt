@@ -1,9 +1,8 @@
-//! The chunked body of a message of HTTP/1.1 (RFC 9112, section 7.1), decoded in pieces, as they
-//! come.
+//! The chunked body of a message of HTTP/1.1 (RFC 9112, section 7.1), decoded incrementally.
 //!
-//! A [`Decoder`](decoder::Decoder) is told the bytes that are there, each once, and says what they
-//! are: data, fields of the trailer section, the end. It keeps how far it is in a few words of its
-//! own, and asks for no memory.
+//! A [`Decoder`](decoder::Decoder) is given each byte once, and returns the parts of the body:
+//! data, fields of the trailer section, the end. Its state is a few words, and it does not
+//! allocate.
 #![tactic(auto)]
 
 mod bytes;

@@ -1,4 +1,4 @@
-//! Where in a size line the next byte is due.
+//! The position of the next byte in a size line.
 #![tactic(auto)]
 
 ghost use Rattle.format_http_chunked.specs.Steps.{IsTurn};
@@ -9,17 +9,17 @@ ghost use Rattle.std.specs.Prelude.{ℕ};
 use crate::bytes::{is_quoted, is_token, is_value};
 use crate::places::InLine;
 
-/// What a byte is to a size line.
+/// The effect of a byte on a size line.
 pub(crate) enum Turn {
     /// After it the line goes on here.
     Goes(InLine),
     /// It ends the line.
     Ends,
-    /// No line goes on with it.
+    /// No line continues with it.
     Never,
 }
 
-/// What a byte is after a size or a value.
+/// Returns the effect of a byte after a size or a value.
 #[inline]
 fn turn_behind(byte: u8) -> Turn
     ensures { (size : ℕ) → IsTurn (framing.Line line.Behind size) size byte result }
@@ -32,7 +32,7 @@ fn turn_behind(byte: u8) -> Turn
     }
 }
 
-/// What a byte is after white space that is after a size or a value.
+/// Returns the effect of a byte after a size or a value and whitespace.
 fn turn_white(byte: u8) -> Turn
     ensures { (size : ℕ) → IsTurn (framing.Line line.White size) size byte result }
 {
@@ -43,7 +43,7 @@ fn turn_white(byte: u8) -> Turn
     }
 }
 
-/// What a byte is after a semicolon.
+/// Returns the effect of a byte after a semicolon.
 fn turn_semicolon(byte: u8) -> Turn
     ensures { (size : ℕ) → IsTurn (framing.Line line.Semicolon size) size byte result }
 {
@@ -56,7 +56,7 @@ fn turn_semicolon(byte: u8) -> Turn
     Turn::Never
 }
 
-/// What a byte is after a name.
+/// Returns the effect of a byte after a name and whitespace.
 fn turn_name_white(byte: u8) -> Turn
     ensures { (size : ℕ) → IsTurn (framing.Line line.NameWhite size) size byte result }
 {
@@ -68,7 +68,7 @@ fn turn_name_white(byte: u8) -> Turn
     }
 }
 
-/// What a byte is in a name.
+/// Returns the effect of a byte in a name.
 fn turn_name(byte: u8) -> Turn
     ensures { (size : ℕ) → IsTurn (framing.Line line.Name size) size byte result }
 {
@@ -81,7 +81,7 @@ fn turn_name(byte: u8) -> Turn
     turn_name_white(byte)
 }
 
-/// What a byte is after an equals sign.
+/// Returns the effect of a byte after an equals sign.
 fn turn_equals(byte: u8) -> Turn
     ensures { (size : ℕ) → IsTurn (framing.Line line.Equals size) size byte result }
 {
@@ -97,7 +97,7 @@ fn turn_equals(byte: u8) -> Turn
     Turn::Never
 }
 
-/// What a byte is in a value that is a token.
+/// Returns the effect of a byte in a value that is a token.
 fn turn_token(byte: u8) -> Turn
     ensures { (size : ℕ) → IsTurn (framing.Line line.Token size) size byte result }
 {
@@ -107,7 +107,7 @@ fn turn_token(byte: u8) -> Turn
     turn_behind(byte)
 }
 
-/// What a byte is in quotes.
+/// Returns the effect of a byte in quotes.
 fn turn_quotes(byte: u8) -> Turn
     ensures { (size : ℕ) → IsTurn (framing.Line line.Quotes size) size byte result }
 {
@@ -121,7 +121,7 @@ fn turn_quotes(byte: u8) -> Turn
     }
 }
 
-/// What a byte is after a backslash in quotes.
+/// Returns the effect of a byte after a backslash in quotes.
 fn turn_escape(byte: u8) -> Turn
     ensures { (size : ℕ) → IsTurn (framing.Line line.Escape size) size byte result }
 {
@@ -131,7 +131,7 @@ fn turn_escape(byte: u8) -> Turn
     Turn::Never
 }
 
-/// What a byte is after the carriage return.
+/// Returns the effect of a byte after the carriage return.
 fn turn_return(byte: u8) -> Turn
     ensures { (size : ℕ) → IsTurn (framing.Line line.Return size) size byte result }
 {
@@ -141,7 +141,7 @@ fn turn_return(byte: u8) -> Turn
     Turn::Never
 }
 
-/// What a byte is at a place of a size line.
+/// Returns the effect of a byte at a position of a size line.
 pub(crate) fn turn_at(at: InLine, byte: u8) -> Turn
     ensures { (size : ℕ) → IsTurn (framing.Line at size) size byte result }
 {

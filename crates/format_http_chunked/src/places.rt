@@ -1,4 +1,4 @@
-//! Where in a chunked body a byte is due.
+//! The positions in a chunked body.
 #![tactic(auto)]
 
 /// Where in a size line, after its digits.
@@ -12,7 +12,7 @@ pub(crate) enum InLine {
     Semicolon,
     /// In a name.
     Name,
-    /// After white space that stands after a name.
+    /// After whitespace that follows a name.
     NameWhite,
     /// After an equals sign, and white space.
     Equals,
@@ -61,7 +61,7 @@ pub(crate) enum Framing {
 pub(crate) enum Place {
     /// Between what is given out.
     Framing(Framing),
-    /// In data, of which that many bytes are due.
+    /// In data, with the number of bytes of data that remain.
     Data(u64),
     /// In the trailer section.
     Trailers(InField),

@@ -7,11 +7,11 @@ ghost use Rattle.std.specs.Prelude.{◌≡◌, ◌<◌};
 
 use crate::places::{Framing, InField, InLine, Place};
 
-/// How far a chunked body was decoded, as numbers, for a caller who keeps it where no type of Rust
-/// can be. They are for the calls alone, and a `place` of 0 says that nothing of a body was taken,
-/// whatever the others are: so it is begun for each body, with the limits for a server, 4,096 bytes
-/// between data and 8,192 of the trailer section. For other limits `place` is 1, `room` and
-/// `size_line` are the one, and `trailer_room` and `trailers` the other.
+/// The state of decoding a chunked body as numbers, for callers that cannot keep a Rust type. Only
+/// the calls interpret them. A `place` of 0 means that nothing was consumed, regardless of the
+/// other numbers: use it at the start of each body. The limits are then those for a server, 4,096
+/// bytes between data and 8,192 of the trailer section. For other limits set `place` to 1, `room`
+/// and `size_line` to the first limit, and `trailer_room` and `trailers` to the second.
 ///
 /// ```
 /// use format_http_chunked::decoder::{Decoder, SAFE_LIMITS};
@@ -31,17 +31,18 @@ use crate::places::{Framing, InField, InLine, Place};
 #[repr(C)]
 #[derive(Clone, Copy, Debug, PartialEq, Eq)]
 pub struct ChunkedState {
-    /// Where in the body the next byte is due: 0 or 1 where nothing was taken.
+    /// The position of the next byte in the body: 0 or 1 if nothing was consumed.
     pub place: usize,
     /// Where in a size line, or in a field line.
     pub within: usize,
-    /// What the digits of a size make so far; or the size; or how many bytes of data are due.
+    /// The number of the size's digits so far; or the size; or the number of bytes of data that
+    /// remain.
     pub size: u64,
-    /// How many bytes more may stand before the next data.
+    /// The number of bytes allowed before the next data.
     pub room: usize,
     /// How many bytes more the trailer section may have.
     pub trailer_room: usize,
-    /// How many bytes may stand between data.
+    /// The number of bytes allowed between data.
     pub size_line: usize,
     /// How many bytes the trailer section may have.
     pub trailers: usize,
@@ -94,7 +95,7 @@ pub(crate) fn place_of(number: usize, within: usize, size: u64) -> Place
     }
 }
 
-/// The number of a place in a size line.
+/// Returns the number of a position in a size line.
 fn line_number(at: InLine) -> usize
     ensures { line_at result ≡ at }
 {
@@ -112,7 +113,7 @@ fn line_number(at: InLine) -> usize
     }
 }
 
-/// The number of a place in a field line.
+/// Returns the number of a position in a field line.
 fn field_number(at: InField) -> usize
     ensures { field_at result ≡ at }
 {
@@ -124,7 +125,7 @@ fn field_number(at: InField) -> usize
     }
 }
 
-/// The numbers of a place between what is given out.
+/// Returns the numbers of a position between outputs.
 fn framing_numbers(at: Framing) -> (usize, usize, u64)
     ensures place { place_at result.0 result.1 result.2 ≡ place.Framing at }
     ensures number { result.0 < 9 }
@@ -139,7 +140,7 @@ fn framing_numbers(at: Framing) -> (usize, usize, u64)
     }
 }
 
-/// The numbers of a place: its own, that in a line, and a size.
+/// Returns the numbers of a position: its own, that in a line, and a size.
 pub(crate) fn numbers_of(at: Place) -> (usize, usize, u64)
     ensures place { place_at result.0 result.1 result.2 ≡ at }
     ensures number { result.0 < 9 }

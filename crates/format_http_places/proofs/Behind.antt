@@ -1,4 +1,5 @@
--- What is left of a language after its first bytes, and where none of it goes on.
+-- Lemmas about the continuations of a language after its first bytes, and about bytes that cannot
+-- continue it.
 use Rattle.std.proofs.Common.{◌≡◌, ◌∙◌, ◌<◌, ◌++◌, ◌∷◌, [], ap, ℕ, List, length, take, drop}
 use Rattle.std.proofs.Common.{sym, subst, arith, inl, inr, refl, append_assoc}
 use Rattle.std.proofs.lemmas.List.{take-append-drop, append-nil, length-take}
@@ -17,7 +18,7 @@ others_same x y xs ys e = cc
 pub not_empty : (y : ℕ) (ys : List ℕ) → [] ≡ y ∷ ys → ⊥
 not_empty y ys e = cc
 
--- after these bytes that is left of it
+-- `Behind L front K`: after `front`, the language `L` continues as `K`
 pub record Behind (L : List ℕ → List ℕ → Type 0) (front : List ℕ)
     (K : List ℕ → List ℕ → Type 0) : Type 0 where
   pub there : (more rest : List ℕ) → K more rest → L (front ++ more) rest
@@ -28,7 +29,8 @@ pub record Live (L : List ℕ → List ℕ → Type 0) : Type 0 where
   pub bytes : List ℕ
   pub is : L bytes []
 
--- nothing of it begins with these bytes and any more; or they are none, and not it
+-- no bytes of `K` start with the first of these bytes; or there are none, and the empty bytes are
+-- not in `K`
 abbrev pub NoneFirst : Language → List ℕ → Type 0
 NoneFirst K [] = (rest : List ℕ) → K [] rest → ⊥
 NoneFirst K (b ∷ bs) = (more rest : List ℕ) → K (b ∷ more) rest → ⊥
@@ -152,7 +154,7 @@ pub live_text : (text : List ℕ) (K : Language) → Live K → Live (Text text 
 live_text [] K it = it
 live_text (b ∷ bs) K it = live_byte b (Text bs K) (live_text bs K it)
 
--- ---- where none goes on
+-- ---- bytes that cannot continue a language
 
 none_at : (L K : Language) (front back : List ℕ) → Behind L front K → NoneFirst K back
     → NoneAt L front back
@@ -184,7 +186,7 @@ none_behind L K front before (b ∷ bs) behind none = λ more rest it.
     none more rest (behind.back (before ++ b ∷ more) rest
     (subst P (append_assoc front before (b ∷ more)) it))
 
--- what is refused after the first bytes
+-- if the continuation stops, so does the language
 pub stops_behind : (L K : Language) (bytes front rest : List ℕ) (left : ℕ) → Behind L front K
     → bytes ≡ front ++ rest → Stops K rest left → Stops L bytes left
 stops_behind L K bytes front rest left behind splits it =
@@ -230,7 +232,7 @@ none_run P c K (y ∷ ys) not other = λ after rest it. by after it.0 it.1 it.2 
     by after (x ∷ run) more e all = not
         (subst P (sym (first_same y x after (run ++ c ∷ more) e)) (All-head P x run all))
 
--- a text of which the next byte is not there
+-- a language that starts with `text` stops at the first byte that differs from `text`
 pub text_stops : (text bytes : List ℕ) (left : ℕ) (K : Language) → Live K
     → Differs text bytes left → Stops (Text text K) bytes left
 text_stops text bytes left K live it =
@@ -305,7 +307,7 @@ not_before : (before back more : List ℕ) (b : ℕ) (P : ℕ → Type 0) → No
 not_before [] back more b P not = not
 not_before (x ∷ before) back more b P not = not
 
--- what has a part alone of some first bytes stops where that does
+-- if the bytes do not start with P, a language stops where its part without P does
 pub part_stops : (P : ℕ → Type 0) (L K : Language) (bytes : List ℕ) (left : ℕ) → NotFirst P bytes
     → ((text rest : List ℕ) → K text rest → L text rest)
     → ((text rest : List ℕ) → NotFirst P text → L text rest → K text rest)

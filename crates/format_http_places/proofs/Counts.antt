@@ -9,7 +9,6 @@ use Rattle.std.specs.List.{All}
 use Rattle.format_http_places.specs.Grammar.{Differs}
 use Rattle.format_http_places.specs.Runs.{FirstAre, NotFirst, SoMany, SoManyOf16}
 
--- after a run that many more
 pub first_more : (P : ℕ → Type 0) (bytes rest : List ℕ) (at n : ℕ) → FirstAre P bytes at
     → rest ≡ drop at bytes → FirstAre P rest n → FirstAre P bytes (at + n)
 first_more P bytes rest at n (within, all) is (room, more) =

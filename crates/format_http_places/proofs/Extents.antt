@@ -1,4 +1,4 @@
--- How a head is passed byte by byte, and what is told of the bytes that were.
+-- Lemmas about passing a head byte by byte, and about the results for the bytes passed.
 use Rattle.std.proofs.Common.{◌≡◌, ◌∙◌, ◌≤◌, ◌+◌, ◌-◌, ◌++◌, ◌∷◌, [], ap, ℕ, List, length}
 use Rattle.std.proofs.Common.{take, drop, sym, subst, arith, refl, inl, inr, append_assoc}
 use Rattle.std.proofs.Common.{length-append}
@@ -21,7 +21,7 @@ use Rattle.format_http_places.proofs.Lines.{a_token, fields_line, live_target, l
 use Rattle.format_http_places.proofs.Versions.{live_fields, live_version}
 use Rattle.format_http_places.proofs.PlaceSteps.{InName, behind_of, leads_both, leads_none}
 
--- ---- some bytes are due at each place
+-- ---- some bytes are accepted in each state
 
 live_numbers : Live NumbersText
 live_numbers =
@@ -103,7 +103,7 @@ none_at_end place.Value not rest it = no_run IsValueByte 13 (Byte 10 FieldsText)
 none_at_end place.LastLineFeed not rest it = no_byte 10 Nothing rest it
 none_at_end place.Done not rest it = absurd (not refl)
 
--- ---- what is told
+-- ---- results
 
 -- what is passed after a call
 record After (new : HeadExtent) (bytes left : List ℕ) : Type 0 where
@@ -161,7 +161,7 @@ tells new bytes (b ∷ more) it (Err refused) (inr never) (not, some, at) =
     (live_at new.place) never it.splits refl) some
     (omega (arith, at, it.size, ap (λ l. length l) it.splits, length-append it.front left))
 
--- what is said is said of what is due, and what is left
+-- the result, by the state and the rest
 pub told : (old new : HeadExtent) (bytes : List ℕ) (result : Result (Option ℕ) Refused)
     → IsOf old bytes → IsLed old (drop old.passed bytes) new result → IsTold bytes result
 told old new bytes result is led =
@@ -241,7 +241,7 @@ pub stopped_byte : (at : HeadPlace) (b : ℕ) (left more : List ℕ) → left �
 stopped_byte at b left more starts it =
     let P : List ℕ → Type 0 = λ l. IsStopped at l in subst P (sym starts) it
 
--- from an extent to the next, by a walk from its place
+-- from an extent to the next, by a scan from its state
 pub led : (old : HeadExtent) (bytes fresh left : List ℕ) (at : HeadPlace)
     (result : Result (Option ℕ) Refused)
     → fresh ≡ take (length bytes - old.passed) (drop old.passed bytes)

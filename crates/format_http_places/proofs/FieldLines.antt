@@ -29,7 +29,7 @@ lines_text (f ∷ fields) bytes end rest (behind, is, are) ended =
     ((behind_line f.0 f.1 bytes behind is K).there behind rest
     (lines_text fields behind end rest are ended))
 
--- a field line, whatever stands after it
+-- a field line, followed by any bytes
 line_rest : (name value bytes rest : List ℕ) → IsFieldLine name value bytes []
     → IsFieldLine name value (bytes ++ rest) rest
 line_rest name value bytes rest is = record {
@@ -108,7 +108,7 @@ lines_behind [] f bytes line rest e is =
 lines_behind (g ∷ fields) f bytes line rest (behind, shows, others) is =
     (behind, shows, lines_behind fields f behind line rest others is)
 
--- what is read of the fields with which an input of such a length ends, and that fields are left
+-- the field lines read so far, whose offsets count from the end of the input
 pub record SoFar (whole : ℕ) (bytes rest : List ℕ) (places : List Field) (count : ℕ) : Type 0 where
   pub fields : List Pair
   pub are : AreFieldLines fields bytes rest
@@ -177,7 +177,7 @@ pub so_far_stops : (whole : ℕ) (bytes rest : List ℕ) (places : List Field) (
 so_far_stops whole bytes rest places count left it stop =
     stops_behind FieldsText FieldsText bytes it.front rest left it.behind it.splits stop
 
--- what is read of fields of which the empty line is there
+-- the fields read, once the empty line is there
 pub so_far_ends : (whole : ℕ) (bytes rest end left : List ℕ) (places : List Field) (count : ℕ)
     → SoFar whole bytes rest places count → rest ≡ 13 ∷ end → end ≡ 10 ∷ left
     → ShowsFields whole bytes count places left

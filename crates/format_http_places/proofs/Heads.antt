@@ -84,9 +84,9 @@ text_head bytes rest it =
       },
     )
 
--- ---- where no head goes on
+-- ---- bytes that cannot continue a head
 
--- some head begins with what its language does
+-- if its language starts with these bytes, some head does
 head_begins : (front more : List ℕ) → HeadText (front ++ more) [] → BeginsHead front
 head_begins front more it =
     let (line, fields, head) = text_head (front ++ more) [] it in (line, fields, more, head)
@@ -103,7 +103,7 @@ wanting bytes it =
     wanting_by HeadText BeginsHead NoneRead head_begins
     (λ front not line pairs rest head. not rest (head_text line pairs front rest head)) bytes it
 
--- what is told where the head of a request stops
+-- the contract of the result if the head of a request stops
 pub head_told : (bytes : List ℕ) (fields : List Field) (left : ℕ) (e : HeadError)
     → Stops HeadText bytes left → IsErrorAt (length bytes) left e → ReadsHead bytes (Err e) fields
 head_told bytes fields left (TooManyFields count) it never = absurd never

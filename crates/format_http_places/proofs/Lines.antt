@@ -94,7 +94,7 @@ white_value : (b : ℕ) → IsWhite b → IsValueByte b
 white_value b (inl e) = inl (omega (arith, e), λ other. omega (arith, e, other))
 white_value b (inr e) = inr e
 
--- after a field line is what is after it in its language
+-- the continuation of the language after a field line
 module _ (name value bytes rest : List ℕ) (is : IsFieldLine name value bytes rest) where
   abbrev text : List ℕ
   text = is.before ++ (value ++ is.behind)
@@ -197,7 +197,6 @@ fields_line (b ∷ bs) rest not (zero, it) = absurd (not (first_same b 13 bs it.
 fields_line bytes rest not (suc n, it) =
     line_map (LinesText n) FieldsText bytes rest (λ more lines. (n, lines)) it
 
--- where no line goes on, no fields do
 pub fields_stop : (bytes : List ℕ) (left : ℕ) → NotFirst (λ b. b ≡ 13) bytes
     → Stops (LineText FieldsText) bytes left → Stops FieldsText bytes left
 fields_stop bytes left not it = part_stops (λ b. b ≡ 13) FieldsText (LineText FieldsText) bytes

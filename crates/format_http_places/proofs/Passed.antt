@@ -8,7 +8,6 @@ pub passed : {A E : Type 0} (P : A → Type 0) (Q : E → Type 0) (r : Result A 
 passed P Q (Ok a) e is q = absurd is
 passed P Q (Err y) e is q = subst Q (sym is) q
 
--- what is said of a result, in other words
 pub told : {A E : Type 0} (P P' : A → Type 0) (Q Q' : E → Type 0) (r : Result A E)
     → ((a : A) → P a → P' a) → ((e : E) → Q e → Q' e) → MatchResult r P Q → MatchResult r P' Q'
 told P P' Q Q' (Ok a) ok err it = ok a it

@@ -1,4 +1,4 @@
--- What is due after a byte, place by place.
+-- Lemmas about the continuation after a byte, state by state.
 use mathlib.Core.Bool.{false≢true}
 use Rattle.std.proofs.Common.{◌≡◌, ◌⊎◌, ◌++◌, ◌∷◌, [], ℕ, List, take, sym, subst, arith, refl, inl}
 use Rattle.std.proofs.Common.{inr}

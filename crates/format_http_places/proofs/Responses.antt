@@ -127,15 +127,15 @@ text_response bytes rest it =
       },
     )
 
--- ---- where no head goes on
+-- ---- bytes that cannot continue a head
 
--- some head begins with what its language does
+-- if its language starts with these bytes, some head does
 response_begins : (front more : List ℕ) → ResponseText (front ++ more) []
     → BeginsResponseHead front
 response_begins front more it =
     let (line, fields, head) = text_response (front ++ more) [] it in (line, fields, more, head)
 
--- what is told where the head of a response stops
+-- the contract of the result if the head of a response stops
 pub response_told : (bytes : List ℕ) (fields : List Field) (left : ℕ) (e : HeadError)
     → Stops ResponseText bytes left → IsErrorAt (length bytes) left e
     → ReadsResponse bytes (Err e) fields

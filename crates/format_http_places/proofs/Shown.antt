@@ -1,4 +1,4 @@
--- Lines that are read: what is refused of them, and where their parts stand.
+-- Lemmas about lines: their errors, and the offsets of their parts.
 use Rattle.std.proofs.Common.{◌≡◌, ◌∙◌, ◌<◌, ◌≤◌, ◌+◌, ◌-◌, ◌++◌, ◌∷◌, [], ap, ℕ, List, length}
 use Rattle.std.proofs.Common.{take, drop, sym, subst, arith, refl, append_assoc, length-append}
 use Rattle.std.proofs.lemmas.List.{length-take, take-append-drop}

@@ -1,4 +1,4 @@
--- Status lines: where they stop, and where their parts stand.
+-- Lemmas about status lines: their errors, and the offsets of their parts.
 use Rattle.std.proofs.Common.{◌≡◌, ◌∙◌, ◌<◌, ◌+◌, ◌-◌, ◌++◌, ◌∷◌, [], ap, ℕ, List, length}
 use Rattle.std.proofs.Common.{take, drop, sym, subst, arith, inl, inr, refl, append_assoc}
 use Rattle.std.proofs.Common.{length-append}
@@ -26,7 +26,7 @@ use Rattle.format_http_places.proofs.Versions.{numbers_stop}
 
 -- ---- reasons
 
--- what stands after the space
+-- the bytes after the space
 abbrev Value : Language
 Value = Run IsValueByte 13 (Byte 10 FieldsText)
 
@@ -58,7 +58,7 @@ behind_end = record {
   ];
 }
 
--- after a reason and a line end are fields
+-- a reason and a line ending are followed by fields
 behind_reason : (text reason : List ℕ) → IsBehind text reason → All IsValueByte reason
     → Behind ReasonText (text ++ line_end) FieldsText
 behind_reason text reason (inl space) all =
@@ -85,7 +85,7 @@ space_stops bytes text size left at seen after is it =
     (run_stops IsValueByte 13 (10 ∷ []) FieldsText text size left value_no_return live_fields seen
     (subst P is it))
 
--- and where no space is, and no line end
+-- it stops also if there is neither a space nor a line ending
 pub end_stops : (bytes : List ℕ) (left : ℕ) → NotFirst (λ b. b ≡ 32) bytes
     → Differs line_end bytes left → Stops ReasonText bytes left
 unfolding ReasonText Byte
@@ -104,7 +104,7 @@ end_stops bytes left not it =
     end_alone text rest first (inl space) = absurd (no_space text rest first space)
     end_alone text rest first (inr end) = end
 
--- ---- where a reason stands
+-- ---- the offset of a reason
 
 module _ (whole : ℕ) (bytes rest : List ℕ) where
   -- after the space
@@ -139,7 +139,7 @@ module _ (whole : ℕ) (bytes rest : List ℕ) where
       ends = omega (arith, length-take size text, seen.0.0);
     }
 
-  -- or nowhere, at the line end
+  -- or there is no reason, only a line ending
   module _ (ended : bytes ≡ line_end ++ rest) where
     pub none_ends : IsEnding [] bytes rest
     none_ends = record {

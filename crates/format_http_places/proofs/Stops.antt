@@ -1,11 +1,12 @@
--- What is told where a language stops.
+-- Lemmas about the results if a language stops.
 use Rattle.std.proofs.Common.{◌≡◌, ◌∙◌, ◌<◌, ◌≤◌, ◌-◌, ◌++◌, ◌∷◌, [], ap, ℕ, List, length}
 use Rattle.std.proofs.Common.{sym, subst, arith, append_assoc, length-append}
 use Rattle.std.proofs.lemmas.List.{append-nil}
 use Rattle.format_http_places.specs.Grammar.{NoneAt, Stops}
 use Rattle.format_http_places.specs.Refusals.{IsRefusedBy}
 
--- what stops of a language is refused, if what is asked of beginnings and refusals is of that
+-- if a language stops at a byte, that byte is an error, for properties of prefixes and errors that
+-- follow from the language
 pub refused_by : (L : List ℕ → List ℕ → Type 0) (begins never : List ℕ → Type 0)
     → ((front more : List ℕ) → L (front ++ more) [] → begins front)
     → ((front : List ℕ) → ((more rest : List ℕ) → L (front ++ more) rest → ⊥) → never front)
@@ -29,7 +30,7 @@ refused_by L begins never one none_of bytes left place it some at =
           none more rest (subst P (append_assoc before (b ∷ []) more) all));
     }
 
--- what stops at the end is begun, and is not there
+-- if a language stops at the end, the bytes are a proper prefix
 pub wanting_by : (L : List ℕ → List ℕ → Type 0) (begins never : List ℕ → Type 0)
     → ((front more : List ℕ) → L (front ++ more) [] → begins front)
     → ((front : List ℕ) → ((rest : List ℕ) → L front rest → ⊥) → never front)

@@ -35,6 +35,5 @@ value_not b e is = grind (arith, nat_tests)
 pub token_not : (b : ℕ) → is_token b ≡ false → IsTokenByte b → ⊥
 token_not b e is = grind (arith, nat_tests)
 
--- a test of the same answer tells tokens
 pub token_tells : (b : ℕ) (told : Bool) → told ≡ is_token b → IsTrue told ↔ IsTokenByte b
 token_tells b told e = grind (arith, nat_tests)

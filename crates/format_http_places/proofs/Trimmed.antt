@@ -19,7 +19,7 @@ bare_of text value behind splits not b more e white =
     let P : List ℕ → Type 0 = λ l. NotFirst IsWhite l in
     subst P (splits ∙ ap (λ l. l ++ behind) e) not white
 
--- the last byte of what stands in the middle
+-- the last byte of the middle part
 last_at : (before value behind front : List ℕ) (b : ℕ) → value ≡ front ++ b ∷ []
     → get_or (before ++ (value ++ behind)) (length before + length front) 0 ≡ b
 last_at before value behind front b e =

@@ -48,7 +48,7 @@ pub live_version : Live VersionText
 unfolding VersionText
 live_version = live_protocol (Text line_end FieldsText) (live_text line_end FieldsText live_fields)
 
--- after a version is what is after it in its language
+-- the continuation of the language after a version
 pub behind_numbers : (K : Language) (a b : ℕ) → a < 10 → b < 10
     → Behind (ProtocolText K) (protocol ++ digits a b) K
 behind_numbers K a b less small =

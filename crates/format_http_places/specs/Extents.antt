@@ -1,4 +1,4 @@
--- Where a head ends: what of some bytes is passed, and what is due after that.
+-- The scanner for the end of a head: the bytes passed, and the continuation expected after them.
 use Rattle.std.specs.Prelude.{◌≡◌, ◌⊎◌, ◌<◌, ◌+◌, ⊤, ℕ, List, [], ◌∷◌, ◌++◌, length, Bool, true}
 use Rattle.std.specs.Prelude.{false}
 use Rattle.std.specs.Prelude.{Option, Some, None, Result, Ok, Err}
@@ -13,11 +13,11 @@ use Rattle.format_http_places.specs.declared.extent.HeadPlace.{HeadPlace}
 use Rattle.format_http_places.specs.declared.extent.HeadPlace.TheVariants as place
 use Rattle.format_http_places.specs.declared.extent.Refused.{Refused}
 
--- the numbers of a version and a line end, and then fields
+-- the numbers of a version and a line ending, followed by fields
 abbrev pub NumbersText : Language
 NumbersText = OneOf IsDigit (Byte 46 (OneOf IsDigit (Text line_end FieldsText)))
 
--- What is due at each place of a head, to its end.
+-- `Due at`: the language of the rest of a head in state `at`.
 abbrev pub Due : HeadPlace → Language
 Due place.Start = HeadText
 Due place.Method = Run IsTokenByte 32 (SomeOf IsVisible 32 VersionText)
@@ -39,18 +39,19 @@ Due place.Value = Run IsValueByte 13 (Byte 10 FieldsText)
 Due place.LastLineFeed = Byte 10 Nothing
 Due place.Done = Nothing
 
--- After these bytes that is due at one place which is due at the other: whatever follows, what is
--- due first stands there exactly where what is due then stands after them.
+-- `Leads old bytes new`: `bytes` lead from state `old` to state `new`. For any continuation, it is
+-- accepted in `new` if and only if `bytes` followed by it are accepted in `old`.
 pub record Leads (old : HeadPlace) (bytes : List ℕ) (new : HeadPlace) : Type 0 where
   pub there : (more rest : List ℕ) → Due new more rest → Due old (bytes ++ more) rest
   pub back : (more rest : List ℕ) → Due old (bytes ++ more) rest → Due new more rest
 
--- Nothing that is due at this place begins with the byte.
+-- No continuation in this state starts with the byte.
 abbrev pub IsNever : HeadPlace → ℕ → Type 0
 IsNever at b = (more rest : List ℕ) → Due at (b ∷ more) rest → ⊥
 
--- The extent is of these bytes, or of some that they begin with: as many as were passed, and
--- whatever is after those, a head stands first in all exactly where what is due stands after them.
+-- `IsOf extent bytes`: the extent is of `bytes`, or of a prefix of them. It has passed `front`, and
+-- for any continuation of `front` the whole starts with a head if and only if the continuation is
+-- accepted in its state.
 pub record IsOf (extent : HeadExtent) (bytes : List ℕ) : Type 0 where
   pub front : List ℕ
   pub left : List ℕ
@@ -64,8 +65,8 @@ abbrev pub IsLong : List ℕ → ℕ → Type 0
 IsLong bytes n = (line : Request) × (fields : List Pair) × (rest : List ℕ)
     × IsHead line fields bytes rest × (n + length rest ≡ length bytes)
 
--- What is told of some bytes: how many of the first are a head; or that they begin with none, and
--- with more after them they can; or the first place at which no head goes on.
+-- The contract of a scan: the length of the head at the start; or `None`, if the bytes do not start
+-- with a head and some continuation does; or the first offset at which no head can continue.
 abbrev pub IsTold : List ℕ → Result (Option ℕ) Refused → Type 0
 IsTold bytes (Ok (Some n)) = IsLong bytes n
 IsTold bytes (Ok None) = BeginsHead bytes × NoneRead bytes
@@ -73,26 +74,25 @@ IsTold bytes (Err refused) = IsRefused bytes refused.place
 
 -- ---- what a call does with the bytes that are new, whatever those are that were passed
 
--- nothing is after it, or a byte with which it does not go on
+-- no byte follows, or the next byte cannot continue the head
 abbrev pub IsStopped : HeadPlace → List ℕ → Type 0
 IsStopped at [] = ⊤
 IsStopped at (b ∷ bs) = (at ≡ place.Done) ⊎ IsNever at b
 
--- Of these bytes the first are passed, as many as can be, and the others are left.
+-- The scan passes the longest possible prefix of the bytes; `left` is the rest.
 abbrev pub Walks : HeadPlace → List ℕ → HeadPlace → List ℕ → Type 0
 Walks old fresh new left = (taken : List ℕ) × (fresh ≡ taken ++ left) × Leads old taken new
     × IsStopped new left
 
--- what is said at a place, where these bytes are left and that many were passed
+-- the result in a state, with the rest and the number of bytes passed
 abbrev pub Says : HeadExtent → List ℕ → Result (Option ℕ) Refused → Type 0
 Says new left (Ok (Some n)) = (new.place ≡ place.Done) × (n ≡ new.passed)
 Says new left (Ok None) = (new.place ≡ place.Done → ⊥) × (left ≡ [])
 Says new left (Err refused) = (new.place ≡ place.Done → ⊥) × (0 < length left)
     × (refused.place ≡ new.passed)
 
--- From one extent to the next: some of the new bytes are passed, as many as can be, and what is
--- said is said of the place that is due then. Nothing is asked of the bytes that were passed
--- before.
+-- From one extent to the next: the longest possible prefix of the new bytes is passed, and the
+-- result depends on the new state. The bytes that were passed before do not matter.
 abbrev pub IsLed : HeadExtent → List ℕ → HeadExtent → Result (Option ℕ) Refused → Type 0
 IsLed old fresh new result = (taken : List ℕ) × (left : List ℕ) × (fresh ≡ taken ++ left)
     × (new.passed ≡ old.passed + length taken) × Leads old.place taken new.place
@@ -110,13 +110,14 @@ abbrev pub IsOnly : ℕ → ℕ → HeadPlace → Option HeadPlace → Type 0
 IsOnly byte wanted next (Some told) = (byte ≡ wanted) × (told ≡ next)
 IsOnly byte wanted next None = byte ≡ wanted → ⊥
 
--- the place within a run where it goes on; else the next one, exactly if the byte is this one
+-- the state within a run if it continues; otherwise the next state, if and only if the byte is the
+-- expected one
 abbrev pub IsRunOr : Bool → HeadPlace → ℕ → ℕ → HeadPlace → Option HeadPlace → Type 0
 IsRunOr is within byte wanted next (Some told) =
     ((is ≡ true) × (told ≡ within)) ⊎ ((is ≡ false) × (byte ≡ wanted) × (told ≡ next))
 IsRunOr is within byte wanted next None = (is ≡ false) × (byte ≡ wanted → ⊥)
 
--- After the byte this is due; or the head was at its end; or none goes on with it.
+-- The next state after the byte; or the head was complete; or no head continues with the byte.
 abbrev pub IsStep : HeadPlace → ℕ → Option HeadPlace → Type 0
 IsStep at b (Some next) = Leads at (b ∷ []) next
 IsStep at b None = (at ≡ place.Done) ⊎ IsNever at b

@@ -1,10 +1,10 @@
--- What a head is made of, byte by byte, and where bytes go on with it no more.
+-- The grammar of a head byte by byte, and the bytes that cannot continue it.
 use Rattle.std.specs.Prelude.{◌≡◌, ◌<◌, ◌⊎◌, drop, ℕ, zero, suc, List, [], ◌∷◌, ◌++◌, length}
 use Rattle.std.specs.List.{All}
 use Rattle.format_http.specs.Heads.Bytes.{IsDigit, IsTokenByte, IsValueByte, IsVisible, line_end}
 use Rattle.format_http_places.specs.Runs.{NotFirst}
 
--- What bytes are, before the rest.
+-- `L bytes rest`: `bytes` are in the language, followed by `rest`.
 abbrev pub Language : Type 1
 Language = List ℕ → List ℕ → Type 0
 
@@ -35,11 +35,11 @@ abbrev pub Text : List ℕ → Language → Language
 Text [] behind = behind
 Text (b ∷ bs) behind = Byte b (Text bs behind)
 
--- a field line, and then that: a name, a colon, bytes of a value, and a line end
+-- a field line with the given continuation: a name, a colon, bytes of a value, and a line ending
 abbrev pub LineText : Language → Language
 LineText behind = SomeOf IsTokenByte 58 (Run IsValueByte 13 (Byte 10 behind))
 
--- that many field lines and an empty line
+-- `n` field lines and an empty line
 abbrev pub LinesText : ℕ → Language
 LinesText zero = Text line_end Nothing
 LinesText (suc n) = LineText (LinesText n)
@@ -56,7 +56,7 @@ protocol = 72 ∷ 84 ∷ 84 ∷ 80 ∷ 47 ∷ []
 abbrev pub ProtocolText : Language → Language
 ProtocolText behind = Text protocol (OneOf IsDigit (Byte 46 (OneOf IsDigit behind)))
 
--- a version and a line end, and then fields
+-- a version and a line ending, followed by fields
 unfoldable pub VersionText : Language
 VersionText = ProtocolText (Text line_end FieldsText)
 
@@ -68,7 +68,7 @@ HeadText = SomeOf IsTokenByte 32 (SomeOf IsVisible 32 VersionText)
 abbrev pub CodeText : Language → Language
 CodeText behind = OneOf IsDigit (OneOf IsDigit (OneOf IsDigit behind))
 
--- a space and a reason, or nothing, and a line end, and then fields
+-- a space and a reason, or nothing, and a line ending, followed by fields
 unfoldable pub ReasonText : Language
 ReasonText bytes rest = Byte 32 (Run IsValueByte 13 (Byte 10 FieldsText)) bytes rest
     ⊎ Text line_end FieldsText bytes rest
@@ -77,14 +77,14 @@ ReasonText bytes rest = Byte 32 (Run IsValueByte 13 (Byte 10 FieldsText)) bytes 
 unfoldable pub ResponseText : Language
 ResponseText = ProtocolText (Byte 32 (CodeText ReasonText))
 
--- No bytes of this begin with these and the byte after them; or none is after them, and they are
--- none.
+-- No bytes of this language start with `before` and the next byte; or there is no next byte, and
+-- `before` is not in the language.
 abbrev pub NoneAt : Language → List ℕ → List ℕ → Type 0
 NoneAt these before [] = (rest : List ℕ) → these before rest → ⊥
 NoneAt these before (b ∷ bs) = (more rest : List ℕ) → these (before ++ b ∷ more) rest → ⊥
 
--- What is before the last bytes, that many, begins this, and with the next byte it does not; or no
--- byte is left, and more are wanted.
+-- The bytes before the last `left` ones are a prefix of the language, and with the next byte they
+-- are not; or `left` is 0, and more bytes are needed.
 pub record Stops (these : Language) (bytes : List ℕ) (left : ℕ) : Type 0 where
   pub before : List ℕ
   pub back : List ℕ
@@ -105,7 +105,7 @@ pub record Differs (text bytes : List ℕ) (left : ℕ) : Type 0 where
   pub other : NotFirst (λ b. b ≡ byte) back
   pub size : length back ≡ left
 
--- After that many bytes, one or more, this one is not; or there are none of these.
+-- A run of `size` bytes, at least one, is not followed by `byte`; or the run is empty.
 abbrev pub Unended : List ℕ → ℕ → ℕ → ℕ → Type 0
 Unended bytes size byte left = ((size ≡ 0) × (left ≡ length bytes))
     ⊎ ((0 < size) × NotFirst (λ b. b ≡ byte) (drop size bytes) × (left ≡ length (drop size bytes)))

@@ -1,4 +1,4 @@
--- Where the parts of a head stand.
+-- The offsets of the parts of a head.
 use Rattle.std.specs.Prelude.{◌≡◌, ◌≤◌, ◌+◌, ℕ, List, [], ◌∷◌, ◌++◌, length, take}
 use Rattle.std.specs.List.{All}
 use Rattle.format_http.specs.Heads.Bytes.{IsWhite, line_end}
@@ -11,20 +11,21 @@ use Rattle.format_http_places.specs.declared.places.Field.{Field}
 use Rattle.format_http_places.specs.declared.places.Head.{Head}
 use Rattle.format_http_places.specs.declared.places.Span.{Span}
 
--- These bytes stand at this place of the input, and then comes the rest: so of bytes that stand
--- there more than once it is the place after which the rest is left.
+-- `StandsAt input place bytes rest`: the span `place` of `input` holds `bytes`, followed by `rest`.
+-- If `bytes` occurs several times, `rest` determines the occurrence.
 pub record StandsAt (input : List ℕ) (place : Span) (bytes rest : List ℕ) : Type 0 where
   pub before : List ℕ
   pub splits : input ≡ before ++ (bytes ++ rest)
   pub begins : place.offset ≡ length before
   pub ends : place.length ≡ length bytes
 
--- what stands in a request line after the target, and then comes the rest
+-- the bytes of a request line after the target, followed by `rest`
 abbrev pub version_on : ℕ → ℕ → List ℕ → List ℕ
 version_on major minor rest = protocol ++ (digits major minor ++ (line_end ++ rest))
 
--- The line of a field is first there, and then comes the rest. Its name and its value stand in that
--- line at these places of the input, a value that has no bytes at the end of the line.
+-- `ShowsField input place field line rest`: `line` starts with the line of `field`, followed by
+-- `rest`. `place` holds the positions of its name and value in the input; an empty value is at the
+-- end of the line.
 pub record ShowsField (input : List ℕ) (place : Field) (field : Pair) (line rest : List ℕ)
     : Type 0 where
   pub is_line : IsFieldLine field.0 field.1 line rest
@@ -33,8 +34,8 @@ pub record ShowsField (input : List ℕ) (place : Field) (field : Pair) (line re
   pub value : StandsAt input place.value field.1 (is_line.behind ++ (line_end ++ rest))
   pub at_end : field.1 ≡ [] → is_line.behind ≡ []
 
--- The lines are those of these fields, one after the other, and then comes the rest. Each field
--- stands in its own line, at the places of its number.
+-- The bytes are consecutive lines of these fields, followed by `rest`. Each field has its positions
+-- in its own line.
 abbrev pub AreShown : List ℕ → List ℕ → List Field → List Pair → List ℕ → Type 0
 AreShown input lines [] [] rest = lines ≡ rest
 AreShown input lines [] (f ∷ fields) rest = ⊥
@@ -43,7 +44,7 @@ AreShown input lines (p ∷ places) (f ∷ fields) rest =
     (behind : List ℕ) × ShowsField input p f lines behind
     × AreShown input behind places fields rest
 
--- The input begins with a head, whose parts stand at these places: the method before a space and
+-- The input starts with a head, whose parts are at these positions: the method before a space and
 -- the target, the target before the version, and each field in its own line, after these.
 pub record ShowsHead (input : List ℕ) (head : Head) (places : List Field) : Type 0 where
   pub line : Request
@@ -60,7 +61,7 @@ pub record ShowsHead (input : List ℕ) (head : Head) (places : List Field) : Ty
   pub are_shown : AreShown input is_head.behind places fields (line_end ++ rest)
   pub ends : head.length + length rest ≡ length input
 
--- The input begins with a head of that many fields.
+-- The input starts with a head of `count` fields.
 pub record IsWanted (input : List ℕ) (count : ℕ) : Type 0 where
   pub line : Request
   pub fields : List Pair
@@ -68,8 +69,8 @@ pub record IsWanted (input : List ℕ) (count : ℕ) : Type 0 where
   pub is_head : IsHead line fields input rest
   pub counts : count ≡ length fields
 
--- A text without the white space at both ends stands at this place of it, at the end if it has no
--- bytes.
+-- `place` is the position in the text of its part without whitespace at both ends; an empty part is
+-- at the end.
 pub record IsBare (text : List ℕ) (place : Span) : Type 0 where
   pub before : List ℕ
   pub value : List ℕ
@@ -95,8 +96,8 @@ pub record ShowsLine (input : List ℕ) (line : RequestLine) : Type 0 where
   pub target_at : StandsAt input line.target target
       (version_on line.major line.minor line.rest.now)
 
--- Fields and an empty line are first in what an input of such a length ends with, that many fields.
--- Where there is room, these stand at the first places.
+-- `bytes` are the end of an input of length `whole`, and start with `count` fields and an empty
+-- line. If there is room, the first entries hold the positions of the fields.
 pub record ShowsFields (whole : ℕ) (bytes : List ℕ) (count : ℕ) (places : List Field)
     (rest : List ℕ) : Type 0 where
   pub fields : List Pair
@@ -105,7 +106,7 @@ pub record ShowsFields (whole : ℕ) (bytes : List ℕ) (count : ℕ) (places : 
   pub shows : count ≤ length places → (input before : List ℕ) → input ≡ before ++ bytes
       → length input ≡ whole → AreShown input bytes (take count places) fields (line_end ++ rest)
 
--- This field line is first in what an input of such a length ends with.
+-- `bytes` are the end of an input of length `whole`, and start with this field line.
 pub record ShowsFieldLine (whole : ℕ) (bytes : List ℕ) (line : FieldLine) : Type 0 where
   pub field : Pair
   pub is_line : IsFieldLine field.0 field.1 bytes line.rest.now

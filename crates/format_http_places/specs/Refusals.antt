@@ -1,4 +1,4 @@
--- What bytes are read as: a head, or where none goes on.
+-- The contracts of reading bytes: a head, or the offset at which no head continues.
 use Rattle.std.specs.Prelude.{◌≡◌, ◌<◌, ◌≤◌, ◌-◌, ℕ, List, [], ◌∷◌, ◌++◌, length, take}
 use Rattle.std.specs.Prelude.{Result, Ok, Err}
 use Rattle.format_http.specs.Heads.Head.{IsHead, Pair, Request}
@@ -15,8 +15,8 @@ abbrev pub NoneRead : List ℕ → Type 0
 NoneRead bytes = (line : Request) (fields : List Pair) (rest : List ℕ)
     → IsHead line fields bytes rest → ⊥
 
--- This is the first place at which bytes go on no more: what is asked of beginnings is so of the
--- bytes before it, and of these and the byte there it is so that none begins with them.
+-- `place` is the first offset at which the bytes cannot continue: the bytes before it satisfy
+-- `starts`, and with the next byte they satisfy `never`.
 pub record IsRefusedBy (starts never : List ℕ → Type 0) (bytes : List ℕ) (place : ℕ) : Type 0 where
   pub before : List ℕ
   pub byte : ℕ
@@ -26,14 +26,14 @@ pub record IsRefusedBy (starts never : List ℕ → Type 0) (bytes : List ℕ) (
   pub begins : starts before
   pub none : never (before ++ byte ∷ [])
 
--- This is the first place at which no head goes on: some head begins with the bytes before it, and
--- none with these and the byte there.
+-- `place` is the first offset at which no head can continue: some head starts with the bytes before
+-- it, and none with these and the next byte.
 abbrev pub IsRefused : List ℕ → ℕ → Type 0
 IsRefused bytes place = IsRefusedBy BeginsHead NoHead bytes place
 
--- What is read of the bytes: a head, whose fields stand in the first entries; one with more fields
--- than there are entries; where no head goes on; or that a longer input begins with a head, and
--- these bytes do not.
+-- The contract of reading bytes: a head, whose fields are in the first entries; a head with more
+-- fields than entries; the offset at which no head continues; or incomplete, if some longer input
+-- starts with a head, and these bytes do not.
 abbrev pub ReadsHead : List ℕ → Result Head HeadError → List Field → Type 0
 ReadsHead bytes (Ok head) fields = ShowsHead bytes head (take head.fields fields)
 ReadsHead bytes (Err (TooManyFields count)) fields =
@@ -41,14 +41,14 @@ ReadsHead bytes (Err (TooManyFields count)) fields =
 ReadsHead bytes (Err (Refused place)) fields = IsRefused bytes place
 ReadsHead bytes (Err Incomplete) fields = BeginsHead bytes × NoneRead bytes
 
--- The bytes begin with a head, whose first fields stand in the entries, as many as there is room
--- for.
+-- The bytes start with a head, and the entries hold as many of its fields as there is room for.
 abbrev pub ReadsParts : List ℕ → Head → List Field → Type 0
 ReadsParts bytes head fields =
     (head.fields ≤ length fields → ShowsHead bytes head (take head.fields fields))
     × IsWanted bytes head.fields
 
--- where a stop is, or that more is asked for, of bytes of such a length of which that many are left
+-- the error at `left` bytes before the end of an input of length `whole`, or incomplete if `left`
+-- is 0
 abbrev pub IsErrorAt : ℕ → ℕ → HeadError → Type 0
 IsErrorAt whole left (TooManyFields count) = ⊥
 IsErrorAt whole left (Refused place) = (0 < left) × (place ≡ whole - left)

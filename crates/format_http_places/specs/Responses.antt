@@ -1,4 +1,4 @@
--- Where the parts of the head of a response stand, and what bytes are read as.
+-- The offsets of the parts of a response's head, and the contracts of reading bytes.
 use Rattle.std.specs.Prelude.{◌≡◌, ◌+◌, ◌<◌, ◌≤◌, ℕ, List, ◌++◌, length, take}
 use Rattle.std.specs.Prelude.{Result, Ok, Err}
 use Rattle.format_http.specs.Heads.Bytes.{line_end}
@@ -17,7 +17,7 @@ use Rattle.format_http_places.specs.declared.read.HeadError.TheVariants.{TooMany
 use Rattle.format_http_places.specs.declared.status.Reason.{Reason}
 use Rattle.format_http_places.specs.declared.status.StatusLine.{StatusLine}
 
--- The input begins with a head, which has these numbers and whose parts stand at these places: the
+-- The input starts with a head, which has these numbers and whose parts are at these positions: the
 -- reason before the end of its line, and each field in its own line, after that.
 pub record ShowsResponse (input : List ℕ) (head : ResponseHead) (places : List Field)
     : Type 0 where
@@ -33,7 +33,7 @@ pub record ShowsResponse (input : List ℕ) (head : ResponseHead) (places : List
   pub are_shown : AreShown input is_head.behind places fields (line_end ++ rest)
   pub ends : head.length + length rest ≡ length input
 
--- The input begins with a head of that many fields.
+-- The input starts with a head of `count` fields.
 pub record IsResponseWanted (input : List ℕ) (count : ℕ) : Type 0 where
   pub line : Status
   pub fields : List Pair
@@ -46,14 +46,14 @@ abbrev pub NoResponseRead : List ℕ → Type 0
 NoResponseRead bytes = (line : Status) (fields : List Pair) (rest : List ℕ)
     → IsResponseHead line fields bytes rest → ⊥
 
--- This is the first place at which no head goes on: some head begins with the bytes before it, and
--- none with these and the byte there.
+-- `place` is the first offset at which no head can continue: some head starts with the bytes before
+-- it, and none with these and the next byte.
 abbrev pub IsResponseRefused : List ℕ → ℕ → Type 0
 IsResponseRefused bytes place = IsRefusedBy BeginsResponseHead NoResponseHead bytes place
 
--- What is read of the bytes: a head, whose fields stand in the first entries; one with more fields
--- than there are entries; where no head goes on; or that a longer input begins with a head, and
--- these bytes do not.
+-- The contract of reading bytes: a head, whose fields are in the first entries; a head with more
+-- fields than entries; the offset at which no head continues; or incomplete, if some longer input
+-- starts with a head, and these bytes do not.
 abbrev pub ReadsResponse : List ℕ → Result ResponseHead HeadError → List Field → Type 0
 ReadsResponse bytes (Ok head) fields = ShowsResponse bytes head (take head.fields fields)
 ReadsResponse bytes (Err (TooManyFields count)) fields =
@@ -61,8 +61,7 @@ ReadsResponse bytes (Err (TooManyFields count)) fields =
 ReadsResponse bytes (Err (Refused place)) fields = IsResponseRefused bytes place
 ReadsResponse bytes (Err Incomplete) fields = BeginsResponseHead bytes × NoResponseRead bytes
 
--- The bytes begin with a head, whose first fields stand in the entries, as many as there is room
--- for.
+-- The bytes start with a head, and the entries hold as many of its fields as there is room for.
 abbrev pub ReadsResponseParts : List ℕ → ResponseHead → List Field → Type 0
 ReadsResponseParts bytes head fields =
     (head.fields ≤ length fields → ShowsResponse bytes head (take head.fields fields))
@@ -70,7 +69,7 @@ ReadsResponseParts bytes head fields =
 
 -- ---- status lines
 
--- The three digits of this status code stand first.
+-- The bytes start with the three digits of this status code.
 pub record IsCodeFirst (status : ℕ) (bytes rest : List ℕ) : Type 0 where
   pub hundreds : ℕ
   pub tens : ℕ
@@ -78,8 +77,8 @@ pub record IsCodeFirst (status : ℕ) (bytes rest : List ℕ) : Type 0 where
   pub splits : bytes ≡ three hundreds tens ones ++ rest
   pub is_code : IsCode status hundreds tens ones
 
--- A space and this reason, or nothing, and a line end are first in what an input of such a length
--- ends with.
+-- `bytes` are the end of an input of length `whole`, and start with a space and this reason, or
+-- nothing, and a line ending.
 pub record ShowsReason (whole : ℕ) (bytes : List ℕ) (reason : Reason) : Type 0 where
   pub text : List ℕ
   pub is_ending : IsEnding text bytes reason.rest.now

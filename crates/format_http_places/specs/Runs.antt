@@ -1,4 +1,4 @@
--- How many bytes of a kind stand first.
+-- Runs of bytes of one class at the start of the input.
 use Rattle.std.specs.Prelude.{◌≤◌, ◌<◌, ◌==◌, ℕ, List, [], ◌∷◌, length, take, drop}
 use Rattle.std.specs.Prelude.{if◌then◌else◌, ⊤}
 use Rattle.std.specs.Int.{trailing_zeros, w64}
@@ -9,15 +9,15 @@ abbrev pub NotFirst : (ℕ → Type 0) → List ℕ → Type 0
 NotFirst these [] = ⊤
 NotFirst these (b ∷ bs) = these b → ⊥
 
--- The first bytes, that many, are such.
+-- The first `n` bytes satisfy `these`.
 abbrev pub FirstAre : (ℕ → Type 0) → List ℕ → ℕ → Type 0
 FirstAre these bytes n = (n ≤ length bytes) × All these (take n bytes)
 
--- That many of these stand first, and no more.
+-- The longest prefix of bytes that satisfy `these` has length `n`.
 abbrev pub SoMany : (ℕ → Type 0) → List ℕ → ℕ → Type 0
 SoMany these bytes n = FirstAre these bytes n × NotFirst these (drop n bytes)
 
--- The same of the first 16 bytes.
+-- Likewise for the first 16 bytes.
 abbrev pub SoManyOf16 : (ℕ → Type 0) → List ℕ → ℕ → Type 0
 SoManyOf16 these bytes n =
     (n ≤ 16) × FirstAre these bytes n × (n < 16 → NotFirst these (drop n bytes))

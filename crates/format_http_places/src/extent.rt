@@ -1,8 +1,8 @@
-//! Where a head ends whose bytes come in pieces.
+//! An incremental scanner for the end of a head in bytes that arrive in chunks.
 //!
-//! What a call was given it passes, and no other call looks at it again: so a head is found in a
-//! time that is linear in its bytes, however many pieces there are, and is then read by one call of
-//! [`read_head_into`](crate::read::read_head_into).
+//! Each call resumes after the bytes that earlier calls passed. So the time to find a head is
+//! linear in its bytes, for any number of chunks. One call of
+//! [`read_head_into`](crate::read::read_head_into) then reads it.
 
 ghost use Rattle.std.specs.Prelude.{◌≡◌, ◌≤◌, ◌<◌, ◌+◌, ◌++◌, ℕ, List, None, Ok, drop, length};
 ghost use Rattle.std.specs.Prelude.{take};
@@ -17,8 +17,8 @@ use std::error::Error;
 use std::fmt;
 use std::fmt::{Display, Formatter};
 
-/// The first place at which no head goes on: that many bytes stand before it, with which some head
-/// begins, and with the byte there none does, whatever follows.
+/// The first offset at which no head can continue: some head starts with the bytes before it, and
+/// no continuation of these and the next byte does.
 ///
 /// ```
 /// use format_http_places::extent::{HeadExtent, Refused};
@@ -27,19 +27,19 @@ use std::fmt::{Display, Formatter};
 /// ```
 #[derive(Clone, Copy, Debug, PartialEq, Eq)]
 pub struct Refused {
-    /// How many bytes stand before it.
+    /// The number of bytes before it.
     pub place: usize,
 }
 
 impl Display for Refused {
     fn fmt<W: fmt::Write>(&self, f: &mut Formatter<W>) -> fmt::Result {
-        write!(f, "no head goes on at byte {}", self.place)
+        write!(f, "invalid byte at offset {}", self.place)
     }
 }
 
 impl Error for Refused {}
 
-/// Where in a head the next byte is due.
+/// The position of the next byte in a head.
 ///
 /// ```
 /// use format_http_places::extent::{HeadExtent, HeadPlace};
@@ -90,8 +90,8 @@ pub enum HeadPlace {
     Done,
 }
 
-/// How far some bytes were searched for the end of the head that they begin with. What it has can
-/// be kept anywhere, and an extent be made of it again.
+/// The state of the search for the end of a head. Its fields can be stored anywhere, and an extent
+/// can be made of them again.
 ///
 /// ```
 /// use format_http_places::extent::HeadExtent;
@@ -106,7 +106,7 @@ pub enum HeadPlace {
 pub struct HeadExtent {
     /// How many bytes were passed.
     pub passed: usize,
-    /// Where in the head the next one is due.
+    /// The position of the next byte in the head.
     pub place: HeadPlace,
 }
 
@@ -125,7 +125,7 @@ fn if_so(is: bool, next: HeadPlace) -> Option<HeadPlace>
     if is { Some(next) } else { None }
 }
 
-/// The next place, if the byte is the one that is wanted.
+/// Returns the next state, if the byte is the expected one.
 #[inline(always)]
 fn only(byte: u8, wanted: u8, next: HeadPlace) -> Option<HeadPlace>
     ensures { IsOnly byte wanted next result }
@@ -133,7 +133,8 @@ fn only(byte: u8, wanted: u8, next: HeadPlace) -> Option<HeadPlace>
     if byte == wanted { Some(next) } else { None }
 }
 
-/// The same place where a run goes on, or the next one if the byte is the one after a run.
+/// Returns the same state if a run continues, or the next one if the byte is the one that ends the
+/// run.
 #[inline(always)]
 fn run_or(
     goes_on: bool,
@@ -151,7 +152,7 @@ fn run_or(
     }
 }
 
-/// Where the next byte is due after this one in a line of fields, or at its end.
+/// Returns the state after this byte at the start of a field line or of the empty line.
 #[inline(always)]
 fn place_in_fields(byte: u8) -> Option<HeadPlace>
     ensures { IsStep HeadPlace.Fields byte result }
@@ -163,8 +164,8 @@ fn place_in_fields(byte: u8) -> Option<HeadPlace>
     }
 }
 
-/// Where the next byte is due after this one; none after the head, and where no head goes on with
-/// the byte.
+/// Returns the state after this byte, or `None` after the head, and if no head continues with the
+/// byte.
 #[inline(always)]
 fn place_after(place: HeadPlace, byte: u8) -> Option<HeadPlace>
     ensures { IsStep place byte result }
@@ -230,8 +231,7 @@ fn run_len(place: HeadPlace, bytes: &[u8]) -> usize
     }
 }
 
-/// Passes bytes from a place on, as many as a head has there: where the next one is due, and what
-/// is left.
+/// Passes the longest possible prefix of the bytes, and returns the new state and the rest.
 #[inline(always)]
 fn walk<'i>(from: HeadPlace, fresh: &'i [u8]) -> (HeadPlace, &'i [u8])
     ensures { Walks from fresh.now result.0 result.1.now }
@@ -271,22 +271,24 @@ impl HeadExtent {
         }
     }
 
-    /// How many bytes the head of a request of HTTP/1.1 (RFC 9112, section 2.1) has that the bytes
-    /// begin with. They are those of the call before, and more: what was passed then is not looked
-    /// at again, so the time that all calls take is linear in the bytes. In all of them a byte is
-    /// looked at 18 times at most: twice by itself, and in each group of sixteen bytes that one of
-    /// the sixteen up to it begins.
+    /// Searches for the end of the head of an HTTP/1.1 request (RFC 9112, section 2.1) at the start
+    /// of `bytes`, and returns the head's length in bytes.
     ///
-    /// `None` is for bytes that begin with no head, and with more after them they can. An error
-    /// tells the first place at which no head goes on. In both cases, and where a head is whole,
-    /// [`HeadExtent::passed`] bytes were passed: all; those before the refused one; those of the
-    /// head. Called again, it goes on from there. What is told is told of the extent of these bytes
-    /// alone: of one that was taken for others it may be wrong.
+    /// `bytes` must be those of the previous call, possibly followed by more. Bytes that were
+    /// passed are not examined again, so the time of all calls together is linear in the bytes. In
+    /// all calls together a byte is examined at most 18 times: twice by itself, and once in each
+    /// group of sixteen bytes that contains it.
+    ///
+    /// It returns `None` if the bytes do not start with a head, and some continuation does.
+    /// [`HeadExtent::passed`] is then the number of all bytes; at an error it is the offset of the
+    /// error, and for a complete head its length. The next call resumes from there. The result is
+    /// specified only if the extent is of these bytes: if it was used for others, the result may be
+    /// wrong.
     ///
     /// # Errors
     ///
-    /// [`Refused`], with the place that [`read_head_into`](crate::read::read_head_into) tells of
-    /// the same bytes.
+    /// [`Refused`], with the same offset as the error of
+    /// [`read_head_into`](crate::read::read_head_into) for these bytes.
     ///
     /// ```
     /// use format_http_places::extent::{HeadExtent, Refused};
@@ -323,7 +325,7 @@ impl HeadExtent {
         }
     }
 
-    /// What is said of the bytes that were passed, where these are left.
+    /// Returns the result for the passed bytes, if `left` remains.
     #[inline(always)]
     fn say(&self, left: &[u8]) -> Result<Option<usize>, Refused>
         ensures { Says self.now left.now result }

@@ -8,7 +8,7 @@ use crate::line::read_field_line;
 use crate::places::Field;
 use crate::stop::{Stop, read_byte};
 
-/// How many fields there are, and what stands after the empty line that ends them.
+/// The number of fields, and the rest after the empty line that ends them.
 #[derive(Clone, Copy)]
 pub(crate) struct Fields<'i> {
     pub count: usize,

@@ -1,4 +1,4 @@
-//! How many bytes of a kind stand first in sixteen, which are looked at at once.
+//! The length of a run of bytes of one class in sixteen bytes, which are examined together.
 
 ghost use Rattle.std.specs.Prelude.{◌≡◌, ◌≤◌, length};
 ghost use Rattle.format_http.specs.Heads.Bytes.{IsTokenByte, IsValueByte, IsVisible};

@@ -1,5 +1,5 @@
-//! Heads of requests and of responses of HTTP/1.1 (RFC 9112), whole or in pieces, as places in
-//! their bytes: one pass, and no memory is asked for.
+//! Heads of requests and of responses of HTTP/1.1 (RFC 9112) as offsets in their bytes, on complete
+//! and on partial input, in one pass and without allocating.
 #![tactic(auto)]
 
 pub mod extent;

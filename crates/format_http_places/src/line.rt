@@ -13,7 +13,7 @@ use crate::places::{Field, Span};
 use crate::runs::{bare, target_len, token_len, value_len};
 use crate::stop::{Stop, behind, front, read_byte, read_text};
 
-/// A request line, and what stands after it.
+/// A request line, and the rest after it.
 #[derive(Clone, Copy)]
 pub(crate) struct RequestLine<'i> {
     pub method: Span,
@@ -23,7 +23,7 @@ pub(crate) struct RequestLine<'i> {
     pub rest: &'i [u8],
 }
 
-/// The numbers of a version, and what stands after them, or after the line that they end.
+/// The numbers of a version, and the rest after them, or after the line that they end.
 #[derive(Clone, Copy)]
 pub(crate) struct Version<'i> {
     pub major: u8,
@@ -31,14 +31,14 @@ pub(crate) struct Version<'i> {
     pub rest: &'i [u8],
 }
 
-/// A field line, and what stands after it.
+/// A field line, and the rest after it.
 #[derive(Clone, Copy)]
 pub(crate) struct FieldLine<'i> {
     pub field: Field,
     pub rest: &'i [u8],
 }
 
-/// What stands after this byte, which is after that many bytes, one or more.
+/// Returns the rest after `byte`, which must follow a run of `size` bytes, at least one.
 #[inline(always)]
 fn ended(bytes: &[u8], size: usize, byte: u8) -> Result<&[u8], Stop>
     requires { size ≤ length bytes.now }
@@ -52,7 +52,7 @@ fn ended(bytes: &[u8], size: usize, byte: u8) -> Result<&[u8], Stop>
     read_byte(behind(bytes, size), byte)
 }
 
-/// What stands after a line end.
+/// Skips a line ending and returns the rest.
 #[inline(always)]
 pub(crate) fn read_line_end(bytes: &[u8]) -> Result<&[u8], Stop>
     ensures { MatchResult result (λ rest. bytes.now ≡ line_end ++ rest.now)
@@ -62,7 +62,7 @@ pub(crate) fn read_line_end(bytes: &[u8]) -> Result<&[u8], Stop>
     read_byte(line_feed, b'\n')
 }
 
-/// The number of a digit, and what stands after it.
+/// Parses a digit and returns its number and the rest.
 #[inline(always)]
 pub(crate) fn read_digit(bytes: &[u8]) -> Result<(u8, &[u8]), Stop>
     ensures { MatchResult result
@@ -75,7 +75,7 @@ pub(crate) fn read_digit(bytes: &[u8]) -> Result<(u8, &[u8]), Stop>
     }
 }
 
-/// The numbers of a version, with what stands before them.
+/// Parses the numbers of a version, with the bytes before them.
 #[inline(always)]
 pub(crate) fn read_numbers(bytes: &[u8]) -> Result<Version<'_>, Stop>
     ensures { MatchResult result

@@ -1,6 +1,6 @@
 //! Places in the bytes of a head.
 
-/// A place: that many bytes, from one on.
+/// A position: an offset and a length.
 ///
 /// ```
 /// use format_http_places::places::Span;
@@ -11,7 +11,7 @@
 #[repr(C)]
 #[derive(Clone, Copy, Debug, PartialEq, Eq, Drop)]
 pub struct Span {
-    /// How many bytes stand before it.
+    /// The number of bytes before it.
     pub offset: usize,
     /// How many bytes it has.
     pub length: usize,
@@ -32,8 +32,7 @@ pub struct Span {
 pub struct Field {
     /// The name.
     pub name: Span,
-    /// The value, without the white space round it. One without bytes stands at the end of its
-    /// line.
+    /// The value, without the surrounding whitespace. An empty value is at the end of its line.
     pub value: Span,
 }
 
@@ -56,7 +55,7 @@ pub struct Head {
     pub target: Span,
     /// How many fields there are.
     pub fields: usize,
-    /// How many bytes the head has, the empty line after the fields among them.
+    /// The length of the head in bytes, including the empty line after the fields.
     pub length: usize,
     /// The number before the point of the version, below 10.
     pub major: u8,
@@ -76,11 +75,11 @@ pub struct Head {
 #[repr(C)]
 #[derive(Clone, Copy, Debug, PartialEq, Eq, Drop)]
 pub struct ResponseHead {
-    /// The reason. One without bytes stands at the end of its line.
+    /// The span of the reason phrase. If it is empty, the span is at the end of its line.
     pub reason: Span,
     /// How many fields there are.
     pub fields: usize,
-    /// How many bytes the head has, the empty line after the fields among them.
+    /// The length of the head in bytes, including the empty line after the fields.
     pub length: usize,
     /// The status code, below 1000.
     pub status: u16,

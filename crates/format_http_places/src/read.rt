@@ -1,8 +1,8 @@
-//! Heads of requests, whole and in pieces, into entries of the caller's.
+//! Heads of requests, complete and partial, read into entries of the caller.
 //!
-//! The bytes are looked at once, from the first on, and no memory is asked for. Runs of names,
-//! targets and values are looked at sixteen bytes at a time. These are loops over bytes and not
-//! parsers of the library.
+//! The bytes are examined once, from the first on, without allocating. Runs of names, targets and
+//! values are examined sixteen bytes at a time. These are loops over bytes instead of parsers of
+//! the library.
 
 ghost use Rattle.std.specs.Prelude.{◌≤◌, MatchResult};
 ghost use Rattle.format_http_places.specs.Grammar.{HeadText, Stops};
@@ -25,21 +25,21 @@ use std::fmt::{Display, Formatter};
 /// ```
 #[derive(Clone, Copy, Debug, PartialEq, Eq)]
 pub enum HeadError {
-    /// At this place no head goes on: that many bytes stand before it, with which some head begins,
-    /// and with the byte there none does, whatever follows.
+    /// No head can continue at this offset: some head starts with the bytes before it, and no
+    /// continuation of these and the next byte does.
     Refused(usize),
     /// The bytes begin with no head, and with more after them they can.
     Incomplete,
-    /// The bytes begin with a head of that many fields, which are more than there are entries.
+    /// The bytes start with a head of this number of fields, which exceeds the number of entries.
     TooManyFields(usize),
 }
 
 impl Display for HeadError {
     fn fmt<W: fmt::Write>(&self, f: &mut Formatter<W>) -> fmt::Result {
         match *self {
-            HeadError::Refused(place) => write!(f, "no head goes on at byte {place}"),
-            HeadError::Incomplete => f.write_str("the bytes end within a head"),
-            HeadError::TooManyFields(count) => write!(f, "there are {count} fields, too many"),
+            HeadError::Refused(place) => write!(f, "invalid byte at offset {place}"),
+            HeadError::Incomplete => f.write_str("incomplete input: more bytes are needed"),
+            HeadError::TooManyFields(count) => write!(f, "too many fields: {count}"),
         }
     }
 }
@@ -76,19 +76,23 @@ fn read_parts(bytes: &[u8], fields: &mut [Field]) -> Result<Head, Stop>
     })
 }
 
-/// The head of a request of HTTP/1.1 (RFC 9112, section 2.1) with which the bytes begin: a request
-/// line, field lines one after the other, and an empty line. Returned are the places of its parts,
-/// and the first entries are those of its fields, in order. What stands after the head is not
-/// looked at.
+/// Reads the head of an HTTP/1.1 request (RFC 9112, section 2.1) at the start of the bytes: a
+/// request line, consecutive field lines, and an empty line. Returns the positions of its parts,
+/// and writes those of its fields, in order, to the first entries of `fields`. Bytes after the head
+/// are not examined.
 ///
-/// [`Refused`](HeadError::Refused) tells the first place at which no head goes on,
-/// [`Incomplete`](HeadError::Incomplete) that the bytes end within one: bytes that come in pieces
-/// are read again, from the first on, with more after them. Bytes that are whole begin with no
-/// head in either case. [`TooManyFields`](HeadError::TooManyFields) tells how many entries are
-/// wanted. At an error any entry may be written, since the fields are written as they are read.
+/// # Errors
 ///
-/// No empty line is passed before the request line: a server that is to be lenient, as section 2.2
-/// has it, passes one there itself.
+/// - [`Refused`](HeadError::Refused) holds the first offset at which no head can continue.
+/// - [`Incomplete`](HeadError::Incomplete): the bytes end within a head. If more bytes arrive, read
+///   again from the start. Complete input starts with no head in this case either.
+/// - [`TooManyFields`](HeadError::TooManyFields) holds the required number of entries.
+///
+/// After an error any entry may have been overwritten, since the fields are written as they are
+/// read.
+///
+/// No empty line is skipped before the request line: a server that is lenient as in section 2.2
+/// must skip one itself.
 ///
 /// ```
 /// use format_http_places::places::{Field, Span};

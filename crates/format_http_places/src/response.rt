@@ -1,5 +1,5 @@
-//! Heads of responses, whole and in pieces, into entries of the caller's: by the same lanes, field
-//! lines and refusals as those of requests.
+//! Heads of responses, complete and partial, read into entries of the caller, by the same lanes,
+//! field lines and errors as those of requests.
 
 ghost use Rattle.std.specs.Prelude.{MatchResult};
 ghost use Rattle.format_http_places.specs.Grammar.{ResponseText, Stops};
@@ -28,19 +28,21 @@ fn read_response_parts(bytes: &[u8], fields: &mut [Field]) -> Result<ResponseHea
     })
 }
 
-/// The head of a response of HTTP/1.1 (RFC 9112, section 2.1) with which the bytes begin: a status
-/// line, field lines one after the other, and an empty line. Returned are its numbers and the
-/// places of its parts, and the first entries are those of its fields, in order. What stands after
-/// the head is not looked at.
+/// Reads the head of an HTTP/1.1 response (RFC 9112, section 2.1) at the start of the bytes: a
+/// status line, consecutive field lines, and an empty line. Returns its numbers and the positions
+/// of its parts, and writes those of its fields, in order, to the first entries of `fields`. Bytes
+/// after the head are not examined.
 ///
-/// The status code is three digits, of which the first may be any. The reason may have no bytes,
-/// and then the space before it may be wanting too: it stands at the end of the line.
+/// The status code is three digits; the first may be any digit. The reason may be empty, and then
+/// the space before it may be missing too: its position is the end of the line.
 ///
-/// The errors are those of [`read_head_into`](crate::read::read_head_into), of heads of responses:
-/// [`Refused`](HeadError::Refused) tells the first place at which none goes on,
-/// [`Incomplete`](HeadError::Incomplete) that the bytes end within one, and
-/// [`TooManyFields`](HeadError::TooManyFields) how many entries are wanted. At an error any entry
-/// may be written.
+/// # Errors
+///
+/// Those of [`read_head_into`](crate::read::read_head_into), for heads of responses:
+/// [`Refused`](HeadError::Refused) holds the first offset at which no head can continue,
+/// [`Incomplete`](HeadError::Incomplete) means that the bytes end within one, and
+/// [`TooManyFields`](HeadError::TooManyFields) holds the required number of entries. After an error
+/// any entry may have been overwritten.
 ///
 /// ```
 /// use format_http_places::places::{Field, Span};

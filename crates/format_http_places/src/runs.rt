@@ -1,4 +1,4 @@
-//! How many bytes of a kind stand first.
+//! Runs of bytes of one class at the start of the input.
 
 ghost use Rattle.std.specs.Prelude.{◌↔◌, IsTrue};
 ghost use Rattle.format_http.specs.Heads.Bytes.{IsTokenByte, IsValueByte, IsVisible, IsWhite};
@@ -9,7 +9,7 @@ use crate::lanes::{LANES, name_run, target_run, value_run};
 use crate::places::Span;
 use crate::stop::behind;
 
-// Each byte of a token stands at its own place, and a comma at each other.
+// Each byte of a token at its own index, and a comma at every other index.
 static TOKENS: [u8; 256] = *b"\
     ,,,,,,,,,,,,,,,,,,,,,,,,,,,,,,,,\
     ,!,#$%&',,*+,-.,0123456789,,,,,,\
@@ -113,7 +113,7 @@ fn white_len(bytes: &[u8]) -> usize
     at
 }
 
-/// Where a text stands without the white space at both ends.
+/// Returns the position of a text without the whitespace at both ends.
 #[inline(always)]
 pub(crate) fn bare(text: &[u8]) -> Span
     ensures { IsBare text.now result }

@@ -9,7 +9,7 @@ use crate::places::Span;
 use crate::runs::value_len;
 use crate::stop::{Stop, behind, read_byte};
 
-/// A status line, and what stands after it.
+/// A status line, and the rest after it.
 #[derive(Clone, Copy)]
 pub(crate) struct StatusLine<'i> {
     pub major: u8,
@@ -19,14 +19,14 @@ pub(crate) struct StatusLine<'i> {
     pub rest: &'i [u8],
 }
 
-/// A status code, and what stands after it.
+/// A status code, and the rest after it.
 #[derive(Clone, Copy)]
 pub(crate) struct Code<'i> {
     pub status: u16,
     pub rest: &'i [u8],
 }
 
-/// A reason, and what stands after the line that it ends.
+/// A reason, and the rest after the line that it ends.
 #[derive(Clone, Copy)]
 pub(crate) struct Reason<'i> {
     pub place: Span,

@@ -1,10 +1,10 @@
-//! Where a head cannot go on.
+//! The offset at which a head cannot continue.
 
 ghost use Rattle.std.specs.Prelude.{◌≡◌, ◌≤◌, ◌∷◌, ◌++◌, MatchResult, drop, length, take};
 ghost use Rattle.format_http_places.specs.Grammar.{Differs};
 ghost use Rattle.format_http_places.specs.Runs.{NotFirst};
-/// That many bytes are left from the first on with which nothing goes on; or none is left, and more
-/// are asked for.
+/// The number of bytes that remain, starting with the one that cannot continue a head; or 0, if
+/// more bytes are needed.
 #[derive(Clone, Copy, Drop)]
 pub(crate) struct Stop {
     pub left: usize,
@@ -28,7 +28,7 @@ pub(crate) fn front(bytes: &[u8], size: usize) -> &[u8]
     &bytes[..size]
 }
 
-/// What stands after this byte, which stands first.
+/// Skips `byte` and returns the rest.
 #[inline(always)]
 pub(crate) fn read_byte(bytes: &[u8], byte: u8) -> Result<&[u8], Stop>
     ensures { MatchResult result (λ rest. bytes.now ≡ byte ∷ rest.now)
@@ -40,7 +40,7 @@ pub(crate) fn read_byte(bytes: &[u8], byte: u8) -> Result<&[u8], Stop>
     }
 }
 
-/// What stands after this text, which stands first.
+/// Skips `text` and returns the rest.
 pub(crate) fn read_text<'i>(bytes: &'i [u8], text: &[u8]) -> Result<&'i [u8], Stop>
     ensures { MatchResult result (λ rest. bytes.now ≡ text.now ++ rest.now)
         (λ stop. Differs text.now bytes.now stop.left) }

@@ -48,7 +48,6 @@ no_stop P (x ∷ xs) [] m r p is e =
 no_stop P (x ∷ xs) (y ∷ ys) m r p is e =
     no_stop P xs ys m r (All-tail (λ x. P x → ⊥) x xs p) is cc
 
--- of two parts that stand first, one stands first in the other
 either_first : (a b : List ℕ) (m n : ℕ) (r s : List ℕ) → a ++ (m ∷ r) ≡ b ++ (n ∷ s)
     → (a ≡ b) ⊎ (((c : List ℕ) × (a ≡ b ++ (n ∷ c))) ⊎ ((c : List ℕ) × (b ≡ a ++ (m ∷ c))))
 either_first [] [] m n r s e = inl refl
@@ -209,7 +208,7 @@ step_one d s line said other next left (kept, is, it) (kept', too, at) =
     let same = kept_one d.inline_comments line kept kept' is too in
     step_of_one d s line kept said other next left it (subst P (sym same) at)
 
--- ---- why a line says nothing
+-- ---- why a line is invalid
 
 no_section : (text name : List ℕ) (reason : Refusal) → NoSection text reason → IsSection text name
     → ⊥
@@ -274,7 +273,6 @@ none_of d s line kept said next reason busy alone lacks (inr (inl (too, on, e, n
 none_of d s line kept said next reason busy alone lacks (inr (inr (too, single, at))) =
     none_own d s (indent_of line) (trimmed kept) said next reason lacks at
 
--- a line that says nothing says nothing else
 pub lacks_none : (d : Dialect) (s : State) (line : List ℕ) (said : List Said) (next : State)
     (reason : Refusal) → Lacks d s line reason → Step d s line said next → ⊥
 lacks_none d s line said next reason (kept, is, busy, alone, lacks) (kept', too, at) =
@@ -308,7 +306,6 @@ says_one d s text (l ∷ ls) (k ∷ ks) said other next left (rest, first, more)
     (subst R (sym at) on') in
     e ∙ ap (λ a. a ++ said') saying ∙ ap (λ a. two ++ a) others ∙ sym f
 
--- a text of which a line says nothing is no lines that say something
 pub stops_none : (d : Dialect) (s : State) (text : List ℕ) (lines others : List (List ℕ))
     (said other : List Said) (next left : State) (here line behind : List ℕ) (reason : Refusal)
     → AreLines text lines here → LinesSay d s lines said next → FirstLine here line behind

@@ -1,4 +1,4 @@
--- Entries one after the other, as places of bytes.
+-- Consecutive entries as offsets of bytes.
 use Rattle.std.specs.Prelude.{◌≡◌, ◌≤◌, ◌<◌, ◌+◌, ℕ, List, [], ◌∷◌, ◌++◌, length, take, drop}
 use Rattle.std.specs.Prelude.{Bool, Ok, Option, Some, false, slice_index, true}
 use Rattle.std.specs.Bool.{Decides}
@@ -30,9 +30,10 @@ pub drop_none : (bytes : List ℕ) → drop 0 bytes ≡ bytes
 drop_none [] = refl
 drop_none (b ∷ bytes) = refl
 
--- ---- where a line ends
+-- ---- the end of a line
 
--- what is known of a line at a place, and of where the next one begins
+-- `HereIs bytes offset line behind`: `line` is the line at `offset` of `bytes`, and the next one
+-- begins at `behind`.
 abbrev pub HereIs : List ℕ → ℕ → List ℕ → ℕ → Type 0
 HereIs bytes offset line behind = FirstLine (drop offset bytes) line (drop behind bytes)
     × (offset < behind) × (behind ≤ length bytes) × (offset + length line ≤ length bytes)

@@ -1,4 +1,4 @@
--- Where the texts of an entry stand.
+-- The offsets of the texts of an entry.
 use Rattle.std.specs.Prelude.{◌≡◌, ◌≤◌, ◌<◌, ◌+◌, ◌-◌, ℕ, List, [], ◌∷◌, ◌++◌, length, take, drop}
 use Rattle.std.specs.Prelude.{Bool, true, false, None, Some, suc, cond, Option}
 use Rattle.std.specs.Prelude.{Err, IfOk, Ok, Result}
@@ -38,7 +38,6 @@ blank_take (b ∷ bs) = by (is_ascii_whitespace b) refl (blank_take bs)
         (All-cons IsBlank b (take (indent_of bs) bs) e all)
     by false e all = All-nil IsBlank
 
--- A text is blanks, what is left without them, and what stands after that.
 pub trimmed_stands : (text : List ℕ) → (lead : List ℕ) × (rest : List ℕ)
     × (text ≡ lead ++ (trimmed text ++ rest)) × All IsBlank lead × (length lead ≡ indent_of text)
 unfolding trimmed
@@ -87,7 +86,6 @@ kept_first : (marks : Marks) (line kept : List ℕ) → IsKept marks line kept
 kept_first marks line kept (none, inl e) = ([], e ∙ sym (append-nil kept))
 kept_first marks line kept (none, inr (m, r, e, is, opens)) = (m ∷ r, e)
 
--- The text of a line is behind its blanks.
 pub text_stands : (marks : Marks) (line kept : List ℕ) → IsKept marks line kept
     → (lead : List ℕ) × (rest : List ℕ) × (line ≡ lead ++ (trimmed kept ++ rest))
     × All IsBlank lead × (length lead ≡ indent_of kept)
@@ -162,7 +160,7 @@ pub at_front : (from : ℕ) (text : List ℕ) (place : ℕ) → place ≡ from
 at_front from text place p =
     ([], [], sym (append-nil text), All-nil IsBlank, omega (arith, p))
 
--- ---- behind blanks
+-- ---- after blanks
 
 alike : {b : Bool} → b ≡ false → b ≡ true → ⊥
 alike {b} unlike is = cc
@@ -244,7 +242,6 @@ module _ (d : Dialect) (from : ℕ) (line lead text rest : List ℕ)
 
 module _ (d : Dialect) (from : ℕ) (marks : Marks) (line kept text : List ℕ) (depth : ℕ)
     (is : IsKept marks line kept) (t : text ≡ trimmed kept) (n : depth ≡ indent_of kept) where
-  -- what is said of the text of a line, said of the line
   line_at : (entry : Option Entry) (at : Places) → SaidAt d (from + depth) text entry at
       → SaidAt d from line entry at
   line_at entry at said =

@@ -10,7 +10,6 @@ use Rattle.format_ini.specs.Front.{NoComment}
 use Rattle.format_ini.specs.Marks.{IsBlank, IsMark}
 use Rattle.format_ini.specs.declared.dialect.Marks.{Marks}
 
--- a list in two parts and what stands between them
 pub around_is : (xs : List ℕ) (n : ℕ) → n < length xs
     → xs ≡ take n xs ++ (slice_index xs n ∷ drop (n + 1) xs)
 around_is xs n less = sym (take-append-drop n xs)
@@ -23,7 +22,6 @@ line_less text line rest (others, inl e) =
 line_less text line rest (others, inr (e, none, some)) =
     let h = ap (λ l. length l) e in let k = ap (λ l. length l) none in omega (arith, h, k)
 
--- where a byte stands in bytes with one more after them
 pushed_parts : (xs : List ℕ) (x : ℕ) (before : List ℕ) (m : ℕ) (rest : List ℕ)
     → xs ++ x ∷ [] ≡ before ++ (m ∷ rest)
     → ((before ≡ xs) × (m ≡ x)) ⊎ ((r : List ℕ) × (xs ≡ before ++ (m ∷ r)))

@@ -1,4 +1,4 @@
--- Documents: lists of lines, and what they say one after the other.
+-- Documents: lists of lines, and their meaning in sequence.
 use Rattle.std.specs.Prelude.{◌≡◌, ◌⊎◌, ◌+◌, ◌<◌, ℕ, List, [], ◌∷◌, ◌++◌, length, false, ⊤}
 use Rattle.std.specs.Prelude.{Result, Ok, Err, Option, Some, None}
 use Rattle.format_ini.specs.Front.{FirstLine}
@@ -11,27 +11,28 @@ use Rattle.format_ini.specs.declared.lines.Entry.{Entry}
 use Rattle.format_ini.specs.declared.lines.Refusal.{Refusal}
 use Rattle.format_ini.specs.declared.lines.State.{State}
 
--- No byte order mark of UTF-8 stands first.
+-- The bytes do not start with a UTF-8 byte order mark.
 abbrev pub NoMark : List ℕ → Type 0
 NoMark text = (rest : List ℕ) → text ≡ 239 ∷ 187 ∷ 191 ∷ rest → ⊥
 
--- This is left of a text without the byte order mark that may stand first.
+-- `BehindMark text rest`: `rest` is `text` without the byte order mark that it may start with.
 abbrev pub BehindMark : List ℕ → List ℕ → Type 0
 BehindMark text rest = (text ≡ 239 ∷ 187 ∷ 191 ∷ rest) ⊎ ((rest ≡ text) × NoMark text)
 
--- A text begins with these lines, after which this is left.
+-- `AreLines text lines rest`: `text` starts with `lines`, followed by `rest`.
 unfoldable pub AreLines : List ℕ → List (List ℕ) → List ℕ → Type 0
 AreLines text [] rest = text ≡ rest
 AreLines text (line ∷ lines) rest =
     (behind : List ℕ) × FirstLine text line behind × AreLines behind lines rest
 
--- Lines say this, one after the other, from one state to another.
+-- `LinesSay d s lines said next`: `lines` mean `said`, in sequence, from the state `s` to `next`.
 unfoldable pub LinesSay : Dialect → State → List (List ℕ) → List Said → State → Type 0
 LinesSay d s [] said next = (said ≡ []) × (next ≡ s)
 LinesSay d s (line ∷ lines) said next = (one : List Said) × (others : List Said) × (mid : State)
     × Step d s line one mid × (said ≡ one ++ others) × LinesSay d mid lines others next
 
--- A text begins with lines that say this, after which that is left.
+-- `ReadsLines d s text said next rest`: `text` starts with lines that mean `said`, followed by
+-- `rest`.
 abbrev pub ReadsLines : Dialect → State → List ℕ → List Said → State → List ℕ → Type 0
 ReadsLines d s text said next rest =
     (lines : List (List ℕ)) × AreLines text lines rest × LinesSay d s lines said next
@@ -45,26 +46,27 @@ abbrev pub IsDocument : Dialect → List ℕ → List Said → Type 0
 IsDocument d text said = (lines : List ℕ) × (next : State) × BehindMark text lines
     × ReadsLines d start lines said next []
 
--- Lines that say something stand first, and then a line that says nothing of this dialect, with
--- this left from there on.
+-- `StopsBy d s text said next rest why`: `text` starts with lines that mean `said`, followed by
+-- `rest`, which starts with a line that is invalid in this dialect.
 abbrev pub StopsBy : Dialect → State → List ℕ → List Said → State → List ℕ → Refusal → Type 0
 StopsBy d s text said next rest why = ReadsLines d s text said next rest
     × ((line : List ℕ) × (behind : List ℕ) × FirstLine rest line behind × Lacks d next line why)
 
--- The first line that says nothing of this dialect begins that many bytes after the text's start.
+-- `IsRefused d text fault`: `fault` holds the offset of the first line of `text` that is invalid in
+-- this dialect.
 abbrev pub IsRefused : Dialect → List ℕ → Fault → Type 0
 IsRefused d text fault = (lines : List ℕ) × (said : List Said) × (next : State) × (rest : List ℕ)
     × BehindMark text lines × StopsBy d start lines said next rest fault.why
     × (fault.offset + length rest ≡ length text)
 
--- what an error says of a text; want of memory says nothing of it
+-- the meaning of an error for a text; out of memory means nothing for it
 abbrev pub IsNoDocument : Dialect → List ℕ → IniError → Type 0
 IsNoDocument d text (Refused fault) = IsRefused d text fault
 IsNoDocument d text OutOfMemory = ⊤
 
--- what a call answers, and the state and the text that it leaves: the next entry; that there is
--- none, for all other lines say nothing; or why the next line that is neither empty nor a comment
--- is none of the dialect, and then that line is left
+-- The result of a call, and the state and the text that it leaves. The result is the next entry; or
+-- `None`, if all other lines are empty or comments; or the reason why the next line that is neither
+-- is invalid in the dialect. In the last case the text that it leaves starts with that line.
 abbrev pub NextEntry : Dialect → State → List ℕ → Result (Option Entry) Refusal → State → List ℕ
     → Type 0
 NextEntry d s text (Ok None) next rest = ReadsLines d s text [] next rest × (rest ≡ [])

@@ -1,4 +1,4 @@
--- What stands first in a text: lines, runs of bytes, blanks, comments after them.
+-- The start of a text: lines, runs of bytes, blanks, comments after them.
 use Rattle.std.specs.Prelude.{◌≡◌, ◌⊎◌, ◌≤◌, ◌<◌, ◌-◌, ℕ, List, [], ◌∷◌, ◌++◌, length, take, drop}
 use Rattle.std.specs.Prelude.{⊤, slice_index}
 use Rattle.std.specs.Char.{is_ascii_whitespace}
@@ -32,26 +32,29 @@ IsStop LineFeed b = b ≡ 10
 IsStop Bracket b = b ≡ 93
 IsStop (Delimiter delimiters) b = IsDelimiter delimiters b
 
--- that many bytes stand before the first of these, or in all
+-- `StopsAt stop bytes n`: `n` bytes precede the first byte of `stop`, or `n` is the length of
+-- `bytes`.
 abbrev pub StopsAt : Stop → List ℕ → ℕ → Type 0
 StopsAt stop bytes n = (n ≤ length bytes) × All (λ b. IsStop stop b → ⊥) (take n bytes)
     × (n < length bytes → IsStop stop (slice_index bytes n))
 
--- this stands before the first of these, and that after it
+-- `CutAt stop text before behind`: `text` is `before`, the first byte of `stop` in it, and
+-- `behind`.
 abbrev pub CutAt : Stop → List ℕ → List ℕ → List ℕ → Type 0
 CutAt stop text before behind = (mark : ℕ) × (text ≡ before ++ (mark ∷ behind))
     × IsStop stop mark × All (λ b. IsStop stop b → ⊥) before
 
--- A text begins with this line, after which this is left: a line feed ends it, or the text ends.
+-- `FirstLine text line rest`: `text` starts with `line`, followed by `rest`. A line feed ends the
+-- line, or the end of `text`.
 abbrev pub FirstLine : List ℕ → List ℕ → List ℕ → Type 0
 FirstLine text line rest = All (IsOther 10) line
     × ((text ≡ line ++ (10 ∷ rest)) ⊎ ((text ≡ line) × (rest ≡ []) × (0 < length line)))
 
--- How many blanks stand first in a line.
+-- The number of blanks at the start of a line.
 abbrev pub indent_of : List ℕ → ℕ
 indent_of line = prefix_len is_ascii_whitespace line
 
--- A text without the blanks that stand last in it.
+-- A text without trailing blanks.
 abbrev pub trimmed_end : List ℕ → List ℕ
 trimmed_end text = take (length text - suffix_len is_ascii_whitespace text) text
 
@@ -69,13 +72,13 @@ abbrev pub NoComment : Marks → List ℕ → Type 0
 NoComment marks line = (before : List ℕ) (mark : ℕ) (rest : List ℕ) → line ≡ before ++ (mark ∷ rest)
     → IsMark marks mark → MayOpen before → ⊥
 
--- What is kept of a line: all of it, where no comment of these marks begins in it; else what stands
--- before the first.
+-- `IsKept marks line kept`: `kept` is `line` up to the first comment of `marks`, or all of it if no
+-- comment begins in it.
 abbrev pub IsKept : Marks → List ℕ → List ℕ → Type 0
 IsKept marks line kept = NoComment marks kept × ((line ≡ kept) ⊎ ((mark : ℕ) × (rest : List ℕ)
     × (line ≡ kept ++ (mark ∷ rest)) × IsMark marks mark × MayOpen kept))
 
--- that many bytes are kept of a line
+-- `KeepsSoMany marks line n`: the first `n` bytes of `line` are kept
 abbrev pub KeepsSoMany : Marks → List ℕ → ℕ → Type 0
 KeepsSoMany marks line n = (n ≤ length line) × NoComment marks (take n line)
     × (n < length line → IsMark marks (slice_index line n) × MayOpen (take n line))

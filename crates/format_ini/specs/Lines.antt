@@ -1,5 +1,5 @@
--- What a line says, by its text: the line without an inline comment, and without the blanks at both
--- ends.
+-- The meaning of a line, by its text: the line without an inline comment, and without the blanks at
+-- both ends.
 use Rattle.std.specs.Prelude.{◌≡◌, ◌⊎◌, ◌<◌, ℕ, List, [], ◌∷◌, ◌++◌, length, Bool, true, false}
 use Rattle.std.specs.Prelude.{Option, Some, None, option_map, nat_lt}
 use Rattle.std.specs.Borrow.{Bor}
@@ -15,8 +15,8 @@ use Rattle.format_ini.specs.declared.lines.Refusal.{Refusal}
 use Rattle.format_ini.specs.declared.lines.Refusal.TheVariants as why
 use Rattle.format_ini.specs.declared.lines.State.{State}
 
--- What a line says: a section by its name; a pair, with its key and the value, or the first line of
--- that; or one more line of the value of the pair before.
+-- The meaning of a line: a section by its name; a pair, with its key and the value, or the value's
+-- first line; or one more line of the value of the previous pair.
 pub data Said : Type 0 where
   section : (name : List ℕ) → Said
   pair : (key : List ℕ) (value : Option (List ℕ)) → Said
@@ -39,10 +39,10 @@ said_of (Some entry) = said_in entry ∷ []
 abbrev pub IsSection : List ℕ → List ℕ → Type 0
 IsSection text name = (text ≡ 91 ∷ (name ++ 93 ∷ [])) × All (IsOther 93) name × (0 < length name)
 
--- The text is a pair: what stands before its first delimiter, without blanks after it, is the key,
--- and what stands after, without blanks at both ends, the value. Without a delimiter the text is
--- the key, where the dialect lets keys be without values. A text begins with no blank, so no key is
--- empty.
+-- `IsPair d text key value`: `text` is a pair. The key is the text before its first delimiter,
+-- without trailing blanks, and the value is the text after it, without blanks at both ends. Without
+-- a delimiter the key is all of `text`, if the dialect allows keys without values. A text does not
+-- begin with a blank, so no key is empty.
 abbrev pub IsPair : Dialect → List ℕ → List ℕ → Option (List ℕ) → Type 0
 IsPair d text key value =
     ((before : List ℕ) × (mark : ℕ) × (behind : List ℕ) × (text ≡ before ++ (mark ∷ behind))
@@ -51,7 +51,7 @@ IsPair d text key value =
     ⊎ (All (λ b. IsDelimiter d.delimiters b → ⊥) text × (d.valueless ≡ true) × (key ≡ text)
     × (value ≡ None))
 
--- Why a text that begins with `[` is no section.
+-- The reason why a text that begins with `[` is not a section.
 abbrev pub NoSection : List ℕ → Refusal → Type 0
 NoSection text why.OpenSection = (inside : List ℕ) × (text ≡ 91 ∷ inside) × All (IsOther 93) inside
 NoSection text why.EmptySection = (behind : List ℕ) × (text ≡ 91 ∷ 93 ∷ behind)
@@ -61,7 +61,7 @@ NoSection text why.NoSection = ⊥
 NoSection text why.NoKey = ⊥
 NoSection text why.NoDelimiter = ⊥
 
--- Why a text is no pair.
+-- The reason why a text is not a pair.
 abbrev pub NoPair : Dialect → List ℕ → Refusal → Type 0
 NoPair d text why.OpenSection = ⊥
 NoPair d text why.EmptySection = ⊥
@@ -71,7 +71,7 @@ NoPair d text why.NoKey = Begins (IsDelimiter d.delimiters) text
 NoPair d text why.NoDelimiter =
     All (λ b. IsDelimiter d.delimiters b → ⊥) text × (d.valueless ≡ false)
 
--- how deep the pair is indented that the next line may go on
+-- the indentation of the pair that the next line may continue
 abbrev pub pair_at : Continued → ℕ → Option (List ℕ) → Option ℕ
 pair_at Never indent value = None
 pair_at UntilEmpty indent None = None
@@ -79,11 +79,12 @@ pair_at UntilEmpty indent (Some v) = Some indent
 pair_at PastEmpty indent None = None
 pair_at PastEmpty indent (Some v) = Some indent
 
--- Pairs may stand here: after a section, or where the dialect lets them be before the first.
+-- Pairs are allowed here: after a section, or if the dialect allows them before the first one.
 abbrev pub MayPair : Dialect → State → Type 0
 MayPair d s = (s.section ≡ true) ⊎ (d.before_sections ≡ true)
 
--- What a line of its own says, and the state after it: `[` begins a section, anything else a pair.
+-- The meaning of a line of its own, and the state after it: `[` begins a section, anything else a
+-- pair.
 abbrev pub OwnSays : Dialect → State → ℕ → List ℕ → List Said → State → Type 0
 OwnSays d s indent text said next =
     ((name : List ℕ) × IsSection text name × (said ≡ section name ∷ [])
@@ -99,8 +100,8 @@ LacksOwn d s text reason =
     ⊎ (NotFirst (λ b. b ≡ 91) text × (((reason ≡ why.NoSection) × (MayPair d s → ⊥))
     ⊎ (MayPair d s × NoPair d text reason)))
 
--- What a line says that is empty or a comment, and the state after it: nothing, but for an empty
--- line within a value, where the dialect has such.
+-- The meaning of a line that is empty or a comment, and the state after it. Only an empty line
+-- within a value has a meaning, if the dialect allows that.
 abbrev pub IdleSays : Continued → State → Bool → List Said → State → Type 0
 IdleSays Never s empty said next = (said ≡ []) × (next ≡ s)
 IdleSays UntilEmpty s empty said next =
@@ -113,12 +114,12 @@ IdleSays PastEmpty s empty said next = (next ≡ s)
 abbrev pub IsIdle : Dialect → List ℕ → Type 0
 IsIdle d text = (text ≡ []) ⊎ Begins (IsMark d.comments) text
 
--- whether a line is indented deeper than the pair that it may go on, if there is one
+-- whether a line is indented deeper than the pair that it may continue, if there is one
 abbrev pub is_deeper : Option ℕ → ℕ → Bool
 is_deeper None indent = false
 is_deeper (Some n) indent = nat_lt n indent
 
--- A line goes on the value of the pair before.
+-- `GoesOn s indent`: a line of this indentation continues the value of the previous pair.
 abbrev pub GoesOn : State → ℕ → Type 0
 GoesOn s indent = is_deeper s.pair indent ≡ true
 
@@ -127,8 +128,8 @@ abbrev pub IsEmpty : List ℕ → List ℕ → Bool → Type 0
 IsEmpty line kept true = (trimmed kept ≡ []) × (line ≡ kept)
 IsEmpty line kept false = (trimmed kept ≡ []) × (line ≡ kept) → ⊥
 
--- What a line says of which this is kept. It is empty or a comment; or it goes on the value of the
--- pair before; or it is a line of its own.
+-- The meaning of a line whose kept part is `kept`. It is empty or a comment; or it continues the
+-- value of the previous pair; or it is a line of its own.
 abbrev pub StepOf : Dialect → State → List ℕ → List ℕ → List Said → State → Type 0
 StepOf d s line kept said next =
     (IsIdle d (trimmed kept)
@@ -138,12 +139,12 @@ StepOf d s line kept said next =
     ⊎ ((IsIdle d (trimmed kept) → ⊥) × (GoesOn s (indent_of line) → ⊥)
     × OwnSays d s (indent_of line) (trimmed kept) said next))
 
--- What a line says after the lines before it, and the state after it.
+-- The meaning of a line after the lines before it, and the state after it.
 abbrev pub Step : Dialect → State → List ℕ → List Said → State → Type 0
 Step d s line said next = (kept : List ℕ) × IsKept d.inline_comments line kept
     × StepOf d s line kept said next
 
--- Why a line says nothing of this dialect.
+-- The reason why a line is invalid in this dialect.
 abbrev pub Lacks : Dialect → State → List ℕ → Refusal → Type 0
 Lacks d s line reason = (kept : List ℕ) × IsKept d.inline_comments line kept
     × (IsIdle d (trimmed kept) → ⊥) × (GoesOn s (indent_of line) → ⊥)

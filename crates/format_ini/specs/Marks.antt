@@ -6,13 +6,13 @@ use Rattle.format_ini.specs.declared.dialect.Delimiters.TheVariants.{Equals, Col
 use Rattle.format_ini.specs.declared.dialect.Marks.{Marks}
 use Rattle.format_ini.specs.declared.dialect.Marks.TheVariants as marks
 
--- What ends a key: `=`, or `:`.
+-- The bytes that end a key: `=`, or `:`.
 abbrev pub IsDelimiter : Delimiters → ℕ → Type 0
 IsDelimiter Equals b = b ≡ 61
 IsDelimiter Colon b = b ≡ 58
 IsDelimiter Either b = (b ≡ 61) ⊎ (b ≡ 58)
 
--- What begins a comment: `#`, or `;`.
+-- The bytes that begin a comment: `#`, or `;`.
 abbrev pub IsMark : Marks → ℕ → Type 0
 IsMark marks.Neither b = ⊥
 IsMark marks.NumberSign b = b ≡ 35

@@ -1,4 +1,4 @@
--- Where the texts of an entry stand, and entries one after the other as places of bytes.
+-- The offsets of the texts of an entry, and consecutive entries as offsets of bytes.
 use Rattle.std.specs.Prelude.{◌≡◌, ◌≤◌, ◌<◌, ◌+◌, ℕ, List, [], ◌∷◌, ◌++◌, length, drop, ⊤}
 use Rattle.std.specs.Prelude.{Result, Ok, Err, Option, Some, None}
 use Rattle.std.specs.List.{All}
@@ -17,7 +17,8 @@ use Rattle.format_ini.specs.declared.places.Reading.{Reading}
 use Rattle.format_ini.specs.declared.places.Stop.{Stop}
 use Rattle.format_ini.specs.declared.places.Stop.TheVariants as stops
 
--- After blanks alone a text has these bytes, at this place, counted from that number on.
+-- `BehindBlanks from text bytes place`: after blanks only, `text` has `bytes` at the offset
+-- `place`, counted from `from`.
 abbrev pub BehindBlanks : ℕ → List ℕ → List ℕ → ℕ → Type 0
 BehindBlanks from text bytes place = (lead : List ℕ) × (rest : List ℕ)
     × (text ≡ lead ++ (bytes ++ rest)) × All IsBlank lead × (place ≡ from + length lead)
@@ -49,30 +50,30 @@ EntryAt d from text (entries.Pair key value) at =
 EntryAt d from text (entries.More value) at =
     BehindBlanks from text value.now at.head × (at.value ≡ at.head)
 
--- The same of what a line says, if it says something.
+-- Like `EntryAt`, for a line that may have no entry.
 abbrev pub SaidAt : Dialect → ℕ → List ℕ → Option Entry → Places → Type 0
 SaidAt d from text None at = ⊤
 SaidAt d from text (Some entry) at = EntryAt d from text entry at
 
--- why a line is none: it is no text, or says nothing of this dialect
+-- why a line is invalid: it is not UTF-8, or not a line of this dialect
 abbrev pub StopsAtLine : Dialect → State → List ℕ → Stop → Type 0
 StopsAtLine d s line stops.NoText = IsUtf8 line → ⊥
 StopsAtLine d s line (stops.Refused why) = Lacks d s line why
 
--- nothing is read but a byte order mark that may stand first
+-- at most a byte order mark at the start of `bytes` has been read
 abbrev pub IsBegun : List ℕ → Reading → Type 0
 IsBegun bytes reading = BehindMark bytes (drop reading.offset bytes)
     × (reading.offset ≤ length bytes) × (reading.state ≡ start)
 
--- What lines say that are empty or comments leads from one place to another.
+-- `PassesIdle d bytes old new`: the lines from `old` to `new` are empty or comments.
 abbrev pub PassesIdle : Dialect → List ℕ → Reading → Reading → Type 0
 PassesIdle d bytes old new = (old.offset ≤ new.offset)
     × ReadsLines d old.state (drop old.offset bytes) [] new.state (drop new.offset bytes)
 
--- What a call answers of the bytes after those that are read, and what it leaves: the next entry,
--- which its line says, with where its texts stand in all of the bytes; that there is none, for all
--- other lines say nothing; or why the next line that is neither empty nor a comment is none, and
--- then that line is left.
+-- The result of a call for the bytes after those that have been read, and the state after it. The
+-- result is the next entry, with the offsets of its texts in all of the bytes; or `None`, if all
+-- other lines are empty or comments; or the reason why the next line that is neither is invalid. In
+-- the last case that line is not read.
 abbrev pub NextPlaced : Dialect → List ℕ → Reading → Result (Option Placed) Stop → Reading → Type 0
 NextPlaced d bytes old (Ok None) new = PassesIdle d bytes old new × (length bytes ≤ new.offset)
 NextPlaced d bytes old (Ok (Some it)) new = (mid : Reading) × (line : List ℕ)
@@ -84,7 +85,7 @@ NextPlaced d bytes old (Err stop) new = PassesIdle d bytes old new × (new.offse
     × ((line : List ℕ) × (behind : List ℕ) × FirstLine (drop new.offset bytes) line behind
     × StopsAtLine d new.state line stop)
 
--- what one line says as above, where a line is left
+-- the meaning of one line as above, if there is a line
 abbrev pub LineAt : Dialect → List ℕ → Reading → Option Entry → Places → Reading → Type 0
 LineAt d bytes old entry at new = (line : List ℕ)
     × FirstLine (drop old.offset bytes) line (drop new.offset bytes)

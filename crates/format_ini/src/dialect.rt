@@ -3,39 +3,39 @@
 ghost use Rattle.std.specs.Prelude.{◌≡◌, MatchBool, false, true};
 ghost use Rattle.format_ini.specs.Marks.{IsDelimiter, IsMark};
 
-/// What ends a key: the first of these in a line.
+/// The delimiter that ends a key: the first one in its line.
 #[derive(Clone, Copy, Debug, PartialEq, Eq)]
 pub enum Delimiters {
-    /// `=` alone; a colon is part of a key.
+    /// Only `=`; a colon is part of a key.
     Equals,
-    /// `:` alone; an equals sign is part of a key.
+    /// Only `:`; an equals sign is part of a key.
     Colon,
     /// One or the other.
     Either,
 }
 
-/// What begins a comment.
+/// The character that starts a comment.
 #[derive(Clone, Copy, Debug, PartialEq, Eq)]
 pub enum Marks {
     /// Nothing: there are no such comments.
     Neither,
-    /// `#` alone.
+    /// Only `#`.
     NumberSign,
-    /// `;` alone.
+    /// Only `;`.
     Semicolon,
     /// One or the other.
     Either,
 }
 
-/// What a line means that is indented deeper than the pair before it.
+/// The meaning of a line that is indented deeper than the pair before it.
 #[derive(Clone, Copy, Debug, PartialEq, Eq)]
 pub enum Continued {
     /// It is a line of its own.
     Never,
-    /// It goes on the value of that pair, until an empty line or a comment.
+    /// It continues the value of that pair. An empty line or a comment ends the value.
     UntilEmpty,
-    /// It goes on the value of that pair, and empty lines within are part of the value. Comments
-    /// within are passed over.
+    /// It continues the value of that pair, and empty lines within are part of the value. Comments
+    /// within are skipped.
     PastEmpty,
 }
 
@@ -52,23 +52,23 @@ pub enum Continued {
 /// ```
 #[derive(Clone, Copy, Debug, PartialEq, Eq)]
 pub struct Dialect {
-    /// What ends a key.
+    /// The delimiters that end a key.
     pub delimiters: Delimiters,
-    /// What begins a comment where it is the first of a line, after white space.
+    /// The characters that start a comment if they are the first in a line, after whitespace.
     pub comments: Marks,
-    /// What begins a comment at the start of a line, or after white space in it.
+    /// The characters that start a comment at the start of a line, or after whitespace in it.
     pub inline_comments: Marks,
-    /// What a line means that is indented deeper than the pair before it.
+    /// The meaning of a line that is indented deeper than the pair before it.
     pub continued: Continued,
-    /// Whether a line without a delimiter is a key without a value; else it is refused.
+    /// Whether a line without a delimiter is a key without a value; otherwise it is an error.
     pub valueless: bool,
-    /// Whether pairs may stand before the first section; else they are refused.
+    /// Whether pairs may precede the first section; otherwise they are an error.
     pub before_sections: bool,
 }
 
 impl Dialect {
-    /// The dialect of Python's `configparser`, unless it is told another: `=` and `:`, `#` and `;`
-    /// at the start of lines, continued lines with empty lines within.
+    /// The default dialect of Python's `configparser`: `=` and `:`, `#` and `;` at the start of
+    /// lines, continued lines with empty lines within.
     ///
     /// ```
     /// use format_ini::dialect::{Dialect, Marks};

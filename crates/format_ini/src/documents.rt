@@ -10,10 +10,10 @@ use crate::front::first_line;
 use crate::lines::{Entry, Refusal, State, read_line};
 use std::alloc::Allocator;
 
-/// Where and why a text is no document: the first line that is none of the dialect.
+/// The first line of a text that is invalid in the dialect, and why it is.
 #[derive(Clone, Copy, Debug, PartialEq, Eq)]
 pub struct Fault {
-    /// How many bytes stand before that line.
+    /// The offset of that line, in bytes.
     pub offset: usize,
     /// Why it is none.
     pub why: Refusal,
@@ -22,13 +22,13 @@ pub struct Fault {
 /// Why no document was read.
 #[derive(Clone, Copy, Debug, PartialEq, Eq)]
 pub enum IniError {
-    /// The text is none.
+    /// The text is not a document of the dialect.
     Refused(Fault),
-    /// A request for memory was refused.
+    /// Memory allocation failed.
     OutOfMemory,
 }
 
-/// The entries of a document, one after the other, with no memory.
+/// The entries of a document, in sequence, without allocating.
 ///
 /// ```
 /// use format_ini::dialect::Dialect;
@@ -45,13 +45,12 @@ pub struct Entries<'i> {
     pub dialect: Dialect,
     /// The lines that are not read yet.
     pub rest: &'i str,
-    /// What the lines before say for the next one.
+    /// The effect of the previous lines on the next one.
     pub state: State,
 }
 
 impl<'i> Entries<'i> {
-    /// The entries of a text, of which none is read. A byte order mark that stands first is passed
-    /// over.
+    /// Returns the entries of a text, from its first one on. Skips a byte order mark at the start.
     pub fn new(dialect: Dialect, text: &'i str) -> Entries<'i>
         ensures dialect { result.dialect ≡ dialect }
         ensures rest { BehindMark text.now result.rest.now }
@@ -67,8 +66,8 @@ impl<'i> Entries<'i> {
         }
     }
 
-    /// Reads the next entry, and passes over empty lines and comments before it. `None` says that
-    /// no line is left. At an error, the line that is refused is the next one still.
+    /// Reads the next entry, and skips empty lines and comments before it. Returns `None` if no
+    /// line remains. After an error, the rejected line is still the next one.
     pub fn next_entry(&mut self) -> Result<Option<Entry<'i>>, Refusal>
         ensures read { NextEntry self.old.dialect self.old.state self.old.rest.now result
             self.new.state self.new.rest.now }
@@ -90,7 +89,7 @@ impl<'i> Entries<'i> {
     }
 }
 
-// A text without the byte order mark that may stand first.
+// Skips a byte order mark at the start of `text`.
 fn behind_mark(text: &str) -> &str
     ensures { BehindMark text.now result.now }
 {
@@ -100,7 +99,7 @@ fn behind_mark(text: &str) -> &str
     }
 }
 
-// The fault of a line that begins where this is left.
+// Returns the error for the line that `rest` starts with.
 fn fault_at(text: &str, rest: &str, why: Refusal) -> Fault
     requires { length rest.now ≤ length text.now }
     ensures { (result.why ≡ why) × (result.offset + length rest.now ≡ length text.now) }
@@ -109,12 +108,11 @@ fn fault_at(text: &str, rest: &str, why: Refusal) -> Fault
     Fault { offset, why }
 }
 
-/// The entries of a document, in order: `Ok` exactly if the text is lines of the dialect, and then
-/// what these say. A byte order mark in front is passed over.
+/// Returns the entries of a document, in order. It is `Ok` if and only if the text consists of
+/// lines of the dialect. A byte order mark at the start is skipped.
 ///
-/// `Refused` tells where the first line begins that says nothing of the dialect, in bytes of the
-/// text, and why; `OutOfMemory` that a request for memory was refused, which the list makes where
-/// it grows.
+/// `Refused` holds the offset in bytes of the first line that is invalid in the dialect, and the
+/// reason. `OutOfMemory` means that the list could not grow.
 ///
 /// ```
 /// use format_ini::dialect::Dialect;

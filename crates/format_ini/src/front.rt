@@ -1,4 +1,4 @@
-//! What stands first in a text, and texts cut at a byte.
+//! The start of a text, and texts split at a byte.
 
 ghost use Rattle.std.specs.Prelude.{◌≡◌, ◌<◌, ◌+◌, ◌∷◌, [], true, length, take, drop, slice_index};
 ghost use Rattle.std.specs.Prelude.{MatchBool, MatchOption};
@@ -9,7 +9,7 @@ ghost use Rattle.format_ini.specs.Marks.{IsMark};
 
 use crate::dialect::{Delimiters, Marks, is_delimiter, is_mark};
 
-// What stands before a byte of ASCII, and what after it.
+// Returns the text before and after an ASCII byte.
 pub(crate) fn around(text: &str, place: usize) -> (&str, &str)
     requires within { place < length text.now }
     requires ascii { slice_index text.now place < 128 }
@@ -19,7 +19,7 @@ pub(crate) fn around(text: &str, place: usize) -> (&str, &str)
     (&text[..place], &text[place + 1..])
 }
 
-/// What a text is cut at.
+/// The bytes at which a text is split.
 #[derive(Clone, Copy)]
 pub(crate) enum Stop {
     /// The end of a line.
@@ -40,7 +40,7 @@ fn is_stop(stop: Stop, byte: u8) -> bool
     }
 }
 
-// How many bytes stand before the first of these, or in all.
+// Returns the number of bytes before the first byte of `stop`, or of all bytes.
 fn run_len(stop: Stop, bytes: &[u8]) -> usize
     ensures { StopsAt stop bytes.now result }
 {
@@ -59,7 +59,7 @@ pub(crate) fn line_len(bytes: &[u8]) -> usize
     run_len(Stop::LineFeed, bytes)
 }
 
-// What stands before the first of these, and what after it; `None` where there is none.
+// Splits `text` at the first byte of `stop`. Returns `None` if there is no such byte.
 pub(crate) fn cut(stop: Stop, text: &str) -> Option<(&str, &str)>
     ensures { MatchOption result (All (λ b. IsStop stop b → ⊥) text.now)
         (λ it. CutAt stop text.now it.0.now it.1.now) }
@@ -72,7 +72,6 @@ pub(crate) fn cut(stop: Stop, text: &str) -> Option<(&str, &str)>
     }
 }
 
-// Whether this byte stands first.
 pub(crate) fn first_is(text: &str, byte: u8) -> bool
     ensures { MatchBool result (text.now ≡ byte ∷ drop 1 text.now)
         (NotFirst (λ b. b ≡ byte) text.now) }
@@ -83,7 +82,6 @@ pub(crate) fn first_is(text: &str, byte: u8) -> bool
     }
 }
 
-// Whether a mark stands first.
 pub(crate) fn is_comment(marks: Marks, text: &str) -> bool
     ensures { MatchBool result (Begins (IsMark marks) text.now)
         (NotFirst (IsMark marks) text.now) }
@@ -94,7 +92,7 @@ pub(crate) fn is_comment(marks: Marks, text: &str) -> bool
     }
 }
 
-// The first line, and what is left after it; `None` where there is no text.
+// Returns the first line and the rest after it, or `None` if `text` is empty.
 pub(crate) fn first_line(text: &str) -> Option<(&str, &str)>
     ensures { MatchOption result (text.now ≡ [])
         (λ it. FirstLine text.now it.0.now it.1.now) }
@@ -108,7 +106,7 @@ pub(crate) fn first_line(text: &str) -> Option<(&str, &str)>
     }
 }
 
-// How many blanks stand first in a text, and the text without the blanks at both ends.
+// Returns the number of blanks at the start, and the text without the blanks at both ends.
 pub(crate) fn trim(text: &str) -> (usize, &str)
     ensures indent { result.0 ≡ indent_of text.now }
     ensures text { result.1.now ≡ trimmed text.now }
@@ -125,7 +123,7 @@ fn begins_comment(marks: Marks, may_open: bool, byte: u8) -> bool
     may_open && is_mark(marks, byte)
 }
 
-// How many bytes stand before the first comment of these marks, or in all.
+// Returns the number of bytes before the first comment of these marks, or of all bytes.
 fn kept_len(marks: Marks, line: &[u8]) -> usize
     ensures { KeepsSoMany marks line.now result }
 {

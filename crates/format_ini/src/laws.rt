@@ -1,4 +1,4 @@
-//! What the words of the contracts say together.
+//! Laws that follow from the contracts.
 
 ghost use Rattle.std.specs.Prelude.{◌≡◌, List, ℕ};
 ghost use Rattle.format_ini.specs.Documents.{IsDocument, IsRefused};
@@ -13,7 +13,7 @@ pub fn a_text_is_one_document(dialect: Dialect)
         → IsDocument dialect text others → said ≡ others }
 {}
 
-/// A text that is refused is no document of the dialect.
+/// States that a rejected text is not a document of the dialect.
 pub fn a_refused_text_is_none(dialect: Dialect)
     ensures { (text : List ℕ) (fault : Fault) (said : List Said)
         → IsRefused dialect text fault → IsDocument dialect text said → ⊥ }

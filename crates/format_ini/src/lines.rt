@@ -1,4 +1,4 @@
-//! What one line says.
+//! The meaning of one line.
 
 ghost use Rattle.std.specs.Prelude.{◌≡◌, ◌<◌, ◌+◌, ◌^◌, List, length, IfOk, MatchResult, ℕ};
 ghost use Rattle.format_ini.specs.Front.{Begins};
@@ -11,16 +11,16 @@ ghost use Rattle.format_ini.specs.declared.dialect.Dialect.{Dialect};
 use crate::dialect::{Continued, Dialect};
 use crate::front::{Stop, around, cut, first_is, is_comment, trim, without_comment};
 
-/// What a line says.
+/// The content of a line.
 #[derive(Clone, Copy, Debug, PartialEq, Eq)]
 pub enum Entry<'i> {
     /// `[name]` begins a section.
     Section(&'i str),
-    /// A pair, with its value, or what stands of that on this line.
+    /// A pair, with its value, or the part of the value on this line.
     Pair {
         /// The key, without white space at either end.
         key: &'i str,
-        /// The value, without white space at either end; none where no delimiter stands.
+        /// The value, without whitespace at either end; `None` if there is no delimiter.
         value: Option<&'i str>,
     },
     /// One more line of the value of the pair before, without white space at either end. It is
@@ -31,26 +31,26 @@ pub enum Entry<'i> {
 /// Why a line is none of the dialect.
 #[derive(Clone, Copy, Debug, PartialEq, Eq)]
 pub enum Refusal {
-    /// No `]` stands after the `[` that begins the line.
+    /// The line starts with `[` and has no `]`.
     OpenSection,
-    /// Nothing stands between `[` and `]`.
+    /// There is nothing between `[` and `]`.
     EmptySection,
-    /// Something stands after the `]`.
+    /// There is text after the `]`.
     TextBehindSection,
-    /// No section stands before the pair.
+    /// There is no section before the pair.
     NoSection,
-    /// No key stands before the delimiter.
+    /// There is no key before the delimiter.
     NoKey,
     /// There is no delimiter.
     NoDelimiter,
 }
 
-/// What the lines before say for the next one.
+/// The effect of the previous lines on the next one.
 #[derive(Clone, Copy, Debug, PartialEq, Eq)]
 pub struct State {
     /// Whether a section has begun.
     pub section: bool,
-    /// How many blanks stand before the pair that the next line may go on, if there is one.
+    /// The number of blanks before the pair that the next line may continue, if there is one.
     pub pair: Option<usize>,
 }
 
@@ -63,7 +63,7 @@ pub struct Places {
     pub value: usize,
 }
 
-// What a line says, where that stands, and the state after it.
+// The meaning of a line, the offsets of its texts, and the state after it.
 #[derive(Clone, Copy)]
 pub(crate) struct Line<'i> {
     pub(crate) entry: Option<Entry<'i>>,
@@ -104,7 +104,7 @@ fn read_section(text: &str) -> Result<&str, Refusal>
     }
 }
 
-// The key and the value of a pair that begins at this place.
+// Returns the key and the value of a pair that begins at `place`.
 fn read_pair<'i>(dialect: Dialect, place: usize, text: &'i str) -> Result<Pair<'i>, Refusal>
     requires { place + length text.now < 2 ^ 63 }
     ensures pair { MatchResult result
@@ -137,7 +137,7 @@ fn read_pair<'i>(dialect: Dialect, place: usize, text: &'i str) -> Result<Pair<'
     }
 }
 
-// How deep the pair is indented that the next line may go on, after a pair.
+// Returns the indentation of the pair that the next line may continue, after a pair.
 fn behind_pair(continued: Continued, indent: usize, value: Option<&str>) -> Option<usize>
     ensures { result ≡ pair_at continued indent (value_of value.entry) }
 {
@@ -150,7 +150,7 @@ fn behind_pair(continued: Continued, indent: usize, value: Option<&str>) -> Opti
     }
 }
 
-// What a line of its own says, whose text begins at this place.
+// Returns the meaning of a line of its own, whose text begins at this offset.
 fn read_own<'i>(
     dialect: Dialect,
     state: State,
@@ -192,7 +192,7 @@ fn read_own<'i>(
     })
 }
 
-// What an empty line or a comment says that begins at this place.
+// Returns the meaning of an empty line or a comment that begins at `place`.
 fn read_idle<'i>(continued: Continued, state: State, is_empty: bool, place: usize) -> Line<'i>
     ensures said { IdleSays continued state is_empty (said_of result.entry) result.next }
     ensures at { (dialect : Dialect) (line : List ℕ)
@@ -225,7 +225,7 @@ fn read_idle<'i>(continued: Continued, state: State, is_empty: bool, place: usiz
     }
 }
 
-// Whether a line that is indented so deep goes on the value of the pair before.
+// Returns whether a line of this indentation continues the value of the previous pair.
 fn goes_on(pair: Option<usize>, depth: usize) -> bool
     ensures { result ≡ is_deeper pair depth }
 {
@@ -235,7 +235,7 @@ fn goes_on(pair: Option<usize>, depth: usize) -> bool
     }
 }
 
-// What a line says that begins at this place.
+// Returns the meaning of a line that begins at this offset.
 pub(crate) fn read_line<'i>(
     dialect: Dialect,
     state: State,

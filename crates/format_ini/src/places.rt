@@ -1,4 +1,4 @@
-//! Entries of bytes one after the other, with where they stand, call by call.
+//! Consecutive entries of bytes with their offsets, by successive calls.
 
 ghost use Rattle.std.specs.Prelude.{◌≤◌, ◌<◌, ◌+◌, List, drop, length, MatchOption, MatchResult, ℕ};
 ghost use Rattle.format_ini.specs.Documents.{BehindMark};
@@ -14,16 +14,16 @@ use crate::lines::{Entry, Line, Places, Refusal, State, read_line};
 pub struct Reading {
     /// How many bytes are read: the next line begins after them.
     pub offset: usize,
-    /// What the lines before say for the next one.
+    /// The effect of the previous lines on the next one.
     pub state: State,
 }
 
-/// An entry, and where its texts stand.
+/// An entry, with the offsets of its texts.
 #[derive(Clone, Copy, Debug, PartialEq, Eq)]
 pub struct Placed<'i> {
-    /// What the line says.
+    /// The meaning of the line.
     pub entry: Entry<'i>,
-    /// How many bytes of the document stand before its texts.
+    /// The offsets of its texts in the document, in bytes.
     pub at: Places,
 }
 
@@ -37,7 +37,7 @@ pub enum Stop {
 }
 
 impl Reading {
-    /// Before the first line of a document. A byte order mark that stands first is passed over.
+    /// Returns the state before the first line of a document. Skips a byte order mark at the start.
     ///
     /// ```
     /// use format_ini::places::Reading;
@@ -58,7 +58,7 @@ impl Reading {
     }
 }
 
-// How many bytes the byte order mark has that stands first.
+// Returns the length in bytes of the byte order mark at the start, or 0.
 fn mark_len(bytes: &[u8]) -> usize
     ensures { BehindMark bytes.now (drop result bytes.now) × (result ≤ length bytes.now) }
 {
@@ -69,7 +69,7 @@ fn mark_len(bytes: &[u8]) -> usize
     }
 }
 
-// The line that begins at this place, and where the next one begins; `None` where no byte is left.
+// Returns the line at `offset` and the offset of the next one, or `None` if no byte remains.
 fn line_at(bytes: &[u8], offset: usize) -> Option<(&[u8], usize)>
     ensures { MatchOption result (length bytes.now ≤ offset)
         (λ it. FirstLine (drop offset bytes.now) it.0.now (drop it.1 bytes.now)
@@ -89,7 +89,8 @@ fn line_at(bytes: &[u8], offset: usize) -> Option<(&[u8], usize)>
     }
 }
 
-// What the next line says, and where the one after it begins; `None` where no line is left.
+// Returns the meaning of the next line and the offset of the one after it, or `None` if no line
+// remains.
 fn read_at<'i>(
     dialect: Dialect,
     bytes: &'i [u8],
@@ -117,10 +118,12 @@ fn read_at<'i>(
     }
 }
 
-/// Reads the next entry of a document's bytes, and passes over empty lines and comments before it.
-/// `None` says that no line is left. At a stop, the line that is none is the next one still: it
-/// begins at the offset of `reading`. Of the bytes, those of the lines that are passed are looked
-/// at, and no others: so calls in turn take a time that is linear in the bytes.
+/// Reads the next entry of a document's bytes, and skips empty lines and comments before it.
+/// Returns `None` if no line remains. After an error, the invalid line is still the next one: it
+/// begins at the offset of `reading`.
+///
+/// A call accesses only the bytes of the lines that it passes, so successive calls take time that
+/// is linear in the bytes.
 ///
 /// ```
 /// use format_ini::dialect::Dialect;

@@ -1,4 +1,4 @@
-//! Faults as people read them: line, column and words.
+//! Errors for users: line, column and message.
 
 ghost use Rattle.std.specs.Prelude.{◌↔◌, IfSome, IsSome, take};
 ghost use Rattle.std.specs.Str.{IsCharBoundary, chars};
@@ -35,12 +35,12 @@ impl Fault {
 impl Display for Refusal {
     fn fmt<W: fmt::Write>(&self, f: &mut Formatter<W>) -> fmt::Result {
         f.write_str(match *self {
-            Refusal::OpenSection => "no `]` behind `[`",
-            Refusal::EmptySection => "a section without a name",
-            Refusal::TextBehindSection => "text behind a section",
-            Refusal::NoSection => "a pair before the first section",
-            Refusal::NoKey => "no key before the delimiter",
-            Refusal::NoDelimiter => "no delimiter behind the key",
+            Refusal::OpenSection => "unclosed section header",
+            Refusal::EmptySection => "empty section name",
+            Refusal::TextBehindSection => "unexpected text after a section header",
+            Refusal::NoSection => "pair before the first section header",
+            Refusal::NoKey => "missing key before the delimiter",
+            Refusal::NoDelimiter => "missing delimiter after the key",
         })
     }
 }
@@ -50,7 +50,7 @@ impl Error for Refusal {}
 impl Display for Fault {
     fn fmt<W: fmt::Write>(&self, f: &mut Formatter<W>) -> fmt::Result {
         let (offset, why) = (self.offset, self.why);
-        write!(f, "{why} in the line at byte {offset}")
+        write!(f, "{why} in the line at offset {offset}")
     }
 }
 

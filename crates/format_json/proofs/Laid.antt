@@ -1,4 +1,4 @@
--- What is laid out is a text by RFC 8259.
+-- Proofs that pretty-printed output is a JSON text (RFC 8259).
 use Rattle.std.specs.Prelude.{◌+◌, ℕ, zero, suc, List, [], ◌∷◌, ◌++◌}
 use Rattle.std.proofs.Common.{refl, sym, ap, subst, ◌∙◌, append_assoc}
 use Rattle.std.proofs.lemmas.List.{append-nil}
@@ -29,7 +29,7 @@ gap_within gap = record { told = λ slice tokens a. a.0 }
 mark_within : (c : ℕ) (gap : Gap) → IsWithin (LaidMark c gap) (Mark c)
 mark_within c gap = within_then pair within_refl (gap_within gap)
 
--- with white space after it a text of the one is one of the other
+-- `EndsIn inner outer`: an `inner` encoding followed by whitespace is an `outer` encoding
 abbrev EndsIn : {O : Type 0} → (inner outer : Text ℕ O) → Type 0
 EndsIn {O} inner outer =
     (o : O) (xs zs : List ℕ) (slice : Slice) → inner o xs → GapText slice zs → outer o (xs ++ zs)

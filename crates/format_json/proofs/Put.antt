@@ -1,4 +1,4 @@
--- What is put part by part is laid out.
+-- Proofs that the layout functions append the specified layout.
 use Rattle.std.specs.Prelude.{◌≡◌, ◌≤◌, ◌<◌, ◌+◌, ℕ, zero, suc, List, [], ◌∷◌, ◌++◌, drop}
 use Rattle.std.specs.Prelude.{encode_utf8_all, length, replicate, slice_index_or, string_bytes}
 use Rattle.std.specs.Char.{encode_utf8}
@@ -189,7 +189,6 @@ module _ {O : Type 0} (text : Text ℕ O) (near far : ℕ) where
 -- ---- values
 
 module _ {A : Type 0} where
-  -- a value that is no array and no object is written as with no white space
   scalar_of : (level : ℕ) (v : Value A) (tokens : List ℕ)
       → ((items : Vec (Value A) A) → v ≡ values.Array items → ⊥)
       → ((members : Vec (String A × Value A) A) → v ≡ values.Object members → ⊥)
@@ -238,7 +237,6 @@ module _ {A : Type 0} where
       adds_then pair (string_put member.0 same utf8 name)
       (adds_then latter (mark_put 58 gaps.Space colon) value)
 
-  -- an array: what stands in it is indented by so much more
   pub array_put : (step below now near stride : ℕ) {level : ℕ} (items : Vec (Value A) A)
       {before after : List ℕ} → level ≡ below + 1 → near ≡ now + step → stride ≡ step
       → Adds (LaidList 91 93 (LaidValue stride below near) near now) items before after

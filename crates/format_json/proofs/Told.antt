@@ -1,4 +1,4 @@
--- What a fault tells of bytes before its place.
+-- Lemmas that a `Fault` is correct for its offset.
 use Rattle.std.specs.Prelude.{◌≡◌, ◌⊎◌, ◌≤◌, ℕ, suc, List, [], ◌∷◌, drop, length, take}
 use Rattle.std.proofs.Common.{ap, arith, inl, inr, subst, sym, ◌∙◌}
 use Rattle.std.proofs.lemmas.List.{take-append-drop, take-append-le}
@@ -32,7 +32,6 @@ module _ (level : ℕ) where
       subst (λ l. MayBegin level l)
       (sym (ap (λ l. take m l) e ∙ take-append-le m front rest le)) (fewer front m x)
 
-  -- bytes that are no UTF-8, with no place before that
   pub told_utf8 : (bytes : List ℕ) (at : Location) (valid n : ℕ) (expected : Expected)
       → (IsUtf8 bytes → ⊥) → valid ≡ utf8_valid_len bytes → IsLocation bytes valid at
       → IsPlace level bytes n expected → valid ≤ n → Tells level bytes (faults.NotUtf8 at)

@@ -1,4 +1,4 @@
--- What a fault tells of a text.
+-- The specification of `Fault`: why bytes are not a JSON text.
 use Rattle.std.specs.Prelude.{◌≡◌, ◌⊎◌, ◌<◌, ◌≤◌, ℕ, List, Option, Some, None, length, take, ⊤}
 use Rattle.std.specs.Str.{IsCharBoundary, IsUtf8, chars}
 use Rattle.std.specs.Str.Lossy.{utf8_valid_len}
@@ -20,15 +20,17 @@ IsLocation bytes offset at =
     (at.offset ≡ offset) × (IsUtf8 bytes → IsCharBoundary bytes offset
     → IsPosition (chars (take offset bytes)) at.line at.column)
 
--- A place that is told with its line and column.
+-- `IsLocated bytes at`: the line and column of `at` are those of its offset in `bytes`.
 abbrev pub IsLocated : List ℕ → Location → Type 0
 IsLocated bytes at = IsLocation bytes at.offset at
 
--- The bytes are UTF-8, or the place stands before the first that is none of it.
+-- `IsReadable bytes offset`: `bytes` is UTF-8, or `offset` is less than the length of its longest
+-- valid UTF-8 prefix.
 abbrev pub IsReadable : List ℕ → ℕ → Type 0
 IsReadable bytes offset = IsUtf8 bytes ⊎ (offset < utf8_valid_len bytes)
 
--- What a fault tells of the bytes: that a bracket is one too many is told as such.
+-- `Tells level bytes fault`: `fault` is why `bytes` is not a JSON text. A bracket that exceeds
+-- `level` is reported as `TooDeep`.
 abbrev pub Tells : ℕ → List ℕ → Fault → Type 0
 Tells level bytes (faults.Unexpected at expected) =
     (expected ≡ NoDeeper → ⊥) × IsPlace level bytes at.offset expected

@@ -13,7 +13,7 @@ use Rattle.winnow.specs.Texts.{BothText, EitherText, InList, PartedText, Text}
 
 -- ---- white space
 
--- none, a space, or a line feed and that many spaces
+-- The bytes of a gap: none, a space, or a line feed and its spaces.
 abbrev pub gap_bytes : Gap → List ℕ
 gap_bytes gaps.None = []
 gap_bytes gaps.Space = 32 ∷ []
@@ -27,7 +27,7 @@ ThisGap gap slice tokens = GapText slice tokens × (tokens ≡ gap_bytes gap)
 abbrev pub LaidMark : ℕ → Gap → Text ℕ (ℕ × Slice)
 LaidMark c gap = BothText pair (One c) (ThisGap gap)
 
--- a line that is indented so far before what stands in a list; none where nothing does
+-- a line feed and `spaces` spaces if the list has items; otherwise no gap
 abbrev pub line_in : {O : Type 0} → List O → ℕ → Gap
 line_in [] spaces = gaps.None
 line_in (o ∷ os) spaces = gaps.Line spaces
@@ -55,8 +55,8 @@ module _ {A : Type 0} where
   LaidMember value =
       BothText pair CompactString (BothText latter (LaidMark 58 gaps.Space) value)
 
-  -- a value, of which no more than that many arrays and objects stand in one another: what stands
-  -- in one is indented by `step` more than `now`
+  -- `LaidValue step level now`: the layout of a value whose arrays and objects are nested at most
+  -- `level` deep. Their contents are indented by `step` more than `now`.
   unfoldable pub LaidValue : (step level now : ℕ) → Text ℕ (Value A)
   LaidValue step zero now = CompactScalar
   LaidValue step (suc level) now =

@@ -24,7 +24,7 @@ use winnow::stream::position_in;
 /// ```
 #[derive(Clone, Copy, Debug, PartialEq, Eq, Drop)]
 pub struct Location {
-    /// How many bytes stand before it.
+    /// The number of bytes before it.
     pub offset: usize,
     /// The line, counted from 1. Lines end with a line feed.
     pub line: usize,
@@ -52,21 +52,21 @@ impl Display for Location {
 /// ```
 #[derive(Clone, Copy, Debug, PartialEq, Eq, Drop)]
 pub enum Fault {
-    /// What stands at the place may not stand there, whatever comes after it.
+    /// The input at this position is invalid, regardless of what follows it.
     Unexpected {
         /// The first such place.
         at: Location,
-        /// What may stand there.
+        /// The input that is expected there.
         expected: Expected,
     },
     /// The text ends where it may go on to JSON, and is none yet.
     End {
         /// The end of the text.
         at: Location,
-        /// What may stand there.
+        /// The input that is expected there.
         expected: Expected,
     },
-    /// More arrays and objects stand in one another than the level lets.
+    /// Arrays and objects are nested deeper than the level allows.
     TooDeep {
         /// The bracket or brace that is one too many.
         at: Location,
@@ -78,12 +78,12 @@ pub enum Fault {
         /// The end of the longest front that is UTF-8.
         at: Location,
     },
-    /// A request for memory was refused.
+    /// Memory allocation failed.
     NoMemory,
 }
 
 impl Fault {
-    /// Where the text is no JSON; none where a request for memory was refused.
+    /// Returns the position of the error in the text, or `None` if memory allocation failed.
     ///
     /// ```
     /// use format_json::from_text;
@@ -110,10 +110,10 @@ impl Display for Fault {
         match *self {
             Fault::Unexpected { at, expected } => write!(f, "{at}: expected {expected}"),
             Fault::End { at, expected } => {
-                write!(f, "{at}: unexpected end, expected {expected}")
+                write!(f, "{at}: unexpected end of input, expected {expected}")
             }
-            Fault::TooDeep { at, level } => write!(f, "{at}: nested too deep for level {level}"),
-            Fault::NotUtf8 { at } => write!(f, "{at}: no UTF-8"),
+            Fault::TooDeep { at, level } => write!(f, "{at}: nested deeper than {level} levels"),
+            Fault::NotUtf8 { at } => write!(f, "{at}: invalid UTF-8"),
             Fault::NoMemory => f.write_str("out of memory"),
         }
     }
@@ -132,11 +132,11 @@ impl Error for Fault {}
 /// ```
 #[derive(Clone, Copy, Debug, PartialEq, Eq, Drop)]
 pub enum WriteFault {
-    /// A number in the value has a text that is no number of RFC 8259 (section 6).
+    /// The text of a number in the value is not a number of RFC 8259 (section 6).
     NotANumber,
-    /// More arrays and objects stand in one another than the level lets.
+    /// Arrays and objects are nested deeper than the level allows.
     TooDeep,
-    /// A request for memory was refused.
+    /// Memory allocation failed.
     NoMemory,
 }
 
@@ -156,7 +156,7 @@ impl WriteFault {
 impl Display for WriteFault {
     fn fmt<W: fmt::Write>(&self, f: &mut Formatter<W>) -> fmt::Result {
         f.write_str(match *self {
-            WriteFault::NotANumber => "a number in the value is none of JSON",
+            WriteFault::NotANumber => "invalid JSON number in the value",
             WriteFault::TooDeep => "nested too deep",
             WriteFault::NoMemory => "out of memory",
         })
@@ -177,7 +177,7 @@ fn located(bytes: &[u8], offset: usize) -> Location
     }
 }
 
-/// The fault at a place of a text.
+/// Returns the [`Fault`] for `place` in `text`.
 fn fault_at(level: usize, text: &[u8], place: Place) -> Fault
     ensures { IsPlace level text.now place.offset place.expected
         → IsReadable text.now place.offset → Tells level text.now result }
@@ -190,7 +190,7 @@ fn fault_at(level: usize, text: &[u8], place: Place) -> Fault
     }
 }
 
-/// The fault of a text that is no JSON.
+/// Returns the [`Fault`] of a text that is not JSON.
 pub(crate) fn fault_of_text<A: Allocator>(alloc: A, level: usize, text: &[u8]) -> Fault
     requires { IsUtf8 text.now }
     ensures { Tells level text.now result }
@@ -201,7 +201,8 @@ pub(crate) fn fault_of_text<A: Allocator>(alloc: A, level: usize, text: &[u8]) -
     }
 }
 
-/// The fault of bytes that are no JSON: where they are no UTF-8, and no other place is before that.
+/// Returns the [`Fault`] of bytes that are not JSON. It is that they are not UTF-8, unless another
+/// error has a smaller offset.
 pub(crate) fn fault_of_bytes<A: Allocator>(alloc: A, level: usize, bytes: &[u8]) -> Fault
     ensures { Tells level bytes.now result }
 {

@@ -21,11 +21,11 @@ pub enum Gap {
     None,
     /// One space.
     Space,
-    /// A line feed, and that many spaces.
+    /// A line feed, followed by this number of spaces.
     Line(usize),
 }
 
-/// How far a text is indented: by that many spaces now, and that many more a level.
+/// The indentation of a text: `now` spaces at present, and `step` more for each level.
 #[derive(Clone, Copy, Drop)]
 pub struct Indent {
     /// The spaces of this level.
@@ -34,8 +34,8 @@ pub struct Indent {
     pub step: usize,
 }
 
-/// The indent of what stands in an array or an object. No memory holds a line of more than `usize`
-/// has.
+/// Returns the indent of the contents of an array or an object. Overflow is out of memory, since no
+/// line has more bytes than `usize` can count.
 fn deeper(indent: Indent) -> Result<Indent, WriteError>
     ensures deeper { IfOk result (λ inner. (inner.now ≡ indent.now + indent.step)
         × (inner.step ≡ indent.step)) }
@@ -50,7 +50,7 @@ fn deeper(indent: Indent) -> Result<Indent, WriteError>
     }
 }
 
-/// The line before what stands in a list; none where nothing does.
+/// Returns the line before the items, or no gap if there are no items.
 fn line_in<T>(items: &[T], spaces: usize) -> Gap
     ensures { result ≡ line_in items.now spaces }
 {
@@ -60,7 +60,7 @@ fn line_in<T>(items: &[T], spaces: usize) -> Gap
     }
 }
 
-/// Puts white space after what is there.
+/// Appends whitespace.
 fn put_gap<B: Allocator>(gap: Gap, into: &mut String<B>) -> Result<(), AllocError>
     ensures { OnOk result (string_bytes into.new ≡ string_bytes into.old ++ gap_bytes gap) }
 {
@@ -77,7 +77,7 @@ fn put_gap<B: Allocator>(gap: Gap, into: &mut String<B>) -> Result<(), AllocErro
     }
 }
 
-/// Puts a structural character and white space after what is there.
+/// Appends a structural character and whitespace.
 fn put_mark<B: Allocator>(mark: char, gap: Gap, into: &mut String<B>) -> Result<(), AllocError>
     ensures { OnOk result (string_bytes into.new
         ≡ string_bytes into.old ++ (encode_utf8 mark ++ gap_bytes gap)) }
@@ -86,7 +86,7 @@ fn put_mark<B: Allocator>(mark: char, gap: Gap, into: &mut String<B>) -> Result<
     put_gap(gap, into)
 }
 
-/// Puts values on lines of their own after what is there, and a line after the last.
+/// Appends values, each on its own line, and a line after the last.
 #[cycle(lay)]
 fn lay_items<A: Allocator, B: Allocator>(
     level: usize,
@@ -113,7 +113,7 @@ fn lay_items<A: Allocator, B: Allocator>(
     }
 }
 
-/// Puts an array after what is there.
+/// Appends an array.
 #[cycle(lay)]
 fn lay_array<A: Allocator, B: Allocator>(
     level: usize,
@@ -136,7 +136,7 @@ fn lay_array<A: Allocator, B: Allocator>(
     Ok(())
 }
 
-/// Puts a name, a colon, a space and a value after what is there.
+/// Appends a name, a colon, a space and a value.
 #[cycle(lay)]
 fn lay_member<A: Allocator, B: Allocator>(
     level: usize,
@@ -154,7 +154,7 @@ fn lay_member<A: Allocator, B: Allocator>(
     lay(level, indent, value, into)
 }
 
-/// Puts members on lines of their own after what is there, and a line after the last.
+/// Appends members, each on its own line, and a line after the last.
 #[cycle(lay)]
 fn lay_members<A: Allocator, B: Allocator>(
     level: usize,
@@ -182,7 +182,7 @@ fn lay_members<A: Allocator, B: Allocator>(
     }
 }
 
-/// Puts an object after what is there.
+/// Appends an object.
 #[cycle(lay)]
 fn lay_object<A: Allocator, B: Allocator>(
     level: usize,
@@ -205,7 +205,7 @@ fn lay_object<A: Allocator, B: Allocator>(
     Ok(())
 }
 
-/// Puts a value after what is there, laid out over lines.
+/// Appends a value, indented over several lines.
 #[cycle(lay)]
 pub fn lay<A: Allocator, B: Allocator>(
     level: usize,

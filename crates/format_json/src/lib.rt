@@ -1,9 +1,9 @@
-//! JSON (RFC 8259): values from text and from bytes, and text from values.
+//! JSON (RFC 8259): parses text and bytes into values, and writes values as text.
 //!
-//! [`from_text`] and [`from_bytes`] read a [`Value`], which is looked into by
-//! [`get`](Value::get), [`at`](Value::at), [`along`](Value::along), [`as_str`](Value::as_str) and
-//! their like; [`to_text`] and [`to_text_pretty`] write one. Where a text is no JSON, a [`Fault`]
-//! says at which byte, line and column, and what may stand there.
+//! [`from_text`] and [`from_bytes`] parse a [`Value`]. [`get`](Value::get), [`at`](Value::at),
+//! [`along`](Value::along), [`as_str`](Value::as_str) and similar functions access its contents;
+//! [`to_text`] and [`to_text_pretty`] write it. If a text is not JSON, a [`Fault`] gives the byte
+//! offset, line and column of the error, and the input that is expected there.
 //!
 //! ```
 //! use format_json::{SAFE_LEVEL, from_text, to_text};
@@ -20,17 +20,17 @@
 //! assert!(rt; matches!(text, Ok(text) if text.as_str() == written));
 //! ```
 //!
-//! What the standard leaves open is chosen so:
+//! Choices where the standard leaves room:
 //!
-//! - A text is read, and a value written, to a level, which the caller gives: no more than that
-//!   many arrays and objects stand in one another (section 9). Reading and writing call themselves
-//!   once a level; up to [`SAFE_LEVEL`] a stack of two megabytes suffices.
-//! - A number is kept as it is written, of any range and precision (section 6);
-//!   [`as_decimal`] tells what it is equal to, with no rounding.
-//! - An object keeps its members in order, also those that have one name (section 4);
-//!   [`get`](Value::get) answers the last.
-//! - What has half of a surrogate pair alone, as an escape, is no string (section 8.2).
-//! - A byte order mark is no white space (section 8.1), so a text that begins with one is none.
+//! - The caller gives the maximum nesting depth of arrays and objects, for parsing and for writing
+//!   (section 9). Both recurse once per level; up to [`SAFE_LEVEL`] a stack of two megabytes
+//!   suffices.
+//! - A number is kept as it is written, of any range and precision (section 6); [`as_decimal`]
+//!   returns its exact value, without rounding.
+//! - An object keeps its members in order, including those with the same name (section 4); [`get`]
+//!   returns the last.
+//! - A string with an unpaired escaped surrogate is rejected (section 8.2).
+//! - A byte order mark is not whitespace (section 8.1), so a text that starts with one is rejected.
 #![tactic(auto)]
 
 pub mod fault;

@@ -9,9 +9,9 @@ use format_json_decimals::{Decimal, DecimalFault, decimal};
 use format_json_texts::value::Value;
 use std::alloc::Allocator;
 
-/// The decimal that a number is, exactly, or why it does not fit; none where the value is no
-/// number. Of a number that is made with a text that is none of JSON it is not told what is
-/// returned. No memory is asked for.
+/// Returns the exact decimal value of a number, or why it does not fit; `None` if the value is not
+/// a number. The result is unspecified if the number was made with a text that is not a JSON
+/// number. Does not allocate.
 ///
 /// ```
 /// use format_json::{Decimal, as_decimal, from_text};

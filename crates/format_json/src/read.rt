@@ -15,7 +15,7 @@ use format_json_values::value::parse_value;
 use std::alloc::Allocator;
 use winnow::error::{EmptyError, ErrMode, ParseFault, ParserError};
 
-/// Whether a fault of a text says that a request for memory was refused.
+/// Returns whether the error of a text is out of memory.
 fn text_wants_memory<'i>(fault: &ParseFault<&'i str, EmptyError>) -> bool
     ensures { IsWant ⟦<ErrMode<EmptyError> as ParserError<&'i str>>⟧.inner_kind fault.now
         → IsTrue result }
@@ -26,7 +26,7 @@ fn text_wants_memory<'i>(fault: &ParseFault<&'i str, EmptyError>) -> bool
     }
 }
 
-/// Whether a fault of bytes says that a request for memory was refused.
+/// Returns whether the error of bytes is out of memory.
 fn bytes_want_memory<'i>(fault: &ParseFault<&'i [u8], EmptyError>) -> bool
     ensures { IsWant ⟦<ErrMode<EmptyError> as ParserError<&'i [u8]>>⟧.inner_kind fault.now
         → IsTrue result }
@@ -37,13 +37,13 @@ fn bytes_want_memory<'i>(fault: &ParseFault<&'i [u8], EmptyError>) -> bool
     }
 }
 
-/// The value of a text of JSON: a value, in which no more than that many arrays and objects stand
-/// in one another, with white space round it. Each level takes some of the stack: up to
-/// [`SAFE_LEVEL`](crate::SAFE_LEVEL) two megabytes suffice.
+/// Parses a JSON text: a value with whitespace around it, whose arrays and objects are nested at
+/// most `level` deep. Each level uses some of the stack: up to [`SAFE_LEVEL`](crate::SAFE_LEVEL)
+/// two megabytes suffice.
 ///
-/// Else the [`Fault`] says at which place the text is no beginning of JSON, and what may stand
-/// there, or that it ends too early or is nested too deep; or that a request for memory was
-/// refused. To find the place the text is walked over once more.
+/// If the text is invalid, the [`Fault`] gives the first offset at which it cannot continue a JSON
+/// text, and the input that is expected there. Otherwise the text ends too early, is nested too
+/// deeply, or memory allocation failed. A second pass over the text finds the offset.
 ///
 /// ```
 /// use format_json::{Expected, Fault, from_text};
@@ -72,8 +72,8 @@ pub fn from_text<A: Allocator + Copy>(alloc: A, level: usize, text: &str) -> Res
     }
 }
 
-/// As [`from_text`], of bytes that are to be UTF-8. Where they are none, and no other place is
-/// before, the [`Fault`] says so.
+/// Like [`from_text`], for bytes, which must be UTF-8. If they are not UTF-8, and no other error
+/// has a smaller offset, the [`Fault`] reports it.
 ///
 /// ```
 /// use format_json::{Fault, from_bytes};

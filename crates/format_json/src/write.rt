@@ -16,11 +16,11 @@ use format_json_texts::value::Value;
 use format_json_writer::value as writer;
 use std::alloc::Allocator;
 
-/// The text of a value, in which no more than that many arrays and objects stand in one another,
-/// with no white space. It is read as the value again, at the same level.
+/// Writes a value whose arrays and objects are nested at most `level` deep, without whitespace. The
+/// text is parsed as the same value, at the same level.
 ///
-/// An error says that a number in it has a text that is none of JSON, that it is nested deeper than
-/// the level, or that a request for memory was refused. Each level takes some of the stack, as of
+/// Fails if the text of a number in it is not a JSON number, if the value is nested deeper than
+/// `level`, or if memory allocation fails. Each level uses some of the stack, as in
 /// [`from_text`](crate::from_text).
 ///
 /// ```
@@ -51,10 +51,10 @@ pub fn to_text<A: Allocator, B: Allocator>(
     }
 }
 
-/// As [`to_text`], laid out over lines: each element and each member stands on a line of its own,
-/// indented by that many spaces for each array and object round it, with a space after each colon.
-/// An array or an object with nothing in it is `[]` or `{}`. It is a text of the value too, and is
-/// read as it again, at the same level. Errors are those of [`to_text`].
+/// Like [`to_text`], over several lines: each element and each member is on its own line, indented
+/// by `indent` spaces for each array and object around it. A space follows each colon. An empty
+/// array or object is `[]` or `{}`. The text is parsed as the same value, at the same level. Errors
+/// are those of [`to_text`].
 ///
 /// ```
 /// use format_json::{from_text, to_text_pretty};

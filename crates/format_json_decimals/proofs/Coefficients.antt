@@ -1,4 +1,4 @@
--- The parts of a number, one behind the other.
+-- Lemmas about the parts of a number, in their order.
 use Rattle.std.proofs.Common.{◌≡◌, ◌∙◌, ◌⊎◌, ◌+◌, ◌*◌, ℕ, Bool, true, false, List, [], ◌∷◌, ◌++◌}
 use Rattle.std.proofs.Common.{ap, arith, inl, inr, length, refl, subst, sym}
 use Rattle.std.specs.Char.{digit_value}
@@ -57,7 +57,6 @@ digits_joined : (n : ℕ) (xs ys : List ℕ)
 digits_joined n [] ys = refl
 digits_joined n (x ∷ xs) ys = digits_joined (n * 10 + digit_value x) xs ys
 
--- behind the point
 pub fraction_goes : (text : List ℕ) (n : Number) (is : IsWritten text n) (rest digits : List ℕ)
     → rest ≡ is.point ++ is.exponent → rest ≡ 46 ∷ digits
     → (digits ≡ n.fraction ++ is.exponent)

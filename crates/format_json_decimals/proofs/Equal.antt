@@ -13,7 +13,7 @@ use Rattle.format_json_decimals.specs.Numbers.{Number, coefficient, scale, with_
 
 -- ---- integers with signs
 
--- the same size, and of what is not zero the same sign
+-- `Alike b x c y`: `x` and `y` are equal, and so are the signs `b` and `c` unless `x` is zero
 abbrev pub Alike : Bool → ℕ → Bool → ℕ → Type 0
 Alike b x c y = (x ≡ y) × ((x ≡ 0 → ⊥) → b ≡ c)
 
@@ -85,7 +85,6 @@ equal_on b c d x y w p q r one two i j e =
 
 -- ---- the shortest
 
--- a number that ends in zero is none that does not
 ends_in_zero : (m k : ℕ) → (m * 10 ^ (k + 1)) % 10 ≡ 0
 ends_in_zero m k =
     ap (λ n. n % 10) (times_ten m k ∙ omega arith) ∙ mod-mul-add (m * 10 ^ k) 10 0 (omega arith)

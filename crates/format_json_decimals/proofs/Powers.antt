@@ -1,4 +1,4 @@
--- What exponents say.
+-- The powers of ten that exponents denote.
 use Rattle.std.proofs.Common.{◌≡◌, ◌∙◌, ◌<◌, ◌⊎◌, ℕ, zero, suc, ℤ, Bool, false, cond, drop}
 use Rattle.std.proofs.Common.{List, [], ◌∷◌, ◌++◌, ap, arith, inl, inr, length, subst, sym}
 use Rattle.std.proofs.lemmas.Bool.{ne_eqb}
@@ -42,7 +42,6 @@ numeral sign (d ∷ ds) (inr (inr e)) are =
     let P : List ℕ → Type 0 = IsNumeral 10 in
     subst (λ s. P (without_leading_sign (s ++ d ∷ ds))) (sym e) (are.0, all_digits (d ∷ ds) are.1)
 
--- what stands behind the letter
 pub behind_letter : (exponent text : List ℕ) (power : ℤ) (first : ℕ) → IsExponent exponent power
     → exponent ≡ first ∷ text
     → IsNumeral 10 (without_leading_sign text) × (power ≡ signed_digits_value 10 text)

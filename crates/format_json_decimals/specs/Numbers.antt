@@ -1,4 +1,4 @@
--- Numbers of JSON (RFC 8259, section 6), and what they say.
+-- Numbers of JSON (RFC 8259, section 6), and their values.
 use Rattle.std.specs.Prelude.{◌≡◌, ◌<◌, ◌≤◌, ◌⊎◌, ◌-ℤ◌, ℕ, ℤ, pos, neg_ℤ, Bool, cond, List, []}
 use Rattle.std.specs.Prelude.{◌∷◌, ◌++◌, length}
 use Rattle.std.specs.List.{AllByRecursion}
@@ -40,7 +40,7 @@ pub record IsPower (text : List ℕ) (power : ℤ) : Type 0 where
 abbrev pub IsExponent : List ℕ → ℤ → Type 0
 IsExponent text power = ((text ≡ []) × (power ≡ pos 0)) ⊎ IsPower text power
 
--- A number in its parts: the digits before the point and behind it, and the power of ten.
+-- The parts of a number: the digits before and after the decimal point, and the power of ten.
 pub record Number : Type 0 where
   pub negative : Bool
   pub whole : List ℕ

@@ -1,10 +1,11 @@
--- What digits are read as.
+-- The integers that digits denote.
 use Rattle.std.specs.Prelude.{◌≡◌, ◌≢◌, ◌≤◌, ◌⊎◌, ◌*◌, ◌^◌, ◌%◌, ℕ, List, ◌∷◌, ◌++◌}
 use Rattle.std.specs.List.{AllByRecursion}
 use Rattle.std.specs.Str.Parse.{digits_value_after}
 use Rattle.format_json_decimals.specs.Numbers.{IsDigit}
 
--- n is these digits, which do not end in zero, and that many zeros; or zero is none
+-- `IsReduced n digits zeros`: `n` is `digits` followed by `zeros` zeros, where `digits` does not
+-- end in zero, or both are zero
 abbrev pub IsReduced : ℕ → ℕ → ℕ → Type 0
 IsReduced n digits zeros =
     (n ≡ digits * 10 ^ zeros) × ((digits % 10 ≢ 0) ⊎ ((digits ≡ 0) × (zeros ≡ 0)))

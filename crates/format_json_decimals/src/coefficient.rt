@@ -1,4 +1,4 @@
-//! The digits of a number, before the point and behind it.
+//! The digits of a number, before and after the decimal point.
 
 ghost use Rattle.format_json_decimals.specs.Numbers.{IsWritten, Number};
 ghost use Rattle.format_json_decimals.specs.Reading.{IsReduced, IsTooLong};
@@ -7,20 +7,20 @@ ghost use Rattle.std.specs.Str.Parse.{digits_value};
 
 use crate::digits::{Significand, push_digits};
 
-/// All digits of a number as one integer, and what stands behind them.
+/// All digits of a number as one integer, and the bytes after them.
 #[derive(Drop)]
 pub(crate) struct Coefficient<'i> {
     /// The integer, without the zeros at its end.
     pub(crate) digits: u64,
     /// How many zeros these are.
     pub(crate) zeros: u64,
-    /// How many digits stand behind the point.
+    /// The number of digits after the decimal point.
     pub(crate) places: u64,
     /// The exponent, from its letter on; empty where there is none.
     pub(crate) exponent: &'i [u8],
 }
 
-/// The digits of a number, which begins behind its sign; none where they do not fit.
+/// Reads the digits of a number, from after its sign; returns `None` if they do not fit.
 #[inline]
 pub(crate) fn read_coefficient<'i>(unsigned: &'i [u8]) -> Option<Coefficient<'i>>
     ensures { (text : List ℕ) (n : Number) (is : IsWritten text n)

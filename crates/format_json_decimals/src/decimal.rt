@@ -24,7 +24,7 @@ use crate::power::{power_of, shifted};
 pub struct Decimal {
     /// Whether it is below zero; zero is not, that of `-0` neither.
     pub negative: bool,
-    /// What is multiplied by the power of ten.
+    /// The factor of the power of ten.
     pub digits: u64,
     /// The power of ten.
     pub exponent: i32,
@@ -48,7 +48,7 @@ pub enum DecimalFault {
     ExponentOutOfRange,
 }
 
-/// Whether a minus stands first, and what stands behind it.
+/// Returns whether the number starts with a minus sign, and the bytes after the sign.
 #[inline]
 fn behind_sign<'i>(number: &'i [u8]) -> (bool, &'i [u8])
     ensures { (n : Number) (is : IsWritten number.now n)
@@ -65,14 +65,15 @@ fn behind_sign<'i>(number: &'i [u8]) -> (bool, &'i [u8])
     (false, number)
 }
 
-/// The decimal that a number of JSON is, exactly. Zeros at the end of its digits take no room, so
-/// `10e400` and a one with a thousand zeros behind it have one. What is returned of bytes that are
-/// no number of JSON is not told.
+/// Returns the exact decimal value of a JSON number. Trailing zeros do not count as digits, so
+/// `10e400` fits, and so does a one followed by a thousand zeros. The result is unspecified if the
+/// bytes are not a JSON number.
 ///
-/// Refused are numbers whose digits do not fit 64 bits, [`DecimalFault::TooManyDigits`], and others
-/// whose power of ten does not fit 32 bits, [`DecimalFault::ExponentOutOfRange`]. The decimal
-/// is the only one ([`each_number_has_one_decimal`](crate::laws::each_number_has_one_decimal)), so
-/// none that fits has been missed.
+/// Fails with [`DecimalFault::TooManyDigits`] if the digits do not fit 64 bits. Otherwise fails
+/// with [`DecimalFault::ExponentOutOfRange`] if the power of ten does not fit 32 bits. Each number
+/// has only one decimal
+/// ([`each_number_has_one_decimal`](crate::laws::each_number_has_one_decimal)), so none that fits
+/// is missed.
 ///
 /// ```
 /// use format_json_decimals::{Decimal, as_decimal};

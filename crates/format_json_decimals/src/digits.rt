@@ -41,7 +41,7 @@ fn push(read: Significand, digit: u64) -> Option<Significand>
     })
 }
 
-/// The same with all digits with which the bytes begin, and the bytes behind these.
+/// Appends all digits at the start of `bytes`, and returns the bytes after them.
 #[inline]
 pub(crate) fn push_digits<'i>(read: Significand, bytes: &'i [u8]) -> Option<(Significand, &'i [u8])>
     requires { read.zeros + length bytes.now < 2 ^ 64 }

@@ -1,11 +1,11 @@
-//! What the words of the contracts say together.
+//! Laws that follow from the contracts.
 
 ghost use Rattle.format_json_decimals.specs.Decimals.{AreEqual, IsDecimal};
 ghost use Rattle.format_json_decimals.specs.Numbers.{Number, coefficient, scale};
 ghost use Rattle.std.specs.Prelude.{◌≡◌, ◌↔◌, Bool, ℕ, ℤ};
 
-/// A number has one decimal, whether it fits or not. So where [`as_decimal`](crate::as_decimal)
-/// refuses a number, no sign, digits and power that fit are a decimal of it.
+/// A number has one decimal, whether it fits or not. So if [`as_decimal`](crate::as_decimal) fails
+/// for a number, no sign, digits and power that fit are a decimal of it.
 ///
 /// ```
 /// use format_json_decimals::laws::each_number_has_one_decimal;

@@ -1,4 +1,4 @@
--- What calls answer.
+-- Lemmas about the results of calls.
 use Rattle.std.proofs.Common.{◌≡◌, ◌∙◌, ◌⊎◌, ◌++◌, ◌-◌, ◌≤◌, ℕ, IfNone, List, MatchOption, None}
 use Rattle.std.proofs.Common.{Option, Some, ap, arith, inl, inr, length, length-append, subst, sym}
 use Rattle.std.proofs.Common.{take, take_at}
@@ -40,13 +40,12 @@ longest P S bytes rest it =
     no_less more (inl same) = omega (arith, ap (λ l. length l) same)
     no_less more (inr goes) = omega (arith, goes.is_more)
 
--- ---- what calls answered
+-- ---- results of calls
 
 pub if_none : {A : Type 0} (P : Type 0) (o : Option A) → P → IfNone o P
 if_none P None told = told
 if_none P (Some x) told = tt
 
--- an answer that is passed on
 pub match_on : {A : Type 0} (N M : Type 0) (P Q : A → Type 0) (o : Option A) → (N → M)
     → ((a : A) → P a → Q a) → MatchOption o N P → MatchOption o M Q
 match_on N M P Q None none some told = none told

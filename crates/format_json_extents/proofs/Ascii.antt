@@ -14,7 +14,7 @@ use Rattle.format_json_extents.specs.Strings.{BeginHigh, BeginLow, BeginOnly, Is
 use Rattle.format_json_extents.specs.Strings.{IsEscape, IsEscaped, IsHexDigit, IsU, IsUnit}
 use Rattle.format_json_extents.specs.Texts.{AreTwo, Either, IsByte, Maybe, Then}
 
--- Texts of P have bytes of ASCII alone.
+-- `IsLow P`: each text in `P` consists of ASCII bytes.
 abbrev pub IsLow : (List ℕ → Type 0) → Type 0
 IsLow P = (text : List ℕ) → P text → All (λ b. b < 128) text
 

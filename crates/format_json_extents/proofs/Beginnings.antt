@@ -1,10 +1,10 @@
--- What texts begin with.
+-- Lemmas about the first bytes of texts.
 use Rattle.std.proofs.Common.{◌≡◌, ◌∙◌, ◌++◌, ◌<◌, ℕ, [], ◌∷◌, List, ap, arith, inl, inr, length}
 use Rattle.std.proofs.Common.{length-append, refl, subst, sym}
 use Rattle.format_json_extents.proofs.Standing.{Apart, Bars, byte_first, same_byte, then_split}
 use Rattle.format_json_extents.specs.Texts.{Either, IsByte, Maybe, NoneStands, Or, Stands, Then}
 
--- Each text of P begins with a byte of F.
+-- `Starts P F`: each text in `P` starts with a byte of `F`.
 abbrev pub Starts : (P : List ℕ → Type 0) (F : ℕ → Type 0) → Type 0
 Starts P F = (bytes rest : List ℕ) → Stands P bytes rest
     → (b : ℕ) × (more : List ℕ) × (bytes ≡ b ∷ more) × F b
@@ -15,14 +15,12 @@ starts_bars P F S starts apart bytes rest b more e s it =
     let same : c ≡ b = (same_byte _ _ _ _ (sym begins ∙ e)).0 in
     apart b s (subst F same f)
 
--- where a text of P stands, none of Q does
 pub starts_none : (P Q : List ℕ → Type 0) (F : ℕ → Type 0) (bytes rest : List ℕ) → Starts P F
     → Bars Q F → Stands P bytes rest → NoneStands Q bytes
 starts_none P Q F bytes rest starts bars it other second =
     let (b, more, begins, f) = starts bytes rest it in
     bars bytes other b more begins f second
 
--- another byte stands first
 pub none_first : (P : List ℕ → Type 0) (F : ℕ → Type 0) (bytes : List ℕ) (b : ℕ) (more : List ℕ)
     → Starts P F → bytes ≡ b ∷ more → (F b → ⊥) → NoneStands P bytes
 none_first P F bytes b more starts e not rest it =
@@ -74,7 +72,6 @@ this_none c bytes not rest it =
     let (b, more, e, is) = byte_starts (λ b. b ≡ c) bytes rest it in
     not more (e ∙ ap (λ x. x ∷ more) is)
 
--- nothing stands before a text that begins with a byte
 pub no_bytes : (b : ℕ) (more : List ℕ) → [] ≡ b ∷ more → ⊥
 no_bytes b more e = cc
 

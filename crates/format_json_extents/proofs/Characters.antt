@@ -1,4 +1,4 @@
--- A text of a set by its bytes is one by its characters.
+-- Lemmas that a set of texts is the same by its bytes as by its characters.
 use Rattle.std.proofs.Common.{◌≡◌, ◌∙◌, ◌++◌, ◌<◌, ℕ, [], ◌∷◌, List, ap}
 use Rattle.std.proofs.Common.{append_assoc, arith, inl, inr, refl, subst}
 use Rattle.std.proofs.Common.{sym}
@@ -12,7 +12,8 @@ use Rattle.format_json_extents.specs.Value.{Only}
 pub mod Strings
 pub mod Values
 
--- The characters begin with a text of P, and the bytes of the others are the rest.
+-- `Front P cs rest`: the characters `cs` start with a text in `P`, and `rest` is the bytes of the
+-- others.
 pub record Front (P : List ℕ → Type 0) (cs rest : List ℕ) : Type 0 where
   pub first : List ℕ
   pub second : List ℕ
@@ -20,7 +21,8 @@ pub record Front (P : List ℕ → Type 0) (cs rest : List ℕ) : Type 0 where
   pub rest_of : encode_utf8_all second ≡ rest
   pub is : P first
 
--- The bytes of characters of P are of P; and where bytes of P stand first, characters of P do.
+-- The bytes of characters in `P` are in `P`; and if bytes in `P` are a prefix, so are characters in
+-- `P`.
 pub record Alike (P : List ℕ → Type 0) : Type 0 where
   pub bytes : (cs : List ℕ) → P cs → P (encode_utf8_all cs)
   pub chars : (cs text rest : List ℕ) → P text → encode_utf8_all cs ≡ text ++ rest

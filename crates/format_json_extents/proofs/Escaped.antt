@@ -154,7 +154,7 @@ only_escape t a b c d (inr is) =
     by cs (inl unit) e = subst (IsUnit BeginOnly) (sym e) unit
     by cs (inr pair) e = absurd (omega (arith, pair_size cs pair, ap (λ l. length l) e))
 
--- what stands in an escape of two units
+-- the parts of an escape of two units
 pub record Paired (t a b c d s v e f g h : ℕ) : Type 0 where
   pub letter : t ≡ 117
   pub high : IsUnit BeginHigh (a ∷ b ∷ c ∷ d ∷ [])

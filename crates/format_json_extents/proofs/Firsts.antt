@@ -1,4 +1,4 @@
--- With which bytes values begin, and with which they may go on.
+-- The bytes that values start with, and the bytes that extend them.
 use Rattle.std.proofs.Common.{◌≡◌, ◌⊎◌, ◌<◌, ◌≤◌, ℕ, Bool, List, arith, false, inl, inr, refl, suc}
 use Rattle.std.proofs.Common.{true, zero}
 use Rattle.format_json_extents.proofs.Beginnings.{Starts, byte_starts, either_starts, then_starts}
@@ -102,9 +102,9 @@ pub closing_is : (keyed : Bool) (b : ℕ) → b ≡ closing keyed → (b ≡ 93)
 closing_is false b e = inl e
 closing_is true b e = inr e
 
--- ---- what may stand after an item
+-- ---- after an item
 
--- A byte with which an item may go on after a shorter one.
+-- A byte that can extend an item to a longer one.
 abbrev pub IsItemByte : ℕ → Type 0
 IsItemByte = Or IsNumberByte IsSpace
 

@@ -1,4 +1,4 @@
--- How lists of texts with commas stand.
+-- Lemmas about lists of texts with commas.
 use Rattle.std.proofs.Common.{◌≡◌, ◌∙◌, ◌⊎◌, ◌++◌, ℕ, ◌∷◌, List, ap, append_assoc, inl, inr, refl}
 use Rattle.std.proofs.Common.{subst, sym}
 use Rattle.format_json_extents.proofs.Leading.{Leads}
@@ -46,11 +46,10 @@ list_before I bytes mid rest it more = record {
 
 -- ---- the list and its end
 
--- A list of texts of I, and then the byte c.
+-- `Ended I c`: a list of texts in `I`, followed by the byte `c`.
 abbrev pub Ended : (I : List ℕ → Type 0) (c : ℕ) → List ℕ → Type 0
 Ended I c = Then (List_of I) (IsByte (λ b. b ≡ c))
 
--- the first text ends the list, or a comma stands after it
 ended_split : (I : List ℕ → Type 0) (c : ℕ) (bytes rest : List ℕ) → Stands (Ended I c) bytes rest
     → Stands I bytes (c ∷ rest)
     ⊎ ((mid : List ℕ) × Stands I bytes (44 ∷ mid) × Stands (Ended I c) mid rest)
@@ -65,7 +64,6 @@ ended_split I c bytes rest it =
           inr (mid, one, then_stands (List_of I) (IsByte (λ b. b ≡ c)) mid at rest more end)
     ]
 
--- the closing byte stands after a text
 pub ends : (I : List ℕ → Type 0) (S : ℕ → Type 0) (c : ℕ) (bytes ahead rest : List ℕ)
     → Leaves I S bytes ahead → ahead ≡ c ∷ rest → (S c → ⊥) → (S 44 → ⊥) → (44 ≡ c → ⊥)
     → Leaves (Ended I c) Never bytes rest
@@ -83,7 +81,6 @@ ends I S c bytes ahead rest it e not comma apart = record {
   ];
 }
 
--- a comma stands after a text
 pub goes : (I : List ℕ → Type 0) (S : ℕ → Type 0) (c : ℕ) (bytes ahead next : List ℕ)
     → Leaves I S bytes ahead → ahead ≡ 44 ∷ next → (S c → ⊥) → (S 44 → ⊥) → (44 ≡ c → ⊥)
     → Leads (Ended I c) bytes next
@@ -102,7 +99,6 @@ goes I S c bytes ahead next it e not comma apart = record {
       (list_before I bytes next at (subst (λ l. Stands I bytes l) e it.stands) list) end;
 }
 
--- neither stands after a text
 pub stops : (I : List ℕ → Type 0) (S : ℕ → Type 0) (c : ℕ) (bytes ahead : List ℕ)
     → Leaves I S bytes ahead → ((more : List ℕ) → ahead ≡ c ∷ more → ⊥)
     → ((more : List ℕ) → ahead ≡ 44 ∷ more → ⊥) → (S c → ⊥) → (S 44 → ⊥)
@@ -114,7 +110,6 @@ stops I S c bytes ahead it none no_more not comma rest is =
           no_more mid (sym (ended I S bytes ahead (44 ∷ mid) 44 mid refl comma it one))
     ]
 
--- no text stands first
 pub never_begins : (I : List ℕ → Type 0) (c : ℕ) (bytes : List ℕ) → NoneStands I bytes
     → NoneStands (Ended I c) bytes
 never_begins I c bytes none rest is = elim (ended_split I c bytes rest is) [

@@ -2,7 +2,8 @@
 use Rattle.std.proofs.Common.{ℕ, List}
 use Rattle.format_json_extents.specs.Texts.{Leaves, NoneStands, Stands}
 
--- A text of T stands at the one place where it stands at the other, with the same rest.
+-- `Leads T start now`: `start` starts with a text in `T` if and only if `now` does, with the same
+-- rest.
 pub record Leads (T : List ℕ → Type 0) (start now : List ℕ) : Type 0 where
   pub on : (rest : List ℕ) → Stands T start rest → Stands T now rest
   pub back : (rest : List ℕ) → Stands T now rest → Stands T start rest

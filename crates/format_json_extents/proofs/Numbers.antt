@@ -1,4 +1,4 @@
--- How numbers stand.
+-- Lemmas about numbers at the start of bytes.
 use Rattle.std.proofs.Common.{◌≡◌, ◌∙◌, ℕ, [], ◌∷◌, List, ap, arith, inl, inr, length, refl}
 use Rattle.std.specs.List.{All}
 use Rattle.format_json_extents.proofs.Beginnings.{Starts, byte_starts, either_starts, maybe_starts}

@@ -22,7 +22,6 @@ same_others e = cc
 by_recursion : (text : List ℕ) → All IsDigit text → AllByRecursion IsDigit text
 by_recursion text all = recursion_from_All IsDigit text all
 
--- a byte and what stands behind it
 one_more : {P : ℕ → Type 0} {Q : List ℕ → Type 0} (text : List ℕ) (is : Then (IsByte P) Q text)
     → text ≡ is.is_first.byte ∷ is.second
 one_more text is = is.joins ∙ ap (λ l. l ++ is.second) is.is_first.alone

@@ -82,7 +82,6 @@ lanes_stop P bytes rest count it (front, other, tail, e, long, all, not) =
     (run_on P bytes rest front (drop count rest) it (whole ∙ ap (λ l. front ++ l) (sym left)) all)
     left not
 
--- they go on
 pub lanes_go_on : (P : ℕ → Type 0) (bytes rest : List ℕ) → Stands (All P) bytes rest
     → All P (chunk 0 16 rest) → Stands (All P) bytes (drop 16 rest)
 lanes_go_on P bytes rest it all =
@@ -100,12 +99,11 @@ lanes_within P rest count (front, other, tail, e, long, all, not) =
 
 -- ---- which lanes are set
 
--- A test tells which bytes are not of the set.
+-- `Refuses p P`: `p` is true for exactly the bytes that are not in `P`.
 record Refuses (p : ℕ → Bool) (P : ℕ → Type 0) : Type 0 where
   no : (x : ℕ) → p x ≡ true → P x → ⊥
   yes : (x : ℕ) → p x ≡ false → P x
 
--- where one is set, bytes of the set stand before the first of those
 ends_at : (p : ℕ → Bool) (P : ℕ → Type 0) → Refuses p P → (xs : List ℕ)
     → 0 < mask_l (map p xs) → EndsAt P xs (prefix_len (λ x. not (p x)) xs)
 ends_at p P tells [] some = absurd (omega (arith, some))
@@ -173,7 +171,7 @@ tells_others = record {
   yes = λ x is. grind (arith, nat_tests);
 }
 
--- lanes chosen by a test of each, from a number and from what is computed of each
+-- lanes selected by a test of each, from a number and a function of each
 chosen : (p : ℕ → Bool) (g : ℕ → ℕ) (c n : ℕ) (xs : List ℕ) → length xs ≡ n
     → sel_l (map p xs) (replicate n c) (map g xs) ≡ map (λ x. cond (p x) c (g x)) xs
 chosen p g c n [] long = refl
@@ -242,7 +240,7 @@ tells_ends = record {
   yes = λ x is. grind (arith, nat_tests);
 }
 
--- the bits of the lanes that are no white space
+-- the bits of the lanes that are not whitespace
 pub ends_are : (xs : List ℕ) → length xs ≡ 16
     → mask_l (map (top 7) (zip2 (λ a b. cond (not (eqb a b)) 255 0)
     (instead 32 13 xs (instead 32 10 xs (instead 32 9 xs xs))) (replicate 16 32)))

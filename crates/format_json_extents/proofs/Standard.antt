@@ -1,4 +1,4 @@
--- What calls tell of bytes, in the words of RFC 8259.
+-- The results of calls, in the terms of RFC 8259.
 use Rattle.std.proofs.Common.{◌≡◌, ◌↔◌, ◌++◌, ◌<◌, ◌≤◌, ◌^◌, ℕ, List, ap, arith, length}
 use Rattle.std.proofs.Common.{length-append}
 use Rattle.std.specs.Str.{IsUtf8}
@@ -32,14 +32,12 @@ module _ (level : ℕ) (bytes : List ℕ) (few : length bytes < 2 ^ 63) where
   found_standard text rest it utf8 =
       (value_standard level text (front_few text rest it.splits) utf8).0 it.is
 
-  -- and no text of the standard is longer
   pub found_longest : (found left : List ℕ) → IsLongest (IsValue level) found bytes left
       → (text rest : List ℕ) → IsValueByStandard level text → bytes ≡ text ++ rest
       → length text ≤ length found
   found_longest found left it text rest is e =
       it.longest text rest ((value_standard level text (front_few text rest e) is.0).1 is) e
 
-  -- where none is found, none stands by the standard
   pub none_standard : NoneStands (IsValue level) bytes → (text rest : List ℕ)
       → IsValueByStandard level text → bytes ≡ text ++ rest → ⊥
   none_standard none text rest is e =

@@ -1,4 +1,4 @@
--- How texts stand one after the other.
+-- Lemmas about consecutive texts at the start of bytes.
 use Rattle.std.proofs.Common.{◌≡◌, ◌∙◌, ◌⊎◌, ◌++◌, ◌<◌, ◌≤◌, ℕ, [], ◌∷◌, List, ap, append_assoc}
 use Rattle.std.proofs.Common.{arith, inl, inr, length, length-append, refl, subst, sym}
 use Rattle.std.specs.List.{All}
@@ -7,12 +7,12 @@ use Rattle.format_json_extents.specs.Texts.{Either, GoesOn, IsByte, Leaves, Mayb
 use Rattle.format_json_extents.specs.Texts.{NoneStands, Or}
 use Rattle.format_json_extents.specs.Texts.{Stands, Then}
 
--- No text of Q begins with a byte of S.
+-- `Bars Q S`: no text in `Q` starts with a byte of `S`.
 abbrev pub Bars : (Q : List ℕ → Type 0) (S : ℕ → Type 0) → Type 0
 Bars Q S = (bytes rest : List ℕ) (b : ℕ) (more : List ℕ) → bytes ≡ b ∷ more → S b
     → Stands Q bytes rest → ⊥
 
--- Before a byte of S stands no text of Q but the empty one.
+-- `Stays Q S`: at a byte of `S`, the empty text is the only prefix in `Q`.
 abbrev pub Stays : (Q : List ℕ → Type 0) (S : ℕ → Type 0) → Type 0
 Stays Q S = (bytes rest : List ℕ) (b : ℕ) (more : List ℕ) → bytes ≡ b ∷ more → S b
     → Stands Q bytes rest → rest ≡ bytes
@@ -37,7 +37,6 @@ pub byte_stands : (P : ℕ → Type 0) (bytes : List ℕ) (b : ℕ) (rest : List
 byte_stands P bytes b rest e p =
     record { text = b ∷ []; is = record { byte = b; is_byte = p; alone = refl }; splits = e }
 
--- the byte that stands there
 pub byte_first : (P : ℕ → Type 0) (bytes rest : List ℕ) → (it : Stands (IsByte P) bytes rest)
     → bytes ≡ it.is.byte ∷ rest
 byte_first P bytes rest it = it.splits ∙ ap (λ l. l ++ rest) it.is.alone
@@ -310,7 +309,6 @@ widen P S T bytes rest wider p = record {
   ];
 }
 
--- nothing goes on with no byte
 pub alone : (P : List ℕ → Type 0) (bytes rest other : List ℕ) → Leaves P Never bytes rest
     → Stands P bytes other → other ≡ rest
 alone P bytes rest other p it = elim (p.only other it) [
@@ -329,7 +327,6 @@ ended P S bytes rest other b more e not p it = elim (p.only other it) [
       absurd (not (subst S same goes.is_byte))
 ]
 
--- where the second cannot begin with a byte with which the first goes on
 pub then_exact : (P Q : List ℕ → Type 0) (S T : ℕ → Type 0) (bytes mid rest : List ℕ) → Bars Q S
     → Leaves P S bytes mid → Leaves Q T mid rest → Leaves (Then P Q) T bytes rest
 then_exact P Q S T bytes mid rest bars p q = record {

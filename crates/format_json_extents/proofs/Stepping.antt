@@ -1,4 +1,4 @@
--- How brackets and scalars stand after what stands before them.
+-- Lemmas about brackets and scalars with the whitespace and separators before them.
 use Rattle.std.proofs.Common.{◌≡◌, ◌∙◌, ◌⊎◌, ◌-◌, ◌++◌, ℕ, [], ◌∷◌, List, ap, arith, inl, inr}
 use Rattle.std.proofs.Common.{length, refl, subst, sym, take}
 use Rattle.std.proofs.lemmas.List.{append-nil}
@@ -44,7 +44,7 @@ pub token_none : (bytes : List ℕ) (b : ℕ) (more : List ℕ) → bytes ≡ b 
 token_none bytes b more e not none =
     either_none (IsByte IsBracket) IsScalar bytes (byte_none IsBracket bytes b more e not) none
 
--- ---- after what stands before them
+-- ---- after whitespace and separators
 
 abbrev pub IsFirstOfToken : ℕ → Type 0
 IsFirstOfToken = Or IsBracket IsFirstOfScalar

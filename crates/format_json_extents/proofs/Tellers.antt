@@ -1,4 +1,4 @@
--- Each text of JSON has steps by the grammar.
+-- Proofs that each JSON text has steps by the grammar.
 use Rattle.std.proofs.Common.{◌≡◌, ◌∙◌, ◌++◌, ℕ, zero, suc, Bool, true, false, [], ◌∷◌, List}
 use Rattle.std.proofs.Common.{ap, append_assoc, inl, inr, refl}
 use Rattle.format_json_extents.proofs.Walked.{text_told}

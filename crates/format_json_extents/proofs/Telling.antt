@@ -1,4 +1,4 @@
--- What one call tells, and calls in turn.
+-- Lemmas about the result of one call, and of successive calls.
 use Rattle.std.proofs.Common.{◌≡◌, ◌∙◌, ◌⊎◌, ◌++◌, ℕ, [], ◌∷◌, List, ap, append_assoc, arith, inl}
 use Rattle.std.proofs.Common.{cond, inr, length, length-append, nat_lt, refl, subst, sym}
 use Rattle.std.specs.List.{All}
@@ -22,7 +22,7 @@ use Rattle.format_json_extents.specs.Walk.{IsLead, IsLeadByte, IsMark}
 use Rattle.format_json_extents.specs.declared.steps.Step.{Step}
 use Rattle.format_json_extents.specs.declared.steps.Step.TheVariants as steps
 
--- ---- what stands before a step
+-- ---- the bytes before a step
 
 lead_all : (lead : List ℕ) → IsLead lead → All IsLeadByte lead
 lead_all lead is =
@@ -74,7 +74,7 @@ class steps.True = 6
 class steps.BeginObject = 7
 class steps.EndObject = 8
 
--- the step of a class that is no name
+-- the step of a class, where a string is not a name
 abbrev of_class : ℕ → Step
 of_class n =
     cond (nat_lt n 1) steps.String (cond (nat_lt n 2) steps.Number
@@ -169,7 +169,8 @@ step_same s t text rest is also =
 
 -- ---- one call
 
--- A text that stands here, and is the step.
+-- `Here step text bytes rest`: after whitespace and separators, `bytes` starts with `text`, which
+-- is of kind `step`; `rest` follows.
 pub record Here (step : Step) (text bytes rest : List ℕ) : Type 0 where
   pub lead : List ℕ
   pub is_lead : IsLead lead
@@ -212,7 +213,6 @@ module _ (bytes mid : List ℕ) (s : Step) (t : List ℕ) (next : IsNextStep s t
       let Y : List ℕ → Step × List ℕ = λ l. (step, l) in
       ap X one ∙ ap Y is
 
-  -- where no byte of a number stands behind
   pub leaves_scalar : ((b : ℕ) (more : List ℕ) → rest ≡ b ∷ more → IsNumberByte b → ⊥)
       → mid ≡ rest
   leaves_scalar stops =
@@ -239,16 +239,18 @@ module _ (bytes mid : List ℕ) (s : Step) (t : List ℕ) (next : IsNextStep s t
 
 -- ---- calls in turn
 
--- One more step stands in what is left.
+-- One more step occurs in the rest.
 abbrev pub OneMore : List ℕ → Type 0
 OneMore rest = (after : List ℕ) × Stands (Then IsLead IsToken) rest after
 
--- These steps are the first of those that are told, and one more stands in what is left.
+-- `Within told found rest`: `found` is a proper prefix of `told`, and one more step occurs in
+-- `rest`.
 abbrev pub Within : Told → Told → List ℕ → Type 0
 Within told found rest =
     (it : Step × List ℕ) × (others : Told) × (told ≡ found ++ it ∷ others) × OneMore rest
 
--- Calls from the start on tell these steps first, and then they are of what is left now.
+-- `Tells start told now`: successive calls from `start` return the steps `told` first, and then
+-- those of `now`.
 pub record Tells (start : List ℕ) (told : Told) (now : List ℕ) : Type 0 where
   pub calls : (found : Told) (rest : List ℕ) → InTurn start found rest → Within told found rest
       ⊎ ((more : Told) × (found ≡ told ++ more) × InTurn now more rest)

@@ -1,4 +1,4 @@
--- How the texts of strings stand.
+-- Lemmas about strings at the start of bytes.
 use Rattle.std.proofs.Common.{◌≡◌, ◌∙◌, ◌⊎◌, ◌++◌, ◌<◌, ◌-◌, ℕ, [], ◌∷◌, List, ap, append_assoc}
 use Rattle.std.proofs.Common.{arith, inl, inr, length, length-append, refl, subst, sym, take}
 use Rattle.std.proofs.Common.{take_at}
@@ -23,7 +23,6 @@ use Rattle.format_json_extents.specs.Texts.{nothing, one_more}
 
 -- ---- bytes of a set
 
--- after all bytes of P stands none
 pub all_stops : (P : ℕ → Type 0) (bytes rest : List ℕ) → Leaves (All P) P bytes rest → (b : ℕ)
     (more : List ℕ) → rest ≡ b ∷ more → P b → ⊥
 all_stops P bytes rest it b more e is =
@@ -165,13 +164,12 @@ no_quote : (b : ℕ) → Or IsUnescaped IsBackslash b → b ≡ 34 → ⊥
 no_quote b (inl is) e = is.1 e
 no_quote b (inr is) e = omega (arith, is, e)
 
--- no piece stands at a quote
 quote_no_piece : (bytes rest mid : List ℕ) → Stands IsPiece bytes mid → bytes ≡ 34 ∷ rest → ⊥
 quote_no_piece bytes rest mid it e =
     let (b, more, begins, f) = piece_starts bytes mid it in
     no_quote b f (same_byte _ _ _ _ (sym begins ∙ e)).0
 
--- ---- what stands after the first quote
+-- ---- after the first quote
 
 pub tail_ends : (bytes rest : List ℕ) → bytes ≡ 34 ∷ rest → Leaves IsStringTail Never bytes rest
 tail_ends bytes rest e = record {

@@ -1,4 +1,4 @@
--- How the digits of escaped characters stand.
+-- Lemmas about the digits of escaped characters.
 use Rattle.std.proofs.Common.{◌≡◌, ◌∙◌, ◌++◌, ◌≤◌, ℕ, [], ◌∷◌, List, ap, arith, inl, inr, length}
 use Rattle.std.proofs.Common.{refl, subst, sym}
 use Rattle.format_json_extents.proofs.Beginnings.{this_none}
@@ -77,7 +77,6 @@ module _ (P : ℕ → ℕ → Type 0) (bytes : List ℕ) where
       first_none (AreTwo P) IsTwoDigits bytes
       (λ rest it. omega (arith, few, ap (λ l. length l) (two_first P bytes rest it)))
 
-  -- where a unit of P stands, none of what begins otherwise does
   pub unit_apart : (Q : ℕ → ℕ → Type 0) (rest : List ℕ) → ((a b : ℕ) → P a b → Q a b → ⊥)
       → Stands (IsUnit P) bytes rest → NoneStands (IsUnit Q) bytes
   unit_apart Q rest apart it =
@@ -135,7 +134,6 @@ module _ (bytes : List ℕ) where
             (then_exact (IsByte IsU) (IsUnit BeginLow) Never Never escape low rest
             (never_bars (IsUnit BeginLow)) (byte_leaves IsU escape 117 low letter refl) second))
 
-  -- a unit that is no surrogate is not the first of a pair
   no_high : (a b : ℕ) → BeginOnly a b → BeginHigh a b → ⊥
   no_high a b (first, second, below) (is, inl above) = omega (arith, below is, above)
   no_high a b (first, second, below) (is, inr (inl above)) = omega (arith, below is, above)

@@ -1,4 +1,4 @@
--- How values stand, and what arrays and objects have in them.
+-- Lemmas about values at the start of bytes, and about the contents of arrays and objects.
 use Rattle.std.proofs.Common.{◌≡◌, ◌∙◌, ◌↔◌, ◌++◌, ℕ, [], ◌∷◌, ◌<◌, ◌==◌, Bool, IsTrue, List, ap}
 use Rattle.std.proofs.Common.{arith, false, inl, inr, length, refl, subst, suc, sym, true, zero}
 use Rattle.std.proofs.lemmas.Bool.{eq-eqb, eqb-true}
@@ -101,7 +101,6 @@ name_no_colon bytes start named ahead before name after not =
     (then_none IsGap (IsByte IsColon) IsSpace named ahead colon_bars after
     (this_none 58 ahead not)))
 
--- where names stand
 pub keyed_is : (keyed : Bool) (bytes rest : List ℕ) → keyed ≡ true
     → Leaves IsKey Never bytes rest → Leaves (IsName keyed) Never bytes rest
 keyed_is keyed bytes rest e it = subst (λ k. Leaves (IsName k) Never bytes rest) (sym e) it
@@ -112,7 +111,6 @@ keyed_none keyed bytes e none = subst (λ k. NoneStands (IsName k) bytes) (sym e
 
 -- ---- items
 
--- nothing stands before a value of an array
 pub no_name : (bytes : List ℕ) → Leaves (Only []) Never bytes bytes
 no_name bytes = record {
   stands = record { text = []; is = refl; splits = refl };
@@ -220,7 +218,6 @@ empty_none keyed bytes ahead before not =
     then_none IsGap (IsByte (IsClosing keyed)) IsSpace bytes ahead (closing_bars keyed) before
     (this_none (closing keyed) ahead not)
 
--- where the closing bracket stands, no item does
 item_closed : (keyed : Bool) (V : List ℕ → Type 0) (bytes at rest : List ℕ) → Starts V IsFirst
     → Leaves IsGap IsSpace bytes at → at ≡ closing keyed ∷ rest → NoneStands (IsItem keyed V) bytes
 item_closed true V bytes at rest starts before e =
@@ -313,7 +310,6 @@ nested_none true V bytes inside e none =
     (other_opening false V bytes 123 inside e (λ is. omega (arith, is)))
     (opening_none true V bytes inside e none)
 
--- no bracket stands first
 pub not_nested : (V : List ℕ → Type 0) (bytes : List ℕ)
     → ((keyed : Bool) (more : List ℕ) → bytes ≡ opening keyed ∷ more → ⊥)
     → NoneStands (IsNested V) bytes
@@ -376,7 +372,6 @@ value_no_other (suc level) bytes not none =
 
 -- ---- texts
 
--- what is left of a whole text is nothing
 pub text_is : (level : ℕ) (S : ℕ → Type 0) (bytes rest : List ℕ)
     → Leaves (IsElement (IsValue level)) S bytes rest → rest ≡ [] → IsText level bytes
 text_is level S bytes rest it e =

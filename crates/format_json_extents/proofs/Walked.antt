@@ -1,4 +1,4 @@
--- A walk through a text of JSON tells what stands in it.
+-- Proofs that a walk through a JSON text returns its steps.
 use Rattle.std.proofs.Common.{◌≡◌, ◌∙◌, ◌⊎◌, ◌++◌, ℕ, zero, suc, Bool, true, false, [], ◌∷◌, List}
 use Rattle.std.proofs.Common.{ap, append_assoc, arith, inl, inr, refl, subst, sym}
 use Rattle.std.specs.Prelude.{⊤}
@@ -21,7 +21,7 @@ use Rattle.format_json_extents.specs.Walk.{IsClosingByte, IsLead, IsMark}
 use Rattle.format_json_extents.specs.declared.steps.Step.{Step}
 use Rattle.format_json_extents.specs.declared.steps.Step.TheVariants as steps
 
--- ---- what stands behind a value
+-- ---- after a value
 
 -- a comma or a closing bracket, or nothing
 abbrev Stops : List ℕ → Type 0
@@ -91,9 +91,9 @@ scalar_step steps.EndArray text rest is not = absurd is
 scalar_step steps.BeginObject text rest is not = absurd is
 scalar_step steps.EndObject text rest is not = absurd is
 
--- ---- what stands before one
+-- ---- before a value
 
--- What makes with white space after it what may stand before a step.
+-- `front` followed by whitespace may precede a step.
 abbrev Leading : List ℕ → Type 0
 Leading front = (gap : List ℕ) → IsGap gap → IsLead (front ++ gap)
 
@@ -123,7 +123,7 @@ mark_leads gap b all is behind also = record {
 
 -- ---- values
 
--- Calls tell a value, wherever one may stand.
+-- Calls return the steps of a value, wherever a value may occur.
 abbrev Walks : (Told → List ℕ → Type 0) → Type 0
 Walks V =
     (told : Told) (value : List ℕ) → V told value → (lead rest : List ℕ) → IsLead lead
@@ -167,7 +167,6 @@ module _ (V : Told → List ℕ → Type 0) (walks : Walks V) where
             (it.behind, tail, it.is_behind, refl, stops),
       )
 
-  -- behind a name stands a colon
   colon_stands : (gap more : List ℕ) → IsGap gap → IsBeforeColon (gap ++ 58 ∷ more)
   colon_stands gap more all = (
     more,
@@ -315,7 +314,6 @@ value_walks (suc level) told value (inr (inr it)) =
 
 -- ---- texts
 
--- no step stands in white space
 gap_no_step : (gap : List ℕ) → IsGap gap → (s : Step) (t mid : List ℕ) → IsNextStep s t gap mid → ⊥
 gap_no_step gap all s t mid next =
     let (b, more, e, f) = token_starts next.start mid

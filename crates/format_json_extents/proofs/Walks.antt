@@ -1,4 +1,4 @@
--- What stands before the values of arrays and objects, and after them.
+-- The bytes before the values of arrays and objects, and after them.
 use Rattle.std.proofs.Common.{◌≡◌, ◌∙◌, ◌⊎◌, ◌<◌, ℕ, ◌∷◌, List, ap, arith, inl, inr, length, subst}
 use Rattle.std.proofs.Common.{sym}
 use Rattle.std.proofs.lemmas.List.{nil_from_length}
@@ -83,7 +83,7 @@ ends_is bytes ahead more b before e (rest, stands, is) = elim (before.only rest 
   | inr goes ↦ absurd (space_no_end rest goes.byte goes.tail goes.begins goes.is_byte is)
 ]
 
--- ---- no value stands after another beginning
+-- ---- no value follows a different lead
 
 -- values begin at none of the marks' bytes
 first_side : (b : ℕ) → IsFirst b → (b < 44) ⊎ (((44 < b) × (b < 58)) ⊎ (58 < b))

@@ -1,4 +1,4 @@
--- How words and scalars stand.
+-- Lemmas about words and scalars at the start of bytes.
 use Rattle.std.proofs.Common.{◌≡◌, ◌∙◌, ◌++◌, ℕ, [], ◌∷◌, ◌<◌, ◌≤◌, List, ap, arith, inl, inr, refl}
 use Rattle.std.proofs.Common.{sym}
 use Rattle.std.proofs.lemmas.List.{append_cancel_left}

@@ -19,7 +19,7 @@ pub mod Strings
 pub mod Units
 pub mod Values
 
--- Characters of which there is room for the bytes.
+-- Characters whose bytes fit a string.
 pub record Fits (cs : List ℕ) : Type 0 where
   pub scalars : all_scalars cs ≡ true
   pub few : length (encode_utf8_all cs) < 2 ^ 63
@@ -29,7 +29,7 @@ pub record Written {O : Type 0} (P : List ℕ → Type 0) (text : Text ℕ O) : 
   pub set : (o : O) (cs : List ℕ) → text o cs → P cs
   pub value : (cs : List ℕ) → Fits cs → P cs → (o : O) × text o cs
 
--- ---- characters of which there is room
+-- ---- characters that fit
 
 pub both_true : (a b : Bool) → (a && b) ≡ true → (a ≡ true) × (b ≡ true)
 both_true true b h = (refl, h)

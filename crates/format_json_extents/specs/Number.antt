@@ -52,6 +52,6 @@ abbrev pub IsNumber : List ℕ → Type 0
 IsNumber =
     Then (Maybe (IsByte IsMinus)) (Then IsWhole (Then (Maybe IsFraction) (Maybe IsExponent)))
 
--- A byte with which a number may go on after a shorter one.
+-- A byte that can extend a number to a longer one.
 abbrev pub IsNumberByte : ℕ → Type 0
 IsNumberByte b = IsDigit b ⊎ (IsPoint b ⊎ IsE b)

@@ -9,8 +9,8 @@ use Rattle.winnow.specs.Accumulator.Holds.{HasCharacters}
 abbrev pub AnyValue : Type 0
 AnyValue = Value (Unit {0})
 
--- Bytes that are UTF-8, of characters that are the text of a value, of which no more than that many
--- arrays and objects stand in one another.
+-- `IsValueByStandard level bytes`: `bytes` is UTF-8 and encodes a value whose arrays and objects
+-- are nested at most `level` deep.
 abbrev pub IsValueByStandard : ℕ → List ℕ → Type 0
 IsValueByStandard level bytes =
     IsUtf8 bytes × ((v : AnyValue) × ValueText HasCharacters level v (chars bytes))

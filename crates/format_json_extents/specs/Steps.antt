@@ -1,4 +1,4 @@
--- What stands in a text, from its start to its end, one after the other.
+-- The steps of a JSON text, from its start to its end.
 use Rattle.std.specs.Prelude.{◌≡◌, ◌⊎◌, ℕ, List, [], ◌∷◌, ◌++◌}
 use Rattle.format_json_extents.specs.Number.{IsNumber, IsNumberByte}
 use Rattle.format_json_extents.specs.Strings.{IsString}
@@ -16,11 +16,11 @@ IsBracket b = ((b ≡ 91) ⊎ (b ≡ 123)) ⊎ IsClosingByte b
 abbrev pub IsToken : List ℕ → Type 0
 IsToken = Either (IsByte IsBracket) IsScalar
 
--- After white space stands a colon.
+-- `IsBeforeColon bytes`: `bytes` starts with whitespace and a colon.
 abbrev pub IsBeforeColon : List ℕ → Type 0
 IsBeforeColon bytes = (rest : List ℕ) × Stands (Then IsGap (IsByte IsColon)) bytes rest
 
--- A text that is this step, and what stands after it.
+-- `IsOfStep step text rest`: `text` is of kind `step`, and `rest` follows it.
 abbrev pub IsOfStep : Step → List ℕ → List ℕ → Type 0
 IsOfStep steps.Null text rest = Only (110 ∷ 117 ∷ 108 ∷ 108 ∷ []) text
 IsOfStep steps.False text rest = Only (102 ∷ 97 ∷ 108 ∷ 115 ∷ 101 ∷ []) text
@@ -33,8 +33,9 @@ IsOfStep steps.EndArray text rest = text ≡ 93 ∷ []
 IsOfStep steps.BeginObject text rest = text ≡ 123 ∷ []
 IsOfStep steps.EndObject text rest = text ≡ 125 ∷ []
 
--- After what stands before it, the input has this text, which is the longest of its kind there and
--- is this step, and then the rest. A shorter one there goes on with a byte of a number.
+-- `IsNextStep step text bytes rest`: after whitespace and separators, `bytes` has `text`, followed
+-- by `rest`. `text` is of kind `step` and the longest of its kind there. After a shorter one, a
+-- byte of a number follows.
 pub record IsNextStep (step : Step) (text bytes rest : List ℕ) : Type 0 where
   pub lead : List ℕ
   pub start : List ℕ

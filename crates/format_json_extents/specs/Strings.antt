@@ -37,7 +37,7 @@ IsTwoDigits = Then (IsByte IsHexDigit) (IsByte IsHexDigit)
 abbrev pub IsD : ℕ → Type 0
 IsD b = (b ≡ 68) ⊎ (b ≡ 100)
 
--- The first two digits of a unit that is no surrogate: 00 to D7, and E0 to FF.
+-- The first two digits of a unit that is not a surrogate: 00 to D7, and E0 to FF.
 abbrev pub BeginOnly : ℕ → ℕ → Type 0
 BeginOnly a b = IsHexDigit a × IsHexDigit b × (IsD a → b ≤ 55)
 
@@ -56,7 +56,7 @@ BeginUnit units.Only = BeginOnly
 BeginUnit units.High = BeginHigh
 BeginUnit units.Low = BeginLow
 
--- A unit of UTF-16 in four hexadecimal digits, of which the first two are of P.
+-- A unit of UTF-16 in four hexadecimal digits, the first two in `P`.
 abbrev pub IsUnit : (ℕ → ℕ → Type 0) → List ℕ → Type 0
 IsUnit P = Then (AreTwo P) IsTwoDigits
 
@@ -70,15 +70,15 @@ IsPair =
 abbrev pub IsCharacter : List ℕ → Type 0
 IsCharacter = Either (IsUnit BeginOnly) IsPair
 
--- What stands after a backslash: one byte, or u and the digits of a character.
+-- The bytes after a backslash: one byte, or `u` and the digits of a character.
 abbrev pub IsEscape : List ℕ → Type 0
 IsEscape = Either (IsByte IsEscaped) (Then (IsByte IsU) IsCharacter)
 
--- A byte that stands for itself, or a backslash and what it escapes.
+-- An unescaped byte, or a backslash and the bytes that it escapes.
 abbrev pub IsPiece : List ℕ → Type 0
 IsPiece = Either (IsByte IsUnescaped) (Then (IsByte IsBackslash) IsEscape)
 
--- What stands after the first quote: pieces, and the last quote.
+-- The bytes after the first quote: pieces, and the last quote.
 abbrev pub IsStringTail : List ℕ → Type 0
 IsStringTail = Then (Many IsPiece) (IsByte IsQuote)
 

@@ -1,4 +1,4 @@
--- Sets of texts, and where one of their texts stands.
+-- Sets of texts, and whether bytes start with a text in a set.
 use Rattle.std.specs.Prelude.{◌≡◌, ◌<◌, ◌≤◌, ◌⊎◌, ℕ, List, [], ◌∷◌, ◌++◌, length}
 use Rattle.std.specs.List.{All}
 
@@ -17,7 +17,7 @@ pub record AreTwo (P : ℕ → ℕ → Type 0) (text : List ℕ) : Type 0 where
   pub are_bytes : P one two
   pub alone : text ≡ one ∷ two ∷ []
 
--- A text of P, and then one of Q.
+-- A text in `P`, followed by one in `Q`.
 pub record Then (P Q : List ℕ → Type 0) (text : List ℕ) : Type 0 where
   pub first : List ℕ
   pub second : List ℕ
@@ -25,39 +25,39 @@ pub record Then (P Q : List ℕ → Type 0) (text : List ℕ) : Type 0 where
   pub is_second : Q second
   pub joins : text ≡ first ++ second
 
--- A text of P, or one of Q.
+-- A text in `P` or in `Q`.
 abbrev pub Either : (P Q : List ℕ → Type 0) → List ℕ → Type 0
 Either P Q text = P text ⊎ Q text
 
--- A text of P, or nothing.
+-- A text in `P`, or the empty text.
 abbrev pub Maybe : (List ℕ → Type 0) → List ℕ → Type 0
 Maybe P text = (text ≡ []) ⊎ P text
 
--- Texts of P, one after the other, or nothing.
+-- Zero or more consecutive texts in `P`.
 pub data Many (P : List ℕ → Type 0) : List ℕ → Type 0 where
   nothing : (text : List ℕ) → text ≡ [] → Many P text
   one_more : (first others text : List ℕ) → P first → Many P others → text ≡ first ++ others
       → Many P text
 
--- One text of P or several, with commas between them.
+-- One or more texts in `P`, separated by commas.
 pub data List_of (P : List ℕ → Type 0) : List ℕ → Type 0 where
   last : (text : List ℕ) → P text → List_of P text
   before : (first others text : List ℕ) → P first → List_of P others
       → text ≡ first ++ 44 ∷ others → List_of P text
 
--- ---- where they stand
+-- ---- texts at the start of bytes
 
--- The bytes begin with a text of P, and then comes the rest.
+-- `Stands P bytes rest`: `bytes` starts with a text in `P`, followed by `rest`.
 pub record Stands (P : List ℕ → Type 0) (bytes rest : List ℕ) : Type 0 where
   pub text : List ℕ
   pub is : P text
   pub splits : bytes ≡ text ++ rest
 
--- The bytes begin with no text of P.
+-- `NoneStands P bytes`: `bytes` does not start with a text in `P`.
 abbrev pub NoneStands : (List ℕ → Type 0) → List ℕ → Type 0
 NoneStands P bytes = (rest : List ℕ) → Stands P bytes rest → ⊥
 
--- More than the rest is left, and it begins with a byte of S.
+-- `GoesOn S more rest`: `more` is longer than `rest`, and starts with a byte of `S`.
 pub record GoesOn (S : ℕ → Type 0) (more rest : List ℕ) : Type 0 where
   pub byte : ℕ
   pub tail : List ℕ
@@ -65,13 +65,13 @@ pub record GoesOn (S : ℕ → Type 0) (more rest : List ℕ) : Type 0 where
   pub is_byte : S byte
   pub is_more : length rest < length more
 
--- The bytes begin with a text of P and then the rest, and any other text of P with which they begin
--- is shorter, and goes on with a byte of S.
+-- `Leaves P S bytes rest`: `bytes` starts with a text in `P`, followed by `rest`. Any other prefix
+-- in `P` is shorter, and a byte of `S` follows it.
 pub record Leaves (P : List ℕ → Type 0) (S : ℕ → Type 0) (bytes rest : List ℕ) : Type 0 where
   pub stands : Stands P bytes rest
   pub only : (other : List ℕ) → Stands P bytes other → (other ≡ rest) ⊎ GoesOn S other rest
 
--- The first bytes, that many, are of P, and the next one is not.
+-- `EndsAt P bytes count`: the first `count` bytes are in `P`, and the next one is not.
 abbrev pub EndsAt : (P : ℕ → Type 0) (bytes : List ℕ) (count : ℕ) → Type 0
 EndsAt P bytes count =
     (front : List ℕ) × (other : ℕ) × (rest : List ℕ) × (bytes ≡ front ++ other ∷ rest)
@@ -85,7 +85,8 @@ Or S T b = S b ⊎ T b
 abbrev pub Never : ℕ → Type 0
 Never b = ⊥
 
--- The longest text of P with which the bytes begin, and the rest.
+-- `IsLongest P text bytes rest`: `text` is the longest prefix of `bytes` in `P`, and `rest` follows
+-- it.
 pub record IsLongest (P : List ℕ → Type 0) (text bytes rest : List ℕ) : Type 0 where
   pub is : P text
   pub splits : bytes ≡ text ++ rest

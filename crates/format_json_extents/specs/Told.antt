@@ -1,4 +1,4 @@
--- What stands in a text of JSON, from its start to its end, by the grammar of values.
+-- The steps of a JSON text from its start to its end, by the grammar of values.
 use Rattle.std.specs.Prelude.{◌≡◌, ◌⊎◌, ℕ, zero, suc, Bool, true, false, List, [], ◌∷◌, ◌++◌}
 use Rattle.format_json_extents.specs.Number.{IsNumber}
 use Rattle.format_json_extents.specs.Steps.{IsNextStep, IsToken}
@@ -26,7 +26,7 @@ IsScalarOf steps.EndArray text = ⊥
 IsScalarOf steps.BeginObject text = ⊥
 IsScalarOf steps.EndObject text = ⊥
 
--- the step before what an object has in it, or else an array, and the one after it
+-- the step before the contents of an object (`true`) or an array (`false`), and the one after them
 abbrev pub begin_of : Bool → Step
 begin_of true = steps.BeginObject
 begin_of false = steps.BeginArray
@@ -65,12 +65,12 @@ pub record TellsMember (V : Told → List ℕ → Type 0) (told : Told) (text : 
   pub joins : text ≡ before ++ (name ++ (between ++ 58 ∷ element))
   pub in_turn : told ≡ (steps.Name, name) ∷ others
 
--- What an object has in it, or else an array.
+-- A member of an object (`true`), or an element of an array (`false`).
 abbrev pub TellsItem : Bool → (Told → List ℕ → Type 0) → Told → List ℕ → Type 0
 TellsItem true V = TellsMember V
 TellsItem false V = TellsElement V
 
--- One text of P or several, with commas between them: the steps of each in turn.
+-- One or more texts in `P`, separated by commas: the steps of each in sequence.
 pub data TellsList (P : Told → List ℕ → Type 0) : Told → List ℕ → Type 0 where
   tells_last : (told : Told) (text : List ℕ) → P told text → TellsList P told text
   tells_before : (one others told : Told) (first more text : List ℕ) → P one first
@@ -87,27 +87,28 @@ pub record TellsNested (keyed : Bool) (V : Told → List ℕ → Type 0) (told :
   pub in_turn : told ≡ (begin_of keyed, opening keyed ∷ [])
       ∷ (inner ++ (end_of keyed, closing keyed ∷ []) ∷ [])
 
--- A value, of which no more than that many arrays and objects stand in one another.
+-- A value whose arrays and objects are nested at most `level` deep.
 abbrev pub TellsValue : ℕ → Told → List ℕ → Type 0
 TellsValue zero told text = TellsScalar told text
 TellsValue (suc level) told text = TellsScalar told text
     ⊎ (TellsNested false (TellsValue level) told text
     ⊎ TellsNested true (TellsValue level) told text)
 
--- A text of JSON: the steps of its value.
+-- A JSON text: the steps of its value.
 abbrev pub TellsText : ℕ → Told → List ℕ → Type 0
 TellsText level = TellsElement (TellsValue level)
 
 -- ---- calls
 
--- Calls that follow one another, each of what the last one left: what they tell, and what is left.
+-- `InTurn bytes told rest`: successive calls, each on the rest of the one before, return `told` and
+-- end with `rest`.
 unfoldable pub InTurn : List ℕ → Told → List ℕ → Type 0
 InTurn bytes [] rest = bytes ≡ rest
 InTurn bytes (it ∷ told) rest =
     (mid : List ℕ) × IsNextStep it.0 it.1 bytes mid × InTurn mid told rest
 
--- Either all of these steps were found, and white space is all that is left; or those that were
--- found are the first of them, and one more stands in what is left.
+-- `IsTold told found rest`: `found` is all of `told`, and `rest` is whitespace; or `found` is a
+-- proper prefix of `told`, and `rest` has one more step.
 abbrev pub IsTold : Told → Told → List ℕ → Type 0
 IsTold told found rest =
     ((found ≡ told) × IsGap rest)

@@ -5,14 +5,14 @@ use Rattle.format_json_extents.specs.Strings.{IsUnescaped}
 use Rattle.format_json_extents.specs.Texts.{IsByte}
 use Rattle.format_json_texts.specs.Strings.{EscapeText}
 
--- A piece of a string, and the bytes of what it means: a byte that stands for itself, or the UTF-8
--- of the character that an escape is the text of.
+-- `PieceMeans piece bytes`: `piece` is an unescaped byte and `bytes` the same; or it is an escape,
+-- and `bytes` the UTF-8 of its character.
 abbrev pub PieceMeans : List ℕ → List ℕ → Type 0
 PieceMeans piece bytes =
     (IsByte IsUnescaped piece × (bytes ≡ piece))
     ⊎ ((c : ℕ) × EscapeText c piece × (bytes ≡ encode_utf8 c))
 
--- Pieces, one after the other, and the bytes of what they mean.
+-- Consecutive pieces, and the bytes that they denote.
 pub data Means : List ℕ → List ℕ → Type 0 where
   means_nothing : (text bytes : List ℕ) → text ≡ [] → bytes ≡ [] → Means text bytes
   means_more : (piece others one more text bytes : List ℕ) → PieceMeans piece one
@@ -20,8 +20,8 @@ pub data Means : List ℕ → List ℕ → Type 0 where
 
 -- ---- in a buffer
 
--- Where the buffer has room for the bytes at this place, they stand there, and all else is as it
--- was. It has as many bytes as it had.
+-- `IsPut bytes at old new`: `new` is `old` with `bytes` written at offset `at`, if they fit. Its
+-- length is that of `old`.
 abbrev pub IsPut : List ℕ → ℕ → List ℕ → List ℕ → Type 0
 IsPut bytes at old new =
     (length new ≡ length old)
@@ -36,8 +36,8 @@ pub record IsEscapePut (escape : List ℕ) (at end : ℕ) (old new : List ℕ) :
   pub short : length (encode_utf8 char) ≤ length escape
   pub is_put : IsPut (encode_utf8 char) at old new
 
--- The bytes are pieces, a quote and then the rest; what the pieces mean has that many bytes, and
--- stands first in the buffer where it has room for them, and what stood after them still does.
+-- `IsTailWritten count bytes rest old new`: `bytes` has pieces, a quote and then `rest`; the pieces
+-- denote `count` bytes. If these fit, `new` is `old` with them at its start.
 pub record IsTailWritten (count : ℕ) (bytes rest old new : List ℕ) : Type 0 where
   pub text : List ℕ
   pub meant : List ℕ

@@ -48,12 +48,12 @@ abbrev pub IsName : Bool → List ℕ → Type 0
 IsName true = IsKey
 IsName false = Only []
 
--- What an object has in it, or else an array.
+-- A member of an object (`true`), or an element of an array (`false`).
 abbrev pub IsItem : Bool → (List ℕ → Type 0) → List ℕ → Type 0
 IsItem true V = IsMember V
 IsItem false V = IsElement V
 
--- the bracket before what an object has in it, or else an array
+-- the opening bracket of an object (`true`) or of an array (`false`)
 abbrev pub opening : Bool → ℕ
 opening true = 123
 opening false = 91
@@ -75,7 +75,7 @@ IsEmptyTail keyed = Then IsGap (IsByte (IsClosing keyed))
 abbrev pub IsItemsTail : Bool → (List ℕ → Type 0) → List ℕ → Type 0
 IsItemsTail keyed V = Then (List_of (IsItem keyed V)) (IsByte (IsClosing keyed))
 
--- What stands after the opening bracket.
+-- The bytes after the opening bracket.
 abbrev pub IsNestedTail : Bool → (List ℕ → Type 0) → List ℕ → Type 0
 IsNestedTail keyed V = Either (IsEmptyTail keyed) (IsItemsTail keyed V)
 
@@ -85,11 +85,11 @@ IsNested V =
     Either (Then (IsByte (λ b. b ≡ opening false)) (IsNestedTail false V))
     (Then (IsByte (λ b. b ≡ opening true)) (IsNestedTail true V))
 
--- A value, of which no more than that many arrays and objects stand in one another.
+-- A value whose arrays and objects are nested at most `level` deep.
 abbrev pub IsValue : ℕ → List ℕ → Type 0
 IsValue zero text = IsScalar text
 IsValue (suc level) text = Either IsScalar (IsNested (IsValue level)) text
 
--- a text of JSON, where it is UTF-8: a value with white space round it
+-- a JSON text, if it is UTF-8: a value with whitespace around it
 abbrev pub IsText : ℕ → List ℕ → Type 0
 IsText level = IsElement (IsValue level)

@@ -1,4 +1,4 @@
--- What stands in arrays and objects, one after the other.
+-- The values of arrays and objects, in sequence.
 use Rattle.std.specs.Prelude.{⊤, ◌≡◌, ◌⊎◌, ℕ, suc, Bool, true, false, List, [], ◌∷◌, ◌++◌}
 use Rattle.format_json_extents.specs.Number.{IsNumber}
 use Rattle.format_json_extents.specs.Strings.{IsString}
@@ -12,17 +12,16 @@ use Rattle.format_json_extents.specs.declared.walk.Kind.TheVariants as kinds
 abbrev pub IsMark : ℕ → Type 0
 IsMark b = (b ≡ 44) ⊎ (b ≡ 58)
 
--- What stands before a value: white space, and at most one comma or colon, with white space after
--- it.
+-- The bytes before a value: whitespace, and at most one comma or colon followed by whitespace.
 abbrev pub IsLead : List ℕ → Type 0
 IsLead = Then IsGap (Maybe (Then (IsByte IsMark) IsGap))
 
--- A byte with which it may go on after a shorter one.
+-- A byte that can follow a shorter prefix of this kind.
 abbrev pub IsLeadByte : ℕ → Type 0
 IsLeadByte = Or IsSpace (Or IsSpace IsMark)
 
--- After what stands before it, the input has this text, which is the longest value there, and then
--- the rest.
+-- `IsNext level text bytes rest`: after whitespace and at most one separator, `bytes` has `text`,
+-- the longest value there, followed by `rest`.
 pub record IsNext (level : ℕ) (text bytes rest : List ℕ) : Type 0 where
   pub lead : List ℕ
   pub start : List ℕ
@@ -39,7 +38,7 @@ abbrev pub BeginsEnd : List ℕ → Type 0
 BeginsEnd [] = ⊤
 BeginsEnd (b ∷ more) = IsClosingByte b
 
--- After white space stands a closing bracket, or nothing.
+-- After whitespace, a closing bracket or the end follows.
 abbrev pub EndsItems : List ℕ → Type 0
 EndsItems bytes = (rest : List ℕ) × Stands IsGap bytes rest × BeginsEnd rest
 
@@ -49,7 +48,7 @@ IsNestedBy keyed level text =
     (inner : ℕ) × (level ≡ suc inner)
     × Then (IsByte (λ b. b ≡ opening keyed)) (IsNestedTail keyed (IsValue inner)) text
 
--- A value of this kind, of which no more than that many arrays and objects stand in one another.
+-- A value of this kind whose arrays and objects are nested at most `level` deep.
 abbrev pub IsOfKind : ℕ → Kind → List ℕ → Type 0
 IsOfKind level kinds.Null text = Only (110 ∷ 117 ∷ 108 ∷ 108 ∷ []) text
 IsOfKind level kinds.False text = Only (102 ∷ 97 ∷ 108 ∷ 115 ∷ 101 ∷ []) text

@@ -3,10 +3,10 @@
 ghost use Rattle.format_json_extents.specs.Integer.{IsInteger, IsNatural};
 ghost use Rattle.format_json_extents.specs.Number.{IsNumber};
 
-/// The integer that a number is written as, where it fits 64 bits with a sign. None where it does
-/// not, and where the number has a point or an exponent, as `1.0` and `1e2` have; of `-0` it is 0.
-/// So it is what `as_i64` of a value of `format_json_texts` returns. What is returned of bytes that
-/// are no number of JSON is not told.
+/// Returns the integer that a JSON number is written as, if it fits 64 bits with a sign. Returns
+/// `None` if it does not fit, or if the number has a decimal point or an exponent, as `1.0` and
+/// `1e2` have. `-0` is 0. The result is that of `as_i64` on a value of `format_json_texts`. It is
+/// unspecified if the bytes are not a JSON number.
 ///
 /// ```
 /// use format_json_extents::integer::as_i64;
@@ -24,7 +24,8 @@ pub fn as_i64(number: &[u8]) -> Option<i64>
     }
 }
 
-/// As [`as_i64`], of 64 bits without a sign: a number with a minus has none, `-0` neither.
+/// Like [`as_i64`], for 64 bits without a sign: returns `None` for a number with a minus sign,
+/// including `-0`.
 ///
 /// ```
 /// use format_json_extents::integer::as_u64;

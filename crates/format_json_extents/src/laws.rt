@@ -12,13 +12,12 @@ ghost use Rattle.winnow.specs.Accumulator.Holds.{HasCharacters};
 
 use std::alloc::Allocator;
 
-/// Bytes that are UTF-8 are a value of this crate exactly where their characters are the text of
-/// one by RFC 8259, as `format_json_texts` has it; both have no more than that many arrays and
-/// objects in one another. So what is found is what `format_json_values` and `format_json_pieces`
-/// read.
+/// UTF-8 bytes are a value of this crate if and only if their characters encode one by RFC 8259, as
+/// defined in `format_json_texts`, with the same limit of nesting. So the values that are found are
+/// those that `format_json_values` and `format_json_pieces` parse.
 ///
-/// A value of a text is made by some allocator, and its strings and lists have fewer than 2⁶³
-/// bytes or items, as a slice has.
+/// An allocator makes the value, and its strings and lists have fewer than 2⁶³ bytes or items, as a
+/// slice has.
 ///
 /// ```
 /// use format_json_extents::laws::values_are_those_of_the_standard;
@@ -33,7 +32,7 @@ pub fn values_are_those_of_the_standard<A: Allocator>()
         → IsValue level bytes ↔ ((v : Value A) × ValueText HasCharacters level v (chars bytes)) }
 {}
 
-/// As [`values_are_those_of_the_standard`], of texts of JSON: a value with white space round it.
+/// Like [`values_are_those_of_the_standard`], for JSON texts: a value with whitespace around it.
 ///
 /// ```
 /// use format_json_extents::laws::texts_are_those_of_the_standard;
@@ -48,11 +47,10 @@ pub fn texts_are_those_of_the_standard<A: Allocator>()
         → IsText level bytes ↔ ((v : Value A) × JsonText HasCharacters level v (chars bytes)) }
 {}
 
-/// The steps of a text of JSON, by the grammar of values, are those that calls of
-/// [`crate::steps::read_step`] tell that follow one another from its start on, each of what the
-/// last one left. There is a list of them (`TellsText`), and whatever calls in turn told is its
-/// beginning: all of it exactly where white space is all that is left, and else one more step
-/// stands there, so that the next call tells it.
+/// The steps of a JSON text, by the grammar of values, are those that successive calls of
+/// [`crate::steps::read_step`] return from its start. There is a list of them (`TellsText`), and
+/// the steps of any successive calls are a prefix of it. They are the whole list if and only if
+/// only whitespace remains. Otherwise one more step follows, which the next call returns.
 ///
 /// ```
 /// use format_json_extents::laws::steps_in_turn_are_those_of_the_text;

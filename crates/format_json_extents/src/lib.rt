@@ -1,17 +1,16 @@
-//! Texts of JSON (RFC 8259) as bytes: where a value ends, found with no memory.
+//! The extents of JSON texts (RFC 8259) in bytes: finds where a value ends, without allocating.
 //!
-//! Of bytes that are UTF-8 the values and texts are those of `format_json_texts`, which
-//! `format_json_values` and `format_json_pieces` read: the functions in [`laws`] say so.
+//! In UTF-8 bytes the values and texts are those of `format_json_texts`, which `format_json_values`
+//! and `format_json_pieces` parse: see the functions in [`laws`].
 //!
-//! Where this differs from the standard, or chooses what it leaves open:
+//! Differences from the standard, and choices where it leaves room:
 //!
-//! - A value is found to a level, which the caller gives: no more than that many arrays and objects
-//!   stand in one another (section 9).
-//! - Bytes of 128 and above are not looked at: that the bytes are UTF-8 is for the caller to know
-//!   (section 8.1).
-//! - Strings stay as they are written. What has a surrogate that is escaped alone is no string,
-//!   since no character is meant by it, though the grammar of the standard has it (section 8.2).
-//! - Members of an object may have one name (section 4).
+//! - The caller gives the maximum nesting depth of arrays and objects (section 9).
+//! - Bytes of 128 and above are not examined: the caller is responsible for valid UTF-8 (section
+//!   8.1).
+//! - Strings keep their escapes. A string with an unpaired escaped surrogate is rejected, since it
+//!   denotes no character, although the grammar of the standard accepts it (section 8.2).
+//! - Members of an object may have the same name (section 4).
 #![tactic(auto)]
 
 pub mod decimal;

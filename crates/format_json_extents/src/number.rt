@@ -10,7 +10,7 @@ ghost use Rattle.format_json_extents.specs.Texts.{NoneStands, Or};
 
 use crate::tokens::{behind, behind_digits};
 
-/// What stands after one digit or several.
+/// Skips one or more digits.
 #[inline(always)]
 fn behind_some_digits<'i>(bytes: &'i [u8]) -> Option<&'i [u8]>
     ensures { MatchOption result (NoneStands IsDigits bytes.now)
@@ -24,7 +24,7 @@ fn behind_some_digits<'i>(bytes: &'i [u8]) -> Option<&'i [u8]>
     }
 }
 
-/// What stands after a minus, if one stands first.
+/// Skips a minus sign, if there is one.
 #[inline(always)]
 fn behind_minus<'i>(bytes: &'i [u8]) -> &'i [u8]
     ensures { Leaves (Maybe (IsByte IsMinus)) (Or Never IsMinus) bytes.now result.now }
@@ -35,7 +35,7 @@ fn behind_minus<'i>(bytes: &'i [u8]) -> &'i [u8]
     }
 }
 
-/// What stands after a sign, if one stands first.
+/// Skips a sign, if there is one.
 #[inline(always)]
 fn behind_sign<'i>(bytes: &'i [u8]) -> &'i [u8]
     ensures { Leaves (Maybe (IsByte IsSign)) (Or Never IsSign) bytes.now result.now }
@@ -52,7 +52,7 @@ fn behind_sign<'i>(bytes: &'i [u8]) -> &'i [u8]
     }
 }
 
-/// What stands after the whole part of a number.
+/// Skips the integer part of a number.
 #[inline(always)]
 fn behind_whole<'i>(bytes: &'i [u8]) -> Option<&'i [u8]>
     ensures { MatchOption result (NoneStands IsWhole bytes.now)
@@ -69,7 +69,7 @@ fn behind_whole<'i>(bytes: &'i [u8]) -> Option<&'i [u8]>
     }
 }
 
-/// What stands after a point and digits.
+/// Skips a decimal point and digits.
 #[inline(always)]
 fn behind_fraction<'i>(bytes: &'i [u8]) -> Option<&'i [u8]>
     ensures { MatchOption result (NoneStands IsFraction bytes.now)
@@ -79,7 +79,7 @@ fn behind_fraction<'i>(bytes: &'i [u8]) -> Option<&'i [u8]>
     behind_some_digits(digits)
 }
 
-/// What stands after an exponent.
+/// Skips an exponent.
 #[inline(always)]
 fn behind_exponent<'i>(bytes: &'i [u8]) -> Option<&'i [u8]>
     ensures { MatchOption result (NoneStands IsExponent bytes.now)
@@ -93,7 +93,7 @@ fn behind_exponent<'i>(bytes: &'i [u8]) -> Option<&'i [u8]>
     }
 }
 
-/// What stands after a fraction, if one stands first.
+/// Skips a fraction, if there is one.
 #[inline(always)]
 fn behind_any_fraction<'i>(bytes: &'i [u8]) -> &'i [u8]
     ensures { Leaves (Maybe IsFraction) (Or IsDigit IsPoint) bytes.now result.now }
@@ -104,7 +104,7 @@ fn behind_any_fraction<'i>(bytes: &'i [u8]) -> &'i [u8]
     }
 }
 
-/// What stands after an exponent, if one stands first.
+/// Skips an exponent, if there is one.
 #[inline(always)]
 fn behind_any_exponent<'i>(bytes: &'i [u8]) -> &'i [u8]
     ensures { Leaves (Maybe IsExponent) (Or IsDigit IsE) bytes.now result.now }
@@ -115,7 +115,7 @@ fn behind_any_exponent<'i>(bytes: &'i [u8]) -> &'i [u8]
     }
 }
 
-/// What stands after the longest number.
+/// Skips the longest number, and returns the remaining bytes.
 #[inline(always)]
 pub fn behind_number<'i>(bytes: &'i [u8]) -> Option<&'i [u8]>
     ensures { MatchOption result (NoneStands IsNumber bytes.now)
@@ -125,10 +125,10 @@ pub fn behind_number<'i>(bytes: &'i [u8]) -> Option<&'i [u8]>
     Some(behind_any_exponent(behind_any_fraction(rest)))
 }
 
-/// The longest number that the bytes begin with, which may be a shorter one than the writer meant:
-/// of `1.x` it is `1`, and of `01` it is `0`. The input then stands after it.
+/// Returns the longest number that the input starts with, and consumes it. It may be shorter than
+/// the writer meant: it is `1` for `1.x`, and `0` for `01`.
 ///
-/// `None` exactly where they begin with no number; then nothing is read.
+/// Returns `None` if and only if the input does not start with a number; then no input is consumed.
 ///
 /// ```
 /// use format_json_extents::number::read_number;

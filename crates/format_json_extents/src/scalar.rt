@@ -8,7 +8,7 @@ ghost use Rattle.format_json_extents.specs.Value.{IsScalar, IsWord, Only};
 use crate::number::behind_number;
 use crate::string::behind_string_tail;
 
-/// What stands after this word.
+/// Skips `word`.
 fn behind_this<'i>(word: &[u8], bytes: &'i [u8]) -> Option<&'i [u8]>
     ensures { MatchOption result (NoneStands (Only word.now) bytes.now)
         (λ rest. Leaves (Only word.now) Never bytes.now rest.now) }
@@ -16,7 +16,7 @@ fn behind_this<'i>(word: &[u8], bytes: &'i [u8]) -> Option<&'i [u8]>
     bytes.strip_prefix(word)
 }
 
-/// What stands after one of the words null, true and false.
+/// Skips `null`, `true` or `false`.
 fn behind_word<'i>(bytes: &'i [u8]) -> Option<&'i [u8]>
     ensures { MatchOption result (NoneStands IsWord bytes.now)
         (λ rest. Leaves IsWord Never bytes.now rest.now) }
@@ -30,7 +30,7 @@ fn behind_word<'i>(bytes: &'i [u8]) -> Option<&'i [u8]>
     }
 }
 
-/// What stands after a value that has no others in it.
+/// Skips a value that is not an array or an object, and returns the remaining bytes.
 #[inline(always)]
 pub fn behind_scalar<'i>(bytes: &'i [u8]) -> Option<&'i [u8]>
     ensures { MatchOption result (NoneStands IsScalar bytes.now)

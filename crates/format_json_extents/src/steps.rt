@@ -1,5 +1,5 @@
-//! What stands in a text of JSON from its start to its end, one after the other: brackets, names,
-//! and the values that have no others in them. So each byte is read once, however deep it stands.
+//! The parts of a JSON text from its start to its end: brackets, names, and values that are not
+//! arrays or objects. So each byte is read once, however deeply it is nested.
 
 ghost use Rattle.std.specs.Prelude.{◌≡◌, ◌↔◌, List, ℕ, IfNone, IfSome, IsTrue, MatchOption};
 ghost use Rattle.format_json_extents.specs.Number.{IsNumberByte};
@@ -14,7 +14,7 @@ use crate::scalar::behind_scalar;
 use crate::tokens::{behind, behind_gap};
 use crate::walk::behind_lead;
 
-/// What stands next in a text.
+/// The kind of the next part of a text.
 #[derive(Clone, Copy, Debug, PartialEq, Eq)]
 pub enum Step {
     /// The word null.
@@ -27,13 +27,13 @@ pub enum Step {
     Number,
     /// A string that is a value.
     String,
-    /// A string that is the name of a member: a colon stands after it.
+    /// A string that is the name of a member: a colon follows it.
     Name,
-    /// The bracket before what an array has in it.
+    /// The opening bracket of an array.
     BeginArray,
     /// The bracket after it.
     EndArray,
-    /// The bracket before what an object has in it.
+    /// The opening bracket of an object.
     BeginObject,
     /// The bracket after it.
     EndObject,
@@ -47,7 +47,7 @@ fn is_bracket(byte: u8) -> bool
     (byte == b'[' || byte == b'{') || (byte == b']' || byte == b'}')
 }
 
-/// What stands after a bracket, or after a value that has no others in it.
+/// Skips a bracket, or a value that is not an array or an object.
 #[inline(always)]
 fn behind_token<'i>(bytes: &'i [u8]) -> Option<&'i [u8]>
     ensures { MatchOption result (NoneStands IsToken bytes.now)
@@ -61,7 +61,7 @@ fn behind_token<'i>(bytes: &'i [u8]) -> Option<&'i [u8]>
     }
 }
 
-/// Whether a colon stands after white space.
+/// Returns whether the bytes start with whitespace and a colon.
 #[inline(always)]
 fn is_before_colon(bytes: &[u8]) -> bool
     ensures { IsTrue result ↔ IsBeforeColon bytes.now }
@@ -102,14 +102,13 @@ fn of_text(text: &[u8], rest: &[u8]) -> Step
     }
 }
 
-/// The next step, with its text: what stands after white space, a comma or a colon at most, and
-/// white space. The input then stands after it. So a text that [`crate::value::is_text`] accepts
-/// is read from its start to its end, each byte once; how many brackets are open is for the caller
-/// to count. Of bytes that were not checked as a text more is read than JSON allows, as a comma
-/// before the first value.
+/// Returns the next step and its text: skips whitespace, at most one comma or colon, and
+/// whitespace, and consumes the step. So a text that [`crate::value::is_text`] accepts is read from
+/// its start to its end, each byte once. The caller counts the open brackets. In bytes that were
+/// not checked, more than JSON is accepted, for instance a comma before the first value.
 ///
-/// `None` exactly where no bracket and no value stands there; then nothing is read. At the end of a
-/// text [`is_over`] holds.
+/// Returns `None` if and only if no bracket and no value follows; then no input is consumed. At the
+/// end of a text [`is_over`] is true.
 ///
 /// ```
 /// use format_json_extents::steps::{Step, is_over, read_step};
@@ -138,7 +137,7 @@ pub fn read_step<'i>(input: &mut &'i [u8]) -> Option<(Step, &'i [u8])>
     Some((of_text(text, rest), text))
 }
 
-/// Whether white space is all that is left.
+/// Returns whether only whitespace remains.
 ///
 /// ```
 /// use format_json_extents::steps::is_over;

@@ -17,7 +17,7 @@ fn is_hex_digit(byte: u8) -> bool
         || (byte >= b'a' && byte <= b'f')
 }
 
-/// Whether a byte stands after a backslash by itself.
+/// Returns whether a byte may follow a backslash by itself.
 fn is_escaped(byte: u8) -> bool
     ensures { IsTrue result ↔ IsEscaped byte }
 {
@@ -58,7 +58,7 @@ fn begins(unit: Unit, first: u8, second: u8) -> bool
     }
 }
 
-/// What stands after a hexadecimal digit.
+/// Skips a hexadecimal digit.
 fn behind_digit<'i>(bytes: &'i [u8]) -> Option<&'i [u8]>
     ensures { MatchOption result (NoneStands (IsByte IsHexDigit) bytes.now)
         (λ rest. Leaves (IsByte IsHexDigit) Never bytes.now rest.now) }
@@ -71,7 +71,7 @@ fn behind_digit<'i>(bytes: &'i [u8]) -> Option<&'i [u8]>
     }
 }
 
-/// What stands after two hexadecimal digits.
+/// Skips two hexadecimal digits.
 fn behind_two_digits<'i>(bytes: &'i [u8]) -> Option<&'i [u8]>
     ensures { MatchOption result (NoneStands IsTwoDigits bytes.now)
         (λ rest. Leaves IsTwoDigits Never bytes.now rest.now) }
@@ -80,7 +80,7 @@ fn behind_two_digits<'i>(bytes: &'i [u8]) -> Option<&'i [u8]>
     behind_digit(one)
 }
 
-/// What stands after the four digits of such a unit.
+/// Skips the four digits of a unit of this kind.
 fn behind_unit<'i>(unit: Unit, bytes: &'i [u8]) -> Option<&'i [u8]>
     ensures { MatchOption result (NoneStands (IsUnit (BeginUnit unit)) bytes.now)
         (λ rest. Leaves (IsUnit (BeginUnit unit)) Never bytes.now rest.now) }
@@ -94,7 +94,7 @@ fn behind_unit<'i>(unit: Unit, bytes: &'i [u8]) -> Option<&'i [u8]>
     }
 }
 
-/// What stands after a high surrogate and the low one that is escaped after it.
+/// Skips the digits of a high surrogate, and the escaped low surrogate after them.
 fn behind_pair<'i>(bytes: &'i [u8]) -> Option<&'i [u8]>
     ensures { MatchOption result (NoneStands IsPair bytes.now)
         (λ rest. Leaves IsPair Never bytes.now rest.now) }
@@ -105,7 +105,7 @@ fn behind_pair<'i>(bytes: &'i [u8]) -> Option<&'i [u8]>
     behind_unit(Unit::Low, low)
 }
 
-/// What stands after the digits of a character: those of one unit, or of a pair.
+/// Skips the digits of a character: those of one unit, or of a pair.
 fn behind_character<'i>(bytes: &'i [u8]) -> Option<&'i [u8]>
     ensures { MatchOption result (NoneStands IsCharacter bytes.now)
         (λ rest. Leaves IsCharacter Never bytes.now rest.now) }
@@ -116,7 +116,7 @@ fn behind_character<'i>(bytes: &'i [u8]) -> Option<&'i [u8]>
     }
 }
 
-/// What stands after that which a backslash escapes.
+/// Skips the bytes that a backslash escapes.
 pub(crate) fn behind_escape<'i>(bytes: &'i [u8]) -> Option<&'i [u8]>
     ensures { MatchOption result (NoneStands IsEscape bytes.now)
         (λ rest. Leaves IsEscape Never bytes.now rest.now) }
@@ -150,7 +150,7 @@ fn behind_pieces<'i>(bytes: &'i [u8]) -> Option<&'i [u8]>
     }
 }
 
-/// What stands after the last quote of a string, from after its first.
+/// Skips a string from after its first quote, and returns the remaining bytes.
 #[inline(always)]
 pub fn behind_string_tail<'i>(bytes: &'i [u8]) -> Option<&'i [u8]>
     ensures { MatchOption result (NoneStands IsStringTail bytes.now)
@@ -163,7 +163,7 @@ pub fn behind_string_tail<'i>(bytes: &'i [u8]) -> Option<&'i [u8]>
     }
 }
 
-/// What stands after a string.
+/// Skips a string, and returns the remaining bytes.
 #[inline(always)]
 pub fn behind_string<'i>(bytes: &'i [u8]) -> Option<&'i [u8]>
     ensures { MatchOption result (NoneStands IsString bytes.now)
@@ -173,16 +173,16 @@ pub fn behind_string<'i>(bytes: &'i [u8]) -> Option<&'i [u8]>
     behind_string_tail(inside)
 }
 
-/// The text between the quotes of the string that the bytes begin with, with its escapes as they
-/// stand. The input then stands after the last quote.
+/// Returns the contents of the string that the input starts with, without undoing escapes, and
+/// consumes the string.
 ///
-/// Between quotes stand bytes of 32 and above but for quote and backslash, and a backslash with one
-/// of `"`, `\`, `/`, `b`, `f`, `n`, `r`, `t`, or with `u` and four hexadecimal digits. A surrogate
-/// is taken only in a pair, a high one and then `\u` and a low one, as in `\ud83d\ude00`: alone
-/// neither means a character. Bytes of 128 and above are not looked at: they are UTF-8 where the
-/// whole text is.
+/// The contents are bytes of 32 and above except quote and backslash, and escapes. An escape is a
+/// backslash followed by one of `"`, `\`, `/`, `b`, `f`, `n`, `r`, `t`, or by `u` and four
+/// hexadecimal digits. A surrogate is accepted only in a pair, a high one and then `\u` and a low
+/// one, as in `\ud83d\ude00`: an unpaired one denotes no character. Bytes of 128 and above are not
+/// examined: they are UTF-8 if the whole text is.
 ///
-/// `None` exactly where the bytes begin with no string; then nothing is read.
+/// Returns `None` if and only if the input does not start with a string; then no input is consumed.
 ///
 /// ```
 /// use format_json_extents::string::read_string;

@@ -38,7 +38,7 @@ fn is_unescaped(byte: u8) -> bool
     byte >= 32 && byte != b'"' && byte != b'\\'
 }
 
-/// What stands after all digits.
+/// Skips all digits, and returns the remaining bytes.
 #[inline(always)]
 pub fn behind_digits<'i>(bytes: &'i [u8]) -> &'i [u8]
     ensures { Leaves (All IsDigit) IsDigit bytes.now result.now }
@@ -58,7 +58,7 @@ pub fn behind_digits<'i>(bytes: &'i [u8]) -> &'i [u8]
     }
 }
 
-/// What stands after all white space.
+/// Skips all whitespace, and returns the remaining bytes.
 #[inline(always)]
 pub fn behind_gap<'i>(bytes: &'i [u8]) -> &'i [u8]
     ensures { Leaves (All IsSpace) IsSpace bytes.now result.now }
@@ -93,7 +93,7 @@ fn behind_more_space<'i>(bytes: &'i [u8]) -> &'i [u8]
     }
 }
 
-/// What stands after that many bytes.
+/// Skips `count` bytes.
 #[inline(always)]
 fn behind_many<'i>(count: usize, bytes: &'i [u8]) -> &'i [u8]
     requires { count ≤ length bytes.now }
@@ -102,8 +102,8 @@ fn behind_many<'i>(count: usize, bytes: &'i [u8]) -> &'i [u8]
     &bytes[count..]
 }
 
-/// How many lanes stand before the first that does not stand for itself in a string; none where
-/// all do.
+/// Returns the number of lanes before the first that is not an unescaped byte of a string, or
+/// `None` if all are.
 #[inline(always)]
 fn unescaped_first(lanes: u8x16) -> Option<usize>
     ensures { MatchOption result (All IsUnescaped lanes)
@@ -120,7 +120,7 @@ fn unescaped_first(lanes: u8x16) -> Option<usize>
     Some(others.trailing_zeros() as usize)
 }
 
-/// How many lanes stand before the first that is no white space; none where all are.
+/// Returns the number of lanes before the first that is not whitespace, or `None` if all are.
 #[inline(always)]
 fn space_first(lanes: u8x16) -> Option<usize>
     ensures { MatchOption result (All IsSpace lanes)
@@ -164,7 +164,7 @@ fn behind_long_gap<'i>(bytes: &'i [u8]) -> &'i [u8]
     }
 }
 
-/// What stands after all bytes that stand for themselves in a string.
+/// Skips all bytes that need no escape in a string, and returns the remaining bytes.
 #[inline(always)]
 pub fn behind_unescaped<'i>(bytes: &'i [u8]) -> &'i [u8]
     ensures { Leaves (All IsUnescaped) IsUnescaped bytes.now result.now }
@@ -204,7 +204,7 @@ fn behind_more_unescaped<'i>(bytes: &'i [u8]) -> &'i [u8]
     }
 }
 
-/// What stands after a byte.
+/// Skips `byte`, and returns the remaining bytes.
 #[inline(always)]
 pub fn behind<'i>(byte: u8, bytes: &'i [u8]) -> Option<&'i [u8]>
     ensures { MatchOption result ((more : List ℕ) → bytes.now ≡ byte ∷ more → ⊥)

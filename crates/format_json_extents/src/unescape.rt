@@ -58,7 +58,7 @@ fn unit_of(first: u8, second: u8, third: u8, fourth: u8) -> u32
     first * 4096 + second * 256 + third * 16 + fourth
 }
 
-/// The character of a number that is no surrogate.
+/// Returns the character of a number that is not a surrogate.
 fn scalar(number: u32) -> char
     requires { IsScalar number }
     ensures { result ≡ number }
@@ -87,7 +87,7 @@ fn character(escape: &[u8]) -> char
     }
 }
 
-/// Writes bytes at a place of the buffer, where it has room for them.
+/// Writes bytes at offset `at` of the buffer, if they fit.
 #[inline(always)]
 fn put(bytes: &[u8], at: usize, buffer: &mut [u8])
     ensures { IsPut bytes.now at buffer.old buffer.new }
@@ -99,8 +99,8 @@ fn put(bytes: &[u8], at: usize, buffer: &mut [u8])
     }
 }
 
-/// Writes the character of an escape at a place of the buffer, where it has room for it: the place
-/// after it.
+/// Writes the character of an escape at offset `at` of the buffer, if it fits, and returns the
+/// offset after it.
 #[inline(never)]
 fn put_escape(escape: &[u8], at: usize, buffer: &mut [u8]) -> usize
     requires escape { IsEscape escape.now }
@@ -113,8 +113,8 @@ fn put_escape(escape: &[u8], at: usize, buffer: &mut [u8]) -> usize
     at + text.len()
 }
 
-/// Writes the text of a string, from after its first quote: how many bytes it has, and what stands
-/// after the last quote.
+/// Writes the contents of a string from after its first quote; returns their length in bytes, and
+/// the bytes after the last quote.
 fn write_tail<'i>(bytes: &'i [u8], buffer: &mut [u8]) -> Option<(usize, &'i [u8])>
     ensures { MatchOption result (NoneStands IsStringTail bytes.now)
         (λ r. IsTailWritten r.0 bytes.now r.1.now buffer.old buffer.new) }
@@ -137,18 +137,19 @@ fn write_tail<'i>(bytes: &'i [u8], buffer: &mut [u8]) -> Option<(usize, &'i [u8]
     }
 }
 
-/// Writes the text of the string that the bytes begin with into the buffer, its escapes undone and
-/// without its quotes, and tells how many bytes it has. The input then stands after the last quote.
-/// Where the text has more bytes than the buffer, it is not written as a whole, and what the buffer
-/// then holds is not told.
+/// Writes the contents of the string that the input starts with into the buffer, without quotes and
+/// with escapes undone. Returns their length in bytes, and consumes the string. If the contents are
+/// longer than the buffer, they are not written completely, and the contents of the buffer are
+/// unspecified.
 ///
-/// `\b`, `\f`, `\n`, `\r`, `\t` stand for a backspace, a form feed, a line feed, a carriage return
-/// and a tab, `\"`, `\\` and `\/` for what stands after the backslash, and `\u` and four digits for
-/// the UTF-8 of a character, of which two surrogates are one. So where a text has as many bytes as
-/// there are between the quotes, it has no escape. Bytes of 128 and above stand for themselves.
+/// `\b`, `\f`, `\n`, `\r`, `\t` denote a backspace, a form feed, a line feed, a carriage return and
+/// a tab; `\"`, `\\` and `\/` denote the character after the backslash. `\u` and four digits denote
+/// the UTF-8 of a character; two surrogates denote one. So if the result equals the number of bytes
+/// between the quotes, there are no escapes. Bytes of 128 and above denote themselves.
 ///
-/// `None` exactly where the bytes begin with no string, as [`crate::string::read_string`] says it;
-/// then nothing is read, and what the buffer holds is not told.
+/// Returns `None` if and only if the input does not start with a string, as in
+/// [`crate::string::read_string`]. Then no input is consumed, and the contents of the buffer are
+/// unspecified.
 ///
 /// ```
 /// use format_json_extents::unescape::write_string;

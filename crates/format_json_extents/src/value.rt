@@ -1,4 +1,4 @@
-//! Values of JSON and what stands in them, as they stand in a text (RFC 8259, sections 2 to 5).
+//! Values of JSON and their contents, as they are written in a text (RFC 8259, sections 2 to 5).
 
 ghost use Rattle.std.specs.Prelude.{◌≡◌, ◌≤◌, ◌↔◌, ◌∷◌, ◌++◌, Bool, List, ℕ, IfNone, IfSome};
 ghost use Rattle.std.specs.Prelude.{IsTrue, MatchOption, length};
@@ -14,7 +14,7 @@ use crate::scalar::behind_scalar;
 use crate::string::behind_string;
 use crate::tokens::{behind, behind_gap};
 
-/// What stands after an opening bracket, and whether names stand after it.
+/// Skips an opening bracket, and returns whether names follow it.
 #[inline(always)]
 fn behind_opening<'i>(bytes: &'i [u8]) -> Option<(bool, &'i [u8])>
     ensures { MatchOption result
@@ -29,7 +29,7 @@ fn behind_opening<'i>(bytes: &'i [u8]) -> Option<(bool, &'i [u8])>
     }
 }
 
-/// What stands after the closing bracket.
+/// Skips the closing bracket.
 #[inline(always)]
 fn behind_closing<'i>(keyed: bool, bytes: &'i [u8]) -> Option<&'i [u8]>
     ensures { MatchOption result ((more : List ℕ) → bytes.now ≡ closing keyed ∷ more → ⊥)
@@ -42,7 +42,7 @@ fn behind_closing<'i>(keyed: bool, bytes: &'i [u8]) -> Option<&'i [u8]>
     }
 }
 
-/// What stands after the closing bracket of what has nothing in it.
+/// Skips the closing bracket of an empty array or object.
 #[inline(always)]
 fn behind_empty<'i>(keyed: bool, bytes: &'i [u8]) -> Option<&'i [u8]>
     ensures { MatchOption result (NoneStands (IsEmptyTail keyed) bytes.now)
@@ -51,7 +51,7 @@ fn behind_empty<'i>(keyed: bool, bytes: &'i [u8]) -> Option<&'i [u8]>
     behind_closing(keyed, behind_gap(bytes))
 }
 
-/// What stands after a name and its colon, where names stand.
+/// Skips a name and its colon in an object, and nothing in an array.
 #[inline(always)]
 fn behind_name<'i>(keyed: bool, bytes: &'i [u8]) -> Option<&'i [u8]>
     ensures { MatchOption result (NoneStands (IsName keyed) bytes.now)
@@ -65,7 +65,7 @@ fn behind_name<'i>(keyed: bool, bytes: &'i [u8]) -> Option<&'i [u8]>
     }
 }
 
-/// What stands after the closing bracket, from before the first item.
+/// Skips the items and the closing bracket, from before the first item.
 #[cycle(nesting)]
 #[inline(never)]
 fn behind_items<'i>(keyed: bool, level: usize, bytes: &'i [u8]) -> Option<&'i [u8]>
@@ -84,7 +84,7 @@ fn behind_items<'i>(keyed: bool, level: usize, bytes: &'i [u8]) -> Option<&'i [u
     }
 }
 
-/// What stands after the longest value.
+/// Skips the longest value.
 #[cycle(nesting)]
 #[inline(always)]
 fn behind_value<'i>(level: usize, bytes: &'i [u8]) -> Option<&'i [u8]>
@@ -105,16 +105,17 @@ fn behind_value<'i>(level: usize, bytes: &'i [u8]) -> Option<&'i [u8]>
     }
 }
 
-/// The longest value that the bytes begin with in which no more than `level` arrays and objects
-/// stand in one another: at level 0 there are none, and `[1, {}]` has two levels. The input then
-/// stands after the value. White space before it is not passed.
+/// Returns the longest value that the input starts with whose arrays and objects are nested at most
+/// `level` deep, and consumes it. At level 0 there are no arrays and objects; `[1, {}]` has two
+/// levels. Whitespace before the value is not skipped.
 ///
-/// A number may be a shorter one than the writer meant, as `read_number` says. Each level takes
-/// frames of the stack, so `level` is to be no more than there is a stack for. Bytes of 128 and
-/// above are not looked at: what is found is JSON where it is UTF-8, and then a value as
-/// `format_json_values` reads it (clauses `standard` and `longest`).
+/// A number may be shorter than the writer meant, as in `read_number`. Each level uses frames of
+/// the stack, so `level` must not exceed what the stack has room for. Bytes of 128 and above are
+/// not examined: the result is JSON if it is UTF-8, and then a value as `format_json_values` parses
+/// it (clauses `standard` and `longest`).
 ///
-/// `None` exactly where the bytes begin with no such value; then nothing is read.
+/// Returns `None` if and only if the input does not start with such a value; then no input is
+/// consumed.
 ///
 /// ```
 /// use format_json_extents::value::read_value;
@@ -140,11 +141,11 @@ pub fn read_value<'i>(level: usize, input: &mut &'i [u8]) -> Option<&'i [u8]>
     Some(&start[..start.len() - rest.len()])
 }
 
-/// Whether the bytes are a text of JSON, a value with white space round it, in which no more than
-/// `level` arrays and objects stand in one another. `level` is as [`read_value`] has it. Bytes of
-/// 128 and above are not looked at: these bytes are JSON where they are UTF-8, and so exactly where
-/// `format_json_values::value::parse_value` answers their value, or memory is refused (clause
-/// `standard`).
+/// Returns whether the bytes are a JSON text, a value with whitespace around it, whose arrays and
+/// objects are nested at most `level` deep. See [`read_value`] for `level`. Bytes of 128 and above
+/// are not examined: the bytes are JSON if they are UTF-8. Then the result is true if and only if
+/// `format_json_values::value::parse_value` returns their value, unless an allocation fails there
+/// (clause `standard`).
 ///
 /// ```
 /// use format_json_extents::value::is_text;

@@ -1,4 +1,4 @@
-//! The values that stand in arrays and objects of JSON, one after the other.
+//! The values in arrays and objects of JSON, in sequence.
 
 ghost use Rattle.std.specs.Prelude.{◌≡◌, ◌↔◌, ◌∷◌, List, ℕ, IfNone, IfSome, IsTrue};
 ghost use Rattle.format_json_extents.specs.Texts.{Leaves, NoneStands, Then};
@@ -10,7 +10,7 @@ ghost use Rattle.format_json_extents.specs.Walk.{IsNext, IsOfKind};
 use crate::tokens::behind_gap;
 use crate::value::read_value;
 
-/// What a value is.
+/// The kind of a value.
 #[derive(Clone, Copy, Debug, PartialEq, Eq)]
 pub enum Kind {
     /// The word null.
@@ -29,7 +29,7 @@ pub enum Kind {
     Object,
 }
 
-/// What a value is, by its first byte.
+/// Returns the kind of a value, by its first byte.
 ///
 /// ```
 /// use format_json_extents::walk::{Kind, kind_of};
@@ -65,7 +65,7 @@ fn is_closing(byte: u8) -> bool
     byte == b']' || byte == b'}'
 }
 
-/// What stands after white space, a comma or a colon at most, and the white space after that.
+/// Skips whitespace, at most one comma or colon, and whitespace; returns the remaining bytes.
 #[inline(always)]
 pub fn behind_lead<'i>(bytes: &'i [u8]) -> &'i [u8]
     ensures { Leaves IsLead IsLeadByte bytes.now result.now }
@@ -83,12 +83,12 @@ pub fn behind_lead<'i>(bytes: &'i [u8]) -> &'i [u8]
     }
 }
 
-/// The next value: the longest that stands after white space, a comma or a colon at most, and
-/// white space, in which no more than `level` arrays and objects stand in one another. The input
-/// then stands after the value. So what an array has in it is read from after its opening bracket
-/// on, a value at each call, and what an object has in it, a name and a value in turn.
+/// Skips whitespace, at most one comma or colon, and whitespace; then consumes and returns the
+/// longest value whose arrays and objects are nested at most `level` deep. From after an opening
+/// bracket, each call returns the next element of an array; in an object, names and values
+/// alternate.
 ///
-/// `None` exactly where no such value stands there; then nothing is read.
+/// Returns `None` if and only if no such value follows; then no input is consumed.
 ///
 /// ```
 /// use format_json_extents::walk::{is_end, read_next};
@@ -110,7 +110,7 @@ pub fn read_next<'i>(level: usize, input: &mut &'i [u8]) -> Option<&'i [u8]>
     Some(value)
 }
 
-/// Whether white space is all that stands before a closing bracket, or before the end.
+/// Returns whether only whitespace precedes a closing bracket or the end.
 ///
 /// ```
 /// use format_json_extents::walk::is_end;

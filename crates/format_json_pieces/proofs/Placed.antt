@@ -36,7 +36,7 @@ place_as {level} {bytes} {n} {m} {e} {f} same is x =
     let P : ℕ → Expected → Type 0 = λ k g. IsPlace level bytes k g in
     subst (λ k. P k f) (sym same) (subst (λ g. P n g) (sym is) x)
 
--- What a walk has come to: bytes that are passed, what is to come after them, in these brackets.
+-- The state of a walk: the bytes before it, the input that is expected next, and the open brackets.
 pub record Walked (level : ℕ) (bytes left : List ℕ) (mode : Mode) (items : List Bracket) : Type 0
   where
     pub held : List Bracket
@@ -100,7 +100,6 @@ module _ {level : ℕ} {bytes left : List ℕ} {mode : Mode} {items : List Brack
       inl asks,
     )
 
-    -- it is refused
     pub at_refused : (expected : Expected) (n : ℕ) → n ≡ length bytes - length left
         → steps.Refused ≡ next_step mode (last_open w.held) b
         → expected ≡ wanted mode (last_open w.held) → IsPlace level bytes n expected
@@ -126,7 +125,6 @@ module _ {level : ℕ} {bytes left : List ℕ} {mode : Mode} {items : List Brack
         )))
         (mode, w.held, w.leads, inr (k, sym opens, full, refl))
 
-    -- nothing more is asked
     ended : (s : Step) → s ≡ next_step mode (last_open w.held) b
         → ((l : List ℕ) → IsNextStep (λ m o. IsBegun (suc level) m o l) (suc level) w.held s)
         → IsPlace level bytes (length bytes) what.End
@@ -161,7 +159,6 @@ module _ {level : ℕ} {bytes left : List ℕ} {mode : Mode} {items : List Brack
         by [] e l = tt
         by (k ∷ held) e l = absurd (omega (arith, e))
 
-    -- it goes on
     pub on_goes : (m : Mode) → steps.Goes m ≡ next_step mode (last_open w.held) b
         → Walked level bytes more m items
     on_goes m is = record {

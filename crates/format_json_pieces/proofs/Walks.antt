@@ -1,4 +1,4 @@
--- What a walk over bytes has come to.
+-- The state of a walk over bytes.
 use Rattle.std.specs.Prelude.{◌≡◌, ◌<◌, ◌↔◌, ◌++◌, ℕ, zero, suc, List, [], ◌∷◌}
 use Rattle.std.proofs.Common.{refl, sym, ap, subst, inl, inr, ◌∙◌, arith}
 use Rattle.std.proofs.lemmas.List.{append-nil}
@@ -11,7 +11,7 @@ use Rattle.winnow.specs.Compare.{IsShort, StandsFirst}
 
 -- ---- in a string
 
--- Where bytes of a string are left, it ends as it does in all of them.
+-- `InString bytes left`: the string ends in `left` where it ends in `bytes`.
 abbrev pub InString : List ℕ → List ℕ → Type 0
 InString bytes left = (rest : List ℕ) → EndsString left rest ↔ EndsString bytes rest
 
@@ -34,7 +34,8 @@ module _ {bytes left more : List ℕ} {b : ℕ} (w : InString bytes left) (first
 
 -- ---- in brackets
 
--- Where that many are open, they are closed as the one is that was open before all bytes.
+-- `InBrackets n bytes left`: `n` open brackets are closed in `left` where the first one is closed
+-- in `bytes`.
 abbrev pub InBrackets : ℕ → List ℕ → List ℕ → Type 0
 InBrackets n bytes left = (rest : List ℕ) → Closes n left rest ↔ Closes 1 bytes rest
 
@@ -59,7 +60,6 @@ module _ {b : ℕ} {bytes left more : List ℕ} (first : left ≡ b ∷ more) wh
 
 -- ---- at a word
 
--- where a word neither stands first nor begins with the bytes, it stands in none that go on so
 pub no_word : (word bytes : List ℕ) → (IsShort (λ xs. xs ≡ word) bytes → ⊥)
     × (StandsFirst (λ xs. xs ≡ word) bytes → ⊥) → (more rest : List ℕ)
     → bytes ++ more ≡ word ++ rest → ⊥

@@ -124,7 +124,7 @@ abbrev pub others_open : List Bracket → List Bracket
 others_open [] = []
 others_open (bracket ∷ held) = held
 
--- after a value: nothing more is asked of bytes in no bracket
+-- after a value: any bytes are accepted outside brackets
 abbrev pub IsBehind : (Mode → List Bracket → Type 0) → List Bracket → Type 0
 IsBehind on [] = ⊤
 IsBehind on (bracket ∷ held) = on After (bracket ∷ held)
@@ -145,14 +145,13 @@ IsBegun level mode held [] = ⊤
 IsBegun level mode held (b ∷ bytes) =
     IsNextStep (λ m o. IsBegun level m o bytes) level held (next_step mode (last_open held) b)
 
--- Bytes with which a text of JSON may begin, of the level, or which are one: no byte of them is one
--- that such a text has not there, with the white space round its value.
+-- `MayBegin level bytes`: `bytes` is a possible prefix of a JSON text, or a complete one. Each byte
+-- may occur there in such a text, including the whitespace around its value.
 abbrev pub MayBegin : ℕ → List ℕ → Type 0
 MayBegin level bytes = IsBegun (suc level) Value (Whole ∷ []) bytes
 
--- Why no value is answered of such bytes: memory is wanting, or more is asked for, where they may
--- go
--- on so, or they do not.
+-- `IsLacking level bytes kind`: why no value is returned. The error is out of memory, `Incomplete`
+-- if `IsBegun` holds for `bytes`, or a backtrack if it does not.
 abbrev pub IsLacking : ℕ → List ℕ → Kind → Type 0
 IsLacking level bytes kind =
     (kind ≡ memory) ⊎ ((Asks kind × IsBegun level Value [] bytes)

@@ -1,4 +1,5 @@
--- A text of a value may end where it does: it closes, or has bytes of numbers alone.
+-- Proofs that the text of a value may end where it does: it closes, or consists of bytes of
+-- numbers.
 use Rattle.std.specs.Prelude.{◌≡◌, ◌⊎◌, ◌<◌, ◌++◌, ℕ, List, [], ◌∷◌, Some, None, true, false}
 use Rattle.std.specs.List.{All}
 use Rattle.std.specs.Str.{IsAscii, chars, encode_utf8_all}

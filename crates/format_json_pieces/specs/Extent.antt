@@ -1,5 +1,5 @@
--- Where the text of a value ends: by its quotes, its brackets and its letters, or as bytes of a
--- number. Whether it is JSON is not asked.
+-- The end of a value's text: by its quotes, its brackets and its letters, or as bytes of a number.
+-- The text need not be JSON.
 use Rattle.std.specs.Prelude.{◌≡◌, ◌⊎◌, ◌==◌, ◌||◌, ◌++◌, if◌then◌else◌, ℕ, zero, suc, pred, Bool}
 use Rattle.std.specs.Prelude.{List, [], ◌∷◌, ◌≤◌, length, true}
 use Rattle.std.specs.List.{All}
@@ -19,20 +19,20 @@ use Rattle.winnow.specs.Texts.{Begins, NotFirst}
 abbrev pub IsPlain : ℕ → Type 0
 IsPlain b = (b ≡ 34 → ⊥) × (b ≡ 92 → ⊥)
 
--- After the first quote of a string the bytes go on to its last, and the rest is after that. A
--- backslash takes along the byte after it.
+-- `EndsString bytes rest`: after the first quote of a string, `bytes` continues to its last quote,
+-- and `rest` follows. A byte after a backslash is skipped.
 pub data EndsString : List ℕ → List ℕ → Type 0 where
   quote : {rest : List ℕ} → EndsString (34 ∷ rest) rest
   escaped : {b : ℕ} {more rest : List ℕ} → EndsString more rest → EndsString (92 ∷ b ∷ more) rest
   plain : {b : ℕ} {more rest : List ℕ} → IsPlain b → EndsString more rest
       → EndsString (b ∷ more) rest
 
--- how many brackets are open after a byte that is in no string, of that many before it
+-- the number of open brackets after the byte `b` outside a string, from the number `n` before it
 abbrev pub open_behind : ℕ → ℕ → ℕ
 open_behind b n =
     if b == 91 || b == 123 then suc n else if b == 93 || b == 125 then pred n else n
 
--- That many brackets are open, the bytes close all of them, and the rest is after the last.
+-- `Closes n bytes rest`: `bytes` closes `n` open brackets, and `rest` follows the last.
 pub data Closes : ℕ → List ℕ → List ℕ → Type 0 where
   closed : {rest : List ℕ} → Closes zero rest rest
   string : {n : ℕ} {more behind rest : List ℕ} → EndsString more behind
@@ -53,8 +53,8 @@ word_of b =
     if b == 102 then 102 ∷ 97 ∷ 108 ∷ 115 ∷ 101 ∷ [] else
     if b == 110 then 110 ∷ 117 ∷ 108 ∷ 108 ∷ [] else 116 ∷ 114 ∷ 117 ∷ 101 ∷ []
 
--- The bytes begin with a string, with brackets and what they enclose, or with a word, and the rest
--- is after it.
+-- `IsClosed bytes rest`: `bytes` starts with a string, with brackets and their contents, or with a
+-- word; `rest` follows.
 abbrev pub IsClosed : List ℕ → List ℕ → Type 0
 IsClosed [] rest = ⊥
 IsClosed (b ∷ more) rest =
@@ -67,14 +67,15 @@ abbrev pub MayEnd : Grammar ℕ (List ℕ)
 MayEnd bytes text rest =
     (bytes ≡ text ++ rest) × (IsClosed bytes rest ⊎ (Begins IsNumeric text × All IsNumeral text))
 
--- And if it is a number, no byte of numbers is after it, whatever comes.
+-- `Ends cut bytes text left`: `text` may end there, and if it is a number, no byte of numbers
+-- follows it, for any continuation.
 abbrev pub Ends : Bool → List ℕ → List ℕ → List ℕ → Type 0
 Ends cut bytes text left =
     MayEnd bytes text left × (Begins IsNumeric text → (more : List ℕ) → Allows cut more
     → NotFirst IsNumeral (left ++ more))
 
--- Why none is answered: the bytes are cut, and it may end in them only if all are numerals; or none
--- ends, whatever comes.
+-- `Lacks cut bytes lack`: why no text is returned. `Bytes`: the input is partial, and a text may
+-- end in it only if all bytes are numerals. `Text`: no text ends, for any continuation.
 abbrev pub Lacks : Bool → List ℕ → Lack → Type 0
 Lacks cut bytes lack =
     (lack ≡ lacks.Bytes → (cut ≡ true) × ((text rest : List ℕ) → MayEnd bytes text rest
@@ -139,7 +140,7 @@ closed_one (b ∷ more) rest other (inr (inr (is, x))) (inr (inl (it, y))) =
 closed_one (b ∷ more) rest other (inr (inr (_, x))) (inr (inr (_, y))) =
     same_rest (word_of b) rest other (sym x ∙ y)
 
--- ---- and there too where more is after
+-- ---- and also with more bytes at the end
 
 string_stays : {bytes rest : List ℕ} (more : List ℕ) → EndsString bytes rest
     → EndsString (bytes ++ more) (rest ++ more)
@@ -161,7 +162,7 @@ closed_stays (b ∷ bytes) rest more (inr (inl (is, x))) = inr (inl (is, closes_
 closed_stays (b ∷ bytes) rest more (inr (inr (is, x))) =
     inr (inr (is, ap (λ l. l ++ more) x ∙ append_assoc (word_of b) rest more))
 
--- ---- the rest is an end of the bytes
+-- ---- the rest is a suffix of the bytes
 
 string_ends : {bytes rest : List ℕ} → EndsString bytes rest
     → (front : List ℕ) × (bytes ≡ front ++ rest)

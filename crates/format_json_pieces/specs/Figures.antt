@@ -1,4 +1,4 @@
--- The bytes of a number go on as its characters are to.
+-- Proofs that the bytes of a number continue as its characters must.
 use Rattle.std.specs.Prelude.{◌≡◌, ◌⊎◌, ◌<◌, ℕ, true, List, ◌∷◌, ◌++◌, Some}
 use Rattle.std.proofs.Common.{refl, inl, inr, arith}
 use Rattle.std.proofs.lemmas.Bool.Decides.{nat_tests}
@@ -38,8 +38,8 @@ pub record Counts (at : Figure → List ℕ → Type 0) (behind whole : List ℕ
 
 module _ (rest : List ℕ) {at : Figure → List ℕ → Type 0} {behind whole : List ℕ → Type 0}
     (n : Counts at behind whole) where
-  -- what may stand after an E and perhaps a sign; after digits; after the whole ones; and after
-  -- a minus, or none
+  -- the characters after an E and an optional sign; after digits; after the integer part; and after
+  -- an optional minus
   abbrev Signed : List ℕ → Type 0
   Signed l = at figures.Exponent l × at figures.Sign l
 

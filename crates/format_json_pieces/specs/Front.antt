@@ -1,4 +1,4 @@
--- What texts of values do to bytes that they stand in front of: strings end, and brackets close.
+-- The effect of values on the bytes that follow them: strings end, and brackets close.
 use Rattle.std.specs.Prelude.{◌≡◌, ◌⊎◌, ◌++◌, ℕ, zero, suc, true, false, List, [], ◌∷◌, Some, None}
 use Rattle.std.specs.List.{AllByRecursion}
 use Rattle.std.specs.declared.string.String.{String}
@@ -29,7 +29,6 @@ use Rattle.winnow.specs.Texts.{BothText, InFront, InList, MadeText, PartedText, 
 use Rattle.winnow.specs.Texts.Fronts.{both_front, each_front, either_front, gathered_front}
 use Rattle.winnow.specs.Texts.Fronts.{in_list_front, optional_front, taken_front}
 
--- numbers have numerals alone
 pub number_front : {tokens : List ℕ → Type 0} → Adds IsNumeral tokens
     → InFront NumberText tokens tokens
 number_front {tokens} adds =
@@ -145,7 +144,7 @@ calm : (b n : ℕ) → IsCalm b → open_behind b n ≡ n
 calm b n (q, x, y, z, w) = rw (ne_eqb b 91 x, ne_eqb b 123 y, ne_eqb b 93 z, ne_eqb b 125 w) refl
 
 module _ (rest : List ℕ) where
-  -- that many brackets and one are open, and closed before the rest
+  -- `n + 1` brackets are open, and closed before the rest
   abbrev pub Within : ℕ → List ℕ → Type 0
   Within n bytes = Closes (suc n) bytes rest
 
@@ -154,8 +153,8 @@ module _ (rest : List ℕ) where
   count n m b bytes not is x =
       let P : ℕ → Type 0 = λ k. Closes k bytes rest in byte not (subst P (sym is) x)
 
-  -- Where a value stands: in that many brackets, in front of bytes that make others with it, or in
-  -- none.
+  -- The position of a value: in `n` brackets or in none, before bytes of `behind`, with which it
+  -- makes bytes of `whole`.
   pub record Place (n : ℕ) (behind whole : List ℕ → Type 0) : Type 0 where
     pub quoted : (bytes : List ℕ) → Inside rest behind bytes → whole (34 ∷ bytes)
     pub opens : (b : ℕ) (bytes : List ℕ) → IsOpening b → Within n bytes → whole (b ∷ bytes)

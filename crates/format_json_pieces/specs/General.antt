@@ -1,4 +1,4 @@
--- Texts in front of tokens, by what one more token does: what is not of JSON alone.
+-- Lemmas about encodings before tokens, one token at a time, that do not depend on JSON.
 use Rattle.std.specs.Prelude.{◌≡◌, ◌⊎◌, ◌<◌, ◌≤◌, ℕ, List, [], ◌∷◌, ◌++◌}
 use Rattle.std.specs.List.{All, AllByRecursion}
 use Rattle.std.specs.Char.{encode_utf8}
@@ -16,7 +16,7 @@ use Rattle.winnow.specs.Utf8.{four_bytes, three_bytes, two_bytes}
 
 -- ---- lists
 
--- what is left of a text after another that begins the same bytes
+-- `Behind t rest u other`: `u` is `t` and more, and `rest` is the same and then `other`
 abbrev pub Behind : List ℕ → List ℕ → List ℕ → List ℕ → Type 0
 Behind t rest u other = (more : List ℕ) × (u ≡ t ++ more) × (rest ≡ more ++ other)
 
@@ -31,12 +31,10 @@ split_two (x ∷ t) rest (y ∷ u) other e = elim (split_two t rest u other (sam
   | inr (more, f, g) ↦ inr (more, ap (λ c. c ∷ t) (same_first e) ∙ ap (λ l. y ∷ l) f, g)
 ]
 
--- what holds of all holds of those after
 pub all_behind : (P : ℕ → Type 0) (front rest : List ℕ) → All P (front ++ rest) → All P rest
 all_behind P [] rest all = all
 all_behind P (x ∷ front) rest all = all_behind P front rest (All-tail P x (front ++ rest) all)
 
--- a text of a class is not longer than one after which none of the class is first
 pub none_left : (P : ℕ → Type 0) (t rest u other : List ℕ) → Behind t rest u other → All P u
     → NotFirst P rest → (t ≡ u) × (rest ≡ other)
 none_left P t rest u other (more, splits, rests) all not = by more splits rests
@@ -139,7 +137,6 @@ module _ (rest : List ℕ) where
       spelled_front (c ∷ []) c
       (λ cs x. ascii_adds whole c cs low (makes (encode_utf8_all cs ++ rest) x))
 
-  -- those of which each byte is of these add what these add
   pub coded_adds : {these : ℕ → Type 0} (bytes : List ℕ → Type 0)
       → ((c b : ℕ) → these c → 128 ≤ c → 128 ≤ b → these b) → Adds these bytes
       → Adds these (Coded rest bytes)

@@ -1,4 +1,4 @@
--- How the bytes inside of a string, of a number and of a word of JSON go on (RFC 8259, sections 3,
+-- State machines for the bytes inside a string, a number and a word of JSON (RFC 8259, sections 3,
 -- 6 and 7; RFC 3629, section 4).
 use Rattle.std.specs.Prelude.{◌==◌, ◌&&◌, ◌||◌, if◌then◌else◌, ℕ, Bool, true, false, not, Option}
 use Rattle.std.specs.Prelude.{Some, None, nat_le, nat_lt}
@@ -122,7 +122,7 @@ is_e b = b == 69 || b == 101
 abbrev pub goes_on : ℕ → Bool
 goes_on b = is_digit b || (b == 46 || is_e b)
 
--- what a number comes to by a byte more, if it goes on
+-- the state of a number after one more byte, if the byte can continue it
 abbrev pub figure_behind : Figure → ℕ → Option Figure
 figure_behind Minus b = if b == 48 then Some Zero else if is_digit b then Some Whole else None
 figure_behind Zero b = if b == 46 then Some Point else if is_e b then Some Exponent else None

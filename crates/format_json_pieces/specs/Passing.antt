@@ -1,5 +1,5 @@
--- The bytes of a text of a value go on as the walk over them says, and so do those that it begins
--- with: where the walk ends, no longer bytes begin with a value.
+-- Proofs that the walk accepts the bytes of a value and their prefixes: if it rejects bytes, no
+-- longer bytes start with a value.
 use Rattle.std.specs.Prelude.{◌≡◌, ◌<◌, ◌≤◌, ◌+◌, ◌==◌, ℕ, zero, suc, Bool, true, false, List}
 use Rattle.std.specs.Prelude.{[], ◌∷◌, ◌++◌, Some, length, not}
 use Rattle.std.specs.Prelude.{if◌then◌else◌}
@@ -199,7 +199,7 @@ module _ (level : ℕ) (rest : List ℕ) where
         (object held (omega (arith, few))
         (value_spells deep (omega (arith, few)) (inner level rest Object held))))))
 
--- ---- bytes that do not go on so
+-- ---- bytes that the walk rejects
 
 module _ (level : ℕ) where
   -- the first byte of a number is its first character
@@ -230,7 +230,6 @@ module _ {A : Type 0} (level : ℕ) where
       (λ begins. ended (subst P same (numeric level cs (subst P (append-nil cs) begins))))
       (subst Q (sym (append-nil cs)) (scalars-chars text utf8))))
 
-  -- where bytes do not go on so, no longer bytes begin with a value
   pub none_begun : (bytes : List ℕ) → (IsBegun level modes.Value [] bytes → ⊥) → (more : List ℕ)
       → NoneStands (IsValueIn {A = A} level) (bytes ++ more)
   none_begun bytes not more v rest x =
@@ -271,7 +270,6 @@ module _ {A : Type 0} (level : ℕ) where
       ((text_spells []).makes v cs [] written (λ scalars. tt)
       (subst Q (sym (append-nil cs)) (scalars-chars bytes utf8)))
 
-  -- where no text may begin so, none begins so
   pub none_begins_so : (bytes : List ℕ) → (MayBegin level bytes → ⊥) → (v : Value A)
       (more : List ℕ) → InUtf8 (JsonText HasCharacters level) v (bytes ++ more) → ⊥
   none_begins_so bytes not v more text =
@@ -290,7 +288,7 @@ begun_gap level (b ∷ gap) left all x =
     refl b (all 0 b (omega arith))))
     (begun_gap level gap left (All-tail IsMultispace b gap all) x)
 
--- ---- what an error says that asks for more
+-- ---- errors that are `Incomplete`
 
 abbrev is_asking : Kind → Bool
 is_asking (incomplete need) = true

@@ -1,4 +1,5 @@
--- Where bytes can no longer begin a text of JSON, and what may stand there.
+-- The offset at which bytes are no longer a possible prefix of a JSON text, and the input that is
+-- expected there.
 use Rattle.std.specs.Prelude.{◌≡◌, ◌⊎◌, ◌↔◌, ◌<◌, ℕ, suc, List, [], ◌∷◌, ◌++◌, Option, Some, None}
 use Rattle.std.specs.Prelude.{length, ⊤}
 use Rattle.format_json_pieces.specs.Begun.{IsBegun, MayBegin, last_open, next_step}
@@ -69,20 +70,21 @@ wanted (Word letters) held = what.Letter (expected letters)
 
 -- ---- the place
 
--- The bytes may begin a text, and with the byte after them they may not; or none is after them.
+-- `IsStopped level front rest`: `front` and the next byte of `rest` cannot begin a text; or `rest`
+-- is empty.
 abbrev pub IsStopped : ℕ → List ℕ → List ℕ → Type 0
 IsStopped level front [] = ⊤
 IsStopped level front (b ∷ rest) = MayBegin level (front ++ b ∷ []) → ⊥
 
--- After these bytes this is to come in these brackets: whatever may stand there may stand after
--- the bytes.
+-- `LeadsTo level front mode held`: after `front`, `mode` is expected in the brackets `held`. Bytes
+-- may follow `front` if and only if they may occur there.
 abbrev pub LeadsTo : ℕ → List ℕ → Mode → List Bracket → Type 0
 LeadsTo level front mode held =
     (more : List ℕ) → IsBegun (suc level) mode held more ↔ MayBegin level (front ++ more)
 
--- Where this is to come in these brackets: at the end of the bytes, or where the next one is
--- refused, what is expected is by its name what may stand there; where the next one opens a
--- bracket, and as many are open as the level lets, it is that none is opened.
+-- `IsNamed level mode held rest expected`: at the end, or if the next byte is rejected, `expected`
+-- is the name of `mode` in the brackets `held`. If the next byte opens a bracket beyond `level`,
+-- `expected` is `NoDeeper`.
 abbrev pub IsNamed : ℕ → Mode → List Bracket → List ℕ → Expected → Type 0
 IsNamed level mode held [] expected = expected ≡ wanted mode (last_open held)
 IsNamed level mode held (b ∷ rest) expected =
@@ -90,14 +92,15 @@ IsNamed level mode held (b ∷ rest) expected =
     ⊎ ((k : Bracket) × (next_step mode (last_open held) b ≡ Opens k) × (level < length held)
     × (expected ≡ what.NoDeeper))
 
--- What is expected after the bytes, where the others are left.
+-- `IsWanted level front rest expected`: `expected` is the input that is expected after `front`,
+-- with `rest` remaining.
 abbrev pub IsWanted : ℕ → List ℕ → List ℕ → Expected → Type 0
 IsWanted level front rest expected =
     (mode : Mode) × (held : List Bracket) × LeadsTo level front mode held
     × IsNamed level mode held rest expected
 
--- A place in bytes, and what is expected there. The end is expected without such a name only where
--- whatever comes after it may.
+-- `IsPlace level bytes offset expected`: an offset in `bytes`, and the input that is expected
+-- there. `End` is expected without such a name only if any continuation is accepted.
 abbrev pub IsPlace : ℕ → List ℕ → ℕ → Expected → Type 0
 IsPlace level bytes offset expected =
     (front : List ℕ) × (rest : List ℕ) × (bytes ≡ front ++ rest) × (length front ≡ offset)

@@ -1,4 +1,4 @@
--- What is read of bytes, by the text of the value that they begin with.
+-- The result for bytes, in terms of the text of the value that they start with.
 use Rattle.std.specs.Prelude.{◌≡◌, ◌⊎◌, ◌<◌, ◌≤◌, ◌-◌, ◌&&◌, ℕ, false, true, Bool, List, [], ◌∷◌}
 use Rattle.std.specs.Prelude.{◌++◌, Some, None, drop, length}
 use Rattle.std.specs.List.{All}
@@ -29,14 +29,13 @@ use Rattle.winnow.specs.Accumulator.Holds.{HasCharacters}
 use Rattle.winnow.specs.Texts.{Begins, NotFirst}
 use Rattle.winnow.specs.Texts.Fronts.{begins_never, not_first}
 
--- ---- what stands in the bytes stands in the text
+-- ---- matches in the bytes are matches in the text
 
--- what does not go on with more after it does not
 pub not_on : (behind left : List ℕ) → NotFirst GoesOn (behind ++ left) → NotFirst GoesOn behind
 not_on [] left not = tt
 not_on (x ∷ behind) left not = not
 
--- What is left of the text after one that stands.
+-- The part of the text after a match.
 record Within (text t rest : List ℕ) : Type 0 where
   pub behind : List ℕ
   pub splits : text ≡ t ++ behind
@@ -83,7 +82,7 @@ ends_within cut bytes text left more t rest ((e, it), ends) allowed (f, other) =
               (none_left IsNumeral text (left ++ more) t rest p each (ends b more allowed)).0
         ]
 
--- ---- what is read of the text is what stands in the bytes
+-- ---- the result for the text is a match in the bytes
 
 both_true : (a b : Bool) → (a && b) ≡ true → (a ≡ true) × (b ≡ true)
 both_true true b h = (refl, h)
@@ -96,7 +95,6 @@ scalars_in_front (c ∷ front) rest h =
     let (one, more) = both_true _ (all_scalars (front ++ rest)) h in
     ap (λ b. b && all_scalars front) one ∙ scalars_in_front front rest more
 
--- a text ends where what is left of it does not go on
 ended_there : (cut : Bool) (bytes text left more t rest : List ℕ) → Ends cut bytes text left
     → Allows cut more → text ≡ t ++ rest → NotFirst GoesOn (chars rest)
     → IsEnded t ((rest ++ left) ++ more)
@@ -116,7 +114,6 @@ ended_there cut bytes text left more t rest ((e, inr (b, all)), ends) allowed wh
         let same = chars-IsAscii (x ∷ rest) (numerals_ascii (x ∷ rest) each) in
         let it : NotFirst GoesOn (x ∷ rest) = subst P same stops in it
 
--- what is after some characters of a text is so in its bytes
 pub splits_there : (text rest front : List ℕ) → IsUtf8 text → IsUtf8 rest
     → chars text ≡ front ++ chars rest → text ≡ encode_utf8_all front ++ rest
 splits_there text rest front utf8 ends e =
@@ -132,14 +129,12 @@ no_longer text rest front utf8 ends e =
       length-append (encode_utf8_all front) rest,
     )
 
--- no value stands where no text of one begins the bytes
 pub none_ends : {A : Type 0} (level : ℕ) (bytes : List ℕ) → NoneStands MayEnd bytes
     → NoneStands (IsValueIn {A = A} level) bytes
 unfolding IsValueIn
 none_ends level bytes none v rest (t, written, e, ended) =
     none t rest (value_may_end rest level v bytes t written e)
 
--- and where bytes lack, a value stands only in those of numbers
 pub numerals_lack : {A : Type 0} (level : ℕ) (bytes : List ℕ)
     → ((text rest : List ℕ) → MayEnd bytes text rest → All IsNumeral bytes)
     → (v : Value A) (rest : List ℕ) → IsValueIn level bytes v rest → All IsNumeral bytes
@@ -152,7 +147,6 @@ module _ {A : Type 0} (level : ℕ) (cut : Bool) (bytes text left : List ℕ)
   abbrev g : Grammar ℕ (Value A)
   g = AnyValue HasCharacters level
 
-  -- what stands in the bytes stands in the text, by the grammar of values
   stands_there : (more : List ℕ) → Allows cut more → (v : Value A) (rest : List ℕ)
       → IsValueIn level (bytes ++ more) v rest
       → IsUtf8 text × (behind : List ℕ) × g (chars text) v behind × NotFirst GoesOn behind
@@ -289,7 +283,6 @@ module _ {A : Type 0} (level : ℕ) (cut : Bool) (bytes gap start : List ℕ)
   next_fails some kind (inr (inr (backs, none))) =
       inr (inr (backs, λ more allowed. next_none some more (none more allowed)))
 
--- and where more is asked for after white space, a value stands only in bytes of numbers
 pub next_numerals : {A : Type 0} (level : ℕ) (bytes gap left : List ℕ)
     → (bytes ≡ gap ++ left) × All IsMultispace gap × NotFirst IsMultispace left
     → ((v : Value A) (rest : List ℕ) → IsValueIn level left v rest → All IsNumeral left)
@@ -301,7 +294,6 @@ next_numerals level bytes gap left passed all v rest (g, s, each, e, x) =
     let P : List ℕ → Type 0 = λ l. IsValueIn level l v rest in
     (gap, left, passed.1, passed.0, all v rest (subst P same x))
 
--- and where nothing is after the white space, none comes
 pub none_next : (A : Type 0) (level : ℕ) (cut : Bool) (bytes gap left : List ℕ)
     → (bytes ≡ gap ++ left) × All IsMultispace gap × NotFirst IsMultispace left
     → length left ≡ 0 → cut ≡ false → Stands (IsNext {A = A} level) cut bytes None left

@@ -1,4 +1,4 @@
--- What characters do to bytes that they stand in front of, one step at a time.
+-- The effect of characters on the bytes that follow them, one step at a time.
 use Rattle.std.specs.Prelude.{◌≡◌, ◌<◌, ◌≤◌, ◌&&◌, ℕ, Bool, true, false, List, [], ◌∷◌, ◌++◌}
 use Rattle.std.specs.Prelude.{Option, Some, None, length}
 use Rattle.std.specs.List.{All}
@@ -19,7 +19,8 @@ both_true false b h = (h, cc)
 abbrev pub Spells : List ℕ → (List ℕ → Type 0) → List ℕ → Type 0
 Spells rest bytes cs = all_scalars cs ≡ true → bytes (encode_utf8_all cs ++ rest)
 
--- in front of what is of the one, one of the class makes what is of the other
+-- `Leads class behind whole`: a character of `class` before a list in `behind` makes a list in
+-- `whole`
 abbrev pub Leads : (ℕ → Type 0) → (List ℕ → Type 0) → (List ℕ → Type 0) → Type 0
 Leads class behind whole = (c : ℕ) (l : List ℕ) → class c → behind l → whole (c ∷ l)
 
@@ -89,7 +90,6 @@ module _ (rest : List ℕ) where
           ascii_spells behind behind c (xs ++ cs) (low c is) (λ l. adds c l is)
           (each xs cs (All-tail class c xs all) x)
 
--- what may stand after a text that may be left out may stand where it stands
 pub left_out : {O : Type 0} {text : Text ℕ O} {behind whole : List ℕ → Type 0}
     → ((l : List ℕ) → behind l → whole l) → InFront text behind whole
     → InFront (OptionalText text) behind whole
@@ -102,7 +102,6 @@ left_out {O} {text} {behind} {whole} more front = record { makes = makes }
         let P : List ℕ → Type 0 = λ l. whole (l ++ rest) in subst P (sym e) (more rest b)
     makes (Some o) xs rest x b = front.makes o xs rest x b
 
--- items with something between them, where the first may stand, or what is after them
 pub items_front : {O D : Type 0} {separator : Text ℕ D} {text : Text ℕ O}
     {item after last whole : List ℕ → Type 0} → InFront separator item after
     → InFront text after item → ((l : List ℕ) → last l → after l)

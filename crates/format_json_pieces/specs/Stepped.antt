@@ -1,4 +1,4 @@
--- The bytes of words, strings and numbers go on as the walk over them says, and so do fewer bytes.
+-- Proofs that the walk accepts the bytes of words, strings and numbers, and their prefixes.
 use Rattle.std.specs.Prelude.{◌≡◌, ◌⊎◌, ◌<◌, ℕ, Bool, true, false, List}
 use Rattle.std.specs.Prelude.{[], ◌∷◌, ◌++◌, Option, Some, None, ⊤, ◌||◌, not}
 use Rattle.std.specs.Prelude.{if◌then◌else◌}
@@ -56,7 +56,6 @@ final_stops figures.Exponent b e not = absurd (true_is_false (sym e))
 final_stops figures.Sign b e not = absurd (true_is_false (sym e))
 final_stops figures.Power b e not = grind (arith, nat_tests, not)
 
--- after an item no number goes on
 after_refuses : (k : Bracket) (b : ℕ) → goes_on b ≡ true → after_step k b ≡ steps.Refused
 after_refuses Array b goes = grind (arith, nat_tests, goes)
 after_refuses Object b goes = grind (arith, nat_tests, goes)
@@ -91,7 +90,6 @@ module _ (level : ℕ) where
     next_front held steps.Closes y = behind_front (others_open held) y
     next_front held steps.Ends y = behind_front held y
 
-  -- fewer bytes go on too
   pub begun_front : (bytes more : List ℕ) (mode : Mode) (held : List Bracket)
       → At mode held (bytes ++ more) → At mode held bytes
   begun_front [] more mode held x = tt
@@ -119,7 +117,7 @@ module _ (level : ℕ) where
       ends = λ l x. x;
     }
 
-    -- Where a value stands: in brackets, or in none.
+    -- The position of a value: in brackets, or in none.
     pub record Place (held : List Bracket) (behind whole : List ℕ → Type 0) : Type 0 where
       pub ends : (cs : List ℕ) → behind cs → Spells rest (Behind held) cs
       pub starts : (cs : List ℕ) → Spells rest (Started held) cs → whole cs
@@ -173,7 +171,6 @@ module _ (level : ℕ) where
           (either_front (spelled_front (116 ∷ 114 ∷ 117 ∷ 101 ∷ []) (Some true) rue)
           (spelled_front (102 ∷ 97 ∷ 108 ∷ 115 ∷ 101 ∷ []) (Some false) alse))
 
-      -- a number in brackets, or in none with bytes after it with which it does not go on
       starts_number : (c : ℕ) (l : List ℕ) → IsLeading c
           → At (modes.Number figures.Whole) held l → Started held (c ∷ l)
       starts_number c l is x mode =
@@ -246,7 +243,7 @@ module _ (level : ℕ) where
       numbers = number_spells rest (inner_counts k held);
     }
 
-    -- in none: a number is not to go on after it
+    -- outside brackets: the rest must not continue a number
     abbrev pub Stops : List ℕ → Type 0
     Stops cs = Begins IsNumeric cs → NotFirst GoesOn rest
 

@@ -1,4 +1,4 @@
--- The bytes of a string go on as its characters are to.
+-- Proofs that the bytes of a string continue as its characters must.
 use Rattle.std.specs.Prelude.{◌≡◌, ◌⊎◌, ◌<◌, ◌≤◌, ◌+◌, ◌*◌, ◌/◌, ◌%◌, ℕ, true, List, [], ◌∷◌, ◌++◌}
 use Rattle.std.specs.declared.string.String.{String}
 use Rattle.std.specs.Char.{IsScalar, encode_utf8}
@@ -19,7 +19,7 @@ use Rattle.format_json_pieces.specs.declared.inside.Inner.TheVariants as inners
 use Rattle.format_json_pieces.specs.declared.inside.Part.{Part}
 use Rattle.format_json_pieces.specs.declared.inside.Part.TheVariants as parts
 
--- Bytes in front of which stands what is to come in a string: each goes on as the parts say.
+-- Bytes followed by the expected input in a string: each byte continues as its part specifies.
 pub record Goes (inside : Part → List ℕ → Type 0) (behind : List ℕ → Type 0) : Type 0 where
   pub goes : (p q : Part) (b : ℕ) (l : List ℕ) → part_behind p b ≡ inners.Part q → inside q l
       → inside p (b ∷ l)
@@ -106,7 +106,6 @@ module _ (rest : List ℕ) {inside : Part → List ℕ → Type 0} {behind : Lis
       → At p (c ∷ cs)
   on p q c cs low e x = ascii_spells rest (inside q) (inside p) c cs low (λ l. g.goes p q c l e) x
 
-  -- a unit, by what its first two digits lead to
   unit_on : (u : ℕ) (xs cs : List ℕ) (ds : Digits u xs) (p q two one last : Part)
       → part_behind p ds.c1 ≡ inners.Part q → part_behind q ds.c2 ≡ inners.Part two
       → part_behind two ds.c3 ≡ inners.Part one → part_behind one ds.c4 ≡ inners.Part last

@@ -1,4 +1,4 @@
--- What a call tells of a value, and of more bytes.
+-- The result of a call for a value, also with more bytes.
 use Rattle.std.specs.Prelude.{◌≡◌, ◌⊎◌, ℕ, false, true, Bool, List, [], ◌++◌, Ok, Err}
 use Rattle.std.specs.Str.{IsUtf8, chars}
 use Rattle.std.proofs.Common.{refl, sym, subst, inl, inr, ◌∙◌}
@@ -21,17 +21,17 @@ abbrev pub Allows : Bool → List ℕ → Type 0
 Allows cut more = cut ≡ false → more ≡ []
 
 module _ {O : Type 0} (grammar : Grammar ℕ O) (cut : Bool) (bytes : List ℕ) where
-  -- An output stands in the bytes and whatever comes, with what is left.
+  -- `Stands o left`: `o` is a match in the bytes with the rest `left`, for any continuation.
   abbrev pub Stands : O → List ℕ → Type 0
   Stands o left = (more : List ℕ) → Allows cut more → grammar (bytes ++ more) o (left ++ more)
 
-  -- An error is out of memory, or asks for more where more may come, or none stands whatever comes.
+  -- `Fails kind`: the error is out of memory; `Incomplete`, if more input may follow; or a
+  -- backtrack, if there is no match for any continuation.
   abbrev pub Fails : Kind → Type 0
   Fails kind =
       (kind ≡ memory) ⊎ ((Asks kind × (cut ≡ true)) ⊎ ((kind ≡ backtrack)
       × ((more : List ℕ) → Allows cut more → NoneStands grammar (bytes ++ more))))
 
--- of cut bytes any may come
 of_cut : (cut : Bool) (more : List ℕ) → cut ≡ true → Allows cut more
 of_cut cut more is whole = true_is_false (sym is ∙ whole)
 

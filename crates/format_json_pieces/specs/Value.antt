@@ -1,4 +1,4 @@
--- Values of JSON that bytes begin with, and texts of JSON in bytes.
+-- JSON values at the start of bytes, and JSON texts in bytes.
 use Rattle.std.specs.Prelude.{◌≡◌, ◌⊎◌, ℕ, List, [], ◌++◌, Option, Some, None}
 use Rattle.std.specs.List.{All}
 use Rattle.std.specs.Str.{IsUtf8, chars}
@@ -15,7 +15,7 @@ use Rattle.winnow.specs.Grammar.{Grammar}
 use Rattle.winnow.specs.Accumulator.Holds.{HasCharacters}
 use Rattle.winnow.specs.Texts.{Begins, IsGrammarOf, NotFirst, Text}
 
--- Bytes that are UTF-8, of characters that are a text of the value.
+-- `InUtf8 text o bytes`: `bytes` is UTF-8, and its characters encode `o` by `text`.
 unfoldable pub InUtf8 : {O : Type 0} → Text ℕ O → Text ℕ O
 InUtf8 text o bytes = IsUtf8 bytes × text o (chars bytes)
 
@@ -23,8 +23,8 @@ InUtf8 text o bytes = IsUtf8 bytes × text o (chars bytes)
 abbrev pub IsNumeric : ℕ → Type 0
 IsNumeric b = (b ≡ 45) ⊎ IsDecDigit b
 
--- Where a text begins as a number does, none of the bytes stands after it with which a number may
--- go on: a digit, a point or an E.
+-- `IsEnded text rest`: if `text` starts as a number does, `rest` does not start with a byte that
+-- can continue a number: a digit, a point or an E.
 abbrev pub IsEnded : List ℕ → List ℕ → Type 0
 IsEnded text rest = Begins IsNumeric text → NotFirst GoesOn rest
 
@@ -40,34 +40,33 @@ AreNumerals bytes =
     × All IsNumeral left
 
 module _ {A : Type 0} (level : ℕ) where
-  -- The bytes begin with a text of the value, of which no more than that many arrays and objects
-  -- stand
-  -- in one another, and the text ends there.
+  -- `IsValueIn bytes v rest`: `bytes` starts with an encoding of `v`, followed by `rest`, and the
+  -- encoding ends there. The arrays and objects of `v` are nested at most `level` deep.
   unfoldable pub IsValueIn : Grammar ℕ (Value A)
   IsValueIn bytes v rest =
       (text : List ℕ) × InUtf8 (ValueText HasCharacters level) v text × (bytes ≡ text ++ rest)
       × IsEnded text rest
 
-  -- White space, and after it such a value; or white space alone, and none.
+  -- Whitespace followed by such a value; or only whitespace, and no value.
   unfoldable pub IsNext : Grammar ℕ (Option (Value A))
   IsNext bytes None rest = All IsMultispace bytes × (rest ≡ [])
   IsNext bytes (Some v) rest =
       (gap : List ℕ) × (start : List ℕ) × All IsMultispace gap × (bytes ≡ gap ++ start)
       × IsValueIn start v rest
 
--- A fault at this byte.
+-- `IsRefusedAt n fault`: the error is at offset `n`.
 abbrev pub IsRefusedAt : {I X : Type 0} → ℕ → ParseFault I X Needed → Type 0
 IsRefusedAt n (Refused e) = refused_offset e ≡ n
 IsRefusedAt n (Incomplete needed) = ⊥
 
--- A fault with this error.
+-- `HasInner inner fault`: the inner error is `inner`.
 abbrev pub HasInner : {I X : Type 0} → X → ParseFault I X Needed → Type 0
 HasInner inner (Refused e) = refused_inner e ≡ inner
 HasInner inner (Incomplete needed) = ⊥
 
--- ---- what stands so is what is written
+-- ---- matches are encodings
 
--- A text of a value stands wherever no byte is after it with which a number may go on.
+-- An encoding of a value matches wherever no byte follows it that can continue a number.
 pub value_written : {A : Type 0} (level : ℕ)
     → IsGrammarOf (IsValueIn {A = A} level) (InUtf8 (ValueText HasCharacters level))
     (NotFirst GoesOn)
@@ -77,7 +76,7 @@ value_written level = record {
   back = λ v front rest written not. (front, written, refl, λ begins. not);
 }
 
--- ---- what is after is an end of the bytes
+-- ---- the rest is a suffix of the bytes
 
 module _ {A : Type 0} (level : ℕ) where
   pub value_ends : (bytes : List ℕ) (v : Value A) (rest : List ℕ) → IsValueIn level bytes v rest

@@ -27,7 +27,7 @@ pub enum Bracket {
     Whole,
 }
 
-/// What is to come.
+/// The input that is expected next.
 #[derive(Clone, Copy, Drop)]
 pub enum Mode {
     /// The first item of an array or an object, or its end.
@@ -50,14 +50,14 @@ pub enum Mode {
     Word(Letters),
 }
 
-/// What comes of a byte.
+/// The effect of a byte.
 #[derive(Clone, Copy, Drop)]
 pub enum Step {
-    /// No text of a value goes on so.
+    /// The byte cannot continue the text of a value.
     Refused,
     /// The value ended before it.
     Ended,
-    /// The value that the bytes are in goes on.
+    /// The current value continues.
     Goes(Mode),
     /// It opens a bracket.
     Opens(Bracket),
@@ -193,7 +193,8 @@ fn letters_step(letters: Letters, byte: u8) -> Step
     }
 }
 
-/// What comes of a byte, where this is to come in the bracket that was opened last.
+/// Returns the effect of a byte, if `mode` is expected in the bracket `held`, the last that was
+/// opened.
 pub fn next_step(mode: Mode, held: Option<Bracket>, byte: u8) -> Step
     ensures { result ≡ next_step mode held byte }
 {
@@ -219,8 +220,8 @@ pub fn next_step(mode: Mode, held: Option<Bracket>, byte: u8) -> Step
     }
 }
 
-/// Whether the bytes may go on to the text of a value, in which no more than that many arrays and
-/// objects stand in one another, or have one already.
+/// Returns whether the bytes can continue to the text of a value whose arrays and objects are
+/// nested at most `level` deep, or already have one.
 pub fn is_begun<A: Allocator>(alloc: A, level: usize, bytes: &[u8]) -> Result<bool, AllocError>
     ensures { IfOk result (λ begun. IsTrue begun ↔ IsBegun level modes.Value [] bytes.now) }
 {
@@ -258,8 +259,9 @@ pub fn is_begun<A: Allocator>(alloc: A, level: usize, bytes: &[u8]) -> Result<bo
     Ok(true)
 }
 
-/// The error where the text of a value lacks bytes after these, to which more may come: it asks
-/// for them where the bytes may go on to such a text, and else backtracks; or memory is wanting.
+/// Returns the error for bytes that lack the rest of a value's text, if more may follow. It is
+/// `Incomplete` if the bytes can continue to such a text, and otherwise a backtrack; or it is out
+/// of memory.
 pub fn lacking<A: Allocator>(alloc: A, level: usize, bytes: &[u8]) -> ErrMode<EmptyError>
     ensures { IsLacking level bytes.now (⟦<ErrMode<EmptyError> as HasKind>⟧.kind result) }
 {

@@ -1,4 +1,4 @@
-//! What may stand at a place of a text of JSON, by name.
+//! The input that is expected at an offset of a JSON text, by name.
 ghost use Rattle.format_json_pieces.specs.Place.{wanted, wanted_after, wanted_in_number};
 ghost use Rattle.format_json_pieces.specs.Place.{wanted_in_string, wanted_item};
 ghost use Rattle.std.specs.Prelude.{◌≡◌};
@@ -8,8 +8,8 @@ use crate::inside::{Figure, Letters, Part, expected};
 use std::fmt;
 use std::fmt::{Display, Formatter};
 
-/// What may stand at a place of a text of JSON. White space may stand too, but not in a string, a
-/// number or a word.
+/// The input that is expected at an offset of a JSON text. Whitespace is accepted too, except in a
+/// string, a number or a word.
 ///
 /// ```
 /// use format_json_pieces::expected::Expected;
@@ -29,16 +29,16 @@ pub enum Expected {
     NameOrBrace,
     /// The colon after the name of a member.
     Colon,
-    /// A comma, or the bracket that closes the array. After a number the number may go on, too.
+    /// A comma, or the bracket that closes the array. After a number, the number may also continue.
     CommaOrBracket,
-    /// A comma, or the brace that closes the object. After a number the number may go on, too.
+    /// A comma, or the brace that closes the object. After a number, the number may also continue.
     CommaOrBrace,
-    /// The end of the text. After a number the number may go on, too.
+    /// The end of the text. After a number, the number may also continue.
     End,
-    /// A character of a string that is no control character, or the quote that closes it.
+    /// A character of a string that is not a control character, or the quote that closes it.
     Character,
-    /// What a backslash makes a character with: a quote, a backslash, `/`, `b`, `f`, `n`, `r`, `t`,
-    /// or `u` and four hexadecimal digits.
+    /// The part of an escape after the backslash: a quote, a backslash, `/`, `b`, `f`, `n`, `r`,
+    /// `t`, or `u` and four hexadecimal digits.
     Escape,
     /// A hexadecimal digit.
     HexDigit,
@@ -55,7 +55,7 @@ pub enum Expected {
     DigitOrSign,
     /// This letter of `null`, `true` or `false`.
     Letter(u8),
-    /// No bracket or brace that opens: that many are open as the level lets.
+    /// No opening bracket or brace: the maximum number is open.
     NoDeeper,
 }
 
@@ -136,7 +136,7 @@ fn wanted_in_number(figure: Figure, held: Option<Bracket>) -> Expected
     }
 }
 
-/// What may stand where this is to come in the bracket that was opened last.
+/// Returns the input that is expected in `mode`, in the bracket `held`, the last that was opened.
 pub fn wanted(mode: Mode, held: Option<Bracket>) -> Expected
     ensures { result ≡ wanted mode held }
 {

@@ -1,8 +1,8 @@
-//! Where the text of a value ends.
+//! The end of a value's text.
 //!
-//! That of a number goes on as long as its bytes do. Any other closes: by a quote, by the bracket
-//! that belongs to its first one, or by the last letter of a word. Whether what stands before that
-//! is JSON is not asked here.
+//! A number extends as far as its bytes do. Any other value closes: by a quote, by the bracket that
+//! matches its first one, or by the last letter of a word. Whether the bytes up to there are JSON
+//! is not checked here.
 ghost use Rattle.format_json_pieces.specs.Value.{IsNumeral};
 ghost use Rattle.format_json_pieces.specs.Extent.{Closes, Ends, EndsString, IsClosed, IsLetter};
 ghost use Rattle.format_json_pieces.specs.Extent.{IsOpening};
@@ -18,13 +18,13 @@ use winnow::stream::{Compare, CompareResult};
 /// Why no text was found.
 #[derive(Clone, Copy, Drop)]
 pub enum Lack {
-    /// The text may go on after the bytes.
+    /// The text may continue after the bytes.
     Bytes,
-    /// No text stands first, whatever comes after the bytes.
+    /// The bytes do not start with a text, regardless of their continuation.
     Text,
 }
 
-/// What is after a string, of what is after its first quote.
+/// Skips a string, from after its first quote.
 fn behind_string<'i>(bytes: &'i [u8]) -> Option<&'i [u8]>
     ensures some { IfSome result (λ left. EndsString bytes.now left.now) }
     ensures none { result ≡ None → (rest : List ℕ) → EndsString bytes.now rest → ⊥ }
@@ -43,7 +43,7 @@ fn behind_string<'i>(bytes: &'i [u8]) -> Option<&'i [u8]>
     }
 }
 
-/// How many brackets are open after a byte that is in no string, of that many before it.
+/// Returns the number of open brackets after a byte outside a string, from the number before it.
 fn open_behind(byte: u8, depth: usize) -> usize
     requires fits { depth + 1 < 2 ^ 64 }
     requires some { 0 < depth }
@@ -57,7 +57,7 @@ fn open_behind(byte: u8, depth: usize) -> usize
     }
 }
 
-/// What is after the bracket that closes the first one, of what is after that.
+/// Skips up to the bracket that closes the first one, from after that.
 fn behind_brackets<'i>(bytes: &'i [u8]) -> Option<&'i [u8]>
     ensures some { IfSome result (λ left. Closes 1 bytes.now left.now) }
     ensures none { result ≡ None → (rest : List ℕ) → Closes 1 bytes.now rest → ⊥ }
@@ -103,7 +103,7 @@ fn word_of(letter: u8) -> &'static [u8]
     }
 }
 
-/// What is after a word that stands first, or why it does not.
+/// Skips `word`, or returns why it does not match.
 fn behind_word<'i>(bytes: &'i [u8], word: &[u8]) -> Result<&'i [u8], Lack>
     ensures found { IfOk result (λ left. bytes.now ≡ word.now ++ left.now) }
     ensures none { IfErr result (λ _. (rest : List ℕ) → bytes.now ≡ word.now ++ rest → ⊥) }
@@ -117,7 +117,7 @@ fn behind_word<'i>(bytes: &'i [u8], word: &[u8]) -> Result<&'i [u8], Lack>
     }
 }
 
-/// What is after the text that closes with which the bytes begin, or why there is none.
+/// Skips a text that closes, or returns why there is none at the start.
 fn behind_closed<'i>(bytes: &'i [u8]) -> Result<&'i [u8], Lack>
     ensures found { IfOk result (λ left. IsClosed bytes.now left.now) }
     ensures none { IfErr result (λ _. (rest : List ℕ) → IsClosed bytes.now rest → ⊥) }
@@ -146,7 +146,7 @@ fn is_numeral(byte: u8) -> bool
     byte.is_ascii_digit() || matches!(byte, b'+' | b'-' | b'.' | b'E' | b'e')
 }
 
-/// What is after the bytes of numbers that stand first.
+/// Skips all bytes of numbers.
 fn behind_numerals<'i>(bytes: &'i [u8]) -> &'i [u8]
     ensures { (text : List ℕ) × (bytes.now ≡ text ++ result.now) × All IsNumeral text
         × NotFirst IsNumeral result.now }
@@ -160,8 +160,8 @@ fn behind_numerals<'i>(bytes: &'i [u8]) -> &'i [u8]
     }
 }
 
-/// What is after the text of the value that the bytes begin with, if they do. After cut bytes
-/// more may come: a text that it may change is not answered.
+/// Skips the text of a value, if the bytes start with one. On partial input (`cut`), a text that
+/// more bytes may change is not accepted.
 fn behind_text<'i>(bytes: &'i [u8], cut: bool) -> Result<&'i [u8], Lack>
     ensures found { IfOk result (λ left. (text : List ℕ) × Ends cut bytes.now text left.now) }
     ensures lack { IfErr result (Lacks cut bytes.now) }

@@ -1,4 +1,4 @@
-//! How the bytes inside of a string, of a number and of a word go on.
+//! State machines for the bytes inside a string, a number and a word.
 ghost use Rattle.format_json_pieces.specs.Inside.{escape_behind, expected, figure_behind, goes_on};
 ghost use Rattle.format_json_pieces.specs.Inside.{is_final};
 ghost use Rattle.format_json_pieces.specs.Inside.{is_hex, is_high, is_low, is_short, lead_behind};
@@ -7,12 +7,12 @@ ghost use Rattle.format_json_pieces.specs.Inside.{plain_behind};
 ghost use Rattle.format_json_pieces.specs.Inside.{tail_behind};
 ghost use Rattle.std.specs.Prelude.{◌≡◌};
 
-/// What is to come in a string.
+/// The input that is expected next in a string.
 #[derive(Clone, Copy, Drop)]
 pub enum Part {
     /// Any character, or the last quote.
     Plain,
-    /// What a backslash escapes.
+    /// The character after a backslash.
     Escape,
     /// The first of four hexadecimal digits.
     Unit,
@@ -42,24 +42,24 @@ pub enum Part {
     TailTwo,
     /// Three bytes more.
     TailThree,
-    /// Two bytes more, of which the first makes the number no smaller than what two bytes spell.
+    /// Two more bytes; the first excludes numbers that two bytes can encode.
     TailLong,
-    /// Two bytes more, of which the first makes the number no surrogate.
+    /// Two more bytes; the first excludes surrogates.
     TailScalar,
-    /// Three bytes more, of which the first makes the number no smaller than what three spell.
+    /// Three more bytes; the first excludes numbers that three bytes can encode.
     TailLonger,
-    /// Three bytes more, of which the first makes the number no larger than a character is.
+    /// Three more bytes; the first excludes numbers that are larger than any character.
     TailLast,
 }
 
-/// What comes of a byte of a string.
+/// The effect of a byte of a string.
 #[derive(Clone, Copy, Drop)]
 pub enum Inner {
     /// No string has it there.
     Broken,
     /// It is the last quote.
     Quote,
-    /// The string goes on.
+    /// The string continues.
     Part(Part),
 }
 
@@ -100,7 +100,7 @@ fn is_short(byte: u8) -> bool
         || byte == b't'
 }
 
-/// What is to come after the first byte of a character above ASCII.
+/// Returns what is expected after the first byte of a character that is not ASCII.
 fn lead_behind(byte: u8) -> Inner
     ensures { result ≡ lead_behind byte }
 {
@@ -136,7 +136,7 @@ fn part_where(test: bool, part: Part) -> Inner
     }
 }
 
-/// What comes of a byte where any character may stand.
+/// Returns the effect of a byte where any character is accepted.
 fn plain_behind(byte: u8) -> Inner
     ensures { result ≡ plain_behind byte }
 {
@@ -153,7 +153,7 @@ fn plain_behind(byte: u8) -> Inner
     }
 }
 
-/// What comes of a byte after a backslash.
+/// Returns the effect of a byte after a backslash.
 fn escape_behind(byte: u8) -> Inner
     ensures { result ≡ escape_behind byte }
 {
@@ -164,7 +164,7 @@ fn escape_behind(byte: u8) -> Inner
     }
 }
 
-/// What comes of a byte in a character above ASCII.
+/// Returns the effect of a byte in a character that is not ASCII.
 fn tail_behind(part: Part, byte: u8) -> Inner
     ensures { result ≡ tail_behind part byte }
 {
@@ -180,7 +180,7 @@ fn tail_behind(part: Part, byte: u8) -> Inner
     }
 }
 
-/// What comes of a byte of a string.
+/// The effect of a byte of a string.
 pub fn part_behind(part: Part, byte: u8) -> Inner
     ensures { result ≡ part_behind part byte }
 {
@@ -204,7 +204,7 @@ pub fn part_behind(part: Part, byte: u8) -> Inner
     }
 }
 
-/// What of a number stands there.
+/// The part of a number that was read last.
 #[derive(Clone, Copy, Drop)]
 pub enum Figure {
     /// A minus.
@@ -235,14 +235,14 @@ pub fn is_final(figure: Figure) -> bool
     }
 }
 
-/// Whether a number may go on with the byte: a digit, a point or an E.
+/// Returns whether the byte can continue a number: a digit, a point or an E.
 pub fn goes_on(byte: u8) -> bool
     ensures { result ≡ goes_on byte }
 {
     (b'0' <= byte && byte <= b'9') || byte == b'.' || byte == b'E' || byte == b'e'
 }
 
-/// What a number comes to by a byte more; none where it does not go on.
+/// Returns the state of a number after one more byte, or `None` if the byte cannot continue it.
 pub fn figure_behind(figure: Figure, byte: u8) -> Option<Figure>
     ensures { result ≡ figure_behind figure byte }
 {

@@ -1,19 +1,16 @@
-//! Values of JSON (RFC 8259) from bytes, whole and in pieces.
+//! JSON values (RFC 8259) from complete and partial input.
 //!
-//! Bytes are read as the UTF-8 that they are to be (section 8.1): what is no UTF-8 is no text. The
-//! end of a value is found by its quotes, brackets and letters alone, in one pass and with no
-//! memory; then its text is read as `format_json_values` does. Where no end is found and more may
-//! come, a
-//! second pass sees whether the bytes may go on to a value, with the brackets that are open in
-//! memory: where they may not, they are refused, however much would still have to come to the end.
-//! So what is read is told by the texts of `format_json_texts`, and what else is chosen there holds
-//! here:
-//! the level, numbers as they are written, members in order.
+//! Bytes are parsed as UTF-8 (section 8.1): a text that is not UTF-8 is rejected. The end of a
+//! value is found by its quotes, brackets and letters only, in one pass and without allocating;
+//! then its text is parsed as in `format_json_values`. If no end is found and more input may
+//! follow, a second pass checks whether the bytes can continue to a value, with the open brackets
+//! in memory. If they cannot, they are rejected, however far away the end is. So the results are
+//! specified by the texts of `format_json_texts`, and its other choices apply here: the level,
+//! numbers as they are written, members in order.
 //!
-//! A number ends where no byte stands with which it may go on: a digit, a point, an `e` or an `E`.
-//! So no value stands in `01`, `1.` or `1e`, though `format_json_values::value::read_value` takes
-//! the `0`
-//! or the `1`.
+//! A number must not be followed by a byte that can continue it: a digit, a point, an `e` or an
+//! `E`. So there is no value in `01`, `1.` or `1e`, although
+//! `format_json_values::value::read_value` parses the `0` or the `1`.
 #![tactic(auto)]
 
 mod begun;

@@ -1,4 +1,4 @@
-//! The first place at which bytes can no longer begin a text of JSON.
+//! The first offset at which bytes are no longer a prefix of a JSON text.
 ghost use Rattle.format_json_pieces.specs.Begun.{MayBegin};
 ghost use Rattle.format_json_pieces.specs.Place.{IsPlace};
 ghost use Rattle.format_json_pieces.specs.Value.{InUtf8};
@@ -12,7 +12,7 @@ use crate::begun::{Bracket, Mode, Step, next_step};
 use crate::expected::{Expected, wanted};
 use std::alloc::{AllocError, Allocator};
 
-/// A place in bytes, and what may stand there.
+/// An offset in bytes, and the input that is expected there.
 ///
 /// ```
 /// use format_json_pieces::expected::Expected;
@@ -23,19 +23,18 @@ use std::alloc::{AllocError, Allocator};
 /// ```
 #[derive(Clone, Copy, Debug, PartialEq, Eq, Drop)]
 pub struct Place {
-    /// How many bytes stand before it.
+    /// The number of bytes before it.
     pub offset: usize,
-    /// What may stand there.
+    /// The input that is expected there.
     pub expected: Expected,
 }
 
-/// The first place at which the bytes are no beginning of a text of JSON, of a value in which no
-/// more than that many arrays and objects stand in one another: those before the place may go on to
-/// such a text, and with the byte there they may not, whatever comes after it. Where all of the
-/// bytes may go on to a text, or are one, the place is their end.
+/// Returns the first offset at which the bytes are not a prefix of a JSON text whose arrays and
+/// objects are nested at most `level` deep. The bytes before the offset can continue to such a
+/// text. With the byte at the offset they cannot, regardless of what follows. If all of the bytes
+/// can continue to a text, or are one, the offset is their end.
 ///
-/// An error says that a request for memory was refused: one byte is held for each bracket that is
-/// open.
+/// Fails if memory allocation fails: one byte is held for each open bracket.
 ///
 /// ```
 /// use format_json_pieces::expected::Expected;
@@ -101,8 +100,8 @@ fn end_of(bytes: &[u8]) -> Place
     }
 }
 
-/// Bytes that may begin no text of JSON of a level, as the walk of [`first_place`] says, begin
-/// none: whatever comes after them, it is no text of any value of the level.
+/// Bytes that the walk of [`first_place`] rejects at a level begin no JSON text. No continuation of
+/// them is the text of a value at this level.
 ///
 /// ```
 /// use format_json_pieces::place::no_text_begins_otherwise;

@@ -1,4 +1,4 @@
-//! Values of JSON (RFC 8259) that bytes begin with, and texts of JSON in bytes.
+//! JSON values (RFC 8259) at the start of bytes, and JSON texts in bytes.
 ghost use Rattle.format_json_pieces.specs.Begun.{IsBegun};
 ghost use Rattle.format_json_pieces.specs.Told.{Fails, Stands};
 ghost use Rattle.format_json_pieces.specs.Value.{AreNumerals, HasInner, InUtf8, IsNext, IsNumeral};
@@ -29,7 +29,7 @@ use std::str;
 use winnow::error::{EmptyError, ErrMode, HasKind, Needed, ParseError, ParseFault, ParserError};
 use winnow::stream::{Partial, Stream, StreamIsPartial};
 
-/// Whether a character is first with which a number may go on.
+/// Returns whether the text starts with a character that can continue a number.
 fn goes_on(text: &str) -> bool
     ensures yes { IsTrue result → Begins GoesOn (chars text.now) }
     ensures no { result ≡ false → NotFirst GoesOn (chars text.now) }
@@ -40,7 +40,8 @@ fn goes_on(text: &str) -> bool
     }
 }
 
-/// The value that the bytes begin with, and what is after it. After cut bytes more may come.
+/// Returns the value that the bytes start with, and the remaining bytes. On partial input (`cut`)
+/// more may follow.
 fn value_in<'i, A: Allocator + Copy>(
     alloc: A,
     level: usize,
@@ -82,7 +83,7 @@ fn is_space(byte: u8) -> bool
     matches!(byte, b' ' | b'\t' | b'\n' | b'\r')
 }
 
-/// What is after white space.
+/// Skips whitespace.
 fn behind_gap<'i>(bytes: &'i [u8]) -> &'i [u8]
     ensures { (gap : List ℕ) × (bytes.now ≡ gap ++ result.now) × All IsMultispace gap
         × NotFirst IsMultispace result.now }
@@ -126,24 +127,26 @@ fn next_in<'i, A: Allocator + Copy>(
     }
 }
 
-/// The value that the bytes begin with, in which no more than `level` arrays and objects stand in
-/// one another, from an input to which more may come. It is answered once it is that of every
-/// longer input: an array, an object, a string or a word with its last byte, a number with the byte
-/// after it. The input is then left after the value. White space before it is not passed.
+/// Parses a value whose arrays and objects are nested at most `level` deep, from partial input. The
+/// value is returned once it is the same for every longer input. That is with the last byte of an
+/// array, an object, a string or a word, and with the byte after a number. The input is left after
+/// the value. Whitespace before the value is not skipped.
 ///
-/// The bytes of the value are to be UTF-8; what is after them is not looked at. A number ends
-/// where neither a digit, a point nor an `e` or `E` is after it, else no value stands there.
+/// The bytes of the value must be UTF-8; those after it are not examined. A number must not be
+/// followed by a digit, a point, an `e` or an `E`; otherwise there is no value.
 ///
-/// `Incomplete` where the bytes, or none, begin the text of a value of the level that may go on
-/// after them, and more may come: then none of the level stands in them, or they are the bytes of
-/// a number. Each byte is one that such a text may have there, by a walk over the bytes with the
-/// brackets that are open (clause `begun`, by `IsBegun`): so of `[x`, `[1,,` or `01` no more is
-/// asked for. (That bytes which go on so always are those of some value is tested, and not proved.)
-/// A caller bounds how many bytes it holds: of text that never closes more is asked for again and
-/// again, and what is there is read anew each time. Another error backtracks: no value of the level
-/// stands first, whatever comes after the bytes; or it is out of memory, where a request was
-/// refused. All of them leave the input as it was. Each level takes some of the stack: up to
-/// [`SAFE_LEVEL`](format_json_values::value::SAFE_LEVEL) two megabytes suffice.
+/// Fails with `Incomplete` if more input may follow, and the bytes (possibly none) begin the text
+/// of a value of the level, which may continue after them. Then there is no value of the level in
+/// them, or they are the bytes of a number. A walk over the bytes with the open brackets checks
+/// that each byte may occur there (clause `begun`, by `IsBegun`), so `[x`, `[1,,` and `01` are not
+/// `Incomplete`. (That bytes which pass the walk always begin some value is tested, not proved.)
+/// The caller must bound the bytes that it holds: a text that never closes is `Incomplete` again
+/// and again, and each call reads it anew.
+///
+/// Backtracks if no value of the level is at the start, regardless of what follows the bytes. Fails
+/// with out of memory if an allocation fails. All errors leave the input unchanged. Each level uses
+/// some of the stack: up to [`SAFE_LEVEL`](format_json_values::value::SAFE_LEVEL) two megabytes
+/// suffice.
 ///
 /// ```
 /// use format_json_pieces::value::read_value_in_pieces;
@@ -191,15 +194,15 @@ pub fn read_value_in_pieces<'i, A: Allocator + Copy>(
     }
 }
 
-/// The next of values with white space between them, as a stream of JSON texts has them: as
-/// [`read_value_in_pieces`], after white space. `None` where an input to which no more comes has
-/// white space at most; then nothing is left of it.
+/// Parses the next value of a stream of JSON texts, which are separated by whitespace: like
+/// [`read_value_in_pieces`], after whitespace. Returns `None` if a complete input has only
+/// whitespace; then all of it is consumed.
 ///
-/// A value may stand right after another, as in `[1][2]`; a number after a number only where it
-/// has a minus, as in `1-2`.
+/// A value may follow another directly, as in `[1][2]`. A number may follow a number directly only
+/// if it has a minus sign, as in `1-2`.
 ///
-/// The level and errors are those of [`read_value_in_pieces`]; errors leave the input as it was,
-/// the white space too. Of white space alone more is asked for, where more may come.
+/// The level and errors are those of [`read_value_in_pieces`]; errors leave the input unchanged,
+/// including the whitespace. Partial input of only whitespace is `Incomplete`.
 ///
 /// ```
 /// use format_json_pieces::value::read_next_in_pieces;
@@ -244,7 +247,7 @@ pub fn read_next_in_pieces<'i, A: Allocator + Copy>(
     }
 }
 
-/// A fault at a byte.
+/// Returns an error at a byte.
 fn refused<'i>(
     bytes: &'i [u8],
     offset: usize,
@@ -258,7 +261,7 @@ fn refused<'i>(
     ParseFault::Refused(ParseError::new(left, bytes.checkpoint(), inner))
 }
 
-/// A fault of a text, in its bytes.
+/// Converts an error of a text to one of its bytes.
 fn in_bytes<'i>(
     bytes: &'i [u8],
     fault: ParseFault<&'i str, EmptyError>,
@@ -276,13 +279,12 @@ fn in_bytes<'i>(
     }
 }
 
-/// The value of a text of JSON in bytes, where all of them are the UTF-8 of one: a value, in which
-/// no more than `level` arrays and objects stand in one another, with white space round it. Each
-/// level takes some of the stack, as of [`read_value_in_pieces`].
+/// Parses a JSON text, all of the bytes, which must be UTF-8. The text is a value with whitespace
+/// around it, whose arrays and objects are nested at most `level` deep. Each level uses some of the
+/// stack, as in [`read_value_in_pieces`].
 ///
-/// Else a fault, at a byte: after the longest front that is UTF-8 where not all is, else where
-/// `format_json_values::value::parse_value` stops. Or it says that a request for memory was
-/// refused.
+/// The error has a byte offset: the length of the longest UTF-8 prefix if the bytes are not UTF-8,
+/// otherwise where `format_json_values::value::parse_value` stops. Or it is out of memory.
 ///
 /// ```
 /// use format_json_pieces::value::parse_value_of_bytes;
@@ -319,9 +321,8 @@ pub fn parse_value_of_bytes<'i, A: Allocator + Copy>(
     }
 }
 
-/// What stands first as a value is, in bytes, a text of the value by RFC 8259, of the level, and
-/// UTF-8; and each such text stands so wherever neither a digit, nor a point, nor an `e` or `E` is
-/// after it.
+/// A match of a value in bytes is an encoding of the value by RFC 8259, of the level and in UTF-8.
+/// Each such encoding matches wherever neither a digit, nor a point, nor an `e` or `E` follows it.
 ///
 /// ```
 /// use format_json_pieces::value::values_are_those_of_the_standard;
@@ -336,8 +337,8 @@ pub fn values_are_those_of_the_standard<A: Allocator>()
         (InUtf8 (ValueText HasCharacters level)) (NotFirst GoesOn) }
 {}
 
-/// A value that bytes begin with ends at one place: what is after it is one end of the bytes,
-/// whichever value it is.
+/// A value at the start of bytes ends at one offset: the rest is the same suffix of the bytes for
+/// every value.
 ///
 /// ```
 /// use format_json_pieces::value::a_value_ends_at_one_place;

@@ -1,4 +1,4 @@
--- What parsers read, in the words of JSON.
+-- The results of parsers, in the terms of JSON.
 use Rattle.std.specs.Prelude.{◌≡◌, ◌↔◌, ◌≤◌, ◌++◌, ℕ, Bool, true, IsTrue, Result}
 use Rattle.std.specs.Prelude.{Ok, Err, Some, None, IfOk, MatchResult, string_bytes}
 use Rattle.std.specs.declared.string.String.{String}
@@ -50,7 +50,6 @@ module _ (set : RangeInclusive ℕ) (low high : ℕ) (start : range_inclusive_st
 abbrev pub RangesTell : RangeInclusive ℕ × RangeInclusive ℕ × RangeInclusive ℕ → ℕ → Bool → Type 0
 RangesTell s = EitherTells (RangeTells s.0) (EitherTells (RangeTells s.1) (RangeTells s.2))
 
--- the characters of what stands by grammars that are the same
 pub taken_same : {O : Type 0} {g h : Grammar ℕ O} → Same g h
     → Same (Taken text_reading g) (Taken text_reading h)
 unfolding Taken
@@ -89,7 +88,6 @@ module _ {O E : Type 0} (word : Slice) (value : O) {kind : E → Kind} {i j : In
       let slice : Slice = record { ref_ptr = (0, 0); now = encode_utf8_all (chars word.now) } in
       (slice, (chars word.now, slice, refl, refl, e, refl)))
 
--- a text that is kept in a string of its own, or memory is wanted
 pub kept_text : {A X E : Type 0} {kind : E → Kind} {g : Grammar ℕ Slice} {slice : Slice}
     {i j : Input ℕ} (made : Result (String A) X) (r : Result (String A) E)
     → IfOk made (λ text. string_bytes text ≡ slice.now)

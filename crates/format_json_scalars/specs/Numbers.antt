@@ -74,7 +74,7 @@ module _ {K T L : Type 0} (reading : Reading T L) (seen : K → T) (code : K →
   ExponentOf = Both latter (Both pair (Either (literal 101) (literal 69))
       (Optional (Either (literal 43) (literal 45)))) (DigitsOf 1)
 
-  -- a minus if it stands there, digits, and a fraction and an exponent if they do
+  -- an optional minus, digits, an optional fraction and an optional exponent
   abbrev pub NumberOf : Grammar T L
   NumberOf = Taken reading
       (Four (Optional (literal 45)) IntegerOf (Optional FractionOf) (Optional ExponentOf))

@@ -32,17 +32,16 @@ use Rattle.winnow.specs.Accumulator.Holds.{HasCharacters}
 use Rattle.winnow.specs.Texts.{Divides, NotFirst}
 use Rattle.winnow.specs.Texts.Tokens.{divides_as, divides_either, divides_seen}
 
--- characters, as many as stand, held by a string
+-- zero or more characters, held by a string
 abbrev pub Characters : {A : Type 0} → Grammar ℕ (String A)
 Characters = Gathered HasCharacters (Many Character (from_to 0 None))
 
 -- ---- runs
 
--- characters that stand for themselves, as many as stand, and a slice that shows them
+-- the longest run of unescaped characters, and its slice
 abbrev pub PlainRun : Grammar ℕ (Bor (List ℕ))
 PlainRun = RunOf text_reading IsUnescaped (λ c. IsUnescaped c → ⊥)
 
--- after a run stands none that stands for itself
 pub run_ends : {tokens rest : List ℕ} (slice : Bor (List ℕ)) → PlainRun tokens slice rest
     → NotFirst IsUnescaped rest
 run_ends slice (front, all, split, shown, ends) = ends
@@ -73,7 +72,6 @@ plain_or_not : (c : ℕ) → IsUnescaped c ⊎ (IsUnescaped c → ⊥)
 plain_or_not c = either_or_not (within_or_not 32 33 c)
     (either_or_not (within_or_not 35 91 c) (within_or_not 93 1114111 c))
 
--- what tells of two sets, where those of the first are known
 divides_or : {first others : ℕ → Bool → Type 0} {these those : ℕ → Type 0}
     → ((c : ℕ) → these c ⊎ (these c → ⊥)) → Divides first these (λ c. these c → ⊥)
     → Divides others those (λ c. those c → ⊥)
@@ -94,7 +92,6 @@ divides_or {first} {others} {these} {those} or_not d more =
     apart c (inr out) (inl x) = absurd (out x)
     apart c (inr out) (inr y) = inr (out, y)
 
--- what tells of a range
 divides_range : (r : RangeInclusive ℕ) (least most : ℕ) → range_inclusive_start r ≡ least
     → range_inclusive_end r ≡ most
     → Divides (RangeTells r) (IsWithin least most) (λ c. IsWithin least most c → ⊥)
@@ -117,7 +114,7 @@ run_same s a b d e f g = runs.run_same text_reading (λ c. c) RangesTell s IsUne
     (divides_range s.0 32 33 a b) (divides_or (within_or_not 35 91)
     (divides_range s.1 35 91 d e) (divides_range s.2 93 1114111 f g))))
 
--- ---- what is held of what was read
+-- ---- the state after some characters were read
 
 -- These characters were read up to here, and the string holds them.
 pub record HasRead {A : Type 0} (start : List ℕ) (text : String A) (here : List ℕ)
@@ -131,7 +128,6 @@ plain_one : (c : ℕ) (rest : List ℕ) → IsUnescaped c → Character (c ∷ r
 unfolding Either TokenOf
 plain_one c rest is = inl ((λ t. is, λ x. refl), refl)
 
--- where none that stands for itself is first, none is read
 no_plain : (tokens : List ℕ) → NotFirst IsUnescaped tokens → NoneStands (OneIn IsUnescaped) tokens
 unfolding TokenOf
 no_plain tokens ends c rest (told, e) =
@@ -177,7 +173,6 @@ fewer_left start mid rest slice c run x =
     run_takes text_reading IsUnescaped (λ k. IsUnescaped k → ⊥) start mid rest slice run
     (escape_takes.fewer mid c rest x)
 
--- where no run and no escape stands, these are all
 pub all_read : {A E : Type 0} {kind : E → Kind} {error : E} (start here now : List ℕ)
     (text : String A) → HasRead (chars start) text (chars here)
     → IsEndOf text_reading (text_input here) (text_input start)
@@ -189,7 +184,6 @@ all_read start here now text has ends last other r =
     (text_input now) text has.characters ends refl has.each has.held
     (λ none. neither_stands _ _ (chars here) (no_plain (chars here) last) none) other r
 
--- no run fails but for want of memory
 pub run_wants : {E : Type 0} {kind : E → Kind} {error : E} (here now : List ℕ)
     → Reads text_reading kind PlainRun (text_input here) (Err error) (text_input now)
     → kind error ≡ memory

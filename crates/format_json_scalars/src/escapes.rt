@@ -143,7 +143,8 @@ impl<'i> Rule<&'i str, char> for ShortEscape {
     ghost takes = { λ _ _. short_takes };
 }
 
-/// A character that a backslash escapes by itself: that for which both stand.
+/// Parses a character that a backslash escapes by itself, and returns the character that the escape
+/// denotes.
 fn read_short<'i>(input: &mut &'i str) -> Result<char, ErrMode<EmptyError>>
     ensures { Reads text_reading ⟦<ErrMode<EmptyError> as HasKind>⟧.kind
         (Meaning StandsFor (Token (λ c. c)))
@@ -152,7 +153,7 @@ fn read_short<'i>(input: &mut &'i str) -> Result<char, ErrMode<EmptyError>>
     Any.verify_map(unescaped).read(input)
 }
 
-/// The name of a backslash, and what it escapes.
+/// The name of an escape: a backslash and the characters that it escapes.
 #[derive(Clone, Copy, Drop)]
 pub struct AnyEscape;
 
@@ -168,7 +169,7 @@ impl<'i> Rule<&'i str, char> for AnyEscape {
     ghost takes = { λ _ _. escape_takes };
 }
 
-/// A backslash, and what it escapes.
+/// Parses a backslash and the characters that it escapes.
 pub fn read_escape<'i>(input: &mut &'i str) -> Result<char, ErrMode<EmptyError>>
     ensures { Reads text_reading ⟦<ErrMode<EmptyError> as HasKind>⟧.kind Escape
         (text_input input.old.now) result (text_input input.new.now) }

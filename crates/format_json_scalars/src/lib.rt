@@ -1,7 +1,7 @@
-//! Numbers, strings and words of JSON (RFC 8259, sections 3, 6 and 7), read from text by parsers.
+//! Parsers of numbers, strings and words of JSON (RFC 8259, sections 3, 6 and 7) in text.
 //!
-//! Where this differs from the standard: what has a surrogate alone, as an escape, is no string,
-//! though the grammar of the standard has it (section 8.2).
+//! A difference from the standard: a string with an unpaired escaped surrogate is rejected,
+//! although the grammar of the standard accepts it (section 8.2).
 #![tactic(auto)]
 
 mod escapes;

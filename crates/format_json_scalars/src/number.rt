@@ -32,7 +32,7 @@ impl<T: AsChar> ContainsToken<T> for LeadingDigits {
     }
 }
 
-/// The longest number that stands first, as it is written, over any stream of characters.
+/// Parses the longest number and returns it as it is written, over any stream of characters.
 ///
 /// ```
 /// use format_json_scalars::number::number;
@@ -59,7 +59,7 @@ where
         .read(input)
 }
 
-/// The longest number that stands first, as it is written.
+/// Parses the longest number and returns it as it is written.
 ///
 /// ```
 /// use format_json_scalars::number::read_number;

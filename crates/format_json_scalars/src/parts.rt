@@ -1,5 +1,4 @@
-//! Rules made of parts: what is read is said by the grammars of the parts, whichever parsers they
-//! are.
+//! Rules made of parts: they are specified by the grammars of the parts, for any parsers.
 ghost use Rattle.format_parts.specs.Words.{latter, pair};
 ghost use Rattle.winnow.specs.Exact.{Reads};
 ghost use Rattle.winnow.specs.Grammar.{Both, Either};
@@ -9,7 +8,7 @@ use winnow::combinator::{alt, opt, preceded};
 use winnow::error::ParserError;
 use winnow::stream::Stream;
 
-/// Reads the first, or the second where the first does not stand.
+/// Parses the first, or the second if the first does not match.
 pub fn read_either<I, O, E, P, Q>(first: P, second: Q, input: &mut I) -> Result<O, E>
 where
     I: Stream,

@@ -45,7 +45,7 @@ fn begins_number(input: &str) -> bool
     }
 }
 
-/// A word, for what is told by it.
+/// Parses a word, and returns its meaning.
 fn read_spelled(
     word: &'static str,
     is: Option<bool>,
@@ -75,7 +75,7 @@ fn read_word(input: &mut &str) -> Result<Option<bool>, ErrMode<EmptyError>>
     read_spelled("false", Some(false), input)
 }
 
-/// What a word means.
+/// Returns the value of a word.
 fn word_value<A: Allocator>(word: Option<bool>) -> Value<A>
     ensures { IsWord word result }
 {
@@ -96,7 +96,7 @@ fn read_word_value<A: Allocator>(input: &mut &str) -> Result<Value<A>, ErrMode<E
     }
 }
 
-/// A number, in a text of its own.
+/// Parses a number into an owned text.
 fn read_number_text<A: Allocator + Copy>(
     alloc: A,
     input: &mut &str,
@@ -140,7 +140,7 @@ fn read_string_value<A: Allocator + Copy>(
     }
 }
 
-/// The word, the number or the string that stands first, as a value.
+/// Parses a word, a number or a string as a value.
 ///
 /// ```
 /// use format_json_scalars::scalar::read_scalar;

@@ -18,7 +18,7 @@ use winnow::exact::Rule;
 use winnow::stream::Range;
 use winnow::token::take_while;
 
-/// Characters that stand for themselves, as many as stand.
+/// Parses the longest run of unescaped characters.
 fn read_plain<'i>(input: &mut &'i str) -> Result<&'i str, ErrMode<EmptyError>>
     ensures { Reads text_reading ⟦<ErrMode<EmptyError> as HasKind>⟧.kind PlainRun
         (text_input input.old.now) result (text_input input.new.now) }
@@ -78,10 +78,10 @@ fn read_characters<'i, A: Allocator + Copy>(
     }
 }
 
-/// The string that stands first, its escapes undone.
+/// Parses a string and returns it with its escapes undone.
 ///
-/// An escaped surrogate stands for no character unless it is one of a pair: what has one alone is
-/// no string here, though the grammar of the standard has it (section 8.2).
+/// An escaped surrogate denotes no character unless it is one of a pair. A string with an unpaired
+/// one is rejected here, although the grammar of the standard accepts it (section 8.2).
 ///
 /// ```
 /// use format_json_scalars::string::read_string;

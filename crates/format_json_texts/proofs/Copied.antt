@@ -1,4 +1,4 @@
--- What copies say, one more at a time, and that what stands in a value says less than it.
+-- Lemmas about the contents of copies, item by item, and about the weight of the values in a value.
 use Rattle.std.specs.Prelude.{◌≡◌, ◌+◌, ◌<◌, ℕ, zero, suc, List, [], ◌∷◌, ◌++◌, get_or, length}
 use Rattle.std.specs.Prelude.{string_bytes, take}
 use Rattle.std.specs.declared.string.String.{String}
@@ -10,7 +10,7 @@ use Rattle.format_json_texts.specs.Contents.{items_content, member, members_cont
 use Rattle.format_json_texts.specs.Contents.{no_members, null, number, object, text}
 use Rattle.format_json_texts.specs.declared.value.Value.{Object, Value, the_lemmas}
 
--- ---- how much is said
+-- ---- the weight of contents
 
 abbrev mutual
   pub weight : Content → ℕ

@@ -8,13 +8,11 @@ use Rattle.format_json_texts.specs.Kinds.{IsAlong, IsStep}
 use Rattle.format_json_texts.specs.declared.path.Step.{Step}
 use Rattle.format_json_texts.specs.declared.value.Value.{Value}
 
--- one more member is after
 pub one_behind : {X : Type 0} (all left others behind : List X) (x : X) → all ≡ left ++ behind
     → left ≡ others ++ x ∷ [] → all ≡ others ++ x ∷ behind
 one_behind all left others behind x e f =
     e ∙ ap (λ l. l ++ behind) f ∙ append_assoc others (x ∷ []) behind
 
--- where no member is left, all are after
 pub none_left : {X : Type 0} (P : X → Type 0) (all left behind : List X) → all ≡ left ++ behind
     → length left ≡ 0 → All P behind → All P all
 none_left P all left behind e none all_behind =

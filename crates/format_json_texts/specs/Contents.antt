@@ -1,4 +1,4 @@
--- What a value says, wherever its strings and lists lie.
+-- The contents of a value, independent of where its strings and lists are stored.
 use Rattle.std.specs.Prelude.{ℕ, Bool, List, [], ◌∷◌, map, string_bytes}
 use Rattle.std.specs.declared.string.String.{String}
 use Rattle.format_json_texts.specs.declared.value.Value.{Value, fold-Value}

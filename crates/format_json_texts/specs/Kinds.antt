@@ -1,4 +1,4 @@
--- What a value is, by its kind, and what stands in it.
+-- The kind of a value, and its contents.
 use Rattle.std.specs.Prelude.{◌≡◌, ◌⊎◌, ◌+◌, ℕ, ℤ, List, [], ◌∷◌, ◌++◌, Option, Some, None}
 use Rattle.std.specs.Prelude.{MatchOption, ok_or, slice_get, string_bytes}
 use Rattle.std.specs.Int.{w64}
@@ -23,7 +23,7 @@ module _ {A : Type 0} where
   abbrev pub ShowsText : String A → Bor (List ℕ) → Type 0
   ShowsText text shown = shown.now ≡ string_bytes text
 
-  -- The integer that the text of a number is in base ten, where it fits; none where it is no
+  -- The integer that the text of a number is in base ten, if it fits; `None` if the value is not a
   -- number.
   abbrev pub IsInteger : Value A → Option ℤ → Type 0
   IsInteger v n =
@@ -37,13 +37,13 @@ module _ {A : Type 0} where
       × ParsesUnsigned 64 10 (string_bytes text) (ok_or n text))
       ⊎ (((text : String A) → v ≡ values.Number text → ⊥) × (n ≡ None))
 
-  -- the elements of an array, and none of what is no array
+  -- the elements of an array; an empty list for any other value
   abbrev pub AreElements : Value A → List (Value A) → Type 0
   AreElements v items =
       ((list : Vec (Value A) A) × (v ≡ values.Array list) × (items ≡ list.items))
       ⊎ (((list : Vec (Value A) A) → v ≡ values.Array list → ⊥) × (items ≡ []))
 
-  -- the members of an object, and none of what is no object
+  -- the members of an object; an empty list for any other value
   abbrev pub AreMembers : Value A → List (String A × Value A) → Type 0
   AreMembers v members =
       ((list : Vec (String A × Value A) A) × (v ≡ values.Object list) × (members ≡ list.items))
@@ -60,7 +60,7 @@ module _ {A : Type 0} where
       × (behind : List (String A × Value A)) × (members ≡ before ++ member ∷ behind)
       × IsNamed name member × (v ≡ member.1) × All (λ m. IsNamed name m → ⊥) behind
 
-  -- the element at a place, counted from 0
+  -- the element at `index`, counted from 0
   abbrev pub IsAt : Value A → ℕ → Option (Value A) → Type 0
   IsAt v index found =
       (items : List (Value A)) × AreElements v items × (found ≡ slice_get items index)

@@ -54,30 +54,30 @@ NumberText =
 
 -- ---- what is read
 
--- a zero, or a digit from 1 on and as many as stand after it
+-- a zero, or a digit from 1 on and all digits after it
 abbrev pub Integer : Grammar ℕ Slice
 Integer =
     Either (Taken text_reading (Char 48))
     (Taken text_reading (Both pair (OneIn IsLeading) (RunOf IsDecDigit 0)))
 
--- a point, and as many digits as stand after it, one at least
+-- a point, and all digits after it, at least one
 abbrev pub Fraction : Grammar ℕ Slice
 Fraction = Both latter (Char 46) (RunOf IsDecDigit 1)
 
--- an E, a sign if one stands there, and as many digits as stand, one at least
+-- an E, an optional sign, and all digits after it, at least one
 abbrev pub Exponent : Grammar ℕ Slice
 Exponent =
     Both latter (Both pair (Either (Char 101) (Char 69)) (Optional (Either (Char 43) (Char 45))))
     (RunOf IsDecDigit 1)
 
--- a minus if it stands there, digits, and a fraction and an exponent if they do
+-- an optional minus, digits, an optional fraction and an optional exponent
 abbrev pub Number : Grammar ℕ Slice
 Number =
     Taken text_reading (Four (Optional (Char 45)) Integer (Optional Fraction) (Optional Exponent))
 
 -- ---- the one reads the other
 
--- a character with which a number may go on: a digit, a point or an E
+-- a character that can continue a number: a digit, a point or an E
 abbrev pub GoesOn : ℕ → Type 0
 GoesOn c = IsDecDigit c ⊎ ((c ≡ 46) ⊎ IsE c)
 

@@ -29,8 +29,8 @@ ArePair p c =
     (55296 ≤ p.0) × (p.0 < 56320) × (56320 ≤ p.1) × (p.1 < 57344)
     × (c ≡ 65536 + (p.0 - 55296) * 1024 + (p.1 - 56320))
 
--- the character after a backslash, and that for which both stand: of ", \ and / it is the same, of
--- b a backspace, of f a form feed, of n a line feed, of r a carriage return and of t a tab
+-- `StandsFor c k`: a backslash and `c` denote `k`: for ", \ and / the same character, for b a
+-- backspace, for f a form feed, for n a line feed, for r a carriage return and for t a tab
 abbrev pub StandsFor : ℕ → ℕ → Type 0
 StandsFor c k =
     ((c ≡ 34) × (k ≡ 34)) ⊎ (((c ≡ 92) × (k ≡ 92)) ⊎ (((c ≡ 47) × (k ≡ 47))
@@ -68,7 +68,7 @@ Unicode =
     Either (Meaning IsAlone CodeUnit)
     (Meaning ArePair (Both pair CodeUnit (Both latter (Both pair (Char 92) (Char 117)) CodeUnit)))
 
--- a backslash, and what it escapes
+-- a backslash, and the characters that it escapes
 abbrev pub Escape : Grammar ℕ ℕ
 Escape =
     Both latter (Char 92)
@@ -78,7 +78,7 @@ Escape =
 abbrev pub Character : Grammar ℕ ℕ
 Character = Either (OneIn IsUnescaped) Escape
 
--- as many as stand, between quotes
+-- zero or more characters between quotes
 abbrev pub Quoted : {A : Type 0} → (String A → List ℕ → Type 0) → Grammar ℕ (String A)
 Quoted holds =
     Three (λ o1 o2 o3. o2) (Char 34) (Gathered holds (Many Character (from_to 0 None))) (Char 34)
@@ -94,7 +94,6 @@ unicode_of =
     (both_of latter (both_of pair (char_of 92) (char_of 117) front_any) unit_of
     front_any) front_any)) (record { makes = alone })
   where
-    -- what is alone is no first of a pair
     apart : (u c d : ℕ) (p : ℕ × ℕ) → IsAlone u c → ArePair p d → u ≡ p.0 → ⊥
     apart u c d p (e, inl low) (above, below, from, to, f) same =
         absurd (omega (arith, low, above, below, same))

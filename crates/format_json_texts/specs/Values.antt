@@ -80,7 +80,7 @@ module _ {A : Type 0} (holds : String A → List ℕ → Type 0) where
   abbrev pub ObjectText : Text ℕ (Value A) → Text ℕ (Vec (String A × Value A) A)
   ObjectText value = Between (Mark 123) (InList (PartedText (Mark 44) (MemberText value))) (One 125)
 
-  -- a value, of which no more than that many arrays and objects stand in one another
+  -- a value whose arrays and objects are nested at most `level` deep
   unfoldable pub ValueText : ℕ → Text ℕ (Value A)
   ValueText zero = ScalarText
   ValueText (suc level) =
@@ -93,7 +93,7 @@ module _ {A : Type 0} (holds : String A → List ℕ → Type 0) where
 
 -- ---- what is read
 
--- white space, as much as stands
+-- all whitespace
 abbrev pub Gap : Grammar ℕ Slice
 Gap = RunOf IsMultispace 0
 
@@ -109,7 +109,7 @@ AnyWord =
     (Either (Word (116 ∷ 114 ∷ 117 ∷ 101 ∷ []) (Some true))
     (Word (102 ∷ 97 ∷ 108 ∷ 115 ∷ 101 ∷ []) (Some false)))
 
--- elements with commas between them, as many as stand, in a list
+-- zero or more elements separated by commas, in a list
 abbrev pub Commas : {O A : Type 0} → Grammar ℕ O → Grammar ℕ (Vec O A)
 Commas element =
     Gathered (λ list os. list.items ≡ os) (Parted element (Punctuation 44) (from_to 0 None))

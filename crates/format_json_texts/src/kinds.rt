@@ -1,4 +1,4 @@
-//! What a value is, by its kind, and what stands in it.
+//! The kind of a value, and its contents.
 ghost use Rattle.format_json_texts.specs.Kinds.{AreElements, AreMembers, Has, IsAt, IsGot};
 ghost use Rattle.format_json_texts.specs.Kinds.{IsInteger, IsLastNamed, IsNatural, ShowsText};
 ghost use Rattle.format_json_texts.specs.declared.value.Value as values;
@@ -42,7 +42,7 @@ impl<A: Allocator> Value<A> {
         }
     }
 
-    /// The text of a number, as it is written; none where it is no number.
+    /// Returns the text of a number as it is written, or `None` if the value is not a number.
     ///
     /// ```
     /// use format_json_texts::value::Value;
@@ -61,8 +61,9 @@ impl<A: Allocator> Value<A> {
         }
     }
 
-    /// The integer that a number is written as. None where it is no number, where its text has a
-    /// point or an exponent, and where the integer does not fit 64 bits with a sign.
+    /// Returns the integer that a number is written as. Returns `None` if the value is not a
+    /// number, if its text has a point or an exponent, or if the integer does not fit 64 bits with
+    /// a sign.
     ///
     /// ```
     /// use format_json_texts::value::Value;
@@ -103,7 +104,7 @@ impl<A: Allocator> Value<A> {
         }
     }
 
-    /// A string, its escapes undone; none where it is no string.
+    /// Returns a string, with its escapes undone, or `None` if the value is not a string.
     ///
     /// ```
     /// use format_json_texts::value::Value;
@@ -122,7 +123,7 @@ impl<A: Allocator> Value<A> {
         }
     }
 
-    /// The elements of an array; none where it is no array.
+    /// Returns the elements of an array, or `None` if the value is not an array.
     ///
     /// ```
     /// use format_json_texts::value::Value;
@@ -143,7 +144,8 @@ impl<A: Allocator> Value<A> {
         }
     }
 
-    /// The members of an object, each a name and a value; none where it is no object.
+    /// Returns the members of an object, each a name and a value, or `None` if the value is not an
+    /// object.
     ///
     /// ```
     /// use format_json_texts::value::Value;
@@ -164,7 +166,7 @@ impl<A: Allocator> Value<A> {
         }
     }
 
-    /// The elements of an array, to walk over; of any other value none stand there.
+    /// Returns the elements of an array, to iterate over, or an empty slice for any other value.
     ///
     /// ```
     /// use format_json_texts::value::Value;
@@ -187,8 +189,8 @@ impl<A: Allocator> Value<A> {
         }
     }
 
-    /// The members of an object, each a name and a value, to walk over; of any other value none
-    /// stand there.
+    /// Returns the members of an object, each a name and a value, to iterate over, or an empty
+    /// slice for any other value.
     ///
     /// ```
     /// use format_json_texts::value::Value;
@@ -211,8 +213,8 @@ impl<A: Allocator> Value<A> {
         }
     }
 
-    /// The element of an array at a place, counted from 0; none where no element stands there, or
-    /// it is no array.
+    /// Returns the element of an array at `index`, counted from 0. Returns `None` if there is no
+    /// such element, or if the value is not an array.
     ///
     /// ```
     /// use format_json_texts::value::Value;
@@ -230,8 +232,9 @@ impl<A: Allocator> Value<A> {
         self.elements().get(index)
     }
 
-    /// The value of the last member of this name, as other readers of JSON take it; none where no
-    /// member has the name, or it is no object. It walks over the members from the last on.
+    /// Returns the value of the last member with this name, as other JSON parsers do. Returns
+    /// `None` if no member has the name, or if the value is not an object. It searches the members
+    /// from the last to the first.
     ///
     /// ```
     /// use format_json_texts::value::Value;

@@ -10,8 +10,8 @@ ghost use Rattle.winnow.specs.Texts.{Anything, IsGrammarOf, NotFirst};
 
 use std::alloc::Allocator;
 
-/// What stands by the grammar of numbers is a number of RFC 8259 (section 6); and such a number
-/// stands by it wherever neither a digit, nor a point, nor an `e` or `E` is after it.
+/// A match of the grammar of numbers is a number of RFC 8259 (section 6). Such a number matches
+/// wherever neither a digit, nor a point, nor an `e` or `E` follows it.
 ///
 /// ```
 /// use format_json_texts::laws::numbers_are_those_of_the_standard;
@@ -22,10 +22,10 @@ pub fn numbers_are_those_of_the_standard()
     ensures { IsGrammarOf Number NumberText (NotFirst GoesOn) }
 {}
 
-/// What stands by the grammar of strings is a string of RFC 8259 (section 7), for what holds its
-/// characters with their escapes undone; and such a string stands by it, whatever is after it. An
-/// escaped surrogate stands for no character unless it is one of a pair, so what has one alone is
-/// the text of no string, though the grammar of the standard has it (section 8.2).
+/// A match of the grammar of strings is a string of RFC 8259 (section 7), for an output that holds
+/// its characters with their escapes undone. Such a string matches, regardless of what follows it.
+/// An escaped surrogate denotes no character unless it is one of a pair. So a text with an unpaired
+/// one is not a string, although the grammar of the standard accepts it (section 8.2).
 ///
 /// ```
 /// use format_json_texts::laws::strings_are_those_of_the_standard;
@@ -39,9 +39,9 @@ pub fn strings_are_those_of_the_standard<A: Allocator>()
     ensures { IsGrammarOf (Quoted {A = A} HasCharacters) (StringText HasCharacters) Anything }
 {}
 
-/// What stands by the grammar of texts of JSON is such a text of RFC 8259 (section 2), of a value
-/// in which no more than that many arrays and objects are nested; and such a text stands by it
-/// wherever neither white space is after it, nor what a number may go on with.
+/// A match of the grammar of JSON texts is such a text by RFC 8259 (section 2), whose arrays and
+/// objects are nested at most `level` deep. Such a text matches wherever neither whitespace follows
+/// it, nor a character that can continue a number.
 ///
 /// ```
 /// use format_json_texts::laws::nested_values_are_those_of_the_standard;

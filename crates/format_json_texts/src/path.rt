@@ -16,7 +16,7 @@ use std::alloc::Allocator;
 pub enum Step<'n> {
     /// To the value of the last member of this name.
     Name(&'n str),
-    /// To the element at this place.
+    /// To the element at this index.
     Place(usize),
 }
 
@@ -31,10 +31,10 @@ impl<A: Allocator> Value<A> {
         }
     }
 
-    /// The value to which a path leads: each step to the value of the last member of a name, or to
-    /// the element at a place, counted from 0. None where a step leads to nothing: there is no such
-    /// member or element, or the value is no object or no array. A path of no steps leads to the
-    /// value itself.
+    /// Returns the value at the end of a path. Each step leads to the value of the last member with
+    /// a name, or to the element at an index, counted from 0. Returns `None` if a step leads to
+    /// nothing: there is no such member or element, or the value is not an object or an array. An
+    /// empty path leads to the value itself.
     ///
     /// ```
     /// use format_json_texts::path::Step;

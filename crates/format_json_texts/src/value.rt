@@ -2,13 +2,13 @@
 
 use std::alloc::Allocator;
 
-/// A value. An object keeps its members in order, also those that have one name.
+/// A value. An object keeps its members in order, including those with the same name.
 ///
-/// Two values are equal where they are of one kind and have the same text, or equal elements or
-/// members in the same order: so the numbers `1` and `1.0` are not equal, and neither are objects
-/// whose members stand in another order. A copy ([`clone`](Clone::clone)) asks for memory, which
-/// may be refused. To compare, copy, show or let go a value calls itself once for each array and
-/// object that stands in another, as reading it does.
+/// Two values are equal if they are of one kind and have the same text, or equal elements or
+/// members in the same order. So the numbers `1` and `1.0` are not equal, and neither are objects
+/// whose members are in a different order. [`clone`](Clone::clone) allocates, which may fail.
+/// Comparing, copying, showing and dropping a value recurse once for each nested array and object,
+/// as parsing does.
 ///
 /// ```
 /// use format_json_texts::value::Value;

@@ -96,7 +96,6 @@ module _ {A : Type 0} (g : Grammar ℕ (Value A)) (tokens : List ℕ) where
 -- ---- so a value is read by its first character
 
 module _ {A E : Type 0} {kind : E → Kind} {i j : Input ℕ} {result : Result (Value A) E} where
-  -- where nothing opens, or no level is left, it has no others in it
   pub value_scalar : (level : ℕ) → (level ≡ 0) ⊎ NotFirst IsOpening i.left.tokens
       → Reads text_reading kind (Scalar HasCharacters) i result j
       → Reads text_reading kind (AnyValue HasCharacters level) i result j
@@ -110,7 +109,6 @@ module _ {A E : Type 0} {kind : E → Kind} {i j : Input ℕ} {result : Result (
       (no_object _ i.left.tokens
       (not_first (λ c. c ≡ 123) IsOpening (λ c e. inr e) i.left.tokens not))) r
 
-  -- where a bracket opens it is an array of values of one level less
   array_read : (below : ℕ) → Begins (λ c. c ≡ 91) i.left.tokens
       → Reads text_reading kind
       (Meaning IsArray (Array HasCharacters (AnyValue HasCharacters below))) i result j

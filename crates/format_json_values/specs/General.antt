@@ -1,9 +1,8 @@
--- What is not of JSON alone: where nothing stands.
+-- Lemmas that do not depend on JSON: conditions under which nothing matches.
 use Rattle.std.specs.Prelude.{List}
 use Rattle.winnow.specs.Grammar.{Both, Grammar, NoneStands, Three}
 
 module _ {T O1 O2 O : Type 0} (output : O1 → O2 → O) (g1 : Grammar T O1) (g2 : Grammar T O2) where
-  -- where the first does not stand, both do not
   pub none_both : (tokens : List T) → NoneStands g1 tokens → NoneStands (Both output g1 g2) tokens
   unfolding Both
   none_both tokens none o rest (o1, o2, mid, x, y, e) = none o1 mid x

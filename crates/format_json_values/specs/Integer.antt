@@ -6,8 +6,9 @@ use Rattle.std.specs.declared.string.String.{String}
 use Rattle.format_json_texts.specs.declared.value.Value.{Value}
 use Rattle.format_json_texts.specs.declared.value.Value as values
 
--- A number has the integer that its digits are in base ten, with a sign before them or without,
--- where its text is these and no more, and where it fits 64 bits. What is no number has none.
+-- `HasInteger v n`: `n` is the integer that the digits of a number are in base ten, with or without
+-- a sign, if its text has nothing else and it fits 64 bits. A value that is not a number has no
+-- integer.
 abbrev pub HasInteger : {A : Type 0} → Value A → Option ℤ → Type 0
 HasInteger {A} v n =
     ((text : String A) × (v ≡ values.Number text)

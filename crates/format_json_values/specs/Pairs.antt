@@ -1,4 +1,4 @@
--- What stands between the marks of an object: pairs of a name and a value.
+-- The contents of an object: pairs of a name and a value.
 use Rattle.std.specs.Prelude.{◌≡◌, Result}
 use Rattle.std.specs.declared.vec.Vec.{Vec}
 use Rattle.winnow.specs.Input.{Input}

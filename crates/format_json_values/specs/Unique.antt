@@ -1,4 +1,4 @@
--- What arrays, objects and values of a level leave is one rest, and they take characters.
+-- Proofs that arrays, objects and values of a level leave a unique rest, and consume characters.
 use Rattle.std.specs.Prelude.{◌≡◌, ℕ, zero, suc, true, false, [], ◌∷◌, Some, None}
 use Rattle.std.proofs.Common.{inl}
 use Rattle.winnow.specs.AsChar.{IsMultispace}

@@ -4,9 +4,9 @@ ghost use Rattle.format_json_values.specs.Integer.{HasInteger};
 use format_json_texts::value::Value;
 use std::alloc::Allocator;
 
-/// The integer that a number is written as, in digits with a sign before them or without: of a
-/// number of JSON the sign is a minus. None where the value is no number, where its text has a
-/// point or an exponent, and where the integer does not fit 64 bits.
+/// Returns the integer that a number is written as, in digits with or without a sign: the sign of a
+/// JSON number is a minus. Returns `None` if the value is not a number, if its text has a point or
+/// an exponent, or if the integer does not fit 64 bits.
 ///
 /// ```
 /// use format_json_values::integer::as_i64;

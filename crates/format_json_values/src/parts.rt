@@ -1,5 +1,5 @@
-//! Rules made of parts: what is read is said by the grammars of the parts, whichever parsers they
-//! are, and over any stream.
+//! Rules made of parts: they are specified by the grammars of the parts, for any parsers and over
+//! any stream.
 ghost use Rattle.format_parts.specs.Marks.{Items};
 ghost use Rattle.format_parts.specs.Words.{former, latter};
 ghost use Rattle.format_json_values.specs.Pairs.{Pair};

@@ -24,10 +24,9 @@ use winnow::ascii::impls::Multispace0;
 use winnow::error::{EmptyError, ErrMode, HasKind, ParseFault, ParserError};
 use winnow::exact::Rule;
 
-/// A level that is safe on a stack of two megabytes: reading a value calls itself once for each
-/// array and object that stands in another, and so does letting the value go. At a higher level a
-/// text can nest so deep that the stack ends, which stops the program: the stack, too, is to be
-/// larger then.
+/// A level that is safe on a stack of two megabytes: parsing a value recurses once for each nested
+/// array and object, and so does dropping the value. A higher level requires a larger stack.
+/// Otherwise a deeply nested text can overflow the stack, which stops the program.
 ///
 /// ```
 /// use format_json_values::value::{SAFE_LEVEL, parse_value};
@@ -90,13 +89,12 @@ impl<'i, A: Allocator> Rule<&'i str, Value<A>> for Nested<A> {
     ghost takes = { λ r _. value_takes r.1 };
 }
 
-/// The value that stands first, in which no more than that many arrays and objects stand in one
-/// another.
+/// Parses a value whose arrays and objects are nested at most `level` deep.
 ///
-/// White space inside of arrays and objects is read, and none before or after the value. Each
-/// level takes some of the stack: up to [`SAFE_LEVEL`] two megabytes suffice. The input is left
-/// after the value. An error backtracks where no value of the level stands first, and is out of
-/// memory where a request was refused; what of the input is left then is an end of it.
+/// Whitespace inside arrays and objects is consumed, but none before or after the value. Each level
+/// uses some of the stack: up to [`SAFE_LEVEL`] two megabytes suffice. On success the input is left
+/// after the value. Backtracks if the input does not start with a value of the level, and fails
+/// with out of memory if an allocation fails; then the input is a suffix of the original input.
 ///
 /// ```
 /// use format_json_texts::value::Value;
@@ -157,13 +155,13 @@ pub fn read_value<'i, A: Allocator + Copy>(
     }
 }
 
-/// The value of a text of JSON, where all of the text is one: a value, in which no more than so
-/// many arrays and objects stand in one another, with white space before it and after it. Each
-/// level takes some of the stack, as of [`read_value`].
+/// Parses a JSON text, all of it: a value with whitespace before and after it, whose arrays and
+/// objects are nested at most `level` deep. Each level uses some of the stack, as in
+/// [`read_value`].
 ///
-/// Else a fault: it says that the text is none, and at which byte reading stopped; or that a
-/// request for memory was refused. In an array or an object reading stops after the last item that
-/// is whole. Where it stopped is tested, and not proved.
+/// If the text is not JSON, the error gives the byte at which parsing stopped; otherwise the error
+/// is out of memory. In an array or an object, parsing stops after the last complete item. Where it
+/// stops is tested, not proved.
 ///
 /// ```
 /// use format_json_texts::value::Value;

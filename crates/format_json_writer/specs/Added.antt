@@ -1,4 +1,4 @@
--- What stands in a text when more was written after it.
+-- The contents of a text after more was appended to it.
 use Rattle.std.specs.Prelude.{◌≡◌, ℕ, List, [], ◌∷◌, ◌++◌, encode_utf8, encode_utf8_all}
 use Rattle.std.proofs.Common.{refl, sym, ap, ◌∙◌, append_assoc}
 use Rattle.std.proofs.lemmas.List.{append-nil}
@@ -6,12 +6,12 @@ use Rattle.std.proofs.lemmas.Str.{encodes-append}
 use Rattle.format_parts.specs.Words.{One}
 use Rattle.winnow.specs.Texts.{BothText, EachText, Spelled, Text}
 
--- What stood there stands there, and more may be after it.
+-- `Keeps before after`: `after` is `before`, possibly followed by more.
 pub record Keeps (before after : List ℕ) : Type 0 where
   pub more : List ℕ
   pub behind : after ≡ before ++ more
 
--- What stood there stands there, and a text of the value is after it, in UTF-8.
+-- `Adds text o before after`: `after` is `before` followed by an encoding of `o`, in UTF-8.
 pub record Adds {O : Type 0} (text : Text ℕ O) (o : O) (before after : List ℕ) : Type 0 where
   pub tokens : List ℕ
   pub is : text o tokens

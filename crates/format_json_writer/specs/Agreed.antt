@@ -1,4 +1,4 @@
--- Grammars by which outputs that stand in the same tokens are alike.
+-- Grammars whose outputs for the same tokens are equivalent.
 use Rattle.std.specs.Prelude.{◌≡◌, ⊤, ℕ, List, [], ◌∷◌, ◌++◌, None}
 use Rattle.std.specs.declared.vec.Vec.{Vec}
 use Rattle.std.proofs.Common.{sym, subst, inl, inr, ◌∙◌}
@@ -10,26 +10,24 @@ use Rattle.winnow.specs.Grammar.{Many, NoneStands, Parted, Stops, Three}
 use Rattle.winnow.specs.Grammar.Meaning.{Meaning}
 use Rattle.winnow.specs.Grammar.Unique.{both_unique}
 
--- Outputs that stand first in the same tokens are alike.
+-- `Agrees alike grammar`: outputs of `grammar` at the start of the same tokens are equivalent.
 pub record Agrees {O : Type 0} (alike : O → O → Type 0) (grammar : Grammar ℕ O) : Type 0 where
   pub one : (tokens : List ℕ) (o p : O) (rest other : List ℕ) → grammar tokens o rest
       → grammar tokens p other → alike o p
 
--- lists of one length, in which what stands at one place is alike
+-- lists of the same length whose items are pairwise equivalent
 abbrev pub ArePairwise : {O : Type 0} → (O → O → Type 0) → List O → List O → Type 0
 ArePairwise alike [] [] = ⊤
 ArePairwise alike [] (p ∷ ps) = ⊥
 ArePairwise alike (o ∷ os) [] = ⊥
 ArePairwise alike (o ∷ os) (p ∷ ps) = alike o p × ArePairwise alike os ps
 
--- beginnings of the same tokens after which the same is left
 pub one_beginning : {tokens : List ℕ} (f g rest more : List ℕ) → tokens ≡ f ++ rest
     → tokens ≡ g ++ more → rest ≡ more → f ≡ g
 one_beginning {tokens} f g rest more a b e =
     let P : List ℕ → Type 0 = λ l. tokens ≡ g ++ l in
     append_cancel_right f g rest (sym a ∙ subst P (sym e) b)
 
--- where as many as stand were read, none stands
 none_more : {O : Type 0} (g : Grammar ℕ O) (n : ℕ) (rest : List ℕ) → Stops g None n rest
     → NoneStands g rest
 none_more g n rest (inl full) = absurd (cc)
@@ -115,7 +113,7 @@ module _ {O : Type 0} {alike : O → O → Type 0} where
             (subst P (unique.one tokens o p mid end x y) more) others none n,
       )
 
-  -- as many as stand
+  -- zero or more
   pub many_agree : {g : Grammar ℕ O} → IsUnique g → Agrees alike g
       → Agrees (ArePairwise alike) (Many g (from_to 0 None))
   unfolding Many
@@ -125,7 +123,7 @@ module _ {O : Type 0} {alike : O → O → Type 0} where
         (none_more g _ other t);
   }
 
-  -- as many as stand, with a mark between each two of them
+  -- zero or more, with a separator between each two of them
   pub parted_agree : {D : Type 0} {g : Grammar ℕ O} {mark : Grammar ℕ D} → IsUnique g
       → IsUnique mark → Agrees alike g → Agrees (ArePairwise alike) (Parted g mark (from_to 0 None))
   unfolding Parted

@@ -1,4 +1,4 @@
--- Values of which one text is written are alike.
+-- Proofs that values with a common encoding are equivalent.
 use Rattle.std.specs.Prelude.{◌≡◌, ◌⊎◌, ◌+◌, ◌*◌, ◌-◌, ◌==◌, if◌then◌else◌, ℕ, zero, suc, Bool}
 use Rattle.std.specs.Prelude.{List, [], ◌∷◌, ◌++◌, Option, Some, None}
 use Rattle.std.specs.Prelude.{encode_utf8_all, string_bytes}
@@ -35,20 +35,20 @@ use Rattle.winnow.specs.Grammar.Sequences.{three_unique}
 use Rattle.winnow.specs.Grammar.Unique.{both_unique}
 use Rattle.winnow.specs.Accumulator.Holds.{HasCharacters}
 
--- ---- values that are alike
+-- ---- equivalent values
 
 -- strings of the same bytes, wherever these lie
 abbrev pub HaveSameBytes : {A : Type 0} → String A → String A → Type 0
 HaveSameBytes s t = string_bytes s ≡ string_bytes t
 
 module _ {A : Type 0} where
-  -- one name, and values that are alike
+  -- the same name, and equivalent values
   abbrev pub AreAlikeMembers : (Value A → Value A → Type 0) → String A × Value A
       → String A × Value A → Type 0
   AreAlikeMembers alike m n = HaveSameBytes m.0 n.0 × alike m.1 n.1
 
-  -- the same word, numbers or strings of the same bytes, arrays of as many values, pair by pair
-  -- alike, or objects of as many members
+  -- the same word, numbers or strings of the same bytes, arrays of pairwise equivalent values, or
+  -- objects of pairwise equivalent members
   abbrev pub AreAlikeBy : (Value A → Value A → Type 0) → Value A → Value A → Type 0
   AreAlikeBy alike v w =
       (v ≡ w)
@@ -214,7 +214,6 @@ module _ {A : Type 0} where
       (either_agrees (items_agree (AreAlike level) (value_unique level) (value_agrees level))
       (members_agree (AreAlike level) (value_unique level) (value_agrees level)))
 
-  -- so values that have one text are alike
   pub texts_alike : (level : ℕ) (v w : Value A) (tokens : List ℕ)
       → JsonText HasCharacters level v tokens → JsonText HasCharacters level w tokens
       → AreAlike level v w

@@ -1,4 +1,4 @@
--- What is read of a text that was written.
+-- The results of parsing a text that was written.
 use Rattle.std.specs.Prelude.{◌≡◌, ℕ, List, Result, Ok, IfErr}
 use Rattle.std.specs.Str.{chars}
 use Rattle.std.proofs.Common.{sym, subst}
@@ -14,12 +14,10 @@ use Rattle.winnow.specs.Accumulator.Holds.{HasCharacters}
 use Rattle.winnow.specs.Told.{IsTextOf, text_found}
 
 module _ {A : Type 0} where
-  -- a text of a value is a text of JSON
   as_json : (level : ℕ) → IsWithin (ValueText {A = A} HasCharacters level)
       (JsonText HasCharacters level)
   as_json level = within_alone (within_spaced within_refl)
 
-  -- and what is read of it is alike
   pub written_alike : (level : ℕ) (v w : Value A) (tokens : List ℕ)
       → ValueText HasCharacters level v tokens → JsonText HasCharacters level w tokens
       → AreAlike level v w

@@ -1,4 +1,4 @@
--- What is put after a text for a value, part by part.
+-- Lemmas about the text that is appended for a value, part by part.
 use Rattle.std.specs.Prelude.{◌≡◌, ◌≤◌, ◌<◌, ◌+◌, ℕ, suc, List, [], ◌∷◌, ◌++◌, Bool, true, false}
 use Rattle.std.specs.Prelude.{Option, Some, None, drop, length, slice_index_or}
 use Rattle.std.specs.Prelude.{encode_utf8_all, string_bytes}

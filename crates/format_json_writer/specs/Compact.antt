@@ -1,5 +1,5 @@
--- Which of its texts is written for a value: the one with no white space, in which strings are
--- escaped as RFC 8785 (section 3.2.2.2) has it.
+-- The encoding that is written for a value: without whitespace, and with strings escaped as
+-- specified in RFC 8785 (section 3.2.2.2).
 use Rattle.std.specs.Prelude.{ℕ, zero, suc}
 use Rattle.std.specs.declared.string.String.{String}
 use Rattle.std.specs.declared.vec.Vec.{Vec}
@@ -43,7 +43,7 @@ module _ {A : Type 0} where
   CompactObject value =
       Between (One 123) (InList (PartedText (One 44) (CompactMember value))) (One 125)
 
-  -- a value, of which no more than that many arrays and objects stand in one another
+  -- a value whose arrays and objects are nested at most `level` deep
   unfoldable pub CompactValue : ℕ → Text ℕ (Value A)
   CompactValue zero = CompactScalar
   CompactValue (suc level) =

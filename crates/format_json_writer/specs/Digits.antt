@@ -1,4 +1,4 @@
--- Whether all of a text is a number, by what its reader tells.
+-- Whether all of a text is a number, by the result of its parser.
 use Rattle.std.specs.Prelude.{◌≡◌, ◌==◌, ℕ, Bool, true, false, List, [], ◌∷◌, ◌++◌, length, Ok}
 use Rattle.std.specs.Prelude.{Err, encode_utf8_all}
 use Rattle.std.specs.Str.{IsUtf8, chars}
@@ -14,7 +14,6 @@ use Rattle.format_json_texts.specs.Number.{Number, NumberText, number_of}
 use Rattle.format_parts.specs.Words.{Slice}
 use Rattle.winnow.specs.Exact.{Reads}
 
--- a text of no bytes has no characters
 pub all_read : (text : List ℕ) (is_empty : Bool) → is_empty ≡ (length text == 0)
     → is_empty ≡ true → chars text ≡ []
 all_read text b e is =
@@ -53,7 +52,6 @@ module _ {E : Type 0} {kind : E → Kind} (text rest : List ℕ) where
       some (number_unique.one (chars text) slice other (chars rest) [] (r.stands refl)
       (alone (chars text) other a))
 
-  -- where none stands none is all of it
   pub number_none : {error : E}
       → Reads text_reading kind Number (text_input text) (Err error) (text_input rest)
       → (kind error ≡ memory → ⊥) → (other : Slice) → NumberText other (chars text) → ⊥

@@ -1,4 +1,4 @@
--- What a text of a value tells of the values in it.
+-- Lemmas about the encodings of the values in a value.
 use Rattle.std.specs.Prelude.{◌≡◌, ◌<◌, ℕ, zero, suc, Bool, List, [], ◌∷◌, Option, Some, None}
 use Rattle.std.specs.Prelude.{string_bytes}
 use Rattle.std.specs.List.{All}
@@ -94,7 +94,7 @@ module _ {A : Type 0} where
 
 -- ---- texts of lists
 
--- there is a text of it
+-- `HasOne text o`: `o` has an encoding
 abbrev pub HasOne : {O : Type 0} → Text ℕ O → O → Type 0
 HasOne text o = (tokens : List ℕ) × text o tokens
 
@@ -163,7 +163,6 @@ module _ {A : Type 0} where
   no_object members tokens a =
       absurd (omega (arith, scalar_alone _ tokens a, object_kind members))
 
-  -- in a text of an array each of its values has one, of one level less
   pub array_values : (below : ℕ) (items : Vec (Value A) A) (tokens : List ℕ)
       → ValueText HasCharacters (suc below) (values.Array items) tokens
       → All (HasOne (ValueText HasCharacters below)) items.items
@@ -191,7 +190,6 @@ module _ {A : Type 0} where
       All (λ m. HasOne (ValueText HasCharacters below) m.1) l.items in
       subst P (sym (same_members members found is)) (members_have _ found tokens a)
 
-  -- a text of a number is that of the number
   scalar_number : (text : String A) (tokens : List ℕ)
       → ScalarText HasCharacters (values.Number text) tokens
       → For HasText NumberText text tokens

@@ -1,4 +1,4 @@
--- What is pushed for characters is what is written for them.
+-- Proofs that the bytes pushed for characters are their encoding.
 use Rattle.std.specs.Prelude.{◌≡◌, ◌≤◌, ◌<◌, ◌+◌, ◌*◌, ◌/◌, ◌%◌, ℕ, List, [], ◌∷◌, ◌++◌, length}
 use Rattle.std.specs.Prelude.{Result, Ok, Err, OnOk, is_ok, if◌then◌else◌, string_bytes}
 use Rattle.std.specs.Char.{encode_utf8}
@@ -151,7 +151,6 @@ pub string_pushed : {cs before first second after : List ℕ} → first ≡ befo
 string_pushed opening added closing =
     adds_then latter (one_added 34 opening) (adds_then former added (one_added 34 closing))
 
--- what is written for the characters of a string is a text of it
 pub string_added : {A : Type 0} {text before after : List ℕ} → IsUtf8 text
     → Adds CanonicalString (chars text) before after → (string : String A)
     → string_bytes string ≡ text → Adds (StringText HasCharacters) string before after
@@ -162,7 +161,6 @@ string_added {text = text} utf8 added string same = record {
   behind = added.behind;
 }
 
--- no characters are left
 pub none_left : (text bytes : List ℕ) → length text ≡ 0
     → Adds (EachText CanonicalCharacter) (chars text) bytes bytes
 none_left text bytes none =

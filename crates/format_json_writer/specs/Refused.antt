@@ -19,13 +19,12 @@ use Rattle.format_json_writer.specs.declared.error.WriteError.{WriteError}
 use Rattle.format_json_writer.specs.declared.error.WriteError.TheVariants as errors
 use Rattle.winnow.specs.Accumulator.Holds.{HasCharacters}
 
--- a text that is no number, or memory was refused
+-- the text is not a number, or memory allocation failed
 abbrev pub IsNoNumber : List ℕ → WriteError → Type 0
 IsNoNumber text e =
     (e ≡ errors.Memory)
     ⊎ ((e ≡ errors.Number) × ((slice : Slice) → NumberText slice (chars text) → ⊥))
 
--- what holds of an error holds of a result that is this error
 pub if_error : {T E : Type 0} (P : E → Type 0) (result : Result T E) (e : E)
     → IsErrAnd result (λ x. x ≡ e) → P e → IfErr result P
 if_error {T} {E} P result e is p =
@@ -33,7 +32,6 @@ if_error {T} {E} P result e is p =
     let Q : Result T E → Type 0 = λ r. IfErr r P in
     subst Q (sym same) (subst P (sym there) p)
 
--- what holds of all holds of one of them
 at : {O : Type 0} (P : O → Type 0) (os : List O) (o : O) → All P os → Contains os o → P o
 at P os o all (k, below, is) = subst P is (all k o below)
 
@@ -49,7 +47,7 @@ later_among {O} {os} {rest} {first} k o e below is =
     subst P (sym e) (suc k, omega (arith, below), sym is)
 
 module _ {A : Type 0} where
-  -- no more than that many arrays and objects stand in one another in the value
+  -- the arrays and objects of the value are nested at most this deep
   unfoldable pub Nests : ℕ → Value A → Type 0
   Nests zero v =
       ((items : Vec (Value A) A) → v ≡ values.Array items → ⊥)
@@ -59,18 +57,18 @@ module _ {A : Type 0} where
       × ((members : Vec (String A × Value A) A) → v ≡ values.Object members
       → All (λ m. Nests level m.1) members.items)
 
-  -- the value has no text of the level by RFC 8259
+  -- the value has no encoding of the level by RFC 8259
   abbrev pub HasNoText : ℕ → Value A → Type 0
   HasNoText level v = (tokens : List ℕ) → ValueText HasCharacters level v tokens → ⊥
 
-  -- why it is not written: a number in it is none, so it has no text of any level; more arrays and
-  -- objects stand in one another than the level lets; or memory was refused
+  -- why the value is not written: a number in it is invalid, so it has no encoding of any level; it
+  -- is nested deeper than the level; or memory allocation failed
   abbrev pub IsRefused : ℕ → Value A → WriteError → Type 0
   IsRefused level v errors.Number = (above : ℕ) → HasNoText above v
   IsRefused level v errors.Level = Nests level v → ⊥
   IsRefused level v errors.Memory = ⊤
 
-  -- memory was refused, or one of these values is not written
+  -- memory allocation failed, or one of these values is not written
   abbrev pub IsRefusedAmong : {O : Type 0} → (O → Value A) → ℕ → List O → WriteError → Type 0
   IsRefusedAmong {O} value level os e =
       (e ≡ errors.Memory) ⊎ ((o : O) × Contains os o × IsRefused level (value o) e)
@@ -80,7 +78,6 @@ module _ {A : Type 0} where
   refused_memory level v e is =
       let P : WriteError → Type 0 = λ x. IsRefused level v x in subst P (sym is) tt
 
-  -- an array is refused where one of its values is
   items_refused : (below : ℕ) (items : Vec (Value A) A) (e : WriteError)
       → IsRefusedAmong (λ v. v) below items.items e → IsRefused (suc below) (values.Array items) e
   unfolding Nests
@@ -151,7 +148,6 @@ module _ {A : Type 0} where
       let P : ℕ → Type 0 = λ l. Nests l (values.Object members) → ⊥ in
       subst P (sym is) (λ nests. nests.1 members refl)
 
-  -- a number is refused where its text is none
   pub refused_number : (level : ℕ) {v : Value A} {bytes : List ℕ} (text : String A)
       (e : WriteError) → v ≡ values.Number text → bytes ≡ string_bytes text → IsUtf8 bytes
       → IsNoNumber bytes e → IsRefused level v e
@@ -165,7 +161,6 @@ module _ {A : Type 0} where
       (subst (λ w. R w above tokens) is a) in
       none slice (subst (λ l. NumberText slice (chars l)) (sym same) b))
 
-  -- a value that has a text of the level is no deeper
   nests_told : (level : ℕ) (v : Value A) → HasOne (ValueText HasCharacters level) v
       → Nests level v
   unfolding Nests
@@ -183,7 +178,6 @@ module _ {A : Type 0} where
             (object_values level members tokens (subst P is a))),
       )
 
-  -- so what is refused has no text of the level, where memory was there
   pub refused_text : (level : ℕ) (v : Value A) (e : WriteError) → IsRefused level v e
       → (e ≡ errors.Memory) ⊎ HasNoText level v
   refused_text level v errors.Number none = inr (none level)

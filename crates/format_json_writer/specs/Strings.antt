@@ -14,8 +14,8 @@ use Rattle.format_json_writer.specs.Within.{within_row, within_second, within_th
 use Rattle.winnow.specs.Accumulator.Holds.{HasCharacters}
 use Rattle.winnow.specs.Texts.{BothText, EachText, EitherText, GatheredText, Text}
 
--- the character after a backslash that escapes one: of those of RFC 8259 a slash is none, since it
--- is written as it is
+-- the character after a backslash in an escape: those of RFC 8259 except a slash, which is written
+-- as it is
 abbrev pub Escapes : ℕ → ℕ → Type 0
 Escapes k c = StandsFor k c × (k ≡ 47 → ⊥)
 

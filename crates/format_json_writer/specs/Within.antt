@@ -1,4 +1,4 @@
--- Texts that are among those of another.
+-- Inclusion of one set of encodings in another.
 use Rattle.std.specs.Prelude.{ℕ, List, [], ◌∷◌}
 use Rattle.std.proofs.Common.{refl, sym, inl, inr, arith}
 use Rattle.std.proofs.lemmas.List.{append-nil}
@@ -6,7 +6,7 @@ use Rattle.format_parts.specs.Words.{For, One, Run, Slice, latter}
 use Rattle.format_json_texts.specs.Values.{GapText, Mark, Spaced}
 use Rattle.winnow.specs.Texts.{BothText, EachText, EitherText, InList, MadeText, PartedText, Text}
 
--- Each text of a value by the one is one by the other.
+-- `IsWithin inner outer`: each `inner` encoding of a value is an `outer` encoding of it.
 pub record IsWithin {T O : Type 0} (inner outer : Text T O) : Type 0 where
   pub told : (o : O) (tokens : List T) → inner o tokens → outer o tokens
 

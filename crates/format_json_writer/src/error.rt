@@ -17,11 +17,11 @@ use std::alloc::AllocError;
 /// ```
 #[derive(Clone, Copy, Debug, PartialEq, Eq)]
 pub enum WriteError {
-    /// A number in the value has a text that is no number of RFC 8259 (section 6).
+    /// The text of a number in the value is not a number of RFC 8259 (section 6).
     Number,
-    /// More arrays and objects stand in one another than the level lets.
+    /// Arrays and objects are nested deeper than the level allows.
     Level,
-    /// A request for memory was refused.
+    /// Memory allocation failed.
     Memory,
 }
 

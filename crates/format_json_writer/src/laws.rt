@@ -1,4 +1,4 @@
-//! What is written is read back.
+//! Writing values and parsing them back.
 
 ghost use Rattle.format_json_texts.specs.Values.{JsonText, ValueText};
 ghost use Rattle.format_json_texts.specs.declared.value.Value.{Value};
@@ -8,11 +8,11 @@ ghost use Rattle.winnow.specs.Accumulator.Holds.{HasCharacters};
 
 use std::alloc::Allocator;
 
-/// Whatever is read of a text that is written for a value is alike: the same words, numbers,
-/// strings, lists and names stand in it, as they stood. That a text is one of the value says the
-/// clause `text` of [`to_text`](crate::value::to_text), and that a value is read of it that of
-/// [`parse_value`](format_json_values::value::parse_value); so
-/// [`reads_back`](crate::value::reads_back), which calls both, answers a value alike.
+/// A value that is parsed from the encoding of a value is equivalent to it: its words, numbers,
+/// strings, lists and names are the same, in the same order. The clause `text` of
+/// [`to_text`](crate::value::to_text) states that a text encodes the value, and that of
+/// [`parse_value`](format_json_values::value::parse_value) that a value is parsed from it. So
+/// [`reads_back`](crate::value::reads_back), which calls both, returns an equivalent value.
 ///
 /// ```
 /// use format_json_writer::laws::what_is_written_reads_back_alike;

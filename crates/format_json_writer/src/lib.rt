@@ -1,13 +1,13 @@
-//! Values of JSON (RFC 8259), written as text.
+//! JSON values (RFC 8259), written as text.
 //!
-//! Where the standard leaves open which text is written for a value:
+//! Choices where the standard permits several texts for one value:
 //!
-//! - There is no white space (section 2).
-//! - Strings are escaped as by RFC 8785 (section 3.2.2.2): no more than must be.
-//! - A number is written as it stands in the value, and the members of an object in their order,
-//!   also those that have one name. So a text is not the one of RFC 8785.
-//! - A value is written to a level, which the caller gives: no more than that many arrays and
-//!   objects stand in one another, as `format_json_values` reads them (section 9).
+//! - There is no whitespace (section 2).
+//! - Strings are escaped as in RFC 8785 (section 3.2.2.2): only where they must be.
+//! - A number is written as it is in the value, and the members of an object in their order,
+//!   including those with the same name. So the text need not be that of RFC 8785.
+//! - The caller gives the maximum nesting depth of arrays and objects, as for parsing with
+//!   `format_json_values` (section 9).
 #![tactic(auto)]
 
 pub mod error;

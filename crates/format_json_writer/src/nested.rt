@@ -15,7 +15,7 @@ use crate::string::write_string;
 use format_json_texts::value::Value;
 use std::alloc::Allocator;
 
-/// Puts a text after what is there.
+/// Appends a text.
 fn put<B: Allocator>(text: &str, into: &mut String<B>) -> Result<(), WriteError>
     ensures written { OnOk result (string_bytes into.new ≡ string_bytes into.old ++ text.now) }
     ensures memory { IfErr result (λ e. e ≡ Memory) }
@@ -25,7 +25,7 @@ fn put<B: Allocator>(text: &str, into: &mut String<B>) -> Result<(), WriteError>
     Ok(())
 }
 
-/// Puts a word after what is there: `null`, or `true` or `false`.
+/// Appends a word: `null`, `true` or `false`.
 fn write_word<B: Allocator>(word: Option<bool>, into: &mut String<B>) -> Result<(), WriteError>
     ensures written { OnOk result (Adds WordText word (string_bytes into.old)
         (string_bytes into.new)) }
@@ -39,7 +39,7 @@ fn write_word<B: Allocator>(word: Option<bool>, into: &mut String<B>) -> Result<
     }
 }
 
-/// Puts values after what is there, with commas between them.
+/// Appends values, separated by commas.
 #[cycle(write)]
 fn write_items<A: Allocator, B: Allocator>(
     level: usize,
@@ -64,7 +64,7 @@ fn write_items<A: Allocator, B: Allocator>(
     }
 }
 
-/// Puts an array after what is there.
+/// Appends an array.
 #[cycle(write)]
 fn write_array<A: Allocator, B: Allocator>(
     level: usize,
@@ -85,7 +85,7 @@ fn write_array<A: Allocator, B: Allocator>(
     Ok(())
 }
 
-/// Puts a name, a colon and a value after what is there.
+/// Appends a name, a colon and a value.
 #[cycle(write)]
 fn write_member<A: Allocator, B: Allocator>(
     level: usize,
@@ -103,7 +103,7 @@ fn write_member<A: Allocator, B: Allocator>(
     write_nested(level, value, into)
 }
 
-/// Puts members after what is there, with commas between them.
+/// Appends members, separated by commas.
 #[cycle(write)]
 fn write_members<A: Allocator, B: Allocator>(
     level: usize,
@@ -128,7 +128,7 @@ fn write_members<A: Allocator, B: Allocator>(
     }
 }
 
-/// Puts an object after what is there.
+/// Appends an object.
 #[cycle(write)]
 fn write_object<A: Allocator, B: Allocator>(
     level: usize,
@@ -149,7 +149,7 @@ fn write_object<A: Allocator, B: Allocator>(
     Ok(())
 }
 
-/// Puts a value after what is there.
+/// Appends a value.
 #[cycle(write)]
 pub fn write_nested<A: Allocator, B: Allocator>(
     level: usize,

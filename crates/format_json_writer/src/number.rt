@@ -12,7 +12,7 @@ use format_json_scalars::number::read_number;
 use std::alloc::Allocator;
 use winnow::error::ParserError;
 
-/// Whether nothing is left of a text.
+/// Returns whether the remaining text is empty.
 fn is_read(rest: &str) -> bool
     ensures yes { IsTrue result → chars rest.now ≡ [] }
     ensures no { result ≡ false → chars rest.now ≡ [] → ⊥ }
@@ -42,7 +42,7 @@ fn check_number(text: &str) -> Result<(), WriteError>
     }
 }
 
-/// Puts a number after what is there, as it is written.
+/// Appends a number, as it is written.
 pub fn write_number<B: Allocator>(text: &str, into: &mut String<B>) -> Result<(), WriteError>
     ensures written { OnOk result (PutsNumber text.now (string_bytes into.old)
         (string_bytes into.new)) }

@@ -67,16 +67,16 @@ fn write_character<A: Allocator>(c: char, into: &mut String<A>) -> Result<(), Al
     into.push(c)
 }
 
-/// Puts a string of JSON after what is there: quotes, and between them the characters of a text,
-/// of which those are escaped that must be.
+/// Appends a JSON string: quotes, and between them the characters of a text, escaped where they
+/// must be.
 ///
-/// Of the texts that RFC 8259 has for a string it is the one of RFC 8785 (section 3.2.2.2). A quote
-/// and a backslash stand after a backslash. Of control characters a backspace is `\b`, a tab `\t`,
-/// a line feed `\n`, a form feed `\f` and a carriage return `\r`; each other is `\u` and four
-/// hexadecimal digits, small letters among them. All else stands as it is.
+/// Of the texts that RFC 8259 permits for a string, it is that of RFC 8785 (section 3.2.2.2). A
+/// quote and a backslash are escaped with a backslash. Of control characters a backspace is `\b`, a
+/// tab `\t`, a line feed `\n`, a form feed `\f` and a carriage return `\r`; each other is `\u` and
+/// four hexadecimal digits in lower case. All other characters are unchanged.
 ///
-/// An error says that a request for memory was refused. What was there then stands there still, and
-/// something may be after it.
+/// Fails if memory allocation fails. Then the previous contents of `into` remain, and more may
+/// follow them.
 ///
 /// ```
 /// use format_json_writer::string::write_string;

@@ -17,19 +17,19 @@ use format_json_values::value::parse_value;
 use std::alloc::Allocator;
 use winnow::error::{EmptyError, ErrMode, ParseFault, ParserError};
 
-/// Puts a value after what is there, in which no more than that many arrays and objects stand in
-/// one another: the level is 0 for a value with no others in it, and 1 for an array of such values.
+/// Appends a value whose arrays and objects are nested at most `level` deep. The level is 0 for a
+/// value that is not an array or an object, and 1 for an array of such values.
 ///
-/// There is no white space in its text. A string is written as by
-/// [`write_string`](crate::string::write_string), a number as it stands in the value, and the
-/// members of an object in their order, also those that have one name. So
-/// [`parse_value`](format_json_values::value::parse_value) reads the value again, at the same
+/// The text has no whitespace. A string is written as by
+/// [`write_string`](crate::string::write_string), a number as it is in the value, and the members
+/// of an object in their order, including those with the same name. So
+/// [`parse_value`](format_json_values::value::parse_value) parses the value again, at the same
 /// level.
 ///
-/// An error says why the value is not written: a number in it has a text that is none by RFC 8259
-/// (section 6), as `01` or `NaN`; it is nested deeper than the level; or a request for memory was
-/// refused. Where several are so it may be any of them. What was there then stands there still, and
-/// something may be after it.
+/// Fails if the text of a number is not one of RFC 8259 (section 6), such as `01` or `NaN`; if the
+/// value is nested deeper than `level`; or if memory allocation fails. If several of these apply,
+/// it may be any of them. After an error the previous contents of `into` remain, and more may
+/// follow them.
 ///
 /// ```
 /// use format_json_values::value::parse_value;
@@ -59,8 +59,8 @@ pub fn write_value<A: Allocator, B: Allocator>(
     write_nested(level, value, into)
 }
 
-/// The text of a value, in which no more than that many arrays and objects stand in one another: as
-/// [`write_value`] writes it, alone, and an error as of that.
+/// Returns the text of a value whose arrays and objects are nested at most `level` deep, as
+/// [`write_value`] writes it. Errors are those of [`write_value`].
 ///
 /// ```
 /// use format_json_texts::value::Value;
@@ -94,7 +94,7 @@ pub fn to_text<A: Allocator, B: Allocator>(
     Ok(text)
 }
 
-/// Whether a fault says that a request for memory was refused.
+/// Returns whether an error is out of memory.
 fn wants_memory<'i>(fault: &ParseFault<&'i str, EmptyError>) -> bool
     ensures { IsWant ⟦<ErrMode<EmptyError> as ParserError<&'i str>>⟧.inner_kind fault.now
         → IsTrue result }
@@ -105,9 +105,9 @@ fn wants_memory<'i>(fault: &ParseFault<&'i str, EmptyError>) -> bool
     }
 }
 
-/// What is read of the text that is written for a value: a value that is alike, in which the same
-/// words, numbers, strings, lists and names stand, as they stood. An error says why the value is
-/// not written, or that reading it was refused memory; there is no other.
+/// Writes a value and parses its text. Returns an equivalent value: its words, numbers, strings,
+/// lists and names are the same, in the same order. Fails with the error of writing, or with out of
+/// memory in parsing; there is no other error.
 ///
 /// ```
 /// use format_json_values::value::parse_value;

@@ -71,7 +71,7 @@ one_hex c d e (inr (inr x)) (inl y) = absurd (omega (arith, x, y))
 one_hex c d e (inr (inr x)) (inr (inl y)) = absurd (omega (arith, x, y))
 one_hex c d e (inr (inr x)) (inr (inr y)) = omega (arith, x, y)
 
--- a grammar by which one output stands
+-- `SaysOne grammar`: `grammar` has at most one output for the same tokens.
 abbrev pub SaysOne : Grammar ℕ ℕ → Type 0
 SaysOne grammar =
     (tokens : List ℕ) (o p : ℕ) (rest other : List ℕ) → grammar tokens o rest
@@ -114,7 +114,6 @@ unit_takes =
     meaning_takes IsNumberOf (four_take digit_unique digit_unique digit_unique digit_unique
     (inl digit_takes))
 
--- an output that is one is alike
 pub alike_one : {g : Grammar ℕ ℕ} → SaysOne g → IsAlike (λ o. o) g
 alike_one one = record { alike = λ tokens o p rest other x y. (one tokens o p rest other x y).0 }
 

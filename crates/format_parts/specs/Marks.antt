@@ -1,4 +1,4 @@
--- What stands between marks, by the grammars of its parts, and what is told by equal ones.
+-- Items between marks, by the grammars of their parts, and their results by equal grammars.
 use Rattle.std.specs.Prelude.{◌≡◌, List, None, Result}
 use Rattle.std.specs.declared.vec.Vec.{Vec}
 use Rattle.format_parts.specs.Words.{pair}
@@ -10,8 +10,8 @@ use Rattle.winnow.specs.Kind.{Kind}
 use Rattle.winnow.specs.Range.{from_to}
 
 module _ {T M W A : Type 0} where
-  -- items with a mark between each two of them, between two others; white space is after the first
-  -- mark, and after those between items
+  -- Items with a mark between each two of them, between two others. Whitespace follows the first
+  -- mark, and the marks between items.
   abbrev pub Items : {O : Type 0} → Grammar T O → Grammar T M → Grammar T M → Grammar T M
       → Grammar T W → Grammar T (Vec O A)
   Items {O} item opening comma closing gap =

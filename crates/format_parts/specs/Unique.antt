@@ -1,4 +1,4 @@
--- What characters and words leave is one rest; and which of them take characters.
+-- Lemmas: characters and words leave a unique rest, and some of them consume characters.
 use Rattle.std.specs.Prelude.{◌≡◌, ℕ, List, [], ◌∷◌, length}
 use Rattle.std.proofs.Common.{sym, ap, ◌∙◌, arith, length-append}
 use Rattle.winnow.specs.Equal.{same_rest}

@@ -47,7 +47,7 @@ Char = Literally text_reading (λ c xs. xs ≡ c ∷ []) (λ c _. c)
 abbrev pub OneIn : (ℕ → Type 0) → Grammar ℕ ℕ
 OneIn class = TokenOf (λ c. c) (InClass class (λ c. c)) tt
 
--- the longest beginning of characters of a class, if they are that many
+-- The longest prefix of characters of `class`, if it has at least `least`.
 abbrev pub RunOf : (ℕ → Type 0) → ℕ → Grammar ℕ (Bor (List ℕ))
 RunOf class least = Class class least (λ c. c) (λ c. c) text_reading
 
@@ -69,7 +69,7 @@ In class c tokens = class c × (tokens ≡ c ∷ [])
 unfoldable pub Whichever : Text ℕ ℕ
 Whichever c tokens = tokens ≡ c ∷ []
 
--- that many characters of a class or more, for a slice that shows them
+-- `least` or more characters of `class`, for a slice that shows them.
 unfoldable pub Run : (ℕ → Type 0) → ℕ → Text ℕ (Bor (List ℕ))
 Run class least slice tokens =
     All class tokens × (least ≤ length tokens) × text_reading.shows slice tokens
@@ -156,7 +156,7 @@ run_begins class = record { makes = λ slice xs rest x any. first xs rest x.0 x.
 
 -- ---- what an output means
 
--- a text of what means this
+-- `For means text`: the encodings of a value by `text`, through an output that means the value.
 abbrev pub For : {O U : Type 0} → (O → U → Type 0) → Text ℕ O → Text ℕ U
 For {O} {U} means text = MadeText (λ (_ : Unit {0}) o u. means o u) tt text
 
@@ -170,7 +170,7 @@ pub for_front : {O U : Type 0} (means : O → U → Type 0) {text : Text ℕ O}
     → InFront (For means text) behind whole
 for_front {O} {U} means front = of_front (λ (_ : Unit {0}) o u. means o u) tt front
 
--- ---- one after the other
+-- ---- sequences
 
 -- four texts
 abbrev pub FourTexts : {O1 O2 O3 O4 : Type 0} → Text ℕ O1 → Text ℕ O2 → Text ℕ O3 → Text ℕ O4

@@ -1,5 +1,5 @@
-//! What readers of formats over text share: words of grammars over characters, hexadecimal digits
-//! of escapes, and what stands between marks, as the values of an array do.
+//! Common parts of readers of text formats: grammars over characters, hexadecimal digits of
+//! escapes, and items between marks, as the values of an array.
 #![tactic(auto)]
 
 pub mod hexadecimal;

@@ -1,5 +1,5 @@
-//! What stands between marks, as the values of an array do: what is read is said by the grammars of
-//! the parts, whichever parsers they are, and over any stream.
+//! Items between marks, as the values of an array. The contracts are in terms of the grammars of
+//! the parts, for any parsers and over any stream.
 ghost use Rattle.format_parts.specs.Marks.{Items};
 ghost use Rattle.format_parts.specs.Words.{former};
 ghost use Rattle.std.specs.Fn.{CalledAtMut};
@@ -15,7 +15,7 @@ use winnow::error::ParserError;
 use winnow::exact::Rule;
 use winnow::stream::{Range, Stream};
 
-/// Reads what stands between two others.
+/// Parses three parts in sequence and returns the output of the second one.
 pub fn read_between<I, O1, O2, O3, E, P, Q, R>(
     first: P,
     second: Q,
@@ -51,13 +51,13 @@ where
 /// The marks of an array or an object, and white space.
 #[derive(Clone, Copy, Drop)]
 pub struct Marks<B, G> {
-    /// What stands before the items.
+    /// The mark before the items.
     pub opening: B,
-    /// What stands between two items.
+    /// The mark between two items.
     pub comma: B,
-    /// What stands after the items.
+    /// The mark after the items.
     pub closing: B,
-    /// What stands after the other two, and after each name and value.
+    /// The gap after the other two, and after each name and value.
     pub gap: G,
 }
 
@@ -105,7 +105,7 @@ where
     delimited((marks.opening, marks.gap), items, marks.closing).read(input)
 }
 
-/// Reads values between marks. A function reads a value by a rule, and white space is after it.
+/// Parses values between marks. A function parses a value by a rule, and whitespace follows it.
 pub fn read_array_of<I, E, O, M, W, A, R, F, B, G>(
     alloc: A,
     rule: R,

@@ -1,5 +1,5 @@
-//! Parsers in turn: what is read is said by their grammars, whichever parsers they are, over any
-//! stream.
+//! Parsers in sequence. The contracts are in terms of the grammars of the parts, for any parsers
+//! and over any stream.
 ghost use Rattle.format_parts.specs.Words.{pair};
 ghost use Rattle.winnow.specs.Exact.{Reads};
 ghost use Rattle.winnow.specs.Grammar.{Both};
@@ -9,7 +9,7 @@ use winnow::Parser;
 use winnow::error::ParserError;
 use winnow::stream::Stream;
 
-/// Reads two, one after the other.
+/// Runs two parsers in sequence and returns both outputs.
 pub fn read_two_of<I, O1, O2, E, P, Q>(first: P, second: Q, input: &mut I) -> Result<(O1, O2), E>
 where
     I: Stream,
@@ -28,7 +28,7 @@ where
     (first, second).read(input)
 }
 
-/// Reads four, one after the other.
+/// Runs four parsers in sequence and returns all outputs.
 pub fn read_four_of<I, O1, O2, O3, O4, E, P, Q, R, S>(
     first: P,
     second: Q,

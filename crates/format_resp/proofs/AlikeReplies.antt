@@ -1,4 +1,4 @@
--- Replies of which texts stand first in the same tokens are alike.
+-- Lemmas that replies whose encodings start the same tokens are equivalent.
 use Rattle.std.specs.Prelude.{◌≡◌, Bool, true, false, ℕ, zero, suc, List, [], ◌∷◌}
 use Rattle.std.specs.Prelude.{Option, Some, None}
 use Rattle.std.specs.Borrow.{Bor}
@@ -93,7 +93,7 @@ module _ {A : Type 0} (alike : Replies A → Replies A → Type 0) where
       alike_as (Reply-F.Verbatim x) (Reply-F.Verbatim y) e (verbatim_is x) f (verbatim_is y)
       (s ∙ sym t)
 
-  -- of replies that are alike in their places
+  -- aggregates of pairwise equivalent elements are equivalent
   gathered_alike : (mark : AggregateMark) (v w : Replies A) (l m : Vec (Replies A) A)
       → v ≡ gathered mark l → w ≡ gathered mark m → ArePairwise alike l.items m.items
       → AreAlikeBy alike v w
@@ -109,7 +109,7 @@ module _ {A : Type 0} (alike : Replies A → Replies A → Type 0) where
       alike_as (Reply-F.Attributed l) (Reply-F.Attributed m) e (attributed_is l) f
       (attributed_is m)
 
-  -- ---- by what stands first
+  -- ---- equivalence, by the kind of reply
 
   ended_alike : (mark : LineMark) (v w : Replies A) (tokens rest other : List ℕ)
       → First (Ended (LineSays mark)) tokens v rest

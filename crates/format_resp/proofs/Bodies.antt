@@ -1,4 +1,4 @@
--- What stands after the first bytes of replies.
+-- Lemmas about the bodies of replies, which follow the first byte.
 use Rattle.std.specs.Prelude.{◌≡◌, ◌<◌, ◌≤◌, ◌^◌, ℕ, List, [], ◌++◌, length, Option, Some, None}
 use Rattle.std.specs.Prelude.{zero, suc}
 use Rattle.std.specs.Borrow.{Bor}
@@ -51,7 +51,6 @@ nothing_unique value = record {
       ap (λ l. l ++ rest) (sym empty) ∙ sym e ∙ d ∙ ap (λ l. l ++ other) none;
 }
 
--- where nothing stands
 none_unique : {R : Type 0} → IsUnique (First {T = ℕ} (λ (r : R) xs. ⊥))
 unfolding First
 none_unique = record {
@@ -203,7 +202,7 @@ module _ {A : Type 0} {i : Input ℕ} (protocol : Protocol) (level : ℕ) (mark 
 
 -- ---- sizes
 
--- one by which too many replies would be in an aggregate stands nowhere
+-- a size that gives an aggregate too many replies is not valid
 pub too_many : {A : Type 0} {i j : Input ℕ} {k : Kind} (elements : Text ℕ (List (Replies A)))
     (mark : AggregateMark) (n : ℕ) → 2 ^ 64 ≤ many mark n → k ≡ backtrack
     → Stood bytes_reading bytes_follow (First SizeText) i (Some n) j

@@ -14,7 +14,7 @@ use Rattle.format_resp.specs.Extents.{IsDataEnd, IsLineEnd, IsPartOfData, PartFo
 use Rattle.format_resp.proofs.ReadParts.{data_unique}
 use Rattle.format_resp.specs.Resp.{DataText, Ended, line_end}
 
--- that many bytes
+-- a list of `n` bytes
 some_list : (n : ℕ) → (xs : List ℕ) × (length xs ≡ n)
 some_list zero = ([], refl)
 some_list (suc n) = let (xs, e) = some_list n in (0 ∷ xs, ap (λ k. suc k) e)
@@ -43,7 +43,7 @@ data_short size tokens (inl less) =
     }
 data_short size tokens (inr less) = absurd (omega (arith, less))
 
--- a part of a line end
+-- a proper prefix of a line ending
 pub end_none : (tokens : List ℕ) → length tokens ≡ 0
     → (x : ℕ) × (more : List ℕ) × (line_end ≡ tokens ++ (x ∷ more))
 end_none tokens none =
@@ -55,7 +55,7 @@ end_return tokens left first e is none =
     let empty = nil_from_length left none in
     let same : tokens ≡ 13 ∷ [] = cc in (10, [], ap (λ l. l ++ (10 ∷ [])) (sym same))
 
--- what stands after that many bytes
+-- the bytes after the first `size` ones
 behind_is : (size : ℕ) (tokens behind more xs rest : List ℕ) → size ≤ length tokens
     → tokens ≡ take size tokens ++ behind → length xs ≡ size
     → tokens ++ more ≡ (xs ++ line_end) ++ rest → behind ++ more ≡ line_end ++ rest
@@ -104,7 +104,7 @@ data_end size tokens behind enough is (Err refused) none =
     none more left (behind_is size tokens behind more xs left enough split many
     (d ∙ ap (λ l. l ++ left) e))
 
--- where a part is all there is none stands
+-- incomplete data are not complete data
 pub part_none : (size : ℕ) (tokens : List ℕ) → IsPartOfData size tokens → (bulk : Bor (List ℕ))
     (left : List ℕ) → First (DataText size) tokens bulk left → ⊥
 unfolding First

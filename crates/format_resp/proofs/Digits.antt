@@ -18,7 +18,7 @@ use Rattle.winnow.specs.Digits.Known.{value_is}
 use Rattle.winnow.specs.Equal.{same_first, same_others}
 use Rattle.format_resp.specs.Numbers.{AreDigits, DigitsText, SignedText, UnsignedText}
 
--- what is no digit and no letter counts 36
+-- a byte that is neither a digit nor a letter has the value 36
 pub most_value : (c : ℕ) → digit_value c ≤ 36
 most_value c = grind (arith, nat_tests)
 
@@ -55,7 +55,7 @@ digits_none digits None large e m (are, is) =
     let P : ℕ → Type 0 = λ k. (k < 2 ^ 64) → ⊥ in
     elim (cases_lt m (2 ^ 64)) [ inl small ↦ absurd (subst P is large small) | inr most ↦ most ]
 
--- ---- what signs stand before
+-- ---- numbers after signs
 
 -- a sign is first
 pub minus_first : (line more : List ℕ) (c : ℕ) (n : ℤ) → line ≡ c ∷ more → c ≡ 45
@@ -74,7 +74,7 @@ pub no_sign_first : (line : List ℕ) (n : ℤ) → UnsignedText false n line �
 unfolding SignedText
 no_sign_first line n a = (false, [], line, inl refl, a, refl)
 
--- and back: what stands after a first byte that is known
+-- and back: the bytes after a first byte that is known
 abbrev By : ℕ → List ℕ → List ℕ → ℤ → Type 0
 By c line more n =
     ((c ≡ 45) × UnsignedText true n more)
@@ -122,7 +122,6 @@ no_sign_back line more c n e minus plus a = elim (by_first line more c n e a) [
   | inr (inr b) ↦ b
 ]
 
--- in nothing stands no integer
 pub no_integer : (line : List ℕ) (n : ℤ) → line ≡ [] → SignedText n line → ⊥
 unfolding SignedText
 no_integer line n e (negative, sign, digits, s, (m, ((all, some), is), same, fits), f) =

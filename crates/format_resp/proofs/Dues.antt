@@ -1,4 +1,4 @@
--- What is due after what is passed of a reply.
+-- Lemmas about the continuation of a reply after the bytes passed.
 use Rattle.std.specs.Prelude.{◌≡◌, ◌↔◌, ◌≤◌, ◌+◌, ◌^◌, ⊤, ℕ, zero, suc, List, [], ◌∷◌, ◌++◌}
 use Rattle.std.specs.Prelude.{length, Option, Some, None}
 use Rattle.std.specs.Borrow.{Bor}
@@ -60,7 +60,7 @@ module _ {A : Type 0} (these : Text ℕ (Replies A))
   spread [] xs e = e
   spread (o ∷ os) xs (ys, zs, t, row, e) = (ys, zs, is o ys t, spread os zs row, e)
 
--- ---- what is after a first line
+-- ---- the bytes after a first line
 
 abbrev pub Behind : Head → List ℕ → Type 0
 Behind heads.Ends xs = xs ≡ []
@@ -141,7 +141,7 @@ array_back (Some n) us xs s many =
     (length l ≡ n) × EachText (ReplyText Resp2 level) l xs in
     (suc level, made.Array list, (list, refl, subst P (sym same) (count, row)))
 
--- nothing is after the line
+-- the reply ends with this line
 flat : {head : Head} (us vs line : List ℕ) → head ≡ heads.Ends → Behind head vs
     → us ≡ line ++ line_end → us ++ vs ≡ line ++ line_end
 flat {head} us vs line is behind e =
@@ -214,13 +214,13 @@ pub head_there : (xs : List ℕ) → IsReply xs → (head : Head) × (us : List 
     × HeadText head us × Behind head vs × (xs ≡ us ++ vs)
 head_there xs (level, reply, t) = led_there (Elements Resp2 level) (are_replies level) reply xs t
 
--- what stands first as a reply of any allocator
+-- a reply of any allocator is a reply
 pub stands_any : {A : Type 0} (level : ℕ) (reply : Replies A) (tokens rest : List ℕ)
     → First (ReplyText Resp2 level) tokens reply rest → Stands IsReply tokens rest
 unfolding First
 stands_any level reply tokens rest (front, t, e) = (front, reply_any level reply front t, e)
 
--- ---- that many replies, and that many more
+-- ---- `k` replies followed by `n` replies
 
 many_append : (k n : ℕ) (xs ys : List ℕ) → AreReplies k xs → AreReplies n ys
     → AreReplies (k + n) (xs ++ ys)
@@ -256,7 +256,7 @@ many_split (suc k) n zs all =
       e ∙ ap (λ l. us ++ l) d ∙ sym (append_assoc us xs ys),
     )
 
--- ---- what is due after a first line
+-- ---- the continuation after a first line
 
 due_of : (head : Head) (n : ℕ) (us vs : List ℕ) → Behind head us → AreReplies n vs
     → AreDue (data_after head) (count_after head n) (us ++ vs)
@@ -343,7 +343,7 @@ says_small (Aggregate Tilde) head n line never = absurd never
 says_small (Aggregate Greater) head n line never = absurd never
 says_small (Aggregate Bar) head n line never = absurd never
 
--- a line says of fewer replies than a number of 64 bits counts
+-- the number of replies in a line fits in 64 bits
 pub small_head : (head : Head) (n : ℕ) (xs : List ℕ) → HeadText head xs
     → count_after head n ≤ n + 2 ^ 63
 unfolding Led Ended

@@ -14,7 +14,7 @@ use Rattle.winnow.specs.Texts.{Members, Text}
 use Rattle.format_resp.proofs.ReadParts.{one_line}
 use Rattle.format_resp.specs.Resp.{Ended, InLine, LineText}
 
--- Texts in which no byte is of a line end.
+-- Texts without bytes of a line ending.
 pub record IsPlain {O : Type 0} (text : Text ℕ O) : Type 0 where
   pub plain : (o : O) (xs : List ℕ) → text o xs → AllByRecursion InLine xs
 
@@ -40,7 +40,7 @@ module _ {O : Type 0} (text : Text ℕ O) (p : IsPlain text) where
   }
 
   module _ {i j : Input ℕ} where
-    -- where no line stands none of these does
+    -- if there is no line, there is no line with this text either
     pub ended_none : {k : Kind} → Failed bytes_reading bytes_follow (First LineText) i k j
         → Failed bytes_reading bytes_follow (First (Ended text)) i k j
     unfolding First LineText Ended Members

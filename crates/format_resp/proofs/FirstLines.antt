@@ -1,4 +1,4 @@
--- What the first line of a reply says is one thing, and stands where a line does.
+-- Uniqueness of the first line of a reply, and its relation to lines.
 use Rattle.std.specs.Prelude.{◌≡◌, ◌≤◌, ℕ, List, [], ◌∷◌, ◌++◌, length, take, drop}
 use Rattle.std.specs.List.{AllByRecursion}
 use Rattle.std.proofs.Common.{refl, sym, inl, ap, subst, ◌∙◌, append_assoc}
@@ -22,7 +22,7 @@ use Rattle.format_resp.specs.declared.marks.Mark.{Mark}
 use Rattle.format_resp.specs.declared.marks.Mark.TheVariants.{Aggregate, Data, Line}
 use Rattle.format_resp.specs.declared.reply.Protocol.TheVariants.{Resp2}
 
--- ---- texts that stand first in the same tokens
+-- ---- texts at the start of the same tokens
 
 splits_led : {X O : Type 0} (first : Text ℕ X) (behind : X → Text ℕ O) → Splits first
     → ((x : X) → Splits (behind x)) → Splits (Led first behind)
@@ -165,7 +165,7 @@ start_never tokens text byte split none more head rest x =
     start_line head byte (text ++ more) rest (subst P split x) in
     none more line rest ends
 
--- none where a line says nothing
+-- no head starts here if its line is invalid
 pub start_silent : (tokens text line left : List ℕ) (byte : ℕ) (mark : Mark)
     → tokens ≡ byte ∷ text → byte ≡ byte_of mark → EndsLine text line left
     → ((head : Head) → Says mark head line → ⊥) → (more : List ℕ) (head : Head)

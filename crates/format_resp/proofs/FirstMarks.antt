@@ -1,4 +1,4 @@
--- What the texts of a reply begin with.
+-- Lemmas about the first bytes of replies.
 use Rattle.std.specs.Prelude.{◌≡◌, ℕ, List, Option, Some, None}
 use Rattle.std.specs.declared.vec.Vec.{Vec}
 use Rattle.std.proofs.Common.{sym, ap, subst, ◌∙◌}

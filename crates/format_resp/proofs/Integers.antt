@@ -1,5 +1,5 @@
--- Integers and sizes: no byte of their texts is of a line end, each text is of one number, and what
--- is written for a number is one of its texts.
+-- Integers and sizes: their texts have no byte of a line ending, each text is of one number, and
+-- the text written for a number is one of its texts.
 use Rattle.std.specs.Prelude.{◌≡◌, ◌<◌, ◌^◌, Bool, true, false, ℕ, ℤ, pos, negsuc, neg_ℤ}
 use Rattle.std.specs.Prelude.{suc, List, [], ◌∷◌, ◌++◌, Option, Some, None, FitsSigned}
 use Rattle.std.specs.Fmt.{decimal, signed_decimal}
@@ -18,7 +18,7 @@ use Rattle.format_resp.specs.Numbers.{AreDigits, DigitsText, IsSignOf, SignedTex
 use Rattle.format_resp.specs.Numbers.{UnsignedText}
 use Rattle.format_resp.specs.Resp.{Ended, InLine, SizeText, line_end}
 
--- these bytes are none of a line end
+-- no byte is of a line ending
 abbrev pub Plainly : List ℕ → Type 0
 Plainly xs = AllByRecursion InLine xs
 

@@ -27,7 +27,7 @@ use Rattle.format_resp.specs.Resp.{DataText, Ended, LineText, line_end}
 abbrev pub EndRead : Grammar ℕ (Bor (List ℕ))
 EndRead = searches.LiterallyBytes bytes_reading (λ text xs. xs ≡ text.now) (13 ∷ 10 ∷ [])
 
--- what ends a line is after a text
+-- a text is followed by a line ending
 ended_of : {O : Type 0} {g : Grammar ℕ O} (text : Text ℕ O) {follow : List ℕ → Type 0}
     → IsGrammarOf g text follow → ((rest : List ℕ) → follow (line_end ++ rest))
     → Same (Both (λ o1 o2. o1) g EndRead) (First (Ended text))
@@ -70,7 +70,7 @@ same_line = ended_of _ (longest_of bytes_reading (λ b. b) (Others EndTells) (13
     (divides_either (divides_where (λ b. b ≡ 13)) (divides_where (λ b. b ≡ 10))))))
     (λ rest. inl refl)
 
--- ---- that many bytes
+-- ---- data of `n` bytes
 
 pub same_data : (n : ℕ) → Same (Both (λ o1 o2. o1) (Counted bytes_reading n) EndRead)
     (First (DataText n))
@@ -85,6 +85,6 @@ pub is_some : (rest : List ℕ) (b : Bool) → b ≡ (length rest == 0) → b �
 is_some rest b e is none =
     true_is_false (sym (eq-eqb (length rest) 0 (ap (λ l. length l) none)) ∙ sym e ∙ is)
 
--- a call that wants no memory, and fails
+-- a call that fails with an error other than out of memory
 pub not_wanting : (k : Kind) → k ≡ memory → k ≡ backtrack → ⊥
 not_wanting k a b = let d : ◌≡◌ {A = Kind} memory backtrack = sym a ∙ b in cc

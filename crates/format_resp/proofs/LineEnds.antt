@@ -1,4 +1,4 @@
--- Where a line ends: at the first byte that is in none.
+-- Lemmas about the end of a line: it is at the first byte of a line ending.
 use Rattle.std.specs.Prelude.{◌≡◌, ◌≤◌, ◌<◌, ◌+◌, ℕ, zero, suc, List, [], ◌∷◌, ◌++◌, length, take}
 use Rattle.std.specs.Prelude.{drop}
 use Rattle.std.specs.Prelude.{◌-◌, ◌⊎◌, slice_index, true}
@@ -19,7 +19,7 @@ pub all_append : (xs ys : List ℕ) → AllByRecursion InLine xs → AllByRecurs
 all_append [] ys a b = b
 all_append (x ∷ xs) ys a b = (a.0, all_append xs ys a.1 b)
 
--- what has no byte of a line end
+-- bytes without a byte of a line ending
 pub none_plain : (ys : List ℕ) (k : ℕ)
     → ((j : ℕ) → j < k → is_byte2 13 10 (slice_index ys j) ≡ true → ⊥)
     → AllByRecursion InLine (take k ys)
@@ -37,7 +37,7 @@ none_plain (y ∷ ys) (suc k) f = (
     P : ℕ → Type 0
     P z = is_byte2 13 10 z ≡ true
 
--- and what is before it has none
+-- and the bytes before them have none either
 pub plain_before : (xs unseen : List ℕ) (n k : ℕ) → unseen ≡ drop n xs
     → AllByRecursion InLine (take n xs)
     → ((j : ℕ) → j < k → is_byte2 13 10 (slice_index unseen j) ≡ true → ⊥)
@@ -79,7 +79,7 @@ return_ends a = a.0 refl
 feed_ends : (c : ℕ) → c ≡ 10 → InLine c → ⊥
 feed_ends c e a = a.1 e
 
--- a return alone is no line end yet
+-- a carriage return without a line feed does not end a line
 pub open_none : (xs line rest : List ℕ) → AllByRecursion InLine xs
     → EndsLine (xs ++ (13 ∷ [])) line rest
     → ⊥
@@ -88,7 +88,6 @@ open_none xs line rest a (b, e) =
     until_end 13 13 xs line [] (10 ∷ rest) a b return_ends return_ends e in
     cc
 
--- no line ends in what is open
 pub open_endless : (tokens : List ℕ) → IsOpen tokens → (line rest : List ℕ)
     → EndsLine tokens line rest → ⊥
 open_endless tokens (xs, all, inl e) line rest (a, f) =
@@ -96,7 +95,7 @@ open_endless tokens (xs, all, inl e) line rest (a, f) =
 open_endless tokens (xs, all, inr e) line rest (a, f) =
     open_none xs line rest all (a, sym e ∙ f)
 
--- a feed alone never is
+-- a line feed without a carriage return never ends a line
 pub feed_never : (c : ℕ) (xs behind more line rest : List ℕ) → c ≡ 10 → AllByRecursion InLine xs
     → EndsLine ((xs ++ (c ∷ behind)) ++ more) line rest → ⊥
 feed_never c xs behind more line rest is a (b, e) =
@@ -113,7 +112,7 @@ return_never c xs behind more line rest is a (b, e) =
     return_ends return_ends (sym (append_assoc xs (13 ∷ c ∷ behind) more) ∙ e) in
     is (let f : c ≡ 10 = cc in f)
 
--- ---- of what stands after a line
+-- ---- the bytes after a line
 
 module _ (line behind left : List ℕ) (first : ℕ) (all : AllByRecursion InLine line)
     (split : behind ≡ first ∷ left) where
@@ -146,7 +145,7 @@ module _ (line behind left : List ℕ) (first : ℕ) (all : AllByRecursion InLin
       let Q : List ℕ → Type 0 = λ l. EndsLine ((line ++ l) ++ more) other rest in
       return_never second line others more other rest not all (subst Q d x)
 
--- ---- of what was sought before
+-- ---- bytes that were searched before
 
 -- all of it
 pub open_all : (xs : List ℕ) → AllByRecursion InLine xs → (length xs ≤ length xs)
@@ -166,7 +165,7 @@ open_past xs n (inl less) all =
     subst P (take_all n xs (omega (arith, less))) all
 open_past xs n (inr less) all = absurd (omega (arith, less))
 
--- what is left is what is after
+-- the bytes not searched yet are the rest
 pub unseen_rest : (xs unseen : List ℕ) (n : ℕ) → unseen ≡ take (length xs - n) (drop n xs)
     → unseen ≡ drop n xs
 unseen_rest xs unseen n e =
@@ -195,7 +194,6 @@ found_first xs unseen n k e test =
     ∙ sym (get_or-drop (n + k) xs 0 0) in
     let P : ℕ → Type 0 = λ b. is_byte2 13 10 b ≡ true in subst P same test
 
--- less than what is less
 pub less_line : (line : Line) (n m : ℕ) → n ≤ m → IsLessLine n line → IsLessLine m line
 less_line (Whole line rest) n m le less = omega (arith, le, less)
 less_line (Open k) n m le less = tt

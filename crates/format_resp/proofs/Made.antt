@@ -1,4 +1,4 @@
--- What a reply is that is made so.
+-- Lemmas about constructed replies.
 use Rattle.std.specs.Prelude.{◌≡◌, Bool, ℕ, ℤ, List}
 use Rattle.std.specs.Borrow.{Bor}
 use Rattle.std.specs.declared.vec.Vec.{Vec}

@@ -1,4 +1,4 @@
--- Texts of doubles and big numbers: what stands after their parts.
+-- Texts of doubles and big numbers: the bytes after their parts.
 use Rattle.std.specs.Prelude.{◌≡◌, ◌⊎◌, ◌<◌, ◌≤◌, ℕ, List, [], ◌∷◌, ◌++◌, length, Option, Some}
 use Rattle.std.specs.Prelude.{None, false}
 use Rattle.std.specs.Borrow.{Bor}
@@ -56,7 +56,7 @@ digits_there tokens rest slice x =
       not_first rest _ longest.stops,
     )
 
--- the digits that some tokens begin with, and what is after them
+-- the digits at the start of some tokens, and the rest
 abbrev Spanned : List ℕ → Type 0
 Spanned xs =
     (front : List ℕ) × (rest : List ℕ) × AllByRecursion IsDecDigit front
@@ -305,7 +305,7 @@ tail_point c more rest tokens is e (front, a, d, not) x = (
   e ∙ ap (λ b. b ∷ more) is ∙ ap (λ l. 46 ∷ l) d,
 )
 
--- what is after the point
+-- the bytes after the point
 tail_behind : (c : ℕ) (more tokens : List ℕ) → c ≡ 46 → tokens ≡ c ∷ more → IsTail tokens
     → (digits : List ℕ) × (exponent : List ℕ) × AreDigits digits × IsExponent exponent
     × (more ≡ digits ++ exponent)

@@ -1,4 +1,4 @@
--- That the parts of a reply of RESP2 stand where its definition says.
+-- Proofs that the parts of a RESP2 reply are at the positions that its definition gives.
 use Rattle.std.specs.Prelude.{◌≡◌, ◌⊎◌, ℕ, ℤ, List, [], ◌∷◌, ◌++◌, Option, None, Some, zero}
 use Rattle.std.specs.Prelude.{suc}
 use Rattle.std.specs.Borrow.{Bor}
@@ -45,7 +45,7 @@ ended : {tokens : List ℕ} (xs rest : List ℕ) → tokens ≡ xs ++ line_end
     → tokens ++ rest ≡ xs ++ (line_end ++ rest)
 ended xs rest e = ap (λ l. l ++ rest) e ∙ append_assoc xs line_end rest
 
--- what stands after the line of a size
+-- the bytes after the line of a size
 behind_size : {mark : ℕ} {input others size : List ℕ} (xs behind rest : List ℕ)
     → (mark ≡ 10 → ⊥) → AllByRecursion InLine xs → size ≡ xs ++ line_end
     → others ≡ size ++ behind → input ≡ mark ∷ (others ++ rest)
@@ -85,7 +85,7 @@ line_stands input rest mark front first others xs text m e (all, shows) f g = (
 )
 
 module _ {A : Type 0} (level : ℕ) (input rest : List ℕ) where
-  -- what stands where a reply is made so
+  -- the contents of a reply of this form
   stands_made : (kind : Opened A) {reply form : Replies A} → reply ≡ form
       → out-Reply (Bor (List ℕ)) A form ≡ kind → StandsBy level input kind rest
       → Stands level input reply rest
@@ -150,7 +150,7 @@ module _ {A : Type 0} (level : ℕ) (input rest : List ℕ) where
   parts_stand reply (front, (Aggregate Greater, us, vs, (in2, m), x, f), g) = not_resp3 in2
   parts_stand reply (front, (Aggregate Bar, us, vs, (in2, m), x, f), g) = not_resp3 in2
 
--- what stands, where it is known what the reply is
+-- the contents, if the kind of the reply is known
 pub stands_as : {A : Type 0} (level : ℕ) (input rest : List ℕ) (reply : Replies A)
     (kind : Opened A)
     → First (ReplyText Resp2 level) input reply rest → out-Reply (Bor (List ℕ)) A reply ≡ kind

@@ -1,4 +1,4 @@
--- What is passed of some bytes, a part more.
+-- Lemmas about passing one more part of some bytes.
 use Rattle.std.specs.Prelude.{◌≡◌, ◌↔◌, ◌<◌, ◌≤◌, ◌+◌, ◌-◌, ◌*◌, ◌^◌, ◌⊎◌, ℕ, suc}
 use Rattle.std.specs.Prelude.{List, [], ◌∷◌, ◌++◌, length, take, drop, Option, Some, None, Ok}
 use Rattle.std.specs.Borrow.{Bor}
@@ -30,12 +30,12 @@ err_part f tokens rest (Err y) is none = none
 
 -- ---- parts
 
--- nothing is sought in nothing
+-- nothing was searched yet
 pub all_none : (xs : List ℕ) → AllByRecursion InLine (take 0 xs)
 all_none [] = tt
 all_none (x ∷ xs) = tt
 
--- where no first line stands no replies do
+-- if there is no first line, there are no replies
 no_line : (n : ℕ) (tokens : List ℕ)
     → ((head : Head) (rest : List ℕ) → First HeadText tokens head rest → ⊥) → (left : List ℕ)
     → Stands (AreReplies (suc n)) tokens left → ⊥
@@ -49,7 +49,7 @@ no_line n tokens none left (front, (xs, ys, reply, many, e), d) =
           ∙ append_assoc us (vs ++ ys) left,
     )
 
--- where no bulk string stands nothing that is after it does
+-- if there is no bulk string, nothing that follows it matches either
 no_data : (size n : ℕ) (tokens : List ℕ)
     → ((bulk : Bor (List ℕ)) (rest : List ℕ) → First (DataText size) tokens bulk rest → ⊥)
     → (left : List ℕ) → Stands (AreDue (Some size) n) tokens left → ⊥
@@ -68,7 +68,7 @@ data_some size bulk xs (ys, many, e) =
     omega (arith, ap (λ l. length l) e, length-append ys (13 ∷ 10 ∷ []))
 
 module _ (e : Extent) (tokens rest : List ℕ) (p : Passed e tokens rest) where
-  -- where nothing that is due stands no reply does
+  -- if the expected continuation does not match, there is no reply
   none_due : ((left : List ℕ) → Stands (AreDue e.bulk e.replies) rest left → ⊥)
       → (left : List ℕ) → Stands IsReply tokens left → ⊥
   none_due none left x =
@@ -82,7 +82,7 @@ module _ (e : Extent) (tokens rest : List ℕ) (p : Passed e tokens rest) where
       none more left ((p.leads (rest ++ more) left).0
       (subst P (ap (λ l. l ++ more) p.split ∙ append_assoc p.front rest more) x))
 
-  -- a part that stands first is passed
+  -- the part at the start of the rest is passed
   part_passed : (f : Extent) (part left : List ℕ) → rest ≡ part ++ left → 0 < length part
       → f.passed ≡ length tokens - length left → f.sought ≡ 0
       → ((xs r : List ℕ) → Stands (AreDue e.bulk e.replies) (part ++ xs) r
@@ -205,7 +205,7 @@ module _ (e : Extent) (tokens rest : List ℕ) (p : Passed e tokens rest) where
       → Stands (AreDue d e.replies) (rest ++ more) left → ⊥ in
       never_due (subst P (sym some) (λ more. no_data size e.replies (rest ++ more) (never more)))
 
-  -- where nothing is due the reply is what is passed
+  -- if nothing more is expected, the reply is the passed bytes
   pub all_passed : e.bulk ≡ None → e.replies ≡ 0 → IsTold tokens (Ok (Some e.passed))
   all_passed none zeros =
       let P : Option ℕ → Type 0 = λ d. (xs left : List ℕ)
@@ -257,7 +257,6 @@ module _ (e : Extent) (tokens rest : List ℕ) (p : Passed e tokens rest) where
           let Q : List ℕ → Type 0 = λ l. AllByRecursion InLine l in
           subst Q (sym (take-append-le e.sought xs more w)) a
 
-  -- what is left is after that many bytes
   pub left_is : (left : List ℕ) → left ≡ take (length tokens - e.passed) (drop e.passed tokens)
       → Passed e tokens left
   left_is left is =
@@ -267,7 +266,6 @@ module _ (e : Extent) (tokens rest : List ℕ) (p : Passed e tokens rest) where
       ∙ drop_at p.front rest e.passed p.count in
       subst P (sym same) p
 
-  -- that many bytes are there
   pub passed_within : (length tokens < e.passed) ⊎ (length tokens < length tokens) → ⊥
   passed_within (inl less) =
       omega (arith, less, p.count, ap (λ l. length l) p.split, length-append p.front rest)

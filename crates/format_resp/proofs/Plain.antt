@@ -1,4 +1,4 @@
--- In what stands on the line of a reply no byte is of a line end.
+-- Lemmas that the contents of a reply's line have no byte of a line ending.
 use Rattle.std.specs.Prelude.{Bool, true, false, ℕ, List, [], ◌∷◌, ◌++◌}
 use Rattle.std.proofs.Common.{inl, inr, arith}
 use Rattle.format_resp.proofs.Integers.{Plainly, byte_plain, digits_plain, plain_as, signed_plain}

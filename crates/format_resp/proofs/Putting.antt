@@ -1,4 +1,4 @@
--- What is put after bytes, part by part.
+-- Lemmas about appended bytes, part by part.
 use Rattle.std.specs.Prelude.{◌≡◌, ◌≤◌, ◌<◌, ◌+◌, ◌/◌, ◌%◌, ◌^◌, ℕ, List, [], ◌∷◌, ◌++◌}
 use Rattle.std.specs.Prelude.{length, drop, take, slice_index_or, Contains, IfErr, Result}
 use Rattle.std.specs.Fmt.{decimal}
@@ -23,7 +23,6 @@ pub put_two : (before : List ℕ) {between after : List ℕ} (xs ys : List ℕ) 
     → after ≡ between ++ ys → after ≡ before ++ (xs ++ ys)
 put_two before xs ys e f = f ∙ ap (λ l. l ++ ys) e ∙ append_assoc before xs ys
 
--- what holds of an error holds of a result that is this error
 pub if_error : {T E : Type 0} (P : E → Type 0) (result : Result T E) (e : E)
     → IsErrAnd result (λ x. x ≡ e) → P e → IfErr result P
 if_error {T} {E} P result e is p =
@@ -66,7 +65,7 @@ pub among : {O : Type 0} (os : List O) (k : ℕ) (o : O) → k < length os
     → o ≡ slice_index_or os k o → Contains os o
 among os k o below is = (k, below, sym is)
 
--- digits after those of a tenth
+-- the digits of a number, by those of its quotient by ten
 pub digits_more : (n : ℕ) (before : List ℕ) {between after : List ℕ} → 10 ≤ n → n < 2 ^ 64
     → between ≡ before ++ decimal (n / 10) → after ≡ between ++ (48 + n % 10) ∷ []
     → after ≡ before ++ decimal n
@@ -78,7 +77,6 @@ pub digit_alone : (n : ℕ) (before : List ℕ) {after : List ℕ} → n < 10
     → after ≡ before ++ (48 + n) ∷ [] → after ≡ before ++ decimal n
 digit_alone n before small e = e ∙ ap (λ l. before ++ l) (sym (decimal_digit n small))
 
--- what is cut to the length of before is what was before
 pub cut_back : {n : ℕ} {before after cut : List ℕ} → Keeps before after → n ≡ length before
     → cut ≡ take n after → cut ≡ before
 cut_back {n} {before} {after} kept many e =

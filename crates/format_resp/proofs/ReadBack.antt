@@ -1,4 +1,4 @@
--- What is read of what was written.
+-- Lemmas that reading a written reply returns an equivalent one.
 use Rattle.std.specs.Prelude.{◌≡◌, ◌<◌, ◌≤◌, ◌^◌, ⊤, ℕ, suc, List, [], ◌∷◌, ◌++◌, length, false}
 use Rattle.std.specs.Prelude.{Err, Ok}
 use Rattle.std.specs.Borrow.{Bor}
@@ -32,7 +32,7 @@ use Rattle.format_resp.specs.declared.reply.Reply.{out-Reply}
 use Rattle.format_resp.specs.declared.reply.Reply.TheOpen.{Reply-F}
 
 module _ {A : Type 0} (protocol : Protocol) (level : ℕ) where
-  -- what stands first where another reply does is alike, and leaves the same
+  -- two replies at the start of the same tokens are equivalent, and their rests are equal
   pub one_reply : (written read : Replies A) (tokens more rest : List ℕ)
       → First (ReplyText protocol level) tokens written more
       → First (ReplyText protocol level) tokens read rest
@@ -62,7 +62,7 @@ put_first text more none added e same = (
       ∙ ap (λ l. l ++ more) (added.behind ∙ ap (λ l. l ++ added.tokens) none),
 )
 
--- what is read of a whole input
+-- results on complete input
 module _ {O E : Type 0} (text : Text ℕ O) (bytes : List ℕ) {i j : Input ℕ} {kind : E → Kind}
     (is : i ≡ with_flag (bytes_input bytes) false) where
   pub whole_stands : (o : O)
@@ -73,7 +73,7 @@ module _ {O E : Type 0} (text : Text ℕ O) (bytes : List ℕ) {i j : Input ℕ}
       (First text) x (Ok o) j in
       (subst P is r).whole.stands refl
 
-  -- where it stands it fails only if memory is refused
+  -- if it matches, the only error is out of memory
   pub whole_wants : (e : E) → (kind e ≡ memory → ⊥)
       → (o : O) × (rest : List ℕ) × First text bytes o rest
       → ReadsOrAsks {O = O} bytes_reading bytes_follow kind (First text) i (Err e) j → ⊥
@@ -159,7 +159,7 @@ command_text {A} parts list are small =
       ))),
     )
 
--- where a command was put after nothing, an array stands first
+-- an array is at the start of the bytes if a command was appended to an empty buffer
 pub command_first : {A : Type 0} (alloc : A) (parts : List (Bor (List ℕ)))
     {before between after bytes : List ℕ} (more : List ℕ) → before ≡ []
     → between ≡ before ++ command_of parts → length between < 2 ^ 63

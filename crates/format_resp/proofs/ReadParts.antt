@@ -1,4 +1,4 @@
--- That what is read is what is written, part by part.
+-- Proofs, part by part, that the parsers accept exactly the encodings.
 use Rattle.std.specs.Prelude.{◌≡◌, ℕ, List, [], ◌∷◌, ◌++◌, Some, Result, Ok, Err, IfOk}
 use Rattle.std.specs.Prelude.{if◌then◌else◌}
 use Rattle.std.specs.Result.{is_ok}
@@ -37,7 +37,7 @@ until_return (x ∷ xs) (y ∷ ys) rest other a b e =
     let (same, left) = until_return xs ys rest other a.1 b.1 (same_others e) in
     (ap (λ z. z ∷ xs) (same_first e) ∙ ap (λ l. y ∷ l) same, left)
 
--- so lines that stand first in the same tokens are one
+-- lines at the start of the same tokens are equal
 pub one_line : (tokens front back xs ys rest other : List ℕ) → AllByRecursion InLine xs
     → AllByRecursion InLine ys → front ≡ xs ++ line_end → tokens ≡ front ++ rest
     → back ≡ ys ++ line_end → tokens ≡ back ++ other → (xs ≡ ys) × (rest ≡ other)

@@ -1,4 +1,4 @@
--- That a reply which is refused has no text.
+-- Proofs that a reply that cannot be written has no encoding.
 use Rattle.std.specs.Prelude.{◌≡◌, ◌⊎◌, ◌*◌, ◌+◌, ◌<◌, ⊤, ℕ, zero, suc, List, [], ◌∷◌, length}
 use Rattle.std.specs.Prelude.{Contains, Option, Some, None}
 use Rattle.std.specs.Borrow.{Bor}
@@ -255,7 +255,7 @@ module _ {A : Type 0} where
 -- ---- replies
 
 module _ {A : Type 0} (protocol : Protocol) where
-  -- the reply has a text of the level
+  -- the reply has an encoding at this depth
   abbrev HasText : ℕ → Replies A → Type 0
   HasText level reply = (tokens : List ℕ) × ReplyText protocol level reply tokens
 
@@ -295,7 +295,7 @@ module _ {A : Type 0} (protocol : Protocol) where
 
   -- ---- what has no text
 
-  -- what has no text itself has none where it is in an aggregate
+  -- a reply without an encoding makes the aggregates that contain it have none
   none_within : (such : Replies A → Type 0)
       → ((reply : Replies A) → such reply → (level : ℕ) → HasText level reply → ⊥)
       → (level above : ℕ) (reply : Replies A) → IsOrHas such level reply → HasText above reply → ⊥
@@ -329,7 +329,7 @@ module _ {A : Type 0} (protocol : Protocol) where
   foreign reply not level (tokens, text) =
       not (text_within (Elements protocol level) protocol reply tokens text)
 
-  -- a reply that is refused for another reason than memory has no text; or one of a higher level
+  -- a reply with an error other than out of memory has no encoding, or one of a greater depth
   pub refused_textless : (level above : ℕ) (reply : Replies A) (e : WriteError) (tokens : List ℕ)
       → IsRefused protocol level reply e → ReplyText protocol above reply tokens
       → (e ≡ OutOfMemory) ⊎ ((e ≡ Level) × (level < above))

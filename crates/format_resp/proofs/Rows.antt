@@ -1,4 +1,4 @@
--- What stands first in the same tokens, part by part.
+-- Lemmas about two matches at the start of the same tokens, part by part.
 use Rattle.std.specs.Prelude.{◌≡◌, ℕ, List, [], ◌∷◌, ◌++◌, length}
 use Rattle.std.specs.Borrow.{Bor}
 use Rattle.std.proofs.Common.{refl, sym, ap, ◌∙◌, arith, append_assoc}
@@ -9,7 +9,7 @@ use Rattle.winnow.specs.Texts.{CountedText, EachText, Text}
 use Rattle.format_resp.specs.Alike.{ArePairwise}
 use Rattle.format_resp.specs.Resp.{DataText, Ended, line_end}
 
--- a text that leads, and what is after it
+-- an encoding, and the one after it
 pub led_parts : {X O : Type 0} (first : Text ℕ X) (behind : X → Text ℕ O) (tokens : List ℕ) (o : O)
     (rest : List ℕ) → First (Led first behind) tokens o rest
     → (x : X) × (mid : List ℕ) × First first tokens x mid × First (behind x) mid o rest
@@ -31,7 +31,7 @@ same_bytes n x y tokens rest other (front, (xs, (many, shown), e), d)
     shown ∙ (same_beginnings xs ys (line_end ++ rest) (line_end ++ other) (many ∙ sym also)
     split).0 ∙ sym see
 
--- Lists of which texts stand first in the same tokens are pairwise alike, if they are as long.
+-- Lists of the same length whose encodings start the same tokens are pairwise equivalent.
 abbrev pub Pairs : {O : Type 0} → (O → O → Type 0) → Text ℕ (List O) → Type 0
 Pairs {O} alike elements =
     (os ps : List O) (xs ys rest other : List ℕ) → elements os xs → elements ps ys

@@ -1,4 +1,4 @@
--- What lines and bytes are, after the first bytes of replies.
+-- Lemmas about the contents of lines and of data, after the first byte of a reply.
 use Rattle.std.specs.Prelude.{◌≡◌, ℕ, List, ◌∷◌, ◌++◌, length}
 use Rattle.std.specs.Borrow.{Bor}
 use Rattle.std.proofs.Common.{refl, sym, ◌∙◌}

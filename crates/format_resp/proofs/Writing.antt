@@ -1,4 +1,4 @@
--- What is put after bytes for replies, and why some are not written.
+-- Lemmas about the bytes appended for replies, and about the errors of writing.
 use Rattle.std.specs.Prelude.{◌≡◌, ◌+◌, ◌<◌, ◌^◌, ⊤, Bool, ℕ, ℤ, List, [], ◌∷◌, ◌++◌}
 use Rattle.std.specs.Prelude.{zero, suc, length, Contains, FitsSigned}
 use Rattle.std.specs.Borrow.{Bor}
@@ -157,7 +157,6 @@ put_as {A} protocol level {before = before} {after = after} is added =
     let P : Replies A → Type 0 = λ r. Adds (WrittenText protocol level) r before after in
     subst P (sym is) added
 
--- what is written for a reply is a text of it
 pub adds_text : {A : Type 0} (protocol : Protocol) (level : ℕ) {reply : Replies A}
     {before after : List ℕ}
     → Adds (WrittenText protocol level) reply before after
@@ -184,7 +183,7 @@ module _ {A : Type 0} where
   or_within such below mark list element among is = inr (mark, list, refl, element, among, is)
 
 module _ {A : Type 0} (protocol : Protocol) where
-  -- an error that says so
+  -- an error with its reason
   as_error : (level : ℕ) (reply : Replies A) (error : WriteError) (P : Type 0)
       → ((P → ⊥) → IsRefused protocol level reply error) → (e : WriteError) → IsRefusedAs error P e
       → IsRefused protocol level reply e
@@ -276,7 +275,7 @@ module _ {A : Type 0} (protocol : Protocol) where
       (mark, list, refl, reply, among, is)
   in_element below mark list OutOfMemory (inr (reply, among, is)) = tt
 
-  -- an aggregate is refused where one of its elements is
+  -- an aggregate cannot be written if one of its elements cannot be written
   pub refused_within : (below : ℕ) {level : ℕ} (mark : AggregateMark) (list : Vec (Replies A) A)
       {items : List (Replies A)} (e : WriteError) → items ≡ list.items → level ≡ below + 1
       → IsRefusedAmong protocol below items e → IsRefused protocol level (gathered mark list) e

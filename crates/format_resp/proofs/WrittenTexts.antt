@@ -1,4 +1,4 @@
--- That what is written for a reply is a text of it.
+-- Proofs that the bytes written for a reply are an encoding of it.
 use Rattle.std.specs.Prelude.{◌≡◌, ◌<◌, ◌^◌, ℕ, zero, suc, List, [], ◌∷◌, ◌++◌}
 use Rattle.std.specs.Prelude.{length, Some, None}
 use Rattle.std.specs.Fmt.{decimal}
@@ -44,7 +44,6 @@ small_of Greater size count e small = omega (arith, e, small)
 small_of Bar size count e small = omega (arith, e, small)
 
 module _ {A : Type 0} where
-  -- what is written on a line is what it says
   line_says : (mark : LineMark) (reply : Replies A) (line : List ℕ) → LineWritten mark reply line
       → LineSays mark reply line
   line_says Colon reply line (n, is, fits, e) =

@@ -13,8 +13,8 @@ ArePairwise alike (o ∷ os) [] = ⊥
 ArePairwise alike (o ∷ os) (p ∷ ps) = alike o p × ArePairwise alike os ps
 
 module _ {A : Type 0} where
-  -- of one kind, with the same bytes, number or boolean, or with as many elements, pair by pair
-  -- alike
+  -- the same kind with the same bytes, number or boolean, or with as many elements, pairwise
+  -- equivalent
   abbrev pub AreAlikeAs : (Replies A → Replies A → Type 0) → Opened A → Opened A → Type 0
   AreAlikeAs alike (Reply-F.Simple x) (Reply-F.Simple y) = x.now ≡ y.now
   AreAlikeAs alike (Reply-F.Error x) (Reply-F.Error y) = x.now ≡ y.now
@@ -40,7 +40,7 @@ module _ {A : Type 0} where
   AreAlikeBy alike v w =
       AreAlikeAs alike (out-Reply (Bor (List ℕ)) A v) (out-Reply (Bor (List ℕ)) A w)
 
-  -- in which no more than that many aggregates stand in one another
+  -- equivalence of replies whose aggregates are nested at most this deep
   unfoldable pub AreAlike : ℕ → Replies A → Replies A → Type 0
   AreAlike zero v w = AreAlikeBy (λ v w. ⊥) v w
   AreAlike (suc level) v w = AreAlikeBy (AreAlike level) v w

@@ -1,4 +1,4 @@
--- The first lines of replies of RESP2, and what they say of the bytes after them.
+-- The first lines of RESP2 replies, and their information about the bytes after them.
 use Rattle.std.specs.Prelude.{◌≡◌, ◌≤◌, ◌<◌, ⊤, ℕ, ℤ, List, ◌∷◌, ◌++◌, length, take, drop, Option}
 use Rattle.std.specs.Prelude.{Some, None}
 use Rattle.std.specs.List.{AllByRecursion}
@@ -27,7 +27,7 @@ abbrev pub array_head : Option ℕ → Head
 array_head None = Ends
 array_head (Some n) = Replies n
 
--- the line after the first byte of a reply of RESP2, as what it says
+-- the line after the first byte of a RESP2 reply, by its meaning
 abbrev pub Says : Mark → Text ℕ Head
 Says (marks.Line Plus) head line = (head ≡ Ends) × AllByRecursion InLine line
 Says (marks.Line Minus) head line = (head ≡ Ends) × AllByRecursion InLine line
@@ -36,18 +36,18 @@ Says (marks.Data Dollar) head line = For bulk_head SizeLine head line
 Says (marks.Aggregate Star) head line = For array_head SizeLine head line
 Says mark head line = ⊥
 
--- the first line of a reply, as what it says
+-- the first line of a reply, by its meaning
 abbrev pub HeadText : Text ℕ Head
 HeadText = Led (MarkText Resp2) (λ mark. Ended (Says mark))
 
--- A first line is begun, and its end is not there.
+-- The tokens are a first line without its end.
 pub record IsBegun (tokens : List ℕ) : Type 0 where
   pub marked : (byte : ℕ) (text : List ℕ) → tokens ≡ byte ∷ text
       → (mark : Mark) × IsIn Resp2 mark × (byte ≡ byte_of mark)
   pub begun : IsOpen (drop 1 tokens)
 
--- What of a first line stands first: a line; or none yet, and that many bytes after the first have
--- no part of a line end; or none, whatever follows.
+-- The contract of a first line: a complete line; or `Open n`, if it is incomplete and `n` bytes
+-- after the first have no byte of a line ending; or `Never`, if no continuation starts with one.
 abbrev pub IsStart : List ℕ → Start → Type 0
 IsStart tokens (Whole head left) = First HeadText tokens head left.now
 IsStart tokens (Open n) =
@@ -56,7 +56,7 @@ IsStart tokens (Open n) =
 IsStart tokens Never =
     (more : List ℕ) (head : Head) (rest : List ℕ) → First HeadText (tokens ++ more) head rest → ⊥
 
--- What is after a first line is less than that many bytes.
+-- The rest after a first line is shorter than `n` bytes.
 abbrev pub IsLessStart : ℕ → Start → Type 0
 IsLessStart n (Whole head left) = length left.now < n
 IsLessStart n (Open m) = ⊤

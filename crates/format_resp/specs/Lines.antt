@@ -5,7 +5,7 @@ use Rattle.format_resp.specs.Resp.{InLine}
 use Rattle.format_resp.specs.declared.lines.Line.{Line}
 use Rattle.format_resp.specs.declared.lines.Line.TheVariants.{Never, Open, Whole}
 
--- A line stands first, and the rest is after its end.
+-- `EndsLine tokens line rest`: `tokens` starts with `line` and a line ending, followed by `rest`.
 abbrev pub EndsLine : List ℕ → List ℕ → List ℕ → Type 0
 EndsLine tokens line rest = AllByRecursion InLine line × (tokens ≡ line ++ (13 ∷ 10 ∷ rest))
 
@@ -15,8 +15,8 @@ IsOpen tokens =
     (line : List ℕ) × AllByRecursion InLine line
     × ((tokens ≡ line) ⊎ (tokens ≡ line ++ (13 ∷ [])))
 
--- What of a line stands first: a line; or none yet, and that many bytes have no part of a line end;
--- or none, whatever follows.
+-- The contract of a line: a complete line; or `Open n`, if it is incomplete and `n` bytes have no
+-- byte of a line ending; or `Never`, if no continuation starts with one.
 abbrev pub IsLine : List ℕ → Line → Type 0
 IsLine tokens (Whole line rest) = EndsLine tokens line.now rest.now
 IsLine tokens (Open n) =
@@ -24,7 +24,7 @@ IsLine tokens (Open n) =
     × IsOpen tokens
 IsLine tokens Never = (more line rest : List ℕ) → EndsLine (tokens ++ more) line rest → ⊥
 
--- What is after a line is less than that many bytes.
+-- The rest after a line is shorter than `n` bytes.
 abbrev pub IsLessLine : ℕ → Line → Type 0
 IsLessLine n (Whole line rest) = length rest.now < n
 IsLessLine n (Open m) = ⊤

@@ -12,7 +12,7 @@ use Rattle.winnow.specs.Texts.{NotFirst}
 abbrev pub AreDigits : List ℕ → Type 0
 AreDigits digits = AllByRecursion IsDecDigit digits × (0 < length digits)
 
--- the digits of a number, of which the first may be zeros
+-- the digits of a number, possibly with leading zeros
 abbrev pub DigitsText : ℕ → List ℕ → Type 0
 DigitsText n tokens = AreDigits tokens × (value_in 10 tokens ≡ n)
 
@@ -90,16 +90,16 @@ IsDouble tokens =
 
 -- ---- what functions answer of them
 
--- These stand first, and the rest begins with no digit.
+-- The tokens start with bytes that satisfy `these`, and the rest does not start with a digit.
 abbrev pub Leaves : (List ℕ → Type 0) → List ℕ → List ℕ → Type 0
 Leaves these tokens rest =
     (front : List ℕ) × these front × (tokens ≡ front ++ rest) × NotFirst IsDecDigit rest
 
--- None of these stands first.
+-- The tokens do not start with bytes that satisfy `these`.
 abbrev pub NoneStands : (List ℕ → Type 0) → List ℕ → Type 0
 NoneStands these tokens = (front rest : List ℕ) → these front → tokens ≡ front ++ rest → ⊥
 
--- What stands after a sign that is first; all, where none is.
+-- The rest after a leading sign, or everything if there is none.
 unfoldable pub SignsOff : List ℕ → List ℕ → Type 0
 SignsOff tokens rest =
     ((sign : ℕ) × ((sign ≡ 43) ⊎ (sign ≡ 45)) × (tokens ≡ sign ∷ rest))

@@ -1,4 +1,4 @@
--- Where the parts of a reply of RESP2 stand.
+-- The positions of the parts of a RESP2 reply.
 use Rattle.std.specs.Prelude.{◌≡◌, ℕ, List, ◌∷◌, ◌++◌, suc, ⊤}
 use Rattle.std.specs.Borrow.{Bor}
 use Rattle.std.specs.List.{AllByRecursion}
@@ -20,7 +20,7 @@ IsLine input text rest = (mark : ℕ) × (input ≡ mark ∷ (text ++ (line_end 
 abbrev pub IsBehindFeed : List ℕ → List ℕ → Type 0
 IsBehindFeed input behind = (line : List ℕ) × NoFeed line × (input ≡ line ++ 10 ∷ behind)
 
--- Where the parts of a reply of RESP2 stand, by what it is.
+-- The positions of the parts of a RESP2 reply, by its kind.
 abbrev pub StandsBy : {A : Type 0} → ℕ → List ℕ → Opened A → List ℕ → Type 0
 StandsBy level input (Reply-F.Simple text) rest = IsLine input text.now rest
 StandsBy level input (Reply-F.Error text) rest = IsLine input text.now rest

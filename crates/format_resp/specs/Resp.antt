@@ -44,7 +44,7 @@ LineText = Ended (Members bytes_reading InLine 0)
 unfoldable pub SizeText : Text ℕ (Option ℕ)
 SizeText = Ended SizeLine
 
--- that many bytes, and a line end
+-- `n` bytes, and a line ending
 unfoldable pub DataText : ℕ → Text ℕ (Bor (List ℕ))
 DataText n = Ended (CountedText bytes_reading n)
 
@@ -114,7 +114,7 @@ many Tilde n = n
 many Greater n = n
 many Bar n = n * 2 + 1
 
--- replies of which the bytes are slices
+-- replies whose bytes are slices
 abbrev pub Replies : Type 0 → Type 0
 Replies A = Reply (Bor (List ℕ)) A
 
@@ -123,7 +123,7 @@ abbrev pub Opened : Type 0 → Type 0
 Opened A = Reply-F (Bor (List ℕ)) A (Replies A)
 
 module _ {A : Type 0} where
-  -- what stands on the line of a reply that is a line
+  -- the contents of the line of a reply that consists of one line
   abbrev pub LineSays : LineMark → Text ℕ (Replies A)
   LineSays Plus = For (λ text. made.Simple text) (Shown (AllByRecursion InLine))
   LineSays Minus = For (λ text. made.Error text) (Shown (AllByRecursion InLine))
@@ -139,8 +139,8 @@ module _ {A : Type 0} where
   DataSays Exclamation = For (λ bytes. made.BulkError bytes) (Shown (λ tokens. ⊤))
   DataSays Equals = For (λ bytes. made.Verbatim bytes) (Shown IsVerbatim)
 
-  -- after the size of such a reply: that many bytes, and a line end; of a bulk string the size may
-  -- be that of null
+  -- after the size of a reply: its bytes, and a line ending; the size of a bulk string may be that
+  -- of null
   abbrev pub DataBehind : DataMark → Option ℕ → Text ℕ (Replies A)
   DataBehind mark (Some n) reply tokens =
       (bytes : Bor (List ℕ)) × DataSays mark reply bytes.now × DataText n bytes tokens
@@ -156,7 +156,7 @@ module _ {A : Type 0} where
   gathered Greater list = made.Push list
   gathered Bar list = made.Attributed list
 
-  -- that many replies, in a list
+  -- a list of `n` replies
   abbrev pub ListText : Text ℕ (List (Replies A)) → ℕ → Text ℕ (Vec (Replies A) A)
   ListText elements n list tokens = (length list.items ≡ n) × elements list.items tokens
 
@@ -178,13 +178,12 @@ module _ {A : Type 0} where
   Body elements (Aggregate mark) = Led SizeText (AggregateBehind elements mark)
 
 module _ {A : Type 0} (protocol : Protocol) where
-  -- the elements of an aggregate in which no more than that many aggregates stand in one another,
-  -- itself one of them
+  -- the elements of an aggregate nested at most this deep, counting the aggregate itself
   unfoldable pub Elements : ℕ → Text ℕ (List (Replies A))
   Elements zero replies tokens = ⊥
   Elements (suc level) replies tokens =
       EachText (Led (MarkText protocol) (Body (Elements level))) replies tokens
 
-  -- a reply in which no more than that many aggregates stand in one another
+  -- a reply whose aggregates are nested at most `level` deep
   abbrev pub ReplyText : ℕ → Text ℕ (Replies A)
   ReplyText level = Led (MarkText protocol) (Body (Elements level))

@@ -30,22 +30,22 @@ use Rattle.format_resp.specs.declared.write.WriteError.TheVariants.{BigNumber, D
 use Rattle.format_resp.specs.declared.write.WriteError.TheVariants.{Format, Level, LineBreak}
 use Rattle.format_resp.specs.declared.write.WriteError.TheVariants.{NoParts, OutOfMemory, Pairs}
 
--- What stood there stands there, and more may be after it.
+-- `Keeps before after`: `after` is `before`, possibly followed by more.
 pub record Keeps (before after : List ℕ) : Type 0 where
   pub more : List ℕ
   pub behind : after ≡ before ++ more
 
--- What stood there stands there, and a text of the value is after it.
+-- The old bytes are kept, and an encoding of the value is appended.
 pub record Adds {O : Type 0} (text : Text ℕ O) (o : O) (before after : List ℕ) : Type 0 where
   pub tokens : List ℕ
   pub is : text o tokens
   pub behind : after ≡ before ++ tokens
 
--- a first byte, what stands after it on its line, and the line end
+-- a first byte, the contents of its line, and the line ending
 abbrev pub marked : ℕ → List ℕ → List ℕ
 marked mark text = mark ∷ (text ++ line_end)
 
--- a first byte, how many bytes there are, the bytes, and a line end
+-- a first byte, the number of bytes, the bytes, and a line ending
 abbrev pub data_of : ℕ → List ℕ → List ℕ
 data_of mark bytes = marked mark (decimal (length bytes)) ++ (bytes ++ line_end)
 
@@ -53,7 +53,7 @@ data_of mark bytes = marked mark (decimal (length bytes)) ++ (bytes ++ line_end)
 abbrev pub bulk_of : List ℕ → List ℕ
 bulk_of bytes = data_of 36 bytes
 
--- bulk strings, one after the other
+-- consecutive bulk strings
 abbrev pub bulks_of : List (Bor (List ℕ)) → List ℕ
 bulks_of [] = []
 bulks_of (part ∷ parts) = bulk_of part.now ++ bulks_of parts
@@ -98,8 +98,8 @@ module _ {A : Type 0} where
   LineWritten Comma = LineSays Comma
   LineWritten Parenthesis = LineSays Parenthesis
 
-  -- what is written for a reply, by what is written for the elements of an aggregate: a line; so
-  -- many bytes; so many replies; and the nulls of RESP2
+  -- the bytes written for a reply, by those of the elements of an aggregate: a line; a size and
+  -- data; a size and replies; and the nulls of RESP2
   abbrev pub IsWrittenSo : Text ℕ (List (Replies A)) → Text ℕ (Replies A)
   IsWrittenSo elements reply tokens =
       ((mark : LineMark) × (line : List ℕ) × LineWritten mark reply line
@@ -119,14 +119,13 @@ module _ {A : Type 0} (protocol : Protocol) where
   IsWritten elements reply tokens =
       IsIn protocol (first_mark reply) × IsWrittenSo elements reply tokens
 
-  -- for the elements of an aggregate in which no more than that many aggregates stand in one
-  -- another, itself one of them
+  -- for the elements of an aggregate nested at most this deep, counting the aggregate itself
   unfoldable pub WrittenElements : ℕ → Text ℕ (List (Replies A))
   WrittenElements zero replies tokens = ⊥
   WrittenElements (suc level) replies tokens =
       EachText (IsWritten (WrittenElements level)) replies tokens
 
-  -- for a reply in which no more than that many aggregates stand in one another
+  -- for a reply whose aggregates are nested at most `level` deep
   abbrev pub WrittenText : ℕ → Text ℕ (Replies A)
   WrittenText level = IsWritten (WrittenElements level)
 
@@ -144,29 +143,29 @@ module _ {A : Type 0} where
   IsOrHas such zero reply = such reply
   IsOrHas such (suc level) reply = such reply ⊎ HasElement (IsOrHas such level) reply
 
-  -- more than that many aggregates stand in one another
+  -- the aggregates of the reply are nested deeper than this number
   unfoldable pub IsDeeper : ℕ → Replies A → Type 0
   IsDeeper zero reply =
       (mark : AggregateMark) × (list : Vec (Replies A) A) × (reply ≡ gathered mark list)
   IsDeeper (suc level) reply = HasElement (IsDeeper level) reply
 
-  -- a simple string or an error with a byte of a line end
+  -- a simple string or an error with a byte of a line ending
   abbrev pub IsBroken : Replies A → Type 0
   IsBroken reply =
       (text : Bor (List ℕ)) × ((reply ≡ made.Simple text) ⊎ (reply ≡ made.Error text))
       × (AllByRecursion InLine text.now → ⊥)
 
-  -- a double whose text is none
+  -- a double with an invalid text
   abbrev pub IsNoDouble : Replies A → Type 0
   IsNoDouble reply =
       (text : Bor (List ℕ)) × (reply ≡ made.Double text) × (IsDouble text.now → ⊥)
 
-  -- a big number whose text is none
+  -- a big number with an invalid text
   abbrev pub IsNoBigNumber : Replies A → Type 0
   IsNoBigNumber reply =
       (text : Bor (List ℕ)) × (reply ≡ made.BigNumber text) × (IsBigNumber text.now → ⊥)
 
-  -- a verbatim string whose bytes are none
+  -- a verbatim string with invalid bytes
   abbrev pub IsUnformatted : Replies A → Type 0
   IsUnformatted reply =
       (text : Bor (List ℕ)) × (reply ≡ made.Verbatim text) × (IsVerbatim text.now → ⊥)
@@ -183,8 +182,8 @@ module _ {A : Type 0} where
   IsForeign protocol reply = IsIn protocol (first_mark reply) → ⊥
 
 module _ {A : Type 0} (protocol : Protocol) where
-  -- why a reply is not written: what is wrong in it; more aggregates stand in one another than the
-  -- level lets; or memory was refused
+  -- the reason why a reply is not written: an invalid part; aggregates nested deeper than `level`;
+  -- or out of memory
   abbrev pub IsRefused : ℕ → Replies A → WriteError → Type 0
   IsRefused level reply LineBreak = IsOrHas IsBroken level reply
   IsRefused level reply Double = IsOrHas IsNoDouble level reply
@@ -196,12 +195,12 @@ module _ {A : Type 0} (protocol : Protocol) where
   IsRefused level reply NoParts = ⊥
   IsRefused level reply OutOfMemory = ⊤
 
-  -- memory was refused, or one of these replies is not written
+  -- out of memory, or the error of one of these replies
   abbrev pub IsRefusedAmong : ℕ → List (Replies A) → WriteError → Type 0
   IsRefusedAmong level replies e =
       (e ≡ OutOfMemory)
       ⊎ ((reply : Replies A) × Contains replies reply × IsRefused level reply e)
 
--- memory was refused, or it is this error, and this is not so
+-- out of memory, or this error, if `P` does not hold
 abbrev pub IsRefusedAs : WriteError → Type 0 → WriteError → Type 0
 IsRefusedAs error P e = (e ≡ OutOfMemory) ⊎ ((e ≡ error) × (P → ⊥))

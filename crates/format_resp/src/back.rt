@@ -1,4 +1,4 @@
-//! What is written is read back.
+//! Laws about parsing values that were written.
 ghost use Rattle.std.specs.Prelude.{◌≡◌, ◌⊎◌, ◌<◌, ◌++◌, [], ℕ, IfErr, IfOk, List};
 ghost use Rattle.winnow.specs.InTurn.{First};
 ghost use Rattle.format_resp.specs.Alike.{AreAlike, IsCommand};
@@ -16,7 +16,7 @@ use std::alloc::Allocator;
 use winnow::error::ParserError;
 use winnow::stream::{Partial, StreamIsPartial};
 
-/// Reads a reply that is known to stand first in the bytes, and what is after it.
+/// Reads the reply at the start of the bytes, which is known to be there, and returns the rest.
 fn read_whole<'i, A: Allocator + Copy>(
     alloc: A,
     protocol: Protocol,
@@ -42,10 +42,9 @@ fn read_whole<'i, A: Allocator + Copy>(
     }
 }
 
-/// What is read of the text that is written for a reply, with more after it, and what is left: a
-/// reply that is alike, of the same kinds, bytes, numbers and elements, and what was put after it.
-/// What was in the buffer goes. An error says why the reply is not written, or that a request for
-/// memory was refused; there is no other.
+/// Writes a reply followed by `more`, and reads it back. Returns an equivalent reply, of the same
+/// kinds, bytes, numbers and elements, and the rest, which is `more`. The buffer is cleared first.
+/// The only errors are the reason why the reply cannot be written, and out of memory.
 ///
 /// ```
 /// use format_resp::back::reads_back;
@@ -75,9 +74,9 @@ pub fn reads_back<'i, A: Allocator + Copy, B: Allocator>(
     read_whole(alloc, protocol, level, into.as_slice())
 }
 
-/// What is read of a command that is written, with more after it, and what is left: an array of
-/// bulk strings of the same bytes, and what was put after it. What was in the buffer goes. An
-/// error says that the command has no parts, or that a request for memory was refused.
+/// Writes a command followed by `more`, and reads it back. Returns an array of bulk strings of the
+/// same bytes, and the rest, which is `more`. The buffer is cleared first. An error means that the
+/// command has no parts, or that memory allocation failed.
 ///
 /// ```
 /// use format_resp::back::command_reads_back;
@@ -105,10 +104,11 @@ pub fn command_reads_back<'i, A: Allocator + Copy, B: Allocator>(
     read_whole(alloc, Protocol::Resp2, 1, into.as_slice())
 }
 
-/// Whatever is read of the text of a reply, with anything after it, is alike, and leaves what is
-/// after it: so no bytes are texts of two replies. That such a text is written says the clause
-/// `text` of [`write_reply`](crate::write::write_reply), and that what is read stands first that of
-/// [`read_reply`](crate::read::read_reply); [`reads_back`] calls both.
+/// Proves that reading the encoding of a reply, followed by anything, returns an equivalent reply
+/// and leaves the bytes after it: so no bytes are encodings of two different replies. By its clause
+/// `text`, [`write_reply`](crate::write::write_reply) writes such an encoding; by its contract,
+/// [`read_reply`](crate::read::read_reply) returns a reply that is at the start of the input.
+/// [`reads_back`] calls both.
 ///
 /// ```
 /// use format_resp::back::what_is_written_reads_back;
@@ -125,8 +125,9 @@ pub fn what_is_written_reads_back<A: Allocator>()
         → AreAlike level written read × (rest ≡ more) }
 {}
 
-/// A reply that is refused has no text: of its errors but `OutOfMemory` each says that no text of
-/// any level is one of it, and `Level` that none of this level or of a lower one is.
+/// Proves that a reply that cannot be written has no encoding. Each error except `OutOfMemory`
+/// means that the reply has no encoding at any depth, and `Level` that it has none at this depth or
+/// a smaller one.
 ///
 /// ```
 /// use format_resp::back::what_is_refused_has_no_text;

@@ -1,8 +1,8 @@
-//! Where a reply of RESP2 ends whose bytes come in pieces.
+//! An incremental scanner for the end of a RESP2 reply in bytes that arrive in chunks.
 //!
-//! No byte is searched again for a line end, however many pieces there are, and those of a bulk
-//! string are not looked at: so a reply is found in a time that is linear in its bytes, and is then
-//! read by one call of [`read_reply`](crate::read::read_reply).
+//! No byte is searched twice for a line ending, for any number of chunks, and those of a bulk
+//! string are not examined. So the time to find a reply is linear in its bytes. One call of
+//! [`read_reply`](crate::read::read_reply) then reads it.
 ghost use Rattle.format_resp.specs.Extents.{IsDataEnd, IsLessPart, IsLineEnd, IsOf, IsPart};
 ghost use Rattle.format_resp.specs.Extents.{IsReply, IsTold, IsWanting, Passed, Stands};
 ghost use Rattle.format_resp.specs.Extents.{count_after, data_after};
@@ -15,7 +15,7 @@ ghost use Rattle.winnow.specs.InTurn.{First};
 use crate::heads::{Head, Start, start_of};
 use std::alloc::Allocator;
 
-/// No reply stands first in the bytes, whatever follows them.
+/// No continuation of the bytes starts with a reply.
 ///
 /// ```
 /// use format_resp::extent::{Extent, Refused};
@@ -25,8 +25,8 @@ use std::alloc::Allocator;
 #[derive(Clone, Copy, Debug, PartialEq, Eq)]
 pub struct Refused;
 
-/// How far some bytes were searched for the end of the reply that they begin with. What it has can
-/// be kept anywhere, and an extent be made of it again.
+/// The state of the search for the end of a reply. Its fields can be stored anywhere, and an extent
+/// can be made of them again.
 ///
 /// ```
 /// use format_resp::extent::Extent;
@@ -39,15 +39,15 @@ pub struct Refused;
 pub struct Extent {
     /// How many bytes were passed.
     pub passed: usize,
-    /// How many of the bytes after the next one have no part of a line end.
+    /// The number of bytes after the next one that are not part of a line ending.
     pub sought: usize,
-    /// How many bytes a bulk string has that is due next, if one is whose size was passed.
+    /// The size of the bulk string that is expected next, if its size was passed.
     pub bulk: Option<usize>,
-    /// How many replies are due after that.
+    /// The number of replies that are expected after that.
     pub replies: u128,
 }
 
-/// What is after the line end that the bytes begin with.
+/// Skips a line ending and returns the rest.
 fn behind_end<'i>(bytes: &'i [u8]) -> Result<Option<&'i [u8]>, Refused>
     ensures told { IsLineEnd bytes.now result }
     ensures less { IsLessPart (length bytes.now) result }
@@ -72,7 +72,7 @@ fn behind_end<'i>(bytes: &'i [u8]) -> Result<Option<&'i [u8]>, Refused>
     }
 }
 
-/// What is after the data of a bulk string of that many bytes, and its line end.
+/// Skips the data of a bulk string of `size` bytes and its line ending, and returns the rest.
 fn behind_data<'i>(size: usize, bytes: &'i [u8]) -> Result<Option<&'i [u8]>, Refused>
     ensures told { IsDataEnd size bytes.now result }
     ensures less { IsLessPart (length bytes.now) result }
@@ -83,7 +83,7 @@ fn behind_data<'i>(size: usize, bytes: &'i [u8]) -> Result<Option<&'i [u8]>, Ref
     }
 }
 
-/// What is due after a line, where that many other replies are; none if it is more than fits.
+/// Returns the state after a line that is followed by `others` replies, or `None` on overflow.
 fn due_behind(head: Head, others: u128) -> Option<(Option<usize>, u128)>
     ensures some { IfSome result (λ due. due ≡ (data_after head, count_after head others)) }
     ensures none { result ≡ None → 2 ^ 128 ≤ count_after head others }
@@ -111,7 +111,7 @@ impl Extent {
         }
     }
 
-    /// Passes the data of a bulk string that is due next.
+    /// Passes the data of a bulk string.
     fn pass_data<'i>(
         &mut self,
         size: usize,
@@ -138,7 +138,7 @@ impl Extent {
         }
     }
 
-    /// Passes the first line of a reply that is due next, where that many others are.
+    /// Passes the first line of a reply that is followed by `others` replies.
     fn pass_line<'i>(
         &mut self,
         others: u128,
@@ -173,7 +173,7 @@ impl Extent {
         }
     }
 
-    /// Goes on where the rest is what was not passed.
+    /// Continues with `from`, the rest after the bytes passed.
     fn walk(&mut self, bytes: &[u8], from: &[u8]) -> Result<Option<usize>, Refused>
         requires within { length from.now ≤ length bytes.now }
         ensures told { Passed self.old bytes.now from.now → IsTold bytes.now result }
@@ -200,16 +200,17 @@ impl Extent {
         }
     }
 
-    /// How many bytes the reply has that the bytes begin with. They are those of the call before,
-    /// and more: what was passed then is not looked at again, so the time that all calls take is
-    /// linear in the bytes.
+    /// Searches for the end of the reply at the start of `bytes`, and returns the reply's length in
+    /// bytes. `bytes` must be those of the previous call, possibly followed by more. Bytes that
+    /// were passed are not examined again, so the time of all calls together is linear in the
+    /// bytes.
     ///
-    /// `None` is for bytes that begin with no reply as yet: a line of them is not ended, or bytes
-    /// of a bulk string are wanting. [`Refused`] is for those that begin with none whatever
-    /// follows: a line that can be none of a reply is refused where it ends, and its first byte
-    /// where it comes. How deep arrays may stand in one another is not asked:
-    /// [`read_reply`](crate::read::read_reply) says so, where the reply is whole. What is told is
-    /// told of the extent of these bytes alone: of one that was taken for others it may be wrong.
+    /// It returns `None` if the reply is incomplete: a line has no end, or bytes of a bulk string
+    /// are missing. It returns [`Refused`] if no continuation starts with a reply: an invalid line
+    /// is rejected at its end, and an invalid first byte at once. The nesting depth of arrays is
+    /// not checked; [`read_reply`](crate::read::read_reply) checks it once the reply is complete.
+    /// The result is specified only if the extent is of these bytes: if it was used for others, the
+    /// result may be wrong.
     ///
     /// ```
     /// use format_resp::extent::Extent;
@@ -252,9 +253,9 @@ pub fn reply_length(bytes: &[u8]) -> Result<Option<usize>, Refused>
     Extent::new().advance(bytes)
 }
 
-/// What [`Extent::advance`] says of replies it says of those that
-/// [`read_reply`](crate::read::read_reply) reads, of any level and with any allocator: what that
-/// reads first stands first.
+/// Proves that the contract of [`Extent::advance`] also holds for the replies that
+/// [`read_reply`](crate::read::read_reply) reads, at any depth and with any allocator: these are
+/// replies at the start of the bytes.
 ///
 /// ```
 /// use format_resp::extent::a_reply_that_is_read_stands;

@@ -1,4 +1,4 @@
-//! The first lines of replies of RESP2, and what they say of the bytes after them.
+//! The first lines of RESP2 replies, and their information about the bytes after them.
 ghost use Rattle.format_resp.specs.Heads.{IsLessStart, IsStart, Says};
 ghost use Rattle.format_resp.specs.Resp.{InLine};
 ghost use Rattle.format_resp.specs.declared.heads.Head.{Head};
@@ -11,27 +11,27 @@ use crate::marks::{AggregateMark, DataMark, LineMark, Mark, mark_of};
 use crate::numbers::{number_of, size_line};
 use crate::reply::Protocol;
 
-/// What the first line of a reply says of what is after it.
+/// The part of a reply that follows its first line.
 pub(crate) enum Head {
-    /// That nothing of the reply is.
+    /// Nothing: the reply ends.
     Ends,
-    /// That that many bytes and a line end are.
+    /// This number of bytes, and a line ending.
     Data(usize),
-    /// That that many replies are.
+    /// This number of replies.
     Replies(usize),
 }
 
-/// What of the first line of a reply stands first in some bytes.
+/// The result of the search for the first line of a reply.
 pub(crate) enum Start<'i> {
-    /// A line, as what it says, and what is after it.
+    /// The meaning of a complete line, and the rest after it.
     Whole(Head, &'i [u8]),
-    /// None yet: that many of the bytes after the first have no part of a line end.
+    /// The line is incomplete: this number of bytes after the first have no part of a line ending.
     Open(usize),
-    /// None, whatever follows.
+    /// No continuation starts with one.
     Never,
 }
 
-/// What a line says after the mark of a reply that is one.
+/// Returns the meaning of a line after the mark of a reply that consists of one line.
 fn line_head(mark: LineMark, line: &[u8]) -> Option<Head>
     ensures some { IfSome result (λ head. AllByRecursion InLine line.now
         → Says (marks.Line mark) head line.now) }
@@ -51,7 +51,7 @@ fn line_head(mark: LineMark, line: &[u8]) -> Option<Head>
     }
 }
 
-/// What a line says after the mark of a reply of so many bytes.
+/// Returns the meaning of a line after the mark of a reply with a number of bytes.
 fn data_head(mark: DataMark, line: &[u8]) -> Option<Head>
     ensures some { IfSome result (λ head. Says (marks.Data mark) head line.now) }
     ensures none { result ≡ None → (head : Head) → Says (marks.Data mark) head line.now → ⊥ }
@@ -67,7 +67,7 @@ fn data_head(mark: DataMark, line: &[u8]) -> Option<Head>
     }
 }
 
-/// What a line says after the mark of an aggregate.
+/// Returns the meaning of a line after the mark of an aggregate.
 fn aggregate_head(mark: AggregateMark, line: &[u8]) -> Option<Head>
     ensures some { IfSome result (λ head. Says (marks.Aggregate mark) head line.now) }
     ensures none { result ≡ None → (head : Head) → Says (marks.Aggregate mark) head line.now → ⊥ }
@@ -85,7 +85,7 @@ fn aggregate_head(mark: AggregateMark, line: &[u8]) -> Option<Head>
     }
 }
 
-/// What a line says after a mark of RESP2.
+/// Returns the meaning of a line after a mark of RESP2.
 fn head_of(mark: Mark, line: &[u8]) -> Option<Head>
     ensures some { IfSome result (λ head. AllByRecursion InLine line.now
         → Says mark head line.now) }
@@ -98,8 +98,8 @@ fn head_of(mark: Mark, line: &[u8]) -> Option<Head>
     }
 }
 
-/// What of the first line of a reply the bytes begin with, where that many of those after the first
-/// have no part of a line end.
+/// Searches for the first line of a reply at the start of the bytes. The first `sought` bytes after
+/// the mark must have no part of a line ending.
 pub(crate) fn start_of<'i>(bytes: &'i [u8], sought: usize) -> Start<'i>
     ensures told { AllByRecursion InLine (take sought (drop 1 bytes.now))
         → IsStart bytes.now result }

@@ -1,4 +1,4 @@
-//! What lines, bytes and lists are, after the first bytes of replies.
+//! The replies made of lines, bytes and lists, after the first byte.
 
 ghost use Rattle.std.specs.List.{AllByRecursion};
 ghost use Rattle.std.specs.Prelude.{◌≡◌, ◌≤◌, ◌+◌, ◌*◌, ◌^◌, ℕ, Bool, IfSome, None};
@@ -68,7 +68,7 @@ pub(crate) fn line_reply<'i, A: Allocator>(
     }
 }
 
-/// The reply that so many bytes are.
+/// Returns the reply of a mark and its bytes.
 pub(crate) fn data_reply<'i, A: Allocator>(
     mark: DataMark,
     bytes: &'i [u8],
@@ -116,7 +116,7 @@ fn half_of(count: usize) -> Option<usize>
     }
 }
 
-/// Half of what is left of it without one, where it is odd.
+/// Returns half of `count - 1`, if `count` is odd.
 fn half_without_one(count: usize) -> Option<usize>
     ensures some { IfSome result (λ half. count ≡ half * 2 + 1) }
     ensures none { result ≡ None → (half : ℕ) → count ≡ half * 2 + 1 → ⊥ }
@@ -128,7 +128,7 @@ fn half_without_one(count: usize) -> Option<usize>
     }
 }
 
-/// The size of an aggregate of so many replies, where one is of as many.
+/// Returns the size of an aggregate of `count` replies, if there is one.
 pub(crate) fn size_of(mark: AggregateMark, count: usize) -> Option<usize>
     ensures some { IfSome result (λ size. count ≡ many mark size) }
     ensures none { result ≡ None → (size : ℕ) → count ≡ many mark size → ⊥ }
@@ -142,7 +142,7 @@ pub(crate) fn size_of(mark: AggregateMark, count: usize) -> Option<usize>
     }
 }
 
-/// The reply that so many replies are.
+/// Returns the aggregate of a mark and its replies.
 pub(crate) fn aggregate_reply<'i, A: Allocator>(
     mark: AggregateMark,
     replies: Vec<Reply<&'i [u8], A>, A>,

@@ -14,9 +14,8 @@ type Bytes = Partial<&'static [u8]>;
 
 type Error = ErrMode<EmptyError>;
 
-/// The bytes of the line that the input begins with, up to its end, which is read too. Neither a
-/// carriage return nor a line feed is among them. Errors are those of
-/// [`read_reply`](crate::read::read_reply).
+/// Parses a line and its line ending, and returns its bytes, which contain neither a carriage
+/// return nor a line feed. The errors are those of [`read_reply`](crate::read::read_reply).
 ///
 /// ```
 /// use format_resp::leaves::read_line;

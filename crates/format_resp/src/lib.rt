@@ -1,17 +1,21 @@
-//! Replies of Redis, of RESP2 and of RESP3, the second and the third version of its protocol, by
-//! what is written for them, over bytes that may come in pieces, and replies and commands written.
+//! Replies of Redis in RESP2 and RESP3, the second and the third version of its protocol: a parser
+//! for complete and partial input, specified by the encoding of replies, and a writer of replies
+//! and commands.
 //!
-//! Each type of RESP3 is read, and the nulls of RESP2; of RESP2 its five types and two nulls. Of
-//! attributes the reply that they are of stands last among them. Integers may have a plus sign
-//! before them and zeros first, and sizes zeros, as the protocol says; `-1` is the one size of a
-//! null. Where this differs from the protocol: streamed strings and aggregates (`$?`, `*?`), which
-//! no server sends, are refused as what is no reply; a push is read within other aggregates too,
-//! where servers send one between replies alone; it may be empty, or begin with what is no string,
-//! where theirs begin with one; doubles may have an exponent, as in the Redis serialization
-//! protocol specification, and not in the first document on RESP3, and be `-nan`, which servers
-//! send; sizes and integers are numbers of 64 bits with a sign, and a line may be of any length;
-//! and aggregates are read where no more than so many stand in one another, as the caller says.
-//! Commands that are no arrays (inline ones) are no replies.
+//! It parses each type of RESP3, with the nulls of RESP2; of RESP2 the five types and two nulls.
+//! The reply that has attributes is the last element after them. As in the protocol, integers may
+//! have a plus sign and leading zeros, and sizes leading zeros; `-1` is the only size of a null.
+//!
+//! Differences from the protocol:
+//!
+//! - Streamed strings and aggregates (`$?`, `*?`), which no server sends, are rejected as invalid.
+//! - A push is also parsed within other aggregates, though servers send one only between replies.
+//!   It may be empty, or start with something other than a string.
+//! - Doubles may have an exponent, as in the Redis serialization protocol specification, and not in
+//!   the first document on RESP3. They may be `-nan`, which servers send.
+//! - Sizes and integers are signed 64-bit numbers, and a line may have any length.
+//! - The caller limits the nesting depth of aggregates.
+//! - Inline commands, which are not arrays, are not replies.
 #![tactic(auto)]
 
 pub mod back;

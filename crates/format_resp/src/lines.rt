@@ -7,18 +7,17 @@ ghost use Rattle.format_resp.specs.Resp.{InLine};
 
 use memchr::memchr2;
 
-/// What of a line stands first in some bytes.
+/// The result of the search for a line.
 pub(crate) enum Line<'i> {
-    /// A line, and what is after its end.
+    /// A complete line, and the rest after its end.
     Whole(&'i [u8], &'i [u8]),
-    /// None yet: that many of the first bytes have no part of a line end.
+    /// The line is incomplete: this number of bytes at the start have no part of a line ending.
     Open(usize),
-    /// None, whatever follows.
+    /// No continuation starts with one.
     Never,
 }
 
-/// What of a line stands first in a line and what is after it, of which the first byte is of a
-/// line end.
+/// Returns the result for `line` followed by `behind`, whose first byte is of a line ending.
 fn ended<'i>(line: &'i [u8], behind: &'i [u8]) -> Line<'i>
     ensures told { AllByRecursion InLine line.now
         → is_byte2 13 10 (slice_index behind.now 0) ≡ true
@@ -43,7 +42,8 @@ fn ended<'i>(line: &'i [u8], behind: &'i [u8]) -> Line<'i>
     }
 }
 
-/// The line that the bytes begin with, where that many of them have no part of a line end.
+/// Searches for the line at the start of the bytes. The first `sought` bytes must have no part of a
+/// line ending.
 pub(crate) fn line_of<'i>(bytes: &'i [u8], sought: usize) -> Line<'i>
     ensures told { AllByRecursion InLine (take sought bytes.now) → IsLine bytes.now result }
     ensures less { IsLessLine (length bytes.now) result }

@@ -37,7 +37,7 @@ pub(crate) enum LineMark {
     Parenthesis,
 }
 
-/// The first byte of a reply whose line says how many bytes come after it.
+/// The first byte of a reply whose line gives the number of bytes after it.
 #[derive(Clone, Copy)]
 pub(crate) enum DataMark {
     /// `$`, of a bulk string.
@@ -48,7 +48,7 @@ pub(crate) enum DataMark {
     Equals,
 }
 
-/// The first byte of a reply whose line says how many replies come after it.
+/// The first byte of a reply whose line gives the number of replies after it.
 #[derive(Clone, Copy)]
 pub(crate) enum AggregateMark {
     /// `*`, of an array.
@@ -78,18 +78,18 @@ impl AggregateMark {
     }
 }
 
-/// The first byte of a reply, which says what it is.
+/// The first byte of a reply, which determines its kind.
 #[derive(Clone, Copy)]
 pub(crate) enum Mark {
     /// Of a line.
     Line(LineMark),
-    /// Of so many bytes.
+    /// A reply with a number of bytes.
     Data(DataMark),
-    /// Of so many replies.
+    /// A reply with a number of replies.
     Aggregate(AggregateMark),
 }
 
-/// What a byte says of the reply that it begins.
+/// Returns the mark of a byte, if it starts a reply.
 fn any_mark(byte: u8) -> Option<Mark>
     ensures some { IfSome result (λ mark. byte ≡ byte_of mark) }
     ensures none { result ≡ None → (mark : Mark) → byte ≡ byte_of mark → ⊥ }
@@ -153,7 +153,7 @@ pub(crate) fn is_in(protocol: Protocol, mark: Mark) -> bool
     }
 }
 
-/// What a byte says of the reply of that version of the protocol that it begins.
+/// Returns the mark of a byte, if it starts a reply of this version of the protocol.
 pub(crate) fn mark_of(protocol: Protocol, byte: u8) -> Option<Mark>
     ensures some { IfSome result (λ mark. IsIn protocol mark × (byte ≡ byte_of mark)) }
     ensures none { result ≡ None → (mark : Mark) → IsIn protocol mark → byte ≡ byte_of mark → ⊥ }

@@ -30,7 +30,7 @@ fn read_digits<'i>(bytes: &mut &'i [u8]) -> Result<&'i [u8], ErrMode<EmptyError>
     Digit1.read(bytes)
 }
 
-/// What stands after digits.
+/// Skips one or more digits and returns the rest.
 fn behind_digits<'i>(bytes: &'i [u8]) -> Option<&'i [u8]>
     ensures { MatchOption result (NoneStands AreDigits bytes.now)
         (λ rest. Leaves AreDigits bytes.now rest.now) }
@@ -52,7 +52,8 @@ fn are_digits(bytes: &[u8]) -> bool
     }
 }
 
-/// What a digit or a letter counts, from 0 for '0' to 35 for 'Z' and 'z'; 36 for any other byte.
+/// Returns the value of a digit or a letter, from 0 for '0' to 35 for 'Z' and 'z'; 36 for any other
+/// byte.
 fn value_of(byte: u8) -> u64
     ensures { result ≡ digit_value byte }
 {
@@ -85,7 +86,7 @@ fn digits_of(bytes: &[u8]) -> Option<u64>
     }
 }
 
-/// The number, or what is as far below 0.
+/// Returns `number`, or its negation if `negative`.
 fn with_sign(negative: bool, number: u64) -> i128
     ensures { result ≡ signed negative number }
 {
@@ -155,7 +156,7 @@ pub(crate) fn size_line(line: &[u8]) -> Option<Option<usize>>
     }
 }
 
-/// What stands after a sign that is first, or all.
+/// Returns the rest after a sign, or all bytes if there is none.
 fn without_sign<'i>(bytes: &'i [u8]) -> &'i [u8]
     ensures { SignsOff bytes.now result.now }
 {
@@ -169,7 +170,7 @@ fn without_sign<'i>(bytes: &'i [u8]) -> &'i [u8]
     bytes
 }
 
-/// What stands after digits with a sign before them or none.
+/// Skips an optional sign and digits, and returns the rest.
 fn behind_number<'i>(bytes: &'i [u8]) -> Option<&'i [u8]>
     ensures { MatchOption result (NoneStands IsBigNumber bytes.now)
         (λ rest. Leaves IsBigNumber bytes.now rest.now) }

@@ -8,7 +8,7 @@ ghost use Rattle.std.specs.Prelude.{◌≡◌, ◌++◌, ◌∷◌, [], MatchBoo
 use memchr::memchr2;
 use std::alloc::{AllocError, Allocator};
 
-/// Puts a byte after what is there.
+/// Appends a byte.
 fn put<B: Allocator>(byte: u8, into: &mut Vec<u8, B>) -> Result<(), AllocError>
     ensures written { OnOk result (into.new.items ≡ into.old.items ++ byte ∷ []) }
     ensures kept { OnErr result (into.new.items ≡ into.old.items) }
@@ -19,11 +19,11 @@ fn put<B: Allocator>(byte: u8, into: &mut Vec<u8, B>) -> Result<(), AllocError>
     }
 }
 
-/// Puts the first byte of a reply, what stands after it on its line, and the line end after what is
-/// there. That it is a line is not looked at: [`is_line`] says so.
+/// Appends the first byte of a reply, the contents of its line, and the line ending. It does not
+/// check that the contents are a line; use [`is_line`].
 ///
-/// With an error, which says that a request for memory was refused, some of it may stand there. So
-/// it is of each function here that is not [`write_reply`] or [`write_command`].
+/// The only error is out of memory. Part of the output may have been appended then. This also holds
+/// for each function here except [`write_reply`] and [`write_command`].
 ///
 /// ```
 /// use format_resp::parts::write_line;
@@ -46,7 +46,7 @@ pub fn write_line<B: Allocator>(
     Ok(())
 }
 
-/// Puts the digits of a number after what is there: it calls itself once for each but the last.
+/// Appends the digits of a number. It calls itself once for each digit but the last.
 fn write_digits<B: Allocator>(number: u64, into: &mut Vec<u8, B>) -> Result<(), AllocError>
     ensures written { OnOk result (into.new.items ≡ into.old.items ++ decimal number) }
     ensures kept { Keeps into.old.items into.new.items }
@@ -60,7 +60,7 @@ fn write_digits<B: Allocator>(number: u64, into: &mut Vec<u8, B>) -> Result<(), 
     Ok(())
 }
 
-/// Puts a number after what is there, with a minus sign where it is negative.
+/// Appends a number, with a minus sign if it is negative.
 fn write_signed<B: Allocator>(number: i64, into: &mut Vec<u8, B>) -> Result<(), AllocError>
     ensures written { OnOk result (into.new.items ≡ into.old.items ++ signed_decimal number) }
     ensures kept { Keeps into.old.items into.new.items }
@@ -72,7 +72,7 @@ fn write_signed<B: Allocator>(number: i64, into: &mut Vec<u8, B>) -> Result<(), 
     write_digits(number.unsigned_abs(), into)
 }
 
-/// Puts the first byte of a reply and a size, on a line of their own, after what is there.
+/// Appends a line of the first byte of a reply and a size.
 ///
 /// ```
 /// use format_resp::parts::write_size;
@@ -95,7 +95,7 @@ pub fn write_size<B: Allocator>(
     Ok(())
 }
 
-/// Puts an integer after what is there.
+/// Appends an integer.
 ///
 /// ```
 /// use format_resp::parts::write_integer;
@@ -115,8 +115,8 @@ pub fn write_integer<B: Allocator>(number: i64, into: &mut Vec<u8, B>) -> Result
     Ok(())
 }
 
-/// Puts the first byte of a reply, how many bytes there are, and the bytes, each on a line of their
-/// own, after what is there.
+/// Appends the first byte of a reply with the number of bytes on a line, and the bytes followed by
+/// a line ending.
 ///
 /// ```
 /// use format_resp::parts::write_data;
@@ -139,7 +139,7 @@ pub fn write_data<B: Allocator>(
     Ok(())
 }
 
-/// Whether no byte is of a line end: a carriage return or a line feed.
+/// Returns whether no byte is of a line ending: a carriage return or a line feed.
 ///
 /// ```
 /// use format_resp::parts::is_line;

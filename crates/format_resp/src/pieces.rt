@@ -26,7 +26,7 @@ pub(crate) fn token<I: StreamIsPartial, E: ParserError<I>>(input: &mut I) -> Res
     Any.read_cut(input)
 }
 
-/// What stands before a carriage return and a line feed, with neither in it.
+/// Parses the bytes up to a carriage return and a line feed. Neither of these occurs in them.
 pub(crate) fn line<I: StreamIsPartial + Compare<&'static str>, E: ParserError<I>>(
     input: &mut I,
 ) -> Result<I::Slice, E>

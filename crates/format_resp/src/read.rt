@@ -19,7 +19,7 @@ type Bytes = Partial<&'static [u8]>;
 
 type Error = ErrMode<EmptyError>;
 
-/// What stands after the first byte of a reply that is a line.
+/// Parses the rest of a reply that consists of one line, after its first byte.
 fn read_on_line<'i, A: Allocator>(
     mark: LineMark,
     input: &mut Partial<&'i [u8]>,
@@ -35,7 +35,7 @@ fn read_on_line<'i, A: Allocator>(
     }
 }
 
-/// What stands after the first byte of a reply whose line says how many bytes come after it.
+/// Parses the rest of a reply whose line gives a number of bytes, after its first byte.
 fn read_bytes<'i, A: Allocator>(
     mark: DataMark,
     input: &mut Partial<&'i [u8]>,
@@ -59,10 +59,9 @@ fn read_bytes<'i, A: Allocator>(
     }
 }
 
-/// A level that is safe on a stack of two megabytes: reading a reply calls itself once for each
-/// aggregate that stands in another, and so does letting the reply go. At a higher level replies
-/// can nest so deep that the stack ends, which stops the program: the stack, too, is to be larger
-/// then.
+/// A nesting depth that is safe on a stack of two megabytes. Reading a reply calls itself once for
+/// each nested aggregate, and so does dropping it. With a greater depth, nested replies can
+/// overflow the stack, which aborts the program, so the stack must be larger too.
 ///
 /// ```
 /// use format_resp::read::{SAFE_LEVEL, read_reply};
@@ -78,7 +77,7 @@ pub const SAFE_LEVEL: usize = 128;
 /// bytes say, and they may state one that they do not have.
 const ROOM_AT_FIRST: usize = 64;
 
-/// What stands after the first byte of an aggregate.
+/// Parses the rest of an aggregate, after its first byte.
 #[cycle(read)]
 fn read_aggregate<'i, A: Allocator + Copy>(
     alloc: A,
@@ -114,16 +113,16 @@ fn read_aggregate<'i, A: Allocator + Copy>(
     }
 }
 
-/// The reply of that version of the protocol that the bytes begin with, with no more than `level`
-/// aggregates in one another (in RESP2 these are arrays); what is left is after it. Attributes and
-/// the reply that they are of count as one of these. Each level
-/// takes some of the stack: up to [`SAFE_LEVEL`] two megabytes suffice.
+/// Parses a reply of this version of the protocol, whose aggregates (in RESP2 these are arrays) are
+/// nested at most `level` deep. Attributes and the reply that they belong to count as one
+/// aggregate. Each level takes some of the stack: up to [`SAFE_LEVEL`] two megabytes suffice.
 ///
-/// On a whole input (a stream that is marked complete) it answers exactly where such a reply stands
-/// first: an error backtracks and says that none does, or is out of memory. On a cut one an answer
-/// holds whatever follows, and so does an error that backtracks; else more is asked for. Then the
-/// input is to be read again from its start, with more of it there. Of when more is asked for no
-/// clause says more: that it is asked only where a reply may go on is tested.
+/// On complete input (a stream that is marked complete) it succeeds if and only if the input starts
+/// with such a reply, unless an allocation fails: the only errors are a backtrack and out of
+/// memory. On partial input a result holds for any continuation, and so does a backtrack; otherwise
+/// it returns `Incomplete`, and the input must be read again from its start, with more bytes. No
+/// clause specifies `Incomplete` further: that it is returned only if some continuation starts with
+/// a reply is tested.
 ///
 /// ```
 /// use format_resp::read::{SAFE_LEVEL, read_reply};

@@ -15,8 +15,8 @@ pub enum Protocol {
     Resp3,
 }
 
-/// A reply. Its bytes are slices `B` of the input. RESP2 has the kinds from `Simple` to `NullArray`
-/// alone.
+/// A reply. Its bytes are slices `B` of the input. RESP2 has only the kinds from `Simple` to
+/// `NullArray`.
 ///
 /// ```
 /// use format_resp::reply::Reply;
@@ -56,19 +56,19 @@ pub enum Reply<B, A: Allocator> {
     /// A verbatim string, `=8\r\ntxt:some\r\n`: its bytes, of which
     /// [`split_verbatim`] gives the format and the text.
     Verbatim(B),
-    /// The keys of a map, `%1\r\n+key\r\n:1\r\n`, each with its value behind it.
+    /// The keys of a map, `%1\r\n+key\r\n:1\r\n`, each followed by its value.
     Map(Vec<Reply<B, A>, A>),
     /// The elements of a set, `~2\r\n:1\r\n:2\r\n`.
     Set(Vec<Reply<B, A>, A>),
-    /// The parts of a push, `>2\r\n+message\r\n:1\r\n`, which answers no command.
+    /// The parts of a push, `>2\r\n+message\r\n:1\r\n`, which is not a reply to a command.
     Push(Vec<Reply<B, A>, A>),
-    /// The names of attributes, `|1\r\n+ttl\r\n:60\r\n+reply\r\n`, each with its value behind it,
-    /// and last the reply that they are of.
+    /// The names of attributes, `|1\r\n+ttl\r\n:60\r\n+reply\r\n`, each followed by its value, and
+    /// at the end the reply that they belong to.
     Attributed(Vec<Reply<B, A>, A>),
 }
 
-/// The format of a verbatim string, which has three bytes, and its text, which stands behind a
-/// colon. `None` says that the bytes are none.
+/// Splits the bytes of a verbatim string into its format, which has three bytes, and its text after
+/// the colon. Returns `None` if the bytes are not valid.
 ///
 /// ```
 /// use format_resp::reply::split_verbatim;

@@ -35,22 +35,21 @@ use std::alloc::{AllocError, Allocator};
 pub enum WriteError {
     /// A carriage return or a line feed is in a simple string or in an error.
     LineBreak,
-    /// The text of a double is none.
+    /// The text of a double is invalid.
     Double,
-    /// The text of a big number is none.
+    /// The text of a big number is invalid.
     BigNumber,
     /// A verbatim string does not begin with a format of three bytes and a colon.
     Format,
-    /// A key in a map has no value behind it, or attributes have no reply that they are of behind
-    /// their names and values.
+    /// A key in a map has no value, or attributes have no reply after their names and values.
     Pairs,
     /// A reply is of a kind that the version of the protocol does not have.
     Foreign,
-    /// More aggregates stand in one another than the level lets.
+    /// Aggregates are nested deeper than the limit.
     Level,
     /// A command has no parts: the first is its name.
     NoParts,
-    /// A request for memory was refused.
+    /// Memory allocation failed.
     OutOfMemory,
 }
 
@@ -62,7 +61,7 @@ impl From<AllocError> for WriteError {
     }
 }
 
-/// Puts a simple string or an error after what is there.
+/// Appends a simple string or an error.
 fn write_text<B: Allocator>(mark: u8, text: &[u8], into: &mut Vec<u8, B>) -> Result<(), WriteError>
     ensures written { OnOk result (AllByRecursion InLine text.now
         × (into.new.items ≡ into.old.items ++ marked mark text.now)) }
@@ -84,7 +83,7 @@ fn boolean_text(boolean: bool) -> &'static [u8]
     if boolean { b"t" } else { b"f" }
 }
 
-/// Puts a double after what is there.
+/// Appends a double.
 fn write_double<B: Allocator>(text: &[u8], into: &mut Vec<u8, B>) -> Result<(), WriteError>
     ensures written { OnOk result (IsDouble text.now
         × (into.new.items ≡ into.old.items ++ marked 44 text.now)) }
@@ -98,7 +97,7 @@ fn write_double<B: Allocator>(text: &[u8], into: &mut Vec<u8, B>) -> Result<(), 
     Ok(())
 }
 
-/// Puts a big number after what is there.
+/// Appends a big number.
 fn write_big_number<B: Allocator>(text: &[u8], into: &mut Vec<u8, B>) -> Result<(), WriteError>
     ensures written { OnOk result (IsBigNumber text.now
         × (into.new.items ≡ into.old.items ++ marked 40 text.now)) }
@@ -112,7 +111,7 @@ fn write_big_number<B: Allocator>(text: &[u8], into: &mut Vec<u8, B>) -> Result<
     Ok(())
 }
 
-/// Puts a verbatim string after what is there.
+/// Appends a verbatim string.
 fn write_verbatim<B: Allocator>(bytes: &[u8], into: &mut Vec<u8, B>) -> Result<(), WriteError>
     ensures written { OnOk result (IsVerbatim bytes.now
         × (into.new.items ≡ into.old.items ++ data_of 61 bytes.now)) }
@@ -126,7 +125,7 @@ fn write_verbatim<B: Allocator>(bytes: &[u8], into: &mut Vec<u8, B>) -> Result<(
     Ok(())
 }
 
-/// What the texts of a reply begin with.
+/// Returns the mark that encodings of a reply start with.
 fn begins<A: Allocator>(reply: &Reply<&[u8], A>) -> Mark
     ensures { result ≡ first_mark reply.now }
 {
@@ -163,7 +162,7 @@ fn is_foreign<A: Allocator>(protocol: Protocol, reply: &Reply<&[u8], A>) -> bool
     }
 }
 
-/// Puts replies after what is there.
+/// Appends replies.
 #[cycle(write)]
 fn write_elements<A: Allocator, B: Allocator>(
     protocol: Protocol,
@@ -183,7 +182,7 @@ fn write_elements<A: Allocator, B: Allocator>(
     Ok(())
 }
 
-/// Puts an aggregate after what is there.
+/// Appends an aggregate.
 #[cycle(write)]
 fn write_list<A: Allocator, B: Allocator>(
     protocol: Protocol,
@@ -210,7 +209,7 @@ fn write_list<A: Allocator, B: Allocator>(
     }
 }
 
-/// Puts a reply after what is there.
+/// Appends a reply.
 #[cycle(write)]
 fn write_nested<A: Allocator, B: Allocator>(
     protocol: Protocol,
@@ -253,20 +252,23 @@ fn write_nested<A: Allocator, B: Allocator>(
     }
 }
 
-/// Puts a reply of that version of the protocol after what is there, in which no more than `level`
-/// aggregates stand in one another.
+/// Appends the encoding of a reply in this version of the protocol. Its aggregates must be nested
+/// at most `level` deep.
 ///
-/// A number has no plus sign and no leading zero, but doubles and big numbers are written as their
-/// texts are, so one text is written for each reply. It reads back as this reply, whatever stands
-/// after it: see [`reads_back`](crate::back::reads_back). Writing calls itself once for each
-/// aggregate that stands in another, as [`read_reply`](crate::read::read_reply) does; up to
+/// Numbers have no plus sign and no leading zeros, but the texts of doubles and big numbers are
+/// written unchanged, so the encoding of each reply is unique. It reads back as this reply, for any
+/// continuation: see [`reads_back`](crate::back::reads_back). Writing calls itself once for each
+/// nested aggregate, as [`read_reply`](crate::read::read_reply) does; up to
 /// [`SAFE_LEVEL`](crate::read::SAFE_LEVEL) two megabytes of stack suffice.
 ///
-/// Of an error but `Level` and `OutOfMemory` a reply in it is the cause, as the error says, and no
-/// text of that version and of any level is one of it. `Level` says that more aggregates stand in
-/// one another, and
-/// `OutOfMemory` that a request for memory was refused. Where several are so it may be any of them.
-/// With an error the buffer is as it was.
+/// # Errors
+///
+/// After an error the buffer is unchanged. If several errors apply, it may be any of them.
+///
+/// - `Level`: the aggregates are nested deeper than `level`.
+/// - `OutOfMemory`: memory allocation failed.
+/// - Any other error is caused by a reply in it, which has no encoding in this version at any
+///   depth.
 ///
 /// ```
 /// use format_resp::reply::{Protocol, Reply};
@@ -305,7 +307,7 @@ pub fn write_reply<A: Allocator, B: Allocator>(
     }
 }
 
-/// Puts bulk strings after what is there.
+/// Appends bulk strings.
 fn write_bulks<B: Allocator>(parts: &[&[u8]], into: &mut Vec<u8, B>) -> Result<(), AllocError>
     ensures written { OnOk result (into.new.items ≡ into.old.items ++ bulks_of parts.now) }
     ensures kept { Keeps into.old.items into.new.items }
@@ -316,7 +318,7 @@ fn write_bulks<B: Allocator>(parts: &[&[u8]], into: &mut Vec<u8, B>) -> Result<(
     Ok(())
 }
 
-/// Puts the size of an array and that many bulk strings after what is there.
+/// Appends the size of an array and its bulk strings.
 fn write_parts<B: Allocator>(parts: &[&[u8]], into: &mut Vec<u8, B>) -> Result<(), AllocError>
     ensures written { OnOk result (into.new.items ≡ into.old.items ++ command_of parts.now) }
     ensures kept { Keeps into.old.items into.new.items }
@@ -325,12 +327,14 @@ fn write_parts<B: Allocator>(parts: &[&[u8]], into: &mut Vec<u8, B>) -> Result<(
     write_bulks(parts, into)
 }
 
-/// Puts a command after what is there, as clients send it: an array of bulk strings, of which the
-/// first is its name.
+/// Appends a command, as clients send it: an array of bulk strings, the first of which is its name.
 ///
-/// `NoParts` says that there is not even a name: a server answers nothing to an empty array.
-/// `OutOfMemory` says that a request for memory was refused. There is no other error, and with one
-/// the buffer is as it was.
+/// # Errors
+///
+/// After an error the buffer is unchanged.
+///
+/// - `NoParts`: there is not even a name. A server does not respond to an empty array.
+/// - `OutOfMemory`: memory allocation failed.
 ///
 /// ```
 /// use format_resp::write::write_command;

@@ -31,7 +31,7 @@ colon = inl (omega arith)
 minus : IsUnquoted 45
 minus = inr (inr (inr (inr (inl (omega arith)))))
 
--- ---- what is told of tokens where more of these characters may stand before them
+-- ---- properties of tokens that still hold with more of these characters before them
 
 module _ (P : List ℕ → Type 0) (more : (c : ℕ) (l : List ℕ) → IsUnquoted c → P l → P (c ∷ l)) where
   one_more : (c : ℕ) (l tokens : List ℕ) → IsUnquoted c → P l → tokens ≡ c ∷ l → P tokens

@@ -1,4 +1,4 @@
--- What goes on among digits.
+-- Lemmas about the continuation of digits.
 use Rattle.std.specs.Char.{digit_value}
 use native.Mathlib.Nat.{le-mul_of_pos_right}
 use Rattle.std.specs.Str.Parse.{digits_value_after}
@@ -9,8 +9,8 @@ use Rattle.std.proofs.Common.{◌⊎◌}
 use Rattle.format_toml.specs.Numbers.{DigitsText, NextText, NumberText}
 use Rattle.winnow.specs.Texts.{BothText, EachText, EitherText, Spelled, TokenOfText}
 
--- After digits of this number a digit is due, or nothing is; with what stands there the number is
--- n.
+-- `Continues base due number tokens n`: after digits with the value `number`, the digits in
+-- `tokens` make `n`. If `due` is true, a digit must follow.
 abbrev pub Continues : ℕ → Bool → ℕ → List ℕ → ℕ → Type 0
 Continues base true number tokens n =
     (ds : List ℕ) × DigitsText base ds tokens × (n ≡ digits_value_after base number ds)
@@ -27,7 +27,6 @@ pub no_cons : {a : ℕ} {xs : List ℕ} → [] ≡ a ∷ xs → ⊥
 no_cons e = absurd (omega (arith, ap (λ l. length l) e))
 
 module _ (base : ℕ) (most : base ≤ 36) where
-  -- what a text of a first digit is
   pub first : (ds : List ℕ) (tokens : List ℕ) → DigitsText base ds tokens
       → (d : ℕ) × (es : List ℕ) × (ys : List ℕ) × (digit_value d < base)
       × EachText (NextText base) es ys
@@ -36,7 +35,6 @@ module _ (base : ℕ) (most : base ≤ 36) where
   first ds tokens (d, es, xs, ys, (is, x), row, e, f) =
       (d, es, ys, is, row, e ∙ ap (λ l. l ++ ys) x, f)
 
-  -- and what one that goes on is: none, a digit, or an underscore and a digit
   pub next : (ds : List ℕ) (tokens : List ℕ) → EachText (NextText base) ds tokens
       → ((ds ≡ []) × (tokens ≡ []))
       ⊎ ((d : ℕ) × (es : List ℕ) × (ys : List ℕ) × (digit_value d < base)
@@ -186,7 +184,7 @@ pub below : (base : ℕ) (due : Bool) (number : ℕ) (tokens : List ℕ) (n : �
 below base true number tokens n some (ds, text, v) = omega (arith, v, after_ge base number ds some)
 below base false number tokens n some (ds, text, v) = omega (arith, v, after_ge base number ds some)
 
--- ---- in a loop: from this index on it goes on so
+-- ---- in a loop: the digits continue from this index
 
 pub record GoesSo (base : ℕ) (text : List ℕ) (i : ℕ) (due : Bool) (number : ℕ) : Type 0 where
   pub same : (n : ℕ) → NumberText base n text ↔ Continues base due number (drop i text) n

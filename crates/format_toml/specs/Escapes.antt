@@ -1,4 +1,4 @@
--- What characters of basic strings leave is one rest, and they take characters.
+-- Proofs that characters of basic strings leave a unique rest, and consume characters.
 use Rattle.std.proofs.Common.{inl}
 use Rattle.format_parts.specs.Unique.{char_takes, char_unique}
 use Rattle.format_parts.specs.Words.{latter, pair}

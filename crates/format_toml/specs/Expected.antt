@@ -1,4 +1,4 @@
--- What a line lacks that is none of TOML.
+-- The part that is missing in a line that is not TOML.
 use Rattle.std.specs.Prelude.{◌≡◌, ◌⊎◌, ◌<◌, ℕ, zero, suc, List, [], length, Option}
 use Rattle.std.specs.Prelude.{Some, None}
 use Rattle.std.specs.Borrow.{Bor}
@@ -21,28 +21,28 @@ use Rattle.winnow.specs.Grammar.{Both, Grammar, NoneStands, TakesTokens}
 use Rattle.winnow.specs.Grammar.Unique.{both_take, either_takes}
 use Rattle.winnow.specs.Texts.{Begins, NotFirst}
 
--- something stands first by a grammar, with this left
+-- `tokens` starts with a match of `grammar`, followed by `rest`
 abbrev pub Stands : {O : Type 0} → Grammar ℕ O → List ℕ → List ℕ → Type 0
 Stands {O} grammar tokens rest = (o : O) × grammar tokens o rest
 
--- something stands first by a grammar
+-- `tokens` starts with a match of `grammar`
 abbrev pub Begun : {O : Type 0} → Grammar ℕ O → List ℕ → Type 0
 Begun grammar tokens = (rest : List ℕ) × Stands grammar tokens rest
 
--- what is left after what stands first, or nothing where nothing does
+-- the rest after a match, or `None` if there is no match
 abbrev pub IsPast : {O : Type 0} → Grammar ℕ O → List ℕ → Option (Bor (List ℕ)) → Type 0
 IsPast grammar tokens (Some rest) =
     Stands grammar tokens (chars rest.now)
 IsPast grammar tokens None = NoneStands grammar tokens
 
--- what is lacking, or nothing where the whole stands
+-- the missing part, or `None` if the whole matches
 abbrev pub IsLack : (Expected → List ℕ → Type 0) → Type 0 → Option Lack → Type 0
 IsLack lacks whole (Some lack) = lacks lack.expected (chars lack.rest.now)
 IsLack lacks whole None = whole
 
 module _ (A : Type 0) where
-  -- What stands after a bracket that opens the name of a table, before what is lacking, one after
-  -- the other; and what does not stand there.
+  -- After the bracket that opens the name of a table: the parts that match before the missing one,
+  -- in sequence, and the one that does not match.
   abbrev pub HeaderLacks : List ℕ → Expected → List ℕ → Type 0
   HeaderLacks text TableName rest = Stands Ws text rest × NoneStands (AnyKey {A = A}) rest
   HeaderLacks text ClosingBracket rest =
@@ -57,7 +57,7 @@ module _ (A : Type 0) where
       × (HeaderLacks name what rest
       ⊎ ((what ≡ ClosingBracket) × Stands (Header {A = A}) name rest × NoneStands (Char 93) rest))
 
-  -- The same of a table with its first bracket.
+  -- Likewise for a table with its first bracket.
   abbrev pub TableLacks : List ℕ → Expected → List ℕ → Type 0
   TableLacks text what rest =
       (name : List ℕ) × Stands (Char 91) text name
@@ -65,7 +65,7 @@ module _ (A : Type 0) where
       ⊎ (NotFirst (λ c. c ≡ 91) name × HeaderLacks name what rest))
 
   module _ (level : ℕ) where
-    -- The same of a key and its value.
+    -- Likewise for a key and its value.
     abbrev pub EntryLacks : List ℕ → Expected → List ℕ → Type 0
     EntryLacks text Key rest =
         (rest ≡ text) × NotFirst (λ c. c ≡ 91) text × NotFirst (λ c. c ≡ 35) text
@@ -77,45 +77,46 @@ module _ (A : Type 0) where
         × NoneStands (AnyValue {A = A} level) rest
     EntryLacks text expected rest = ⊥
 
-    -- What a table or an entry lacks after white space.
+    -- The missing part of a table or an entry after whitespace.
     abbrev pub ItemLacks : List ℕ → Expected → List ℕ → Type 0
     ItemLacks line what rest =
         (text : List ℕ) × Stands Ws line text
         × (TableLacks text what rest ⊎ EntryLacks text what rest)
 
-    -- After white space a table or an entry stands, or a comment is first.
+    -- After whitespace, a table or an entry matches, or a comment starts.
     abbrev pub ItemWhole : List ℕ → Type 0
     ItemWhole line =
         (text : List ℕ) × Stands Ws line text
         × (Begun (AnyItem {A = A} level) text ⊎ Begins (λ c. c ≡ 35) text)
 
-    -- What a line lacks that is none of TOML: what stands of a line is followed neither by the end
-    -- of the text nor by a line end. Its table or its entry lacks it; or one of these stands, or a
-    -- comment is there, and then it is the end of the line, after what stands of it.
+    -- The missing part of a line that is not TOML. The part of the line that matches is followed
+    -- neither by the end of the text nor by a line ending. Either its table or its entry lacks the
+    -- part. Or one of these matches, or there is a comment; then the end of the line is missing,
+    -- after the part that matches.
     abbrev pub Lacks : List ℕ → Expected → List ℕ → Type 0
     Lacks line what rest =
         (end : List ℕ) × Stands (Line {A = A} level) line end × (end ≡ [] → ⊥)
         × NoneStands Newline end
         × (ItemLacks line what rest ⊎ ((what ≡ LineEnd) × (rest ≡ end) × ItemWhole line))
 
-    -- A line with its line end, and what is left after it.
+    -- `LineStands line behind`: a line with its line ending, followed by `behind`.
     abbrev pub LineStands : List ℕ → List ℕ → Type 0
     LineStands line behind =
         (end : List ℕ) × Stands (Line {A = A} level) line end × Stands Newline end behind
 
-    -- A line that is the last, one before another, or one that lacks something.
+    -- The last line, a line that is followed by more, or a line that lacks a part.
     abbrev pub IsLine : List ℕ → ways.Outcome → Type 0
     IsLine line Last = Stands (Line {A = A} level) line []
     IsLine line (Before behind) = LineStands line (chars behind.now)
     IsLine line (lines.Lacks lack) = Lacks line lack.expected (chars lack.rest.now)
 
-    -- That many lines stand before a line, each with its line end.
+    -- `LinesBefore n text line`: in `text`, `n` lines with their line endings precede `line`.
     abbrev pub LinesBefore : ℕ → List ℕ → List ℕ → Type 0
     LinesBefore zero text line = line ≡ text
     LinesBefore (suc n) text line =
         (former : List ℕ) × LinesBefore n text former × LineStands former line
 
-    -- What the first line lacks that is none of TOML; or all are lines of TOML, up to the end.
+    -- The missing part of the first line that is not TOML; or all lines up to the end are TOML.
     abbrev pub IsFirstLack : List ℕ → Option Lack → Type 0
     IsFirstLack text (Some lack) =
         (n : ℕ) × (line : List ℕ) × LinesBefore n text line
@@ -125,7 +126,6 @@ module _ (A : Type 0) where
 
 -- ---- lemmas
 
--- a line end takes tokens
 newline_takes : TakesTokens Newline
 newline_takes =
     either_takes (char_takes 10)

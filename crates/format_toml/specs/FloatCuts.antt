@@ -1,4 +1,4 @@
--- What floats are, cut at their letter and at their point.
+-- Floats, cut at their letter and at their point.
 use Rattle.std.specs.Borrow.{Bor}
 use Rattle.std.specs.List.{All}
 use Rattle.std.specs.Prelude.{◌≡◌, ◌⊎◌, ◌≤◌, ◌↔◌, ℕ}
@@ -19,7 +19,7 @@ use Rattle.format_toml.specs.Floats.{Unsigned}
 use Rattle.format_toml.specs.Numbers.{NextText}
 use Rattle.winnow.specs.Texts.{EachText}
 
--- ---- one place alone
+-- ---- the offset is unique
 
 neither_at : (P : ℕ → Type 0) (xs ys : List ℕ) (c : ℕ) → All P (xs ++ c ∷ ys) → P c
 neither_at P [] ys c all = all 0 c (omega arith)

@@ -27,7 +27,6 @@ pub more_of : (c : ℕ) {rest tokens : List ℕ} → IsUnquoted c → All IsUnqu
     → tokens ≡ c ∷ rest → Are tokens
 more_of c {rest} is all e = subst (λ l. Are l) (sym e) (more_are c rest is all)
 
--- digits and underscores, and letters and marks beside them
 like : (c : ℕ) → IsDigitLike c → IsUnquoted c
 like c (inl d) = inl (omega (arith, d))
 like c (inr e) = inr (inr (inr (inr (inr e))))

@@ -1,4 +1,4 @@
--- What floats are, split at their letter and at their point.
+-- Floats, split at their letter and at their point.
 use Rattle.std.specs.Char.{digit_value}
 use Rattle.std.specs.List.{All}
 use Rattle.std.specs.Str.Parse.{digits_value_after}
@@ -19,7 +19,7 @@ use Rattle.winnow.specs.Texts.{EachText}
 
 -- ---- digits in a loop
 
--- A digit is due, or digits go on.
+-- `GoOn due tokens`: a digit must follow, or, if `due` is false, digits may continue.
 abbrev pub GoOn : Bool → List ℕ → Type 0
 GoOn true tokens = AreDigits tokens
 GoOn false tokens = (digits : List ℕ) × EachText (NextText 10) digits tokens
@@ -47,7 +47,7 @@ digit_back_so due c cs is x =
     let (n, y) = number false (0 * 10 + digit_value c) cs x in
     numbered due 0 n (c ∷ cs) (digit_back 10 (omega arith) due 0 c cs n is y)
 
--- in a loop: from this index on they go on so
+-- in a loop: the digits continue from index `i`
 pub record DigitsSo (text : List ℕ) (i : ℕ) (due : Bool) : Type 0 where
   pub same : AreDigits text ↔ GoOn due (drop i text)
 

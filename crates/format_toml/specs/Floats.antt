@@ -13,7 +13,8 @@ use Rattle.winnow.specs.Texts.{Text}
 unfoldable pub AreDigits : List ℕ → Type 0
 AreDigits tokens = (digits : List ℕ) × DigitsText 10 digits tokens
 
--- unsigned-dec-int = DIGIT / digit1-9 1*( DIGIT / underscore DIGIT ): a zero is first only alone
+-- unsigned-dec-int = DIGIT / digit1-9 1*( DIGIT / underscore DIGIT ): a leading zero must be the
+-- only digit
 unfoldable pub IsWhole : List ℕ → Type 0
 IsWhole tokens = AreDigits tokens × ((others : List ℕ) → tokens ≡ 48 ∷ others → others ≡ [])
 
@@ -80,14 +81,14 @@ IsDecimal tokens =
     (whole : List ℕ) × (digits : List ℕ) × IsWhole whole × AreDigits digits
     × (tokens ≡ whole ++ 46 ∷ digits)
 
--- What stands before the first of two tokens, and what after it; none, where neither stands.
+-- The parts before and after the first occurrence of either token; `None` if neither occurs.
 unfoldable pub SplitsAt : ℕ → ℕ → List ℕ → Option (Bor (List ℕ) × Bor (List ℕ)) → Type 0
 SplitsAt one other text None = All (λ c. ((c ≡ one) ⊎ (c ≡ other)) → ⊥) text
 SplitsAt one other text (Some parts) =
     (c : ℕ) × ((c ≡ one) ⊎ (c ≡ other)) × (text ≡ parts.0.now ++ c ∷ parts.1.now)
     × All (λ c. ((c ≡ one) ⊎ (c ≡ other)) → ⊥) parts.0.now
 
--- What stands after a sign that is first; all, where none is.
+-- `rest` is the text without its leading sign, or all of it if there is none.
 unfoldable pub SignsOff : List ℕ → List ℕ → Type 0
 SignsOff text rest =
     ((sign : ℕ) × IsSign sign × (text ≡ sign ∷ rest))

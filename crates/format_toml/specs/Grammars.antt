@@ -56,8 +56,8 @@ Mark c = Both pair (Char c) Ws
 abbrev pub WideMark : ℕ → Grammar ℕ (ℕ × ⊤)
 WideMark c = Both pair (Char c) Gap
 
--- elements with a mark between each two of them, and perhaps after the last, or nothing, between
--- two others; white space is after the first mark, and after those between elements
+-- elements separated by a mark, with an optional mark after the last, or nothing, between two other
+-- marks; whitespace follows the first mark, and the marks between elements
 abbrev pub Listing : {T O M W A : Type 0} → Grammar T O → Grammar T M → Grammar T M → Grammar T M
     → Grammar T W → Grammar T (Option (Vec O A))
 Listing element opening comma closing gap =
@@ -76,7 +76,7 @@ Short = Meaning StandsFor (Token (λ c. c))
 abbrev pub WideUnits : Grammar ℕ (ℕ × ℕ)
 WideUnits = Both pair CodeUnit CodeUnit
 
--- what stands after a backslash
+-- the characters after a backslash
 abbrev pub Escape : Grammar ℕ ℕ
 Escape =
     Led (λ c. c ≡ 117) (Both latter (Char 117) (Meaning IsAlone CodeUnit))
@@ -85,11 +85,11 @@ Escape =
 abbrev pub Character : Grammar ℕ ℕ
 Character = Either (TokenOf (λ c. c) Tells Basic) (Both latter (Char 92) Escape)
 
--- a white character, or a line end
+-- a whitespace character, or a line ending
 abbrev pub Blank : Grammar ℕ ℕ
 Blank = Either (TokenOf (λ c. c) Tells White) Newline
 
--- a backslash, a line end, and what is blank after it
+-- a backslash, a line ending, and the blanks after it
 abbrev pub EscapedLine : Grammar ℕ ⊤
 EscapedLine =
     Both latter (Char 92) (Both latter Ws (Both latter Newline
@@ -114,17 +114,17 @@ BasicPart = Part 34 BasicContent Skips
 abbrev pub LiteralPart : Grammar ℕ ℕ
 LiteralPart = Part 39 LiteralContent NoSkips
 
--- as many characters of numbers, dates and times as stand, that many at least
+-- the longest run of characters of numbers, dates and times, at least `least` of them
 abbrev pub UnquotedRun : ℕ → Grammar ℕ Slice
 UnquotedRun least = Longest text_reading (λ c. c) Tells Unquoted (from_to least None)
 
--- a space, two digits and a colon, and as many of these as stand after it
+-- a space, two digits and a colon, and all these characters after them
 abbrev pub SpacedTime : Grammar ℕ (ℕ × Slice × ℕ × Slice)
 SpacedTime =
     Four (Char 32) (Longest text_reading (λ c. c) Tells Digit (from_to 2 (Some 2))) (Char 58)
     (UnquotedRun 0)
 
--- as many of these as stand, one at least, with this after them if it stands there
+-- the longest run of these characters, at least one, and the time that may follow it
 abbrev pub Unquoteds : Grammar ℕ Slice
 Unquoteds = Taken text_reading (Both pair (UnquotedRun 1) (Optional SpacedTime))
 
@@ -147,7 +147,7 @@ module _ {A : Type 0} where
   abbrev pub LongLiteral : Grammar ℕ (String A)
   LongLiteral = Long 39 LiteralContent NoSkips Newline
 
-  -- a string over lines, or else one on a line
+  -- a multi-line basic string, otherwise a basic string
   abbrev pub AnyBasic : Grammar ℕ (String A)
   AnyBasic = Either LongBasic BasicString
 

@@ -1,4 +1,4 @@
--- What integers are, by the character that is first.
+-- Integers, by their first character.
 use Rattle.std.specs.Char.{digit_value}
 use Rattle.std.specs.Str.Parse.{digits_value}
 use Rattle.std.specs.Prelude.{◌≡◌, ◌⊎◌, ◌<◌, ◌≤◌, ◌↔◌, ◌^◌, ℕ, ℤ, zero, suc, pos, neg_ℤ, FitsSigned}
@@ -225,7 +225,7 @@ plain {tokens} {rest} {c} is no_plus no_minus no_zero = record {
     from n (inr (inr (inl (m, ys, x, e, g)))) = absurd (no_minus (head_of (sym is ∙ e)))
     from n (inr (inr (inr (m, ys, x, some, e, g)))) = absurd (no_zero (head_of (sym is ∙ e)))
 
--- ---- what is answered
+-- ---- the result
 
 pub fits_pos : (m : ℕ) → FitsSigned w64 (pos m) → m < 2 ^ 64
 fits_pos m fits = let small : m < 2 ^ 63 = fits.sfits in omega (arith, small)

@@ -60,7 +60,7 @@ opens_key_is c (inr (inr bare)) =
       closes,
     )
 
--- what stands after a key and white space
+-- a character that follows a key and whitespace
 abbrev pub EndsKey : ℕ → Type 0
 EndsKey c = (c ≡ 61) ⊎ (c ≡ 93)
 

@@ -1,4 +1,4 @@
--- What stands of a line, part by part, is whole.
+-- Proofs that the parts of a line that match are complete.
 use Rattle.std.specs.Prelude.{◌≡◌, ℕ, List, Option, Some, None, Result, Ok, Err, IfOk}
 use Rattle.std.proofs.Common.{refl, inl, inr}
 use Rattle.format_parts.specs.Words.{Char, latter}

@@ -14,7 +14,7 @@ use Rattle.winnow.specs.Text.{text_reading}
 use Rattle.winnow.specs.Texts.{Begins, BeginsIn, EitherText, InFront, IsGrammarOf, NotFirst, Text}
 use Rattle.winnow.specs.Texts.Fronts.{begins_never}
 
--- A character of these is first, and the former stands; or none of these is, and the latter does.
+-- `Led these g h`: `g` if the tokens start with a character of `these`, otherwise `h`.
 unfoldable pub Led : {O : Type 0} → (ℕ → Type 0) → Grammar ℕ O → Grammar ℕ O → Grammar ℕ O
 Led these g h tokens o rest =
     (Begins these tokens × g tokens o rest) ⊎ (NotFirst these tokens × h tokens o rest)

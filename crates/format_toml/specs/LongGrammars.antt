@@ -18,13 +18,13 @@ module _ {T O : Type 0} (quote : Grammar T O) where
   abbrev pub QuoteOf : Grammar T O
   QuoteOf = Both former quote (Ahead (Both pair (Optional ThreeOf) (NotAhead TwoOf)))
 
-  -- a character, after what is skipped
+  -- a character, after skipped input
   abbrev pub PartOf : Grammar T O → Grammar T ⊤ → Grammar T O
   PartOf content skips = Both latter skips (Either content QuoteOf)
 
 module _ {T M : Type 0} (quote : Grammar T M) (part : Grammar T ℕ) (skips : Grammar T ⊤)
     (newline : Grammar T M) where
-  -- a line end or none, and parts with what is skipped after them
+  -- an optional line ending, and parts with skipped input after them
   abbrev pub BodyOf : {A : Type 0} → Grammar T (String A)
   BodyOf =
       Both latter (Optional newline) (Both former
@@ -34,7 +34,7 @@ module _ {T M : Type 0} (quote : Grammar T M) (part : Grammar T ℕ) (skips : Gr
   abbrev pub LongOf : {A : Type 0} → Grammar T (String A)
   LongOf = Three (λ o1 o2 o3. o2) (ThreeOf quote) BodyOf (ThreeOf quote)
 
--- the same of characters
+-- likewise for characters
 abbrev pub Delimiter : ℕ → Grammar ℕ (ℕ × ℕ × ℕ)
 Delimiter quote = ThreeOf (Char quote)
 

@@ -46,7 +46,7 @@ blank_begins =
     either_front (begins_wider (λ c s. inl s) (set_begins White))
     (begins_wider (λ c b. inr b) newline_begins)
 
--- ---- one escaped line end
+-- ---- one escaped line ending
 
 line_of : IsGrammarOf EscapedLine EscapedLineText (NoneStands Blank)
 line_of =
@@ -83,7 +83,6 @@ line_second =
     both_front latter (backslash_front IsBlank) (both_front latter ws_blank
     (both_front latter (begins_wider (λ c b. inr b) newline_begins) front_any))
 
--- it stands nowhere else
 no_line : (tokens : List ℕ) → Second (λ c. 33 < c) tokens → NoneStands EscapedLine tokens
 no_line tokens (rest, e, above) o behind x =
     let (front, f, t) = line_of.there tokens o behind x in
@@ -175,7 +174,7 @@ blank_free n xs (inl (is, e)) =
 blank_free n xs (inr t) =
     newline_free 34 (λ e. omega (arith, e)) (λ e. omega (arith, e)) n xs t
 
--- ---- so escaped line ends are skipped
+-- ---- escaped line endings are skipped
 
 nearer : (xs zs rest : List ℕ) → EscapedLines xs (zs ++ rest) → EscapedLines xs zs
 nearer xs zs rest (inl e) = inl e

@@ -10,7 +10,7 @@ use Rattle.winnow.specs.Grammar.{Both, Each, Either, Grammar, IsUnique, NoneStan
 use Rattle.winnow.specs.Texts.{Anything, Begins, BeginsIn, IsGrammarOf, NotFirst, Text}
 use Rattle.winnow.specs.Texts.Fronts.{none_begins}
 
--- What may be skipped, by its grammar: `stop` holds where nothing more is skipped.
+-- The input that may be skipped, by its grammar: `stop` holds where nothing more is skipped.
 pub record Skipping (quote : ℕ) (text : Text ℕ ℕ) (skips : Grammar ℕ ⊤)
     (skipped : List ℕ → List ℕ → Type 0) (stop : List ℕ → Type 0) : Type 0 where
   pub there : (tokens : List ℕ) (o : ⊤) (rest : List ℕ) → skips tokens o rest
@@ -39,7 +39,7 @@ module _ (quote : ℕ) {content : Grammar ℕ ℕ} {text : Text ℕ ℕ} {skips 
     (skipping : Skipping quote text skips skipped stop) where
   -- ---- what is read is written
 
-  -- what is known of tokens before which two quotation marks stand, or one
+  -- a property of tokens that follow two quotation marks (`zero`), or one
   unfoldable pub Before : ℕ → List ℕ → Type 0
   Before zero tokens = Clear quote (quote ∷ tokens) × Clear quote tokens
   Before (suc zero) tokens = Clear quote tokens
@@ -157,7 +157,6 @@ module _ (quote : ℕ) {content : Grammar ℕ ℕ} {text : Text ℕ ℕ} {skips 
   no_content : (rest : List ℕ) → NoneStands content (quote ∷ rest)
   no_content rest = none_begins of other (quote ∷ rest) (λ not. not refl)
 
-  -- no part stands where the string is closed
   no_part : (tokens : List ℕ) (closes : List ℕ) → Closes quote closes → skips tokens tt closes
       → NoneStands (Part quote content skips) tokens
   unfolding Both Either

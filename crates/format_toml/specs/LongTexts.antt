@@ -12,7 +12,7 @@ one_and_two a b = (a, b.0, b.1)
 abbrev pub DelimiterText : ℕ → Text ℕ (ℕ × ℕ × ℕ)
 DelimiterText quote = BothText one_and_two (One quote) (BothText pair (One quote) (One quote))
 
--- no such text stands first
+-- `tokens` does not start with an encoding
 abbrev pub NoneWritten : {O : Type 0} → Text ℕ O → List ℕ → Type 0
 NoneWritten {O} text tokens =
     (o : O) (xs ys : List ℕ) → text o xs → tokens ≡ xs ++ ys → ⊥
@@ -22,7 +22,8 @@ unfoldable pub Trimmed : {N O : Type 0} → Text ℕ N → Text ℕ O → Text �
 Trimmed newline text o tokens =
     BothText latter newline text o tokens ⊎ (text o tokens × NoneWritten newline tokens)
 
--- How many quotation marks may stand next, where that many might stand before these tokens.
+-- The number of quotation marks that may come next, where `room` of them might precede these
+-- tokens.
 abbrev pub room_behind : ℕ → List ℕ → ℕ
 room_behind room [] = room
 room_behind room (x ∷ xs) = 2
@@ -30,9 +31,9 @@ room_behind room (x ∷ xs) = 2
 -- `skipped xs ys`: the tokens `xs` stand for no character, before `ys`.
 module _ (quote : ℕ) (content : Text ℕ ℕ) (skipped : List ℕ → List ℕ → Type 0) where
   -- ml-basic-body = *mlb-content *( mlb-quotes 1*mlb-content ) [ mlb-quotes ], with mlb-quotes =
-  -- 1*2quotation-mark, and so ml-literal-body: contents and quotation marks, of which no more than
-  -- two stand after one another, and that many at the beginning. What is skipped may stand before
-  -- each character, and at the end.
+  -- 1*2quotation-mark, and likewise ml-literal-body: contents and quotation marks. At most two
+  -- quotation marks are consecutive, and at most `room` at the start. Skipped input may precede
+  -- each character, and the end.
   unfoldable pub BodyText : ℕ → Text ℕ (List ℕ)
   BodyText room [] tokens = skipped tokens []
   BodyText room (o ∷ os) tokens =

@@ -27,7 +27,6 @@ abbrev pub Free : ℕ → List ℕ → Type 0
 Free quote [] = ⊤
 Free quote (x ∷ xs) = (x ≡ quote → ⊥) × Free quote xs
 
--- what has none stands before one
 within : (quote : ℕ) (xs front rest ys : List ℕ) → Free quote xs
     → Begins (λ c. c ≡ quote) rest → front ++ rest ≡ xs ++ ys
     → (zs : List ℕ) × (front ≡ xs ++ zs)

@@ -1,4 +1,4 @@
--- TOML 1.0 (Integer): what is written for integers, by its ABNF, and what is answered of a text.
+-- TOML 1.0 (Integer): the written form of integers, by its ABNF, and the result for a text.
 use Rattle.std.specs.Char.{digit_value}
 use Rattle.std.specs.Str.Parse.{digits_value}
 use Rattle.std.specs.Prelude.{◌≡◌, ◌⊎◌, ◌<◌, ◌^◌, ℕ, ℤ, pos, neg_ℤ, List, [], ◌∷◌, FitsSigned}
@@ -25,7 +25,8 @@ unfoldable pub NumberText : ℕ → Text ℕ ℕ
 NumberText base n tokens = (digits : List ℕ) × DigitsText base digits tokens
     × (n ≡ digits_value base digits)
 
--- unsigned-dec-int = DIGIT / digit1-9 1*( DIGIT / underscore DIGIT ): a zero is first only alone
+-- unsigned-dec-int = DIGIT / digit1-9 1*( DIGIT / underscore DIGIT ): a leading zero must be the
+-- only digit
 unfoldable pub UnsignedText : Text ℕ ℕ
 UnsignedText n tokens =
     NumberText 10 n tokens × ((others : List ℕ) → tokens ≡ 48 ∷ others → others ≡ [])
@@ -58,7 +59,7 @@ AnyIntegerText =
 unfoldable pub IntegerText : Text ℕ ℤ
 IntegerText n tokens = AnyIntegerText n tokens × FitsSigned w64 n
 
--- ---- what is answered of a text
+-- ---- the result for a text
 
 -- The number of the text, and no other is; none, where there is none below 2 ^ 64.
 unfoldable pub IsNumber : Text ℕ ℕ → List ℕ → Option ℕ → Type 0
@@ -75,7 +76,7 @@ unfoldable pub IsIntegerOf : List ℕ → Option ℤ → Type 0
 IsIntegerOf tokens None = (n : ℤ) → IntegerText n tokens → ⊥
 IsIntegerOf tokens (Some n) = IntegerText n tokens
 
--- what stands after a zero that is first: nothing, or a letter and digits of its base
+-- the tokens after a leading zero: none, or a letter and digits of its base
 unfoldable pub BehindZero : Text ℕ ℕ
 BehindZero n tokens =
     ((tokens ≡ []) × (n ≡ 0))

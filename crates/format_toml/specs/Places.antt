@@ -77,9 +77,8 @@ module _ (A : Type 0) (level : ℕ) where
       end_of_end (line_end n text former before)
       (end_of_end (left_end (line_unique {A = A} level) s) (left_end newline_unique c))
 
--- ---- so its bytes are an end of the bytes of the text
+-- ---- its bytes are a suffix of the bytes of the text
 
--- what stands before it is text too
 before_end : (text rest front : List ℕ) (place : ℕ) → IsUtf8 text → IsUtf8 rest
     → chars text ≡ front ++ chars rest → place + length rest ≡ length text
     → (text ≡ take place text ++ rest) × IsUtf8 (take place text)
@@ -99,7 +98,6 @@ before_end text rest front place utf8 too e sum =
           (subst P (sym at) (IsCharBoundary-at_seam text bytes rest split too)),
     )
 
--- the place of what the first line lacks
 pub lacks_at : (A : Type 0) (level : ℕ) (text : List ℕ) (lack : Lack) (place : ℕ)
     (position : Position) → IsUtf8 text → IsUtf8 lack.rest.now
     → IsFirstLack A level (chars text) (Some lack) → place + length lack.rest.now ≡ length text

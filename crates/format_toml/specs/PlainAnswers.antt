@@ -1,4 +1,4 @@
--- What is answered of a text of a value without quotes, and of what is read.
+-- The results for the text of a value without quotes, and for the parsed input.
 use Rattle.std.specs.Prelude.{◌≡◌, ◌⊎◌, ℕ, ℤ, List, [], ◌∷◌, ◌++◌, length, None, Some}
 use Rattle.std.specs.Prelude.{Result, Ok, Err, FitsSigned, encode_utf8_all}
 use Rattle.std.specs.Int.{w64}
@@ -24,15 +24,15 @@ use Rattle.winnow.specs.Texts.{EitherText, MadeText, Text}
 
 -- ---- of a text
 
--- A value of which all of the bytes are a text. Or an error, where they are none of a value, or for
--- want of memory.
+-- A value that all of the bytes encode. Or an error, if the bytes do not encode a value, or if
+-- memory allocation fails.
 unfoldable pub IsAnswer : {A E : Type 0} → Text ℕ (Value A) → (E → Kind) → List ℕ
     → Result (Value A) E → Type 0
 IsAnswer text kind bytes (Ok v) = text v bytes
 IsAnswer {A} text kind bytes (Err e) =
     (kind e ≡ memory) ⊎ ((kind e ≡ backtrack) × ((v : Value A) → text v bytes → ⊥))
 
--- The float that the bytes are, or an error for want of memory.
+-- The float that the bytes are, or an out-of-memory error.
 unfoldable pub IsFloatAnswer : {A E : Type 0} → (E → Kind) → List ℕ → Result (Value A) E → Type 0
 IsFloatAnswer kind bytes (Ok v) = For MeansFloat FloatText v bytes
 IsFloatAnswer kind bytes (Err e) = kind e ≡ memory
@@ -97,7 +97,6 @@ same_front (x ∷ f) [] rest e =
 same_front (x ∷ f) (y ∷ g) rest e =
     ap (λ c. c ∷ f) (same_first e) ∙ ap (λ l. y ∷ l) (same_front f g rest (same_others e))
 
--- those that stand are shown by one text
 one_text : (tokens : List ℕ) (slice other : Slice) (rest more : List ℕ)
     → Unquoteds tokens slice rest → Unquoteds tokens other more → slice.now ≡ other.now
 unfolding Taken

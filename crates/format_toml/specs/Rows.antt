@@ -1,4 +1,4 @@
--- Rows of texts with one at least: what they begin with, and what may stand after them.
+-- Sequences of at least one encoding: the first characters of these, and the input that may follow.
 use Rattle.std.specs.Prelude.{◌≡◌, ◌≤◌, ℕ, List, [], ◌∷◌, ◌++◌, length, None}
 use Rattle.std.proofs.Common.{refl, sym, ap, subst, inr, ◌∙◌, arith, append_assoc}
 use Rattle.winnow.specs.Grammar.{Both, Each, Grammar, NoneStands, Parted}
@@ -22,7 +22,7 @@ joined_begins {O} {D} {text} {these} separator begins =
         subst P (sym (append_assoc xs ys rest) ∙ ap (λ l. l ++ rest) (sym e))
         (begins.makes o xs (ys ++ rest) a tt)
 
--- The same of rows after which a separator may stand, where no element is after that one.
+-- Likewise for sequences that a separator may follow, if no element follows that.
 module _ {O D : Type 0} {g : Grammar ℕ O} {h : Grammar ℕ D} {text : Text ℕ O}
     {separator : Text ℕ D} {follow between ends : List ℕ → Type 0}
     (is : IsGrammarOf g text follow) (by : IsGrammarOf h separator between)

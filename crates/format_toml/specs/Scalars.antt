@@ -43,9 +43,8 @@ goes_is c (inl (inr (inr (inr (inr (inr e)))))) = omega (arith, e)
 goes_is c (inr (inl e)) = omega (arith, e)
 goes_is c (inr (inr e)) = omega (arith, e)
 
--- What may stand after a value: none of these is first, nor a space with a time after it, with
--- which
--- a date goes on.
+-- `Goes rest`: the input after a value does not start with one of these, nor with a space and a
+-- time, which would continue a date.
 abbrev pub Goes : List ℕ → Type 0
 Goes rest = NotFirst GoesOn rest × NoTime rest
 
@@ -165,7 +164,7 @@ module _ {A : Type 0} where
       → BeginsIn (λ c. c ≡ first) (BooleanText {A = A} (first ∷ word) is)
   boolean_begins first word is = for_front IsBoolean (spelled_begins first word is)
 
-  -- ---- one or another, by what they begin with
+  -- ---- alternatives, by their first characters
 
   after_true_of : IsGrammarOf (Led (λ c. c ≡ 102) (AnyBoolean {A = A} false_word false) Plain)
       (EitherText (BooleanText false_word false) PlainText) Goes

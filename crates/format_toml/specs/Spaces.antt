@@ -1,4 +1,4 @@
--- The grammars of white space, comments and line ends are those of what is written.
+-- Proofs that the grammars of whitespace, comments and line endings match their written form.
 use Rattle.std.specs.Prelude.{◌≡◌, ◌⊎◌, ◌<◌, ⊤, ℕ, List, [], ◌∷◌, ◌++◌, None}
 use Rattle.std.specs.List.{All}
 use Rattle.std.proofs.Common.{refl, subst, inl, inr, arith}
@@ -72,13 +72,13 @@ pub past : (these : ℕ → Type 0) (n : ℕ) → 32 < n → (these n → ⊥) �
 past these n above not c e (inl s) = no_space c (omega (arith, above, e)) s
 past these n above not c e (inr t) = not (subst these e t)
 
--- ---- line ends and comments
+-- ---- line endings and comments
 
--- what a line end begins with
+-- the first character of a line ending
 abbrev pub IsBreak : ℕ → Type 0
 IsBreak c = (c ≡ 10) ⊎ (c ≡ 13)
 
--- and what a comment does, or that
+-- the first character of a comment or a line ending
 abbrev pub IsTail : ℕ → Type 0
 IsTail c = (c ≡ 35) ⊎ IsBreak c
 
@@ -119,7 +119,6 @@ comment_of =
 pub comment_begins : BeginsIn (λ c. c ≡ 35) CommentText
 comment_begins = both_front latter (spelled_begins 35 [] 35) front_any
 
--- a comment or none, in front of a line end or the end
 pub maybe_comment_of : IsGrammarOf (Optional AnyComment) (OptionalText CommentText)
     (MayBegin IsBreak)
 maybe_comment_of =
@@ -174,7 +173,6 @@ gap_of =
     gathered_of (λ (all : ⊤) parts. ⊤) (many_of gap_part_of (from_to 0 None) 0 refl front_any
     (λ rest b. tt) (λ rest b. none_begins gap_part_of gap_part_begins rest b))
 
--- what holds behind white space over lines holds before it, if it does of each part
 pub gap_front : {behind : List ℕ → Type 0} → InFront GapPartText behind behind
     → InFront GapText behind behind
 gap_front front = gathered_front (λ (all : ⊤) parts. ⊤) (each_front front)

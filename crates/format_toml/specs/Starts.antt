@@ -11,7 +11,8 @@ use Rattle.format_toml.specs.UniqueSpaces.{newline_unique}
 use Rattle.winnow.specs.Grammar.{NoneStands}
 
 module _ (A : Type 0) (level : ℕ) where
-  -- The line before which that many stand, with all that is after it; or fewer lines stand first.
+  -- `IsStart text number line`: `line` is the rest of `text` after `number` lines; or it is `None`,
+  -- and `text` starts with fewer lines.
   abbrev pub IsStart : List ℕ → ℕ → Option (Bor (List ℕ)) → Type 0
   IsStart text number (Some line) = LinesBefore A level number text (chars line.now)
   IsStart text number None = (line : List ℕ) → LinesBefore A level number text line → ⊥
@@ -24,7 +25,6 @@ module _ (A : Type 0) (level : ℕ) where
       let e : other ≡ end = (line_unique {A = A} level).one line p o other end z x in
       newline_unique.one end c d a b y (subst (λ l. Newline l d b) e w)
 
-  -- that many lines end at one place
   pub one_start : (n : ℕ) (text a b : List ℕ) → LinesBefore A level n text a
       → LinesBefore A level n text b → a ≡ b
   one_start zero text a b e d = e ∙ sym d
@@ -32,7 +32,6 @@ module _ (A : Type 0) (level : ℕ) where
       let e : other ≡ former = one_start n text other former too before in
       one_behind former a b stands (subst (λ l. LineStands A level l b) e also)
 
-  -- so where more stand before another, a line with its end stands there
   pub start_goes_on : (n m : ℕ) (text line last : List ℕ) → LinesBefore A level n text line
       → n < m → LinesBefore A level m text last → (behind : List ℕ) × LineStands A level line behind
   start_goes_on n zero text line last here few there = absurd (omega (arith, few))
@@ -46,7 +45,6 @@ module _ (A : Type 0) (level : ℕ) where
         | inr (inr more) ↦ absurd (omega (arith, few, more))
       ]
 
-  -- and so none starts where no line end is after what stands of a line before
   pub none_starts : (n m : ℕ) (text left end : List ℕ) → LinesBefore A level n text left → n < m
       → Stands (Line {A = A} level) left end → NoneStands Newline end → (line : List ℕ)
       → LinesBefore A level m text line → ⊥

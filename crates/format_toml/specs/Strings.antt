@@ -73,7 +73,6 @@ unit_of =
     (both_of pair digit_of (both_of pair digit_of digit_of front_any)
     front_any) front_any))
 
--- what a backslash escapes by itself is no u
 short_begins : BeginsIn (λ c. (c ≡ 117 → ⊥) × (c ≡ 85 → ⊥)) (For StandsFor Whichever)
 unfolding MadeText Whichever
 short_begins = record {
@@ -148,7 +147,7 @@ escape_above =
     (both_front latter (spelled_begins 117 [] 117) front_any))
     (either_front (begins_wider (λ c e. omega (arith, e)) long_begins) short_above)
 
--- no backslash is first, or one in front of what is above a space
+-- the tokens do not start with a backslash, unless a character above a space follows it
 abbrev pub Apart : List ℕ → Type 0
 Apart tokens =
     NotFirst (λ c. c ≡ 92) tokens

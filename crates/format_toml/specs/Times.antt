@@ -30,7 +30,7 @@ use Rattle.winnow.specs.Texts.Fronts.{optional_front, spelled_begins}
 use Rattle.winnow.specs.Texts.Parts.{behind_less, both_of, optional_of, same_of, taken_of}
 use Rattle.winnow.specs.Texts.Tokens.{divides_seen, divides_where, exactly_of, longest_of}
 
--- ---- what may stand after them
+-- ---- the input that may follow them
 
 -- Not first are a space, two digits and a colon, with which a time begins after its date.
 abbrev pub NoTime : List ℕ → Type 0
@@ -58,7 +58,7 @@ ascii (x ∷ xs) all =
     IsAscii-cons x xs (unquoted_is x (all 0 x (omega arith))).1
     (ascii xs (All-tail IsUnquoted x xs all))
 
--- as many as stand
+-- zero or more
 run_of : (least : ℕ) → IsGrammarOf (UnquotedRun least) (Members text_reading IsUnquoted least)
     (NotFirst IsUnquoted)
 run_of least =
@@ -170,7 +170,6 @@ time_made tokens (a, b, more, one, other, all, e) =
       ),
     )
 
--- none stands where none may follow
 none_time : (rest : List ℕ) → NoTime rest → NoneStands SpacedTime rest
 none_time rest never o left x =
     let (front, e, t) = time_of.there rest o left x in

@@ -56,9 +56,8 @@ IsOf White c = IsSpace c
 IsOf Unquoted c = IsUnquoted c
 IsOf Digit c = IsDigit c
 
--- escape-seq-char: the character after a backslash, and that for which both stand; of b a
--- backspace, of t a tab, of n a line feed, of f a form feed, of r a carriage return, of " and \
--- the same
+-- escape-seq-char: `StandsFor c k`: a backslash and `c` denote `k`: for b a backspace, for t a tab,
+-- for n a line feed, for f a form feed, for r a carriage return, for " and \ the same character
 abbrev pub StandsFor : ℕ → ℕ → Type 0
 StandsFor c k =
     ((c ≡ 98) × (k ≡ 8)) ⊎ (((c ≡ 116) × (k ≡ 9)) ⊎ (((c ≡ 110) × (k ≡ 10))
@@ -149,8 +148,8 @@ WideMarkText c = BothText pair (One c) GapText
 
 -- ---- strings, booleans and values without quotes
 
--- escape-seq-char: %x75 4HEXDIG / %x55 8HEXDIG, of a character that is no surrogate; or one that a
--- backslash escapes by itself
+-- escape-seq-char: %x75 4HEXDIG / %x55 8HEXDIG, of a character that is not a surrogate; or one that
+-- a backslash escapes by itself
 abbrev pub EscapeText : Text ℕ ℕ
 EscapeText =
     EitherText (BothText latter (One 117) (For IsAlone UnitText))
@@ -186,7 +185,7 @@ abbrev pub false_word : List ℕ
 false_word = 102 ∷ 97 ∷ 108 ∷ 115 ∷ 101 ∷ []
 
 module _ {A : Type 0} where
-  -- that many characters of a set or more
+  -- at least `least` characters of a set
   abbrev pub CharactersText : Characters → ℕ → Text ℕ (String A)
   CharactersText set least =
       GatheredText HasCharacters (AtLeast least (EachText (TokenOfText (λ c. c) (IsOf set))))
@@ -270,7 +269,7 @@ module _ {A : Type 0} where
   InlineText value =
       Between (MarkText 123) (InList (PartedText (MarkText 44) (Spaced (PairText value)))) (One 125)
 
-  -- a value, of which no more than that many arrays and inline tables stand in one another
+  -- a value whose arrays and inline tables are nested at most `level` deep
   unfoldable pub ValueText : ℕ → Text ℕ (Value A)
   ValueText zero = ScalarText
   ValueText (suc level) =
@@ -279,11 +278,11 @@ module _ {A : Type 0} where
 
   -- ---- lines
 
-  -- what stands after a bracket that opens a name: ws key ws %x5D
+  -- the characters after a bracket that opens a name: ws key ws %x5D
   abbrev pub HeaderText : Text ℕ (Key A)
   HeaderText = Between WsText KeyText (One 93)
 
-  -- std-table = %x5B ws key ws %x5D, array-table = %x5B.5B ws key ws %x5D.5D: what stands after
+  -- std-table = %x5B ws key ws %x5D, array-table = %x5B.5B ws key ws %x5D.5D: the characters after
   -- the first bracket
   abbrev pub TableText : Text ℕ (Item A)
   TableText = EitherText (For IsTables (Between (One 91) HeaderText (One 93)))

@@ -1,4 +1,4 @@
--- What stands by the grammars of values and lines leaves one rest.
+-- Proofs that the grammars of values and lines leave a unique rest.
 use Rattle.std.specs.Prelude.{◌≡◌, ℕ, zero, suc, true, false, None}
 use Rattle.winnow.specs.Range.{from_to}
 use Rattle.format_parts.specs.Unique.{char_unique, word_unique}

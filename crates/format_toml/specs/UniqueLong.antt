@@ -1,4 +1,4 @@
--- What strings over lines leave is one rest, and their parts take characters.
+-- Proofs that multi-line strings leave a unique rest, and that their parts consume characters.
 use Rattle.std.specs.Prelude.{⊤, ℕ, None}
 use Rattle.std.proofs.Common.{inl, inr, sym, ◌∙◌}
 use Rattle.format_parts.specs.Unique.{char_takes, char_unique}

@@ -1,4 +1,4 @@
--- What stands by the grammars of white space, comments and line ends leaves one rest.
+-- Proofs that the grammars of whitespace, comments and line endings leave a unique rest.
 use Rattle.std.specs.Prelude.{⊤, ℕ, None}
 use Rattle.winnow.specs.Text.{text_reading}
 use Rattle.winnow.specs.AsChar.{IsSpace}

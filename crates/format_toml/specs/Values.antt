@@ -51,7 +51,7 @@ module _ {A : Type 0} {g : Grammar ℕ (Value A)} {value : Text ℕ (Value A)}
   element_begins : BeginsIn Opens (Gapped value)
   element_begins = gapped_begins opens
 
-  -- what is after the values: no comma with a value
+  -- the rest after the values does not start with a comma and a value
   EndsValues : List ℕ → Type 0
   EndsValues rest =
       WidePast GoesOn rest × NoneStands (Both (λ d o. o) (WideMark 44) (GappedOut g)) rest

@@ -1,4 +1,4 @@
--- What the characters and words of texts leave is one rest; and what is told by equal grammars.
+-- Proofs that the characters and words of texts leave a unique rest; and results by equal grammars.
 use Rattle.std.specs.Prelude.{◌≡◌, ℕ, ◌++◌, Ok, Err}
 use Rattle.std.specs.Str.{chars, encode_utf8_all}
 use Rattle.std.proofs.Common.{refl, ap, ◌∙◌}

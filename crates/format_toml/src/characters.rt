@@ -48,7 +48,7 @@ fn is_bare(c: char) -> bool
         || c == '_'
 }
 
-/// Whether it is no control character, or a tab.
+/// Returns whether it is not a control character, or is a tab.
 fn is_shown(c: char) -> bool
     ensures { IsTrue result ↔ IsShown c }
 {

@@ -37,7 +37,7 @@ fn unescaped(c: char) -> Option<char>
     }
 }
 
-/// A character that a backslash escapes: that for which both stand.
+/// Parses a character that a backslash escapes, and returns the character that the escape denotes.
 fn read_short<'i>(input: &mut &'i str) -> Result<char, ErrMode<EmptyError>>
     ensures { Reads text_reading ⟦<ErrMode<EmptyError> as HasKind>⟧.kind Short
         (text_input input.old.now) result (text_input input.new.now) }
@@ -133,7 +133,7 @@ fn read_long_code<'i>(input: &mut &'i str) -> Result<char, ErrMode<EmptyError>>
     preceded('U', LongCode.by(read_wide_character)).read(input)
 }
 
-/// The name of what stands after a backslash.
+/// The name of the characters after a backslash.
 #[derive(Clone, Copy, Drop)]
 struct AnyEscape;
 
@@ -149,7 +149,7 @@ impl<'i> Rule<&'i str, char> for AnyEscape {
     ghost takes = { λ _ never. absurd never };
 }
 
-/// What stands after a backslash: the character for which both stand.
+/// Parses the characters after a backslash, and returns the character that the escape denotes.
 fn read_escape<'i>(input: &mut &'i str) -> Result<char, ErrMode<EmptyError>>
     ensures { Reads text_reading ⟦<ErrMode<EmptyError> as HasKind>⟧.kind Escape
         (text_input input.old.now) result (text_input input.new.now) }

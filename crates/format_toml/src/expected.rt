@@ -1,4 +1,4 @@
-//! What a line lacks that is none of TOML, for messages to people.
+//! The missing part of a line that is not TOML, for error messages.
 ghost use Rattle.std.specs.Prelude.{◌≡◌, [], false, IfOk, IsTrue};
 ghost use Rattle.std.specs.Str.{chars};
 ghost use Rattle.format_parts.specs.Words.{Char, latter};
@@ -19,7 +19,7 @@ use std::fmt;
 use std::fmt::{Display, Formatter};
 use winnow::error::{EmptyError, ErrMode};
 
-/// What is expected at a place of a line, and does not stand there.
+/// The input that is expected at a position of a line, and missing there.
 ///
 /// ```
 /// use format_toml::expected::Expected;
@@ -55,7 +55,7 @@ impl Display for Expected {
     }
 }
 
-/// What a line lacks, and the text after the place.
+/// The missing part of a line, and the text from its position on.
 ///
 /// ```
 /// use format_toml::expected::{Expected, Lack};
@@ -65,13 +65,14 @@ impl Display for Expected {
 /// ```
 #[derive(Clone, Copy, Debug, PartialEq, Eq, Drop)]
 pub struct Lack<'i> {
-    /// What is expected at the place.
+    /// The input that is expected.
     pub expected: Expected,
-    /// What stands there, up to the end of the text.
+    /// The text from that position to the end.
     pub rest: &'i str,
 }
 
-/// What is lacking after the bracket that opens the name of a table; nothing where all stands.
+/// Returns the missing part after the bracket that opens the name of a table, or `None` if nothing
+/// is missing.
 fn lack_of_header<'i, A: Allocator + Copy>(
     alloc: A,
     text: &'i str,
@@ -118,7 +119,8 @@ fn lack_of_double<'i, A: Allocator + Copy>(
     }
 }
 
-/// What a table lacks with whose bracket a text begins; nothing where all of it stands.
+/// Returns the missing part of a table header that a text starts with, or `None` if nothing is
+/// missing.
 fn lack_of_table<'i, A: Allocator + Copy>(
     alloc: A,
     text: &'i str,
@@ -133,7 +135,7 @@ fn lack_of_table<'i, A: Allocator + Copy>(
     lack_of_header(alloc, name)
 }
 
-/// What an entry lacks with which a text begins; nothing where all of it stands.
+/// Returns the missing part of an entry that a text starts with, or `None` if nothing is missing.
 fn lack_of_entry<'i, A: Allocator + Copy>(
     alloc: A,
     level: usize,
@@ -165,8 +167,8 @@ fn lack_of_entry<'i, A: Allocator + Copy>(
     Ok(None)
 }
 
-/// What the table or the entry of a line lacks; nothing where all of it stands, or a comment is
-/// there alone.
+/// Returns the missing part of the table or the entry of a line, or `None` if nothing is missing or
+/// there is only a comment.
 fn lack_of_item<'i, A: Allocator + Copy>(
     alloc: A,
     level: usize,
@@ -185,18 +187,18 @@ fn lack_of_item<'i, A: Allocator + Copy>(
     lack_of_entry(alloc, level, text)
 }
 
-/// What a line is with which a text begins.
+/// The line that a text starts with.
 #[derive(Drop)]
 enum Outcome<'i> {
-    /// It is one of TOML, and nothing is after it.
+    /// A line of TOML that nothing follows.
     Last,
-    /// It is one of TOML, and this line is after it.
+    /// A line of TOML, followed by this line.
     Before(&'i str),
-    /// It is none.
+    /// Not a line of TOML.
     Lacks(Lack<'i>),
 }
 
-/// Whether nothing is left.
+/// Returns whether the text is empty.
 fn is_end(text: &str) -> bool
     ensures yes { IsTrue result → chars text.now ≡ [] }
     ensures no { result ≡ false → chars text.now ≡ [] → ⊥ }
@@ -204,8 +206,8 @@ fn is_end(text: &str) -> bool
     text.chars().next().is_none()
 }
 
-/// What a line lacks that has no end after what stands of it: what its table or its entry lacks;
-/// or, where these lack nothing, its end.
+/// Returns the missing part of a line that has no end after the part that matches: that of its
+/// table or its entry, or its end if these lack nothing.
 fn lack_of_line<'i, A: Allocator + Copy>(
     alloc: A,
     level: usize,
@@ -226,7 +228,7 @@ fn lack_of_line<'i, A: Allocator + Copy>(
     }
 }
 
-/// Whether a line of TOML stands first, with its end, and else what it lacks.
+/// Returns whether the text starts with a line of TOML and its end; otherwise its missing part.
 fn line_of<'i, A: Allocator + Copy>(
     alloc: A,
     level: usize,
@@ -247,16 +249,16 @@ fn line_of<'i, A: Allocator + Copy>(
     }
 }
 
-/// What the first line of a text lacks that is none of TOML, and the text from that place on. In
-/// values no more than that many arrays stand in one another.
+/// Returns the missing part of the first line of a text that is not TOML, and the text from that
+/// position on. The arrays and inline tables of values are nested at most `level` deep.
 ///
-/// After what stands of this line is neither the end of the text nor a line end. It lacks what its
-/// table or its entry does, after the parts of these that stand; or, where all of these stands, the
-/// end of the line, after what stands of it. A value is one part: of an array or an inline table it
-/// is not said where in it something is lacking.
+/// The part of this line that matches is followed neither by the end of the text nor by a line
+/// ending. The missing part is that of its table or its entry, after the parts of these that match.
+/// If these lack nothing, it is the end of the line, after the part that matches. A value is one
+/// part: the position inside an array or an inline table is not reported.
 ///
-/// `None` where all are lines of TOML. An error is for a request for memory that was refused, which
-/// no clause says. Each level takes some of the stack, as of
+/// Returns `None` if all lines are TOML. Fails with out of memory if an allocation fails, which no
+/// clause specifies. Each level uses some of the stack, as in
 /// [`read_value`](crate::values::read_value).
 ///
 /// ```

@@ -6,7 +6,7 @@ ghost use Rattle.format_toml.specs.Floats.{Signed, SignsOff, SplitsAt};
 
 use std::alloc::{AllocError, Allocator};
 
-/// What stands before the first of two bytes, and what stands after it.
+/// Returns the parts before and after the first occurrence of either byte.
 fn split_at_first(text: &[u8], one: u8, other: u8) -> Option<(&[u8], &[u8])>
     ensures { SplitsAt one other text.now result }
 {
@@ -35,7 +35,7 @@ fn are_digits(text: &[u8]) -> bool
     !due
 }
 
-/// Whether it is decimal digits, of which a zero stands first only alone.
+/// Returns whether the text is decimal digits, where a leading zero must be the only digit.
 fn is_whole(text: &[u8]) -> bool
     ensures { IsTrue result ↔ IsWhole text.now }
 {
@@ -55,7 +55,7 @@ fn is_decimal(text: &[u8]) -> bool
     }
 }
 
-/// What stands after a sign that is first, or all.
+/// Returns the text without its leading sign, if it has one.
 fn without_sign(text: &[u8]) -> &[u8]
     ensures { SignsOff text.now result.now }
 {

@@ -1,4 +1,4 @@
-//! White space and comments over lines (TOML 1.0: Array), and line ends.
+//! Whitespace and comments over several lines (TOML 1.0: Array), and line endings.
 ghost use Rattle.std.specs.Prelude.{◌≡◌, ⊤};
 ghost use Rattle.winnow.specs.Text.{text_input, text_reading};
 ghost use Rattle.format_toml.specs.Grammars.{Gap};
@@ -30,7 +30,7 @@ impl<'i, A: Allocator> Rule<&'i str, ()> for AnyGap<A> {
     ghost takes = { λ _ never. absurd never };
 }
 
-/// White space, line ends and comments before these, as many as stand. No memory is taken.
+/// Parses all whitespace, line endings, and comments before line endings. Does not allocate.
 pub fn read_gap<'i, A: Allocator + Copy>(
     alloc: A,
     input: &mut &'i str,

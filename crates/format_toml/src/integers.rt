@@ -5,7 +5,8 @@ ghost use Rattle.format_toml.specs.Numbers.{BehindZero, IsIntegerOf, IsNumber, I
 ghost use Rattle.format_toml.specs.Numbers.{NumberText};
 ghost use Rattle.format_toml.specs.Numbers.{UnsignedText};
 
-/// What a digit or a letter counts, from 0 for '0' to 35 for 'Z' and 'z'; 36 for any other byte.
+/// Returns the value of a digit or a letter, from 0 for '0' to 35 for 'Z' and 'z'; 36 for any other
+/// byte.
 fn value_of(byte: u8) -> u64
     ensures { result ≡ digit_value byte }
 {
@@ -15,8 +16,8 @@ fn value_of(byte: u8) -> u64
     }
 }
 
-/// The number of digits with underscores between them or none; nothing where the text is none, or
-/// the number is past 64 bits.
+/// Returns the number that digits denote, with optional underscores between them. Returns `None` if
+/// the text is not such digits, or if the number does not fit 64 bits.
 fn number_in(base: u64, text: &[u8]) -> Option<u64>
     requires some { 2 ≤ base }
     requires most { base ≤ 16 }
@@ -42,7 +43,7 @@ fn number_in(base: u64, text: &[u8]) -> Option<u64>
     if due { None } else { Some(number) }
 }
 
-/// The number of decimal digits, of which a zero stands first only alone.
+/// Returns the number that decimal digits denote, where a leading zero must be the only digit.
 fn unsigned(text: &[u8]) -> Option<u64>
     ensures { IsNumber UnsignedText text.now result }
 {
@@ -52,7 +53,7 @@ fn unsigned(text: &[u8]) -> Option<u64>
     number_in(10, text)
 }
 
-/// The number of what stands after a zero that is first: nothing, or a letter and digits of its
+/// Returns the number for the text after a leading zero: nothing, or a letter and digits of its
 /// base.
 fn behind_zero(text: &[u8]) -> Option<u64>
     ensures { IsNumber BehindZero text.now result }

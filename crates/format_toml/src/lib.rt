@@ -1,8 +1,9 @@
-//! Documents of TOML 1.0 (toml.io/en/v1.0.0), read from text by parsers.
+//! Parsers of TOML 1.0 documents (toml.io/en/v1.0.0) in text.
 //!
-//! [`parse_lines`](lines::parse_lines) reads what the lines of a document say.
+//! [`parse_lines`](lines::parse_lines) parses the statements of a document's lines.
 //! [`build`](format_toml_tree::build::build) makes the tree of these lines, which borrows from
-//! them, or names the first that the standard refuses, as one that defines a key again.
+//! them, or reports the first line that the standard rejects, for instance one that defines a key
+//! again.
 //!
 //! ```
 //! use format_toml::lines::parse_lines;
@@ -20,16 +21,16 @@
 //! assert!(rt; matches!(server, Some(server) if server.len() == 2));
 //! ```
 //!
-//! All that the standard's grammar has is read. What it leaves to a parser is so:
+//! The complete grammar of the standard is accepted. Choices that it leaves to a parser:
 //!
-//! - A line end in a string over lines is a line feed, also where it is written as a carriage
+//! - A line ending in a multi-line string is a line feed, also if it is written as a carriage
 //!   return and a line feed.
-//! - Integers are of 64 bits: a text with another is none. A float is its text, with no
-//!   underscores.
-//! - All digits of a fraction of a second are kept. A second of 60 is read at each minute.
-//! - Arrays and inline tables are nested to a level, which the caller gives: the standard has no
-//!   greatest one.
-//! - The standard has no byte order mark, so a text that begins with one is none.
+//! - Integers have 64 bits: a text with any other integer is rejected. A float is kept as its text,
+//!   without underscores.
+//! - All digits of a fraction of a second are kept. A second of 60 is accepted in each minute.
+//! - The caller gives the maximum nesting depth of arrays and inline tables: the standard has no
+//!   maximum.
+//! - The standard has no byte order mark, so a text that starts with one is rejected.
 #![tactic(auto)]
 
 pub mod characters;

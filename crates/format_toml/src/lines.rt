@@ -99,7 +99,7 @@ fn read_table_item<'i, A: Allocator + Copy>(
     preceded('[', table).read(input)
 }
 
-/// The key and the value that stand first, as an item.
+/// Parses a key and a value as an item.
 fn read_entry_item<'i, A: Allocator + Copy>(
     alloc: A,
     level: usize,
@@ -131,7 +131,7 @@ impl<'i, A: Allocator> Rule<&'i str, Item<A>> for TableOrEntry<A> {
     ghost takes = { λ _ never. absurd never };
 }
 
-/// The table or the entry that stands first.
+/// Parses a table or an entry.
 fn read_item<'i, A: Allocator + Copy>(
     alloc: A,
     level: usize,
@@ -162,7 +162,7 @@ impl<'i, A: Allocator> Rule<&'i str, Option<Item<A>>> for AnyLine<A> {
     ghost takes = { λ _ never. absurd never };
 }
 
-/// A line: a table, an entry or nothing, and a comment or nothing, up to the line end.
+/// Parses a line up to its line ending: an optional table or entry, and an optional comment.
 pub(crate) fn read_line<'i, A: Allocator + Copy>(
     alloc: A,
     level: usize,
@@ -176,15 +176,14 @@ pub(crate) fn read_line<'i, A: Allocator + Copy>(
     read_line_of(item, comment, Space0, input)
 }
 
-/// What the statements of a document say, where all of the text is lines of TOML, with a line feed
-/// between each two, or a carriage return and a line feed; nothing where one is blank. An array may
-/// go on over line ends. In values no more than that many arrays and inline tables stand in one
-/// another, and each level takes some of the stack, as of
-/// [`read_value`](crate::values::read_value). Lines may say a key or a table again.
+/// Parses a document, all of the text: lines of TOML, separated by a line feed, or by a carriage
+/// return and a line feed. Returns the statement of each line, or `None` for a blank one. An array
+/// may continue over line endings. The arrays and inline tables of values are nested at most
+/// `level` deep, and each level uses some of the stack, as in
+/// [`read_value`](crate::values::read_value). Lines may state a key or a table again.
 ///
-/// Else a fault: it says that the text is no such lines, and at which byte reading stopped, at the
-/// first line that is none, which is tested and not proved; or that a request for memory was
-/// refused.
+/// If the text is not such lines, the error gives the byte at which parsing stopped: at the first
+/// line that is not TOML, which is tested, not proved. Otherwise the error is out of memory.
 ///
 /// ```
 /// use format_toml::lines::parse_lines;

@@ -1,5 +1,5 @@
-//! Strings over lines, made of parts: what is read is said by the grammars of the parts, whichever
-//! parsers they are, and over any stream.
+//! Multi-line strings made of parts: they are specified by the grammars of the parts, for any
+//! parsers and over any stream.
 ghost use Rattle.format_parts.specs.Words.{latter};
 ghost use Rattle.format_toml.specs.LongGrammars.{LongOf, QuoteOf};
 ghost use Rattle.std.specs.Prelude.{◌≡◌, ⊤, None};
@@ -13,9 +13,9 @@ use winnow::combinator::{alt, delimited, not, opt, peek, preceded, repeat, termi
 use winnow::error::ParserError;
 use winnow::stream::{Range, Stream};
 
-/// Reads a quotation mark that belongs to a string over lines: after it, and after three more or
-/// none of these, no two are. So of up to two all do, of three none does, and of four or five the
-/// first ones do, before three that close the string.
+/// Parses a quotation mark that belongs to a multi-line string. After it, and after the next three
+/// if there are three, no two follow. So one or two quotation marks belong to the string, and three
+/// do not. Of four or five, those before the three that close the string belong to it.
 pub fn read_quote_of<I, O, E, P>(quote: P, input: &mut I) -> Result<O, E>
 where
     I: Stream,
@@ -32,7 +32,7 @@ where
     terminated(quote, peek((opt(three), not(two)))).read(input)
 }
 
-/// Reads what stands for a character, or a quotation mark, after what is skipped.
+/// Parses the text of a character, or a quotation mark, after skipped input.
 pub fn read_part_of<I, O, W, E, S, P, Q>(
     skips: S,
     content: P,
@@ -61,7 +61,7 @@ where
     preceded(skips, alt((content, quote))).read(input)
 }
 
-/// Reads one of two: the second where the first does not stand.
+/// Parses the first, or the second if the first does not match.
 pub fn read_either_of<I, O, E, P, Q>(first: P, second: Q, input: &mut I) -> Result<O, E>
 where
     I: Stream,
@@ -80,8 +80,7 @@ where
     alt((first, second)).read(input)
 }
 
-/// Reads an escaped line end: a backslash, white space, a line end, and all that is blank after
-/// it.
+/// Parses an escaped line ending: a backslash, whitespace, a line ending, and all blanks after it.
 pub fn read_escaped_of<I, M, W, E, A, B, G, N, P>(
     alloc: A,
     backslash: B,
@@ -120,8 +119,8 @@ where
     preceded(backslash, preceded(white, preceded(newline, blanks))).read(input)
 }
 
-/// Reads a string over lines: three quotation marks, a line end or none, parts with what is skipped
-/// after them, and three quotation marks.
+/// Parses a multi-line string: three quotation marks, an optional line ending, parts with skipped
+/// input after them, and three quotation marks.
 pub fn read_long_of<I, M, E, A, Q, P, S, N>(
     alloc: A,
     quote: Q,

@@ -1,5 +1,6 @@
-//! Strings over lines (TOML 1.0: String): between three quotation marks. A line end right after
-//! the first three is dropped, and each other one, also of two characters, is a line feed.
+//! Multi-line strings (TOML 1.0: String): between three quotation marks. A line ending directly
+//! after the first three is dropped. Each other line ending, also of two characters, is a line
+//! feed.
 ghost use Rattle.std.specs.Prelude.{◌≡◌, ⊤};
 ghost use Rattle.winnow.specs.Text.{text_input, text_reading};
 ghost use Rattle.format_toml.specs.Grammars.{AnyBasic, AnyLiteral, BasicPart, BasicString};
@@ -72,7 +73,7 @@ impl<'i> Rule<&'i str, char> for LiteralParts {
     ghost takes = { λ _ _. literal_part_takes };
 }
 
-/// A character of a literal string, a line end or a quotation mark.
+/// Parses a character of a literal string, a line ending or a quotation mark.
 fn read_literal_part<'i>(input: &mut &'i str) -> Result<char, ErrMode<EmptyError>>
     ensures { Reads text_reading ⟦<ErrMode<EmptyError> as HasKind>⟧.kind LiteralPart
         (text_input input.old.now) result (text_input input.new.now) }
@@ -159,7 +160,7 @@ impl<'i, A: Allocator> Rule<&'i str, ()> for EscapedLines<A> {
     ghost takes = { λ _ _. escaped_line_takes };
 }
 
-/// An escaped line end, and what is blank after it. No memory is taken.
+/// Parses an escaped line ending, and the blanks after it. Does not allocate.
 fn read_escaped_line<'i, A: Allocator + Copy>(
     alloc: A,
     input: &mut &'i str,
@@ -189,7 +190,7 @@ impl<'i, A: Allocator> Rule<&'i str, ()> for AnySkips<A> {
     ghost takes = { λ _ never. absurd never };
 }
 
-/// As many escaped line ends as stand. No memory is taken.
+/// Parses zero or more escaped line endings. Does not allocate.
 fn read_skips<'i, A: Allocator + Copy>(
     alloc: A,
     input: &mut &'i str,
@@ -217,7 +218,8 @@ impl<'i, A: Allocator> Rule<&'i str, char> for BasicParts<A> {
     ghost takes = { λ _ _. basic_part_takes };
 }
 
-/// A character of a basic string, a line end or a quotation mark, after escaped line ends.
+/// Parses a character of a basic string, a line ending or a quotation mark, after escaped line
+/// endings.
 fn read_basic_part<'i, A: Allocator + Copy>(
     alloc: A,
     input: &mut &'i str,

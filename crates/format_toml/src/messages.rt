@@ -1,4 +1,4 @@
-//! Messages for people: where a text is no document of TOML, and why.
+//! Error messages: where a text is not a TOML document, and why.
 ghost use Rattle.std.specs.Prelude.{IfSome};
 ghost use Rattle.format_toml.specs.Messages.{LacksAt};
 
@@ -9,7 +9,7 @@ use std::fmt;
 use std::fmt::{Display, Formatter};
 use winnow::stream::{Position, position_of};
 
-/// What is wrong at a place of a text, as one line for people.
+/// An error message on one line, for a position in a text.
 ///
 /// ```
 /// use format_toml::messages::explain;
@@ -25,7 +25,7 @@ use winnow::stream::{Position, position_of};
 pub struct Message {
     /// The line and the column, both counted from 1.
     pub position: Position,
-    /// This is expected there, and something else stands there.
+    /// The input that is expected there, and missing.
     pub expected: Expected,
 }
 
@@ -42,8 +42,8 @@ impl Display for Message {
 
 impl Error for Message {}
 
-/// What the first line lacks that is none of TOML, and the line and the column of the text before
-/// the place.
+/// Returns the missing part of the first line that is not TOML, and the line and the column of its
+/// position.
 fn first_place<'i, A: Allocator + Copy>(
     alloc: A,
     level: usize,
@@ -60,12 +60,12 @@ fn first_place<'i, A: Allocator + Copy>(
     Some((position, lack.expected))
 }
 
-/// The message for a text that is not lines of TOML of this level. Each level takes some of the
-/// stack, as of [`parse_lines`](crate::lines::parse_lines).
+/// Returns the message for a text that is not lines of TOML of this level. Each level uses some of
+/// the stack, as in [`parse_lines`](crate::lines::parse_lines).
 ///
-/// It says what the first line lacks that is none, with the line and the column after the text
-/// before the place. `None` where all of the text is lines, or where memory is refused; that there
-/// is a message else no clause says.
+/// It reports the missing part of the first line that is not TOML, with the line and the column
+/// after the text before it. Returns `None` if all of the text is lines, or if memory allocation
+/// fails; no clause specifies that there is a message otherwise.
 pub fn explain<'i, A: Allocator + Copy>(alloc: A, level: usize, text: &'i str) -> Option<Message>
     ensures { IfSome result (λ m. LacksAt A level text.now m.position m.expected) }
 {

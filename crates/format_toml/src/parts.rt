@@ -1,5 +1,5 @@
-//! Rules made of parts: what is read is said by the grammars of the parts, whichever parsers they
-//! are, and over any stream.
+//! Rules made of parts: they are specified by the grammars of the parts, for any parsers and over
+//! any stream.
 ghost use Rattle.format_toml.specs.Grammars.{Listing};
 ghost use Rattle.format_parts.specs.Words.{former, latter, pair};
 ghost use Rattle.std.specs.Fn.{CalledAtMut};
@@ -62,7 +62,7 @@ where
     .read(input)
 }
 
-/// Reads what stands between two others, or nothing between them.
+/// Parses the input between two others, or nothing between them.
 fn read_or_none<I, O1, O2, O3, E, P, Q, R>(
     first: P,
     second: Q,
@@ -138,9 +138,8 @@ where
     read_or_none((marks.opening, marks.gap), all, marks.closing, input)
 }
 
-/// Reads values between marks, as [`read_list`]. A function reads a value by a rule, and white
-/// space
-/// is after it.
+/// Parses values between marks, as [`read_list`]. A function parses a value by a rule, and
+/// whitespace follows it.
 pub fn read_list_of<I, E, O, M, W, A, R, F, B, G>(
     alloc: A,
     rule: R,
@@ -309,7 +308,7 @@ where
     delimited(gap, opt(terminated(item, gap)), opt(comment)).read(input)
 }
 
-/// Reads all of an input as lines, with a line end between each two.
+/// Parses all of an input as lines, with a line ending between each two.
 pub fn parse_lines_of<I, E, O, N, A, P, R>(
     alloc: A,
     line: P,

@@ -1,4 +1,4 @@
-//! What stands after parts of a line, where these stand, for what a line lacks.
+//! Functions that skip parts of a line, to find its missing part.
 ghost use Rattle.std.specs.Prelude.{◌≡◌, ℕ, false, IfOk, IsTrue, List};
 ghost use Rattle.std.specs.Str.{chars};
 ghost use Rattle.format_parts.specs.Words.{Char};
@@ -16,8 +16,8 @@ use winnow::combinator::{alt, preceded};
 use winnow::error::{EmptyError, ErrMode, ParserError};
 use winnow::exact::Rule;
 
-/// What a parser leaves of a text, where it reads; nothing where it does not. An error says that a
-/// request for memory was refused.
+/// Returns the text after a match of a parser, or `None` if it does not match. Fails with out of
+/// memory if an allocation fails.
 fn past<'i, O: Drop, P: Parser<&'i str, O, ErrMode<EmptyError>> + Drop>(
     parser: P,
     text: &'i str,
@@ -40,8 +40,8 @@ fn past<'i, O: Drop, P: Parser<&'i str, O, ErrMode<EmptyError>> + Drop>(
     }
 }
 
-/// What a parser leaves of a text. An error says that it does not read, or that a request for
-/// memory was refused.
+/// Returns the text after a match of a parser. Fails if it does not match, or if memory allocation
+/// fails.
 fn behind<'i, O: Drop, P: Parser<&'i str, O, ErrMode<EmptyError>> + Drop>(
     parser: P,
     text: &'i str,
@@ -59,21 +59,21 @@ fn behind<'i, O: Drop, P: Parser<&'i str, O, ErrMode<EmptyError>> + Drop>(
     }
 }
 
-/// What is after white space, which may be none.
+/// Skips optional whitespace, and returns the remaining text.
 pub fn behind_white<'i>(text: &'i str) -> Result<&'i str, ErrMode<EmptyError>>
     ensures { IfOk result (λ rest. Stands Ws (chars text.now) (chars rest.now)) }
 {
     behind(Space0, text)
 }
 
-/// What is after a bracket that opens.
+/// Skips an opening bracket, and returns the remaining text.
 pub fn behind_bracket<'i>(text: &'i str) -> Result<&'i str, ErrMode<EmptyError>>
     ensures { IfOk result (λ rest. Stands (Char 91) (chars text.now) (chars rest.now)) }
 {
     behind('[', text)
 }
 
-/// What is after a key and white space.
+/// Skips a key and whitespace, and returns the remaining text, or `None` if there is no key.
 pub fn past_key<'i, A: Allocator + Copy>(
     alloc: A,
     text: &'i str,
@@ -86,8 +86,8 @@ pub fn past_key<'i, A: Allocator + Copy>(
     )
 }
 
-/// What is after the name of a table and its bracket. An error says that it does not stand, or
-/// that a request for memory was refused.
+/// Skips the name of a table and its bracket, and returns the remaining text. Fails if they do not
+/// match, or if memory allocation fails.
 pub fn behind_header<'i, A: Allocator + Copy>(
     alloc: A,
     text: &'i str,
@@ -100,7 +100,8 @@ pub fn behind_header<'i, A: Allocator + Copy>(
     )
 }
 
-/// What is after an equals sign and white space.
+/// Skips an equals sign and whitespace, and returns the remaining text, or `None` if there is no
+/// match.
 pub fn past_equals<'i>(text: &'i str) -> Result<Option<&'i str>, ErrMode<EmptyError>>
     ensures { IfOk result (λ o. IsPast (Mark 61) (chars text.now) o) }
 {
@@ -138,15 +139,15 @@ pub fn lacks_value<'i, A: Allocator + Copy>(
     }
 }
 
-/// What is after a line end.
+/// Skips a line ending, and returns the remaining text, or `None` if there is no line ending.
 pub fn past_newline<'i>(text: &'i str) -> Result<Option<&'i str>, ErrMode<EmptyError>>
     ensures { IfOk result (λ o. IsPast Newline (chars text.now) o) }
 {
     past(alt(('\n', preceded('\r', '\n'))), text)
 }
 
-/// What is after what stands of a line. Something always does, so an error says that a request for
-/// memory was refused.
+/// Skips the part of a line that matches, and returns the remaining text. A part always matches, so
+/// the only error is out of memory.
 pub fn behind_line<'i, A: Allocator + Copy>(
     alloc: A,
     level: usize,

@@ -18,8 +18,8 @@ use winnow::error::{EmptyError, ErrMode, HasKind, ParserError};
 use winnow::stream::Range;
 use winnow::token::take_while;
 
-/// As many characters of numbers, dates and times as stand, one at least. A space is one too where
-/// two digits and a colon are after it, since a date may stand before a time so.
+/// Parses the longest run of characters of numbers, dates and times, at least one. A space is also
+/// one if two digits and a colon follow it, since a date and a time may be written so.
 fn read_unquoted<'i>(input: &mut &'i str) -> Result<&'i str, ErrMode<EmptyError>>
     ensures { Reads text_reading ⟦<ErrMode<EmptyError> as HasKind>⟧.kind Unquoteds
         (text_input input.old.now) result (text_input input.new.now) }
@@ -52,7 +52,7 @@ fn date_value<A: Allocator>(alloc: A, text: &[u8]) -> Result<Value<A>, ErrMode<E
     }
 }
 
-/// The value that a text is which is no integer, of those without quotes.
+/// Returns the value without quotes that a text is, if it is not an integer.
 fn other_value<A: Allocator>(alloc: A, text: &[u8]) -> Result<Value<A>, ErrMode<EmptyError>>
     ensures { IsAnswer OtherText ⟦<ErrMode<EmptyError> as HasKind>⟧.kind text.now result }
 {
@@ -72,8 +72,8 @@ fn plain_value<A: Allocator>(alloc: A, text: &[u8]) -> Result<Value<A>, ErrMode<
     }
 }
 
-/// The value without quotes that stands first: it takes all characters of numbers, dates and times,
-/// and a time after a space.
+/// Parses a value without quotes: it extends over all characters of numbers, dates and times, and
+/// over a time after a space.
 pub fn read_plain<A: Allocator>(alloc: A, input: &mut &str) -> Result<Value<A>, ErrMode<EmptyError>>
     ensures { Reads text_reading ⟦<ErrMode<EmptyError> as HasKind>⟧.kind Plain
         (text_input input.old.now) result (text_input input.new.now) }

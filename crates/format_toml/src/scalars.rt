@@ -46,7 +46,7 @@ fn read_literal_value<'i, A: Allocator + Copy>(
     }
 }
 
-/// A word, for what is told by it.
+/// Parses a word, and returns its meaning.
 fn read_boolean<A: Allocator>(
     word: &'static str,
     is: bool,
@@ -62,7 +62,7 @@ fn read_boolean<A: Allocator>(
     }
 }
 
-/// The string, the boolean or the number that stands first.
+/// Parses a string, a boolean, a number, a date or a time.
 pub fn read_scalar<A: Allocator + Copy>(
     alloc: A,
     input: &mut &str,

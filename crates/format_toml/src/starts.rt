@@ -7,11 +7,12 @@ use crate::passed::{behind_line, past_newline};
 use std::alloc::Allocator;
 use winnow::error::{EmptyError, ErrMode};
 
-/// The text from a line on, before which that many lines stand, each with its line end. `None`
-/// where fewer do. An error says that a request for memory was refused, which no clause says. Each
-/// level takes some of the stack, as of [`read_value`](crate::values::read_value).
+/// Returns the text after the first `number` lines with their line endings, or `None` if there are
+/// fewer. Fails with out of memory if an allocation fails, which no clause specifies. Each level
+/// uses some of the stack, as in [`read_value`](crate::values::read_value).
 ///
-/// An array and a string may go on over line ends, so a line is not always one of the text.
+/// An array and a string may continue over line endings, so such a line is not always one line of
+/// the text.
 ///
 /// ```
 /// use format_toml::starts::line_start;

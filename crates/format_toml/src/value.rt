@@ -1,7 +1,7 @@
-//! What a document says, line by line.
+//! The statements of a document, line by line.
 
 use format_toml_tree::value::Item;
 use std::alloc::Allocator;
 
-/// What each line says, in order: nothing where it is blank, or has a comment alone.
+/// The statement of each line, in order: `None` if the line is blank, or has only a comment.
 pub type Document<A> = Vec<Option<Item<A>>, A>;

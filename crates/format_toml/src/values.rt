@@ -23,11 +23,9 @@ use winnow::ascii::impls::Space0;
 use winnow::error::{EmptyError, ErrMode, HasKind};
 use winnow::exact::Rule;
 
-/// A level that is safe on a stack of two megabytes: reading a value calls itself once for each
-/// array or inline table that stands in another, and so does letting the value go. At a higher
-/// level a text can nest so deep that the stack ends, which stops the program: the stack, too, is
-/// to
-/// be larger then.
+/// A level that is safe on a stack of two megabytes: parsing a value recurses once for each nested
+/// array or inline table, and so does dropping the value. A higher level requires a larger stack.
+/// Otherwise a deeply nested text can overflow the stack, which stops the program.
 ///
 /// ```
 /// use format_toml::values::{SAFE_LEVEL, read_value};
@@ -68,13 +66,14 @@ impl<'i, A: Allocator> Rule<&'i str, (Key<A>, Value<A>)> for Entries<A> {
     ghost takes = { λ _ never. absurd never };
 }
 
-/// The value that stands first, in which no more than that many arrays and inline tables stand in
-/// one another. Each level takes some of the stack: up to [`SAFE_LEVEL`] two megabytes suffice.
+/// Parses a value whose arrays and inline tables are nested at most `level` deep. Each level uses
+/// some of the stack: up to [`SAFE_LEVEL`] two megabytes suffice.
 ///
-/// The input is left after the value. An error backtracks where no value of the level stands first,
-/// and is out of memory where a request was refused; what of the input is left then is an end of
-/// it. A value with no quotes is as long as what may stand in one: of `80 12:00`, which is neither
-/// a number nor a date, no value is read, though 80 stands first.
+/// On success the input is left after the value. Backtracks if the input does not start with a
+/// value of the level, and fails with out of memory if an allocation fails; then the input is a
+/// suffix of the original input. A value without quotes extends over all characters that may occur
+/// in one: no value is parsed in `80 12:00`, which is neither a number nor a date, although it
+/// starts with 80.
 ///
 /// ```
 /// use format_toml::values::read_value;
@@ -111,7 +110,7 @@ pub fn read_value<'i, A: Allocator + Copy>(
     read_scalar(alloc, input)
 }
 
-/// The array that stands first, of values of a level.
+/// Parses an array of values of a level.
 #[cycle(value)]
 fn read_array<'i, A: Allocator + Copy>(
     alloc: A,
@@ -139,7 +138,7 @@ fn read_array<'i, A: Allocator + Copy>(
     }
 }
 
-/// The inline table that stands first, with values of a level.
+/// Parses an inline table with values of a level.
 #[cycle(value)]
 fn read_inline<'i, A: Allocator + Copy>(
     alloc: A,
@@ -166,7 +165,7 @@ fn read_inline<'i, A: Allocator + Copy>(
     }
 }
 
-/// The key and the value of a level that stand first, with an equals sign between them.
+/// Parses a key and a value of a level, with an equals sign between them.
 #[cycle(value)]
 pub(crate) fn read_entry<'i, A: Allocator + Copy>(
     alloc: A,

@@ -1,4 +1,4 @@
--- Where a fault is, and what it tells.
+-- Lemmas about the position and the contents of a `Fault`.
 use Rattle.std.specs.Prelude.{◌≡◌, ◌⊎◌, ◌-◌, ℕ, List, [], ◌++◌, Option, Some, length, take}
 use Rattle.std.specs.Prelude.{IfOk, Result, Err, Ok}
 use Rattle.std.specs.Borrow.{Bor}
@@ -28,7 +28,6 @@ use Rattle.format_toml_tree.specs.declared.value.Item.{Item}
 use Rattle.winnow.specs.Grammar.Unique.{end_of_end}
 use Rattle.winnow.specs.Position.{IsPosition}
 
--- an end of a text stands after the text before it
 pub after_of : (text rest front : List ℕ) (offset : ℕ) (at : Location) → IsUtf8 text
     → IsUtf8 rest → chars text ≡ front ++ chars rest → offset ≡ length text - length rest
     → IsLocation text offset at → IsAfter text rest at
@@ -54,7 +53,6 @@ after_of text rest front offset at utf8 too e size location =
     )
 
 module _ (A : Type 0) (level : ℕ) (text : List ℕ) where
-  -- what is lacking stands before an end of the text
   pub lack_told : (lack : Lack) (at : Location) → IsFirstLack A level (chars text) (Some lack)
       → ((front : List ℕ) → chars text ≡ front ++ chars lack.rest.now
       → IsAfter text lack.rest.now at)
@@ -66,7 +64,6 @@ module _ (A : Type 0) (level : ℕ) (text : List ℕ) where
       (lack_end A level line lack.expected rest lacks) in
       (n, line, lack.rest.now, before, lacks, after front e)
 
-  -- and so does a line that is refused
   pub refusal_told : (n : ℕ) (why : Refusal) (rest : Bor (List ℕ)) (at : Location)
       → IsStart A level (chars text) n (Some rest)
       → ((front : List ℕ) → chars text ≡ front ++ chars rest.now → IsAfter text rest.now at)
@@ -75,7 +72,6 @@ module _ (A : Type 0) (level : ℕ) (text : List ℕ) where
       let (front, e) = line_end A level n (chars text) (chars rest.now) start in
       (n, refl, rest.now, start, after front e)
 
-  -- lines of which one is refused
   pub lines_told : (lines : Vec (Option (Item A)) A) (fault : BuildFault) (told : Fault)
       → DocumentText level lines (chars text)
       → ((n : ℕ) (why : Refusal) → fault ≡ built.Refused n why
@@ -95,7 +91,6 @@ module _ (A : Type 0) (level : ℕ) (text : List ℕ) where
       let P : List ℕ → Type 0 = λ l. IsDocument A level l tree in (utf8, subst P e stands)
   document_told bytes (Err fault) utf8 e stands = tt
 
-  -- lines of text are told as refused alone
   pub document_faults : (tree : Tree A) (fault : Fault) → IsUtf8 text
       → IsDocument A level text tree → Tells A level text fault
       → (fault ≡ faults.OutOfMemory)

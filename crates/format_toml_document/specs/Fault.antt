@@ -1,4 +1,4 @@
--- What a document is, and what a fault tells of a text.
+-- The definition of a document, and of the `Fault` of a text.
 use Rattle.std.specs.Prelude.{◌≡◌, ◌++◌, ℕ, List, [], Option, Some, None, Ok, Err, length, take, ⊤}
 use Rattle.std.specs.Str.{IsCharBoundary, IsUtf8, chars}
 use Rattle.std.specs.Str.Lossy.{utf8_valid_len}
@@ -22,7 +22,8 @@ IsLocation bytes offset at =
     (at.offset ≡ offset) × (IsUtf8 bytes → IsCharBoundary bytes offset
     → IsPosition (chars (take offset bytes)) at.line at.column)
 
--- The place is after some text, before what is left, with the line and the column after it.
+-- `IsAfter text rest at`: `rest` is a suffix of `text` after UTF-8, and `at` has the offset, the
+-- line and the column of its start.
 abbrev pub IsAfter : List ℕ → List ℕ → Location → Type 0
 IsAfter text rest at =
     (before : List ℕ) × (text ≡ before ++ rest) × IsUtf8 before × (at.offset ≡ length before)
@@ -49,7 +50,7 @@ module _ (A : Type 0) (level : ℕ) (text : List ℕ) where
       × ((given : Given A) × Gives (empty, []) 0 lines.items (Ok given)
       × HoldsTree tree.slots.items given)
 
-  -- What is lacking in the first line that is none, at this place.
+  -- The missing part of the first line that is not TOML, at this position.
   abbrev pub IsLack : Fault → Type 0
   IsLack (faults.Unexpected at expected) =
       (n : ℕ) × (line : List ℕ) × (rest : List ℕ) × LinesBefore A level n (chars text) line
@@ -57,7 +58,7 @@ module _ (A : Type 0) (level : ℕ) (text : List ℕ) where
   IsLack faults.OutOfMemory = ⊤
   IsLack other = ⊥
 
-  -- The refusal of a line, at the place where it begins.
+  -- The rejection of a line, at the position where it starts.
   abbrev pub IsRefusal : BuildFault → Fault → Type 0
   IsRefusal fault (faults.Refused at why) =
       (n : ℕ) × (fault ≡ built.Refused n why) × (rest : List ℕ)
@@ -65,9 +66,9 @@ module _ (A : Type 0) (level : ℕ) (text : List ℕ) where
   IsRefusal fault faults.OutOfMemory = ⊤
   IsRefusal fault other = ⊥
 
-  -- What a fault tells of a text: it is no lines, and what the first lacks that is none; or it is
-  -- lines, and the first that the standard refuses, and why; or it is no UTF-8, and the longest
-  -- front that is.
+  -- Why a text is not a document. It is not lines: the missing part of the first that is not TOML.
+  -- Or it is lines: the first that the standard rejects, and why. Or it is not UTF-8: its longest
+  -- prefix that is.
   abbrev pub Tells : Fault → Type 0
   Tells (faults.Unexpected at expected) =
       ((lines : Vec (Option (Item A)) A) → DocumentText level lines (chars text) → ⊥)

@@ -1,4 +1,4 @@
-//! Why a text is no document of TOML, and where.
+//! Errors: why a text is not a TOML document, and where.
 ghost use Rattle.std.specs.Prelude.{◌≡◌, ◌++◌, ℕ, List};
 ghost use Rattle.std.specs.Str.{IsUtf8, IsValidUpTo, chars};
 ghost use Rattle.format_toml_document.specs.Fault.{IsAfter, IsBroken, IsLack, IsLocation};
@@ -26,7 +26,7 @@ use winnow::stream::{Excerpt, position_in};
 /// ```
 #[derive(Clone, Copy, Debug, PartialEq, Eq, Drop)]
 pub struct Location {
-    /// How many bytes stand before it.
+    /// The number of bytes before it.
     pub offset: usize,
     /// The line of the text, counted from 1. Lines end with a line feed.
     pub line: usize,
@@ -40,7 +40,7 @@ impl Display for Location {
     }
 }
 
-/// Why a text is no document of TOML, and where.
+/// The reason why a text is not a TOML document, and the position.
 ///
 /// ```
 /// use format_toml_document::{Document, from_text};
@@ -54,19 +54,19 @@ impl Display for Location {
 /// ```
 #[derive(Clone, Copy, Debug, PartialEq, Eq, Drop)]
 pub enum Fault {
-    /// The text is no lines of TOML. What stands at the place is not what may stand there.
+    /// The text is not lines of TOML. The input at the position is not the expected one.
     Unexpected {
         /// The place, in the first line that is none.
         at: Location,
-        /// What the line lacks there. Of an array or an inline table it is not said where in it,
-        /// nor whether more of them stand in one another than the level lets.
+        /// The missing part of the line. For an array or an inline table the position inside it is
+        /// not reported, nor whether it is nested deeper than the level allows.
         expected: Expected,
     },
-    /// The text is lines of TOML, and the standard refuses what one of them says.
+    /// The text is lines of TOML, and the standard rejects the statement of one of them.
     Refused {
         /// Where the first such line begins.
         at: Location,
-        /// Why it is refused.
+        /// The reason for the rejection.
         why: Refusal,
     },
     /// The bytes are no UTF-8.
@@ -74,12 +74,13 @@ pub enum Fault {
         /// The end of the longest front that is UTF-8.
         at: Location,
     },
-    /// A request for memory was refused.
+    /// Memory allocation failed.
     OutOfMemory,
 }
 
 impl Fault {
-    /// Where the text is no document; none where a request for memory was refused.
+    /// Returns the position at which the text is not a document, or `None` if memory allocation
+    /// failed.
     ///
     /// ```
     /// use format_toml_document::{Document, from_text};
@@ -100,7 +101,7 @@ impl Fault {
         }
     }
 
-    /// The fault with the line of the text that was read, and a caret under the place.
+    /// Returns the error with the line of the text that was parsed, and a caret under the position.
     ///
     /// ```
     /// use format_toml_document::{Document, from_text};
@@ -123,12 +124,12 @@ impl Fault {
         Shown { fault: *self, text }
     }
 
-    /// Writes why, with no place.
+    /// Writes the reason, without the position.
     fn write_why<W: fmt::Write>(&self, f: &mut Formatter<W>) -> fmt::Result {
         match *self {
             Fault::Unexpected { expected, .. } => write!(f, "expected {expected}"),
             Fault::Refused { why, .. } => write!(f, "{why}"),
-            Fault::NotUtf8 { .. } => f.write_str("no UTF-8"),
+            Fault::NotUtf8 { .. } => f.write_str("invalid UTF-8"),
             Fault::OutOfMemory => f.write_str("out of memory"),
         }
     }
@@ -145,10 +146,11 @@ impl Display for Fault {
 
 impl Error for Fault {}
 
-/// A fault beside the text that it is of.
+/// An error together with its text.
 ///
-/// As text it is, of a text with a line feed, the line and the column; the line of the text, a
-/// caret under the place, and why. Of [`Fault::OutOfMemory`] it is why alone.
+/// It is displayed as the line of the text, a caret under the position, and the reason. If the text
+/// has a line feed, the line and the column precede these. [`Fault::OutOfMemory`] is displayed as
+/// only the reason.
 #[derive(Clone, Copy, Debug, Drop)]
 pub struct Shown<'t> {
     fault: Fault,
@@ -165,7 +167,7 @@ impl Display for Shown<'_> {
     }
 }
 
-/// The place in a text from which on an end of it stands.
+/// Returns the position in `text` of its suffix `rest`.
 fn located(text: &str, rest: &str) -> Location
     ensures { (front : List ℕ) → chars text.now ≡ front ++ chars rest.now
         → IsAfter text.now rest.now result }
@@ -185,7 +187,7 @@ fn located_at(bytes: &[u8], offset: usize) -> Location
     }
 }
 
-/// The fault of a text that is no lines of TOML.
+/// Returns the [`Fault`] of a text that is not lines of TOML.
 pub(crate) fn fault_of_text<A: Allocator + Copy>(alloc: A, level: usize, text: &str) -> Fault
     ensures { IsLack A level text.now result }
 {
@@ -198,7 +200,7 @@ pub(crate) fn fault_of_text<A: Allocator + Copy>(alloc: A, level: usize, text: &
     }
 }
 
-/// The fault of a text whose lines have no tree.
+/// Returns the [`Fault`] of a text whose lines have no tree.
 pub(crate) fn fault_of_build<A: Allocator + Copy>(
     alloc: A,
     level: usize,
@@ -219,7 +221,7 @@ pub(crate) fn fault_of_build<A: Allocator + Copy>(
     }
 }
 
-/// The fault of bytes that are no text after this many.
+/// Returns the [`Fault`] of bytes that are not UTF-8 after the first `valid`.
 pub(crate) fn fault_of_bytes(bytes: &[u8], valid: usize) -> Fault
     requires broken { IsUtf8 bytes.now → ⊥ }
     requires place { IsValidUpTo bytes.now valid }

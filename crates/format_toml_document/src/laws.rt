@@ -1,4 +1,4 @@
-//! What the words of the contracts say together.
+//! Laws that follow from the contracts.
 ghost use Rattle.format_toml_document.specs.Fault.{IsDocument, Tells};
 ghost use Rattle.format_toml_document.specs.declared.fault.Fault.{Fault};
 ghost use Rattle.format_toml_document.specs.declared.fault.Fault.TheVariants as faults;
@@ -12,8 +12,8 @@ ghost use Rattle.std.specs.Str.{IsUtf8};
 
 use std::alloc::Allocator;
 
-/// Of bytes that have a tree no fault tells that they are no lines, or no UTF-8: what a fault may
-/// tell is that a line is refused, or that memory was.
+/// If bytes have a tree, no [`Fault`] for them is that they are not lines, or not UTF-8. It can
+/// only be that a line is rejected, or that memory allocation failed.
 ///
 /// ```
 /// use format_toml_document::laws::a_document_is_lines_of_text;
@@ -30,7 +30,7 @@ pub fn a_document_is_lines_of_text<A: Allocator>()
         ⊎ ((at : Location) × (why : Refusal) × (fault ≡ faults.Refused at why)) }
 {}
 
-/// Lines give one tree, or one of them is refused first, for one reason, and not both.
+/// Lines give one tree, or one of them is rejected first, for one reason, and not both.
 ///
 /// ```
 /// use format_toml_document::laws::lines_give_one_tree_or_one_refusal;

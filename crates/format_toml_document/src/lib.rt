@@ -1,10 +1,11 @@
-//! TOML 1.0 (toml.io/en/v1.0.0) by one entry: from a text or bytes to the tree of its document.
+//! TOML 1.0 (toml.io/en/v1.0.0) with one entry point: from a text or bytes to the tree of its
+//! document.
 //!
-//! [`from_text`] and [`from_bytes`] answer a [`Tree`], which is looked into by
-//! [`root`](Tree::root), [`get`](Node::get), [`get_path`](Node::get_path), [`at`](Node::at),
-//! [`as_str`](Node::as_str) and their like. The tree borrows from a [`Document`], for which the
-//! caller has a place. Else a [`Fault`] says where the text is no document of TOML, and why, and
-//! [`shown`](Fault::shown) shows it as compilers do.
+//! [`from_text`] and [`from_bytes`] return a [`Tree`]. [`root`](Tree::root), [`get`](Node::get),
+//! [`get_path`](Node::get_path), [`at`](Node::at), [`as_str`](Node::as_str) and similar functions
+//! access its contents. The tree borrows from a [`Document`], which the caller provides. If a text
+//! is not a TOML document, a [`Fault`] gives the position and the reason, and
+//! [`shown`](Fault::shown) displays it as compilers do.
 //!
 //! ```
 //! use format_toml_document::{Document, SAFE_LEVEL, from_text};
@@ -18,7 +19,8 @@
 //! assert!(rt; matches!(ports, Some(ports) if ports.len() == 2));
 //! ```
 //!
-//! What is read, and what the standard leaves open, is as `format_toml` and `format_toml_tree` say.
+//! See `format_toml` and `format_toml_tree` for the accepted input, and the choices where the
+//! standard leaves room.
 #![tactic(auto)]
 
 pub mod fault;

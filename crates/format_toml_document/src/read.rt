@@ -28,7 +28,7 @@ pub struct Document<A: Allocator> {
 }
 
 impl<A: Allocator + Copy> Document<A> {
-    /// A place with nothing in it, for which no memory is asked.
+    /// Returns an empty document, without allocating.
     pub fn new(alloc: A) -> Document<A>
         ensures { result.lines.items ≡ [] }
     {
@@ -38,7 +38,7 @@ impl<A: Allocator + Copy> Document<A> {
     }
 }
 
-/// Whether a fault says that a request for memory was refused.
+/// Returns whether an error is out of memory.
 fn wants_memory<'i>(fault: &ParseFault<&'i str, EmptyError>) -> bool
     ensures { IsWant ⟦<ErrMode<EmptyError> as ParserError<&'i str>>⟧.inner_kind fault.now
         → IsTrue result }
@@ -49,13 +49,14 @@ fn wants_memory<'i>(fault: &ParseFault<&'i str, EmptyError>) -> bool
     }
 }
 
-/// The tree of a text that is a document of TOML, which borrows from what is put into the caller's
-/// place. In values no more than that many arrays and inline tables stand in one another. Each
-/// level takes some of the stack: up to [`SAFE_LEVEL`](crate::SAFE_LEVEL) two megabytes suffice.
+/// Parses a TOML document and returns its tree, which borrows from the lines that are put into
+/// `document`. The arrays and inline tables of values are nested at most `level` deep. Each level
+/// uses some of the stack: up to [`SAFE_LEVEL`](crate::SAFE_LEVEL) two megabytes suffice.
 ///
-/// Else the [`Fault`] says where the first line is that is none of TOML, and what it lacks there;
-/// or which line the standard refuses for what those before it say, and why; or that a request for
-/// memory was refused. To find the place the text is read once more.
+/// If a line is not TOML, the [`Fault`] gives the position of the first such line's missing part,
+/// and the input that is expected there. Otherwise it gives the line that the standard rejects
+/// because of those before it, and why; or memory allocation failed. A second pass over the text
+/// finds the position.
 ///
 /// ```
 /// use format_toml_document::{Document, Expected, Fault, from_text};
@@ -92,8 +93,8 @@ pub fn from_text<'l, A: Allocator + Copy>(
     }
 }
 
-/// As [`from_text`], of bytes that are to be UTF-8. Where they are none, the [`Fault`] says where
-/// the longest front ends that is.
+/// Like [`from_text`], for bytes, which must be UTF-8. If they are not UTF-8, the [`Fault`] gives
+/// the end of the longest prefix that is.
 ///
 /// ```
 /// use format_toml_document::{Document, Fault, from_bytes};

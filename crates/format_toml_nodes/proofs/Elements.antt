@@ -1,4 +1,4 @@
--- The elements of a place, one after the other, and all that is below places.
+-- The elements of a slot, in sequence, and everything below slots.
 use Rattle.std.specs.Prelude.{◌≡◌, ◌⊎◌, ℕ, zero, suc, ◌+◌, ◌<◌, ◌≤◌}
 use Rattle.std.specs.Prelude.{List, length, slice_get, Some, take}
 use Rattle.std.proofs.Common.{refl, sym, ap, subst, inl, inr, ◌∙◌, arith}
@@ -26,7 +26,7 @@ last (suc k) (suc n) w = elim (last k n (omega (arith, w))) [
 ]
 
 module _ {A : Type 0} (slots : List (Slot A)) (parent : ℕ) (before : List TomlNode) where
-  -- the elements before this one say where they stand
+  -- the nodes of the elements before this one have their position
   abbrev pub NumbersSo : ℕ → List TomlNode → Type 0
   NumbersSo index nodes = (tree : Tree A) (path : ℕ → Path) → Holds slots tree path
       → (text : List ℕ) → (s : Slot A) → slice_get slots parent ≡ Some s
@@ -60,7 +60,7 @@ module _ {A : Type 0} (slots : List (Slot A)) (parent : ℕ) (before : List Toml
       )
 
 module _ {A : Type 0} (slots : List (Slot A)) where
-  -- what is below the places before this one says where it stands
+  -- the nodes below the slots before this one have their position
   abbrev pub LeadsSo : ℕ → ℕ → List ℕ → List TomlNode → Type 0
   LeadsSo place end buffer nodes = (tree : Tree A) (path : ℕ → Path) → Holds slots tree path
       → end ≤ length buffer → (i : ℕ) (s : Slot A) → i < place → slice_get slots i ≡ Some s

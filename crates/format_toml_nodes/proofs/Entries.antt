@@ -1,4 +1,4 @@
--- The entries of a place, one after the other.
+-- The entries of a slot, in sequence.
 use Rattle.std.specs.Prelude.{◌≡◌, ◌⊎◌, ℕ, suc, Bool, true, false, cond, ◌<◌, ◌≤◌}
 use Rattle.std.specs.Prelude.{List, [], ◌∷◌, length, slice_get, Some, None, take, Option}
 use Rattle.std.specs.Borrow.{Bor}
@@ -49,7 +49,7 @@ module _ {A : Type 0} (slots : List (Slot A)) (parent at : ℕ) (old : List ℕ)
       × ((name : List ℕ) (j : ℕ) → find s.places name ≡ Some j
       → (find_in left name ≡ Some j) ⊎ Leads (take end buffer) path (length slots) nodes j)
 
-  -- Each that is left is what the place has at its name.
+  -- Each remaining entry is the one that the slot has at its name.
   abbrev pub FoundSo : List (Bor (List ℕ) × ℕ) → Type 0
   FoundSo left = (s : Slot A) → slice_get slots parent ≡ Some s
       → (k : ℕ) (e : Bor (List ℕ) × ℕ) → slice_get left k ≡ Some e

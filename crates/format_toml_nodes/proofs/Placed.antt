@@ -1,4 +1,4 @@
--- What is put for each place.
+-- The values that are written for each slot.
 use Rattle.std.specs.Prelude.{◌≡◌, ℕ, ◌+◌, ◌<◌, ◌≤◌}
 use Rattle.std.specs.Prelude.{List, length, set, slice_get, Some, take}
 use Rattle.std.proofs.Common.{sym, ap, subst, inl, inr, ◌∙◌, arith}
@@ -14,7 +14,7 @@ some_same : {X : Type 0} {x y : X} → Some x ≡ Some y → x ≡ y
 some_same e = cc
 
 module _ {A : Type 0} (slots : List (Slot A)) where
-  -- So it is of the places before this one.
+  -- The nodes of the slots before this one have their values.
   abbrev pub ShowsSo : ℕ → ℕ → List ℕ → List TomlNode → Type 0
   ShowsSo place end buffer nodes = end ≤ length buffer → (k : ℕ) (s : Slot A) (it : TomlNode)
       → k < place → slice_get slots k ≡ Some s → slice_get nodes k ≡ Some it

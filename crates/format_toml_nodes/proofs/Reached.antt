@@ -56,7 +56,6 @@ module _ {A : Type 0} {slots : List (Slot A)} {tree : Tree A} {path : ℕ → Pa
   so_below P s below (named name) k b = below.0 name k b
   so_below P s below (placed n) k b = below.1 n k b
 
-  -- What is so of all that is below a place is so of each place but the first.
   pub each_below : (P : ℕ → Type 0)
       → ((i : ℕ) (s : Slot A) → slice_get slots i ≡ Some s → Below s P)
       → (j : ℕ) → j < length slots → 0 < j → P j

@@ -1,4 +1,4 @@
--- What the parts do that lay a tree.
+-- The specification of the functions that write the nodes of a tree.
 use Rattle.std.specs.Prelude.{◌≡◌, ◌⊎◌, ℕ, ◌+◌, ◌-◌, ◌<◌, ◌≤◌, ◌^◌, min, true, false}
 use Rattle.std.specs.Prelude.{List, [], ◌∷◌, ◌++◌, length, take, slice_get, Some}
 use Rattle.std.specs.Borrow.{Bor}
@@ -23,13 +23,13 @@ total f (x ∷ xs) = f x + total f xs
 
 -- ---- texts
 
--- More stands in a text up to this place, and before it what stood there.
+-- `Grows at old end new`: up to `end`, `new` is `old` up to `at` followed by more.
 pub record Grows (at : ℕ) (old : List ℕ) (end : ℕ) (new : List ℕ) : Type 0 where
   pub up : at ≤ end
   pub same : length new ≡ length old
   pub there : end ≤ length old → (more : List ℕ) × (take end new ≡ take at old ++ more)
 
--- Bytes are put at a place of a text, if there is room for them, and this is the place after.
+-- `bytes` is written at offset `at` of a text, if it fits, and `end` is the offset after it.
 pub record Puts (bytes : List ℕ) (at : ℕ) (old : List ℕ) (end : ℕ) (new : List ℕ) : Type 0 where
   pub is_end : end ≡ min (at + length bytes) most
   pub up : at ≤ end
@@ -38,7 +38,7 @@ pub record Puts (bytes : List ℕ) (at : ℕ) (old : List ℕ) (end : ℕ) (new 
 
 -- ---- nodes
 
--- what a node tells stays, and what is in it
+-- a node keeps its value and its contents
 abbrev pub Keeps : TomlNode → TomlNode → Type 0
 Keeps was it = (it.value ≡ was.value) × (it.first ≡ was.first)
 
@@ -58,13 +58,13 @@ pub record ChangesAt (so : TomlNode → TomlNode → Type 0) (j : ℕ) (old new 
         → ((k ≡ j) × ((was : TomlNode) × (slice_get old k ≡ Some was) × so was it))
         ⊎ ((k ≡ j → ⊥) × (slice_get old k ≡ Some it))
 
--- Each node is so beside what it was.
+-- `Each so old new`: `so` relates each old node to the new one.
 pub record Each (so : TomlNode → TomlNode → Type 0) (old new : List TomlNode) : Type 0 where
   pub same : length new ≡ length old
   pub each : (k : ℕ) (it : TomlNode) → slice_get new k ≡ Some it
       → (was : TomlNode) × (slice_get old k ≡ Some was) × so was it
 
--- If there is a node of this number, it stands in another, where its path says.
+-- If there is a node of this number, it is in another, at the position that its path gives.
 abbrev pub Leads : List ℕ → (ℕ → Path) → ℕ → List TomlNode → ℕ → Type 0
 Leads text path count nodes j = (it : TomlNode) → slice_get nodes j ≡ Some it
     → IsIn text path count j it
@@ -73,7 +73,7 @@ abbrev pub name_len : Bor (List ℕ) × ℕ → ℕ
 name_len e = length e.0.now
 
 module _ {A : Type 0} where
-  -- how many bytes what there is at a place has
+  -- the number of bytes of the value of a slot
   abbrev pub text_len : Slot A → ℕ
   text_len s = length (text_of (node_at s))
 
@@ -81,7 +81,7 @@ module _ {A : Type 0} where
   abbrev pub names_len : Slot A → ℕ
   names_len s = total name_len s.places.entries
 
-  -- So it is of each place that is an entry of this one, or an element.
+  -- `Below s so`: `so` holds for each entry and each element of the slot `s`.
   abbrev pub Below : Slot A → (ℕ → Type 0) → Type 0
   Below s so = ((name : List ℕ) (j : ℕ) → find s.places name ≡ Some j → so j)
       × ((k j : ℕ) → slice_get s.elements.items k ≡ Some j → so j)
@@ -97,7 +97,7 @@ module _ {A : Type 0} where
     pub apart : (k : ℕ) (it : TomlNode) → k < length slots → slice_get after k ≡ Some it
         → it.first ≡ 0
 
-  -- The entries of a place are named.
+  -- The entries of a slot get their names.
   pub record PutsEntries (slots : List (Slot A)) (parent at : ℕ) (old : List ℕ)
       (before : List TomlNode) (end : ℕ) (new : List ℕ) (after : List TomlNode) : Type 0 where
     pub count : (s : Slot A) → slice_get slots parent ≡ Some s → end ≡ min (at + names_len s) most
@@ -110,7 +110,7 @@ module _ {A : Type 0} where
         × ((name : List ℕ) (j : ℕ) → find s.places name ≡ Some j
         → Leads (take end new) path (length slots) after j)
 
-  -- The elements of a place are numbered.
+  -- The elements of a slot get their numbers.
   pub record PutsElements (slots : List (Slot A)) (parent : ℕ) (before after : List TomlNode)
       : Type 0 where
     pub keeps : Each Keeps before after
@@ -121,7 +121,7 @@ module _ {A : Type 0} where
         × ((k j : ℕ) → slice_get s.elements.items k ≡ Some j
         → Leads text path (length slots) after j)
 
-  -- What is below each place says so.
+  -- Everything below each slot gets its position.
   pub record PutsLinks (slots : List (Slot A)) (at : ℕ) (old : List ℕ) (before : List TomlNode)
       (end : ℕ) (new : List ℕ) (after : List TomlNode) : Type 0 where
     pub count : end ≡ min (at + total names_len slots) most
@@ -152,7 +152,7 @@ module _ {A : Type 0} where
 
 -- ---- joins
 
--- what a node tells stays, and where it stands
+-- a node keeps its value and its position
 abbrev pub Stays : TomlNode → TomlNode → Type 0
 Stays was it = (it.value ≡ was.value) × (it.parent ≡ was.parent) × (it.name ≡ was.name)
     × (it.index ≡ was.index) × (it.is_element ≡ was.is_element)

@@ -1,4 +1,4 @@
--- What nodes tell of the tree of a document.
+-- The relation between nodes and the tree of a document.
 use Rattle.std.specs.Prelude.{◌≡◌, ◌⊎◌, ℕ, ℤ, pos, ◌+◌, ◌<◌, ◌≤◌, Bool, true, false, cond}
 use Rattle.std.specs.Prelude.{List, [], ◌∷◌, ◌++◌, length, slice_get, Some, string_bytes}
 use Rattle.format_toml_nodes.specs.declared.node.Span.{Span}
@@ -60,7 +60,7 @@ module _ {A : Type 0} where
     | forms.Table entries ↦ it.kind ≡ 0
   ]
 
-  -- The kind and the numbers are those of what there is.
+  -- The kind and the numbers are those of the given value.
   abbrev pub IsValueOf : Given A → TomlValue → Type 0
   IsValueOf nothing it = ⊥
   IsValueOf (valued v) it = IsValue v it
@@ -86,7 +86,7 @@ module _ {A : Type 0} where
   text_of dotted = []
   text_of (tables n) = []
 
--- These bytes stand at a place of the text.
+-- `StandsAt text place bytes`: `text` has `bytes` at the span `place`.
 pub record StandsAt (text : List ℕ) (place : Span) (bytes : List ℕ) : Type 0 where
   pub before : List ℕ
   pub behind : List ℕ
@@ -94,14 +94,14 @@ pub record StandsAt (text : List ℕ) (place : Span) (bytes : List ℕ) : Type 0
   pub begins : place.offset ≡ length before
   pub ends : place.length ≡ length bytes
 
--- A node tells what there is, with its bytes in the text.
+-- `Shows text it given`: the node value `it` is that of `given`, with its bytes in `text`.
 abbrev pub Shows : {A : Type 0} → List ℕ → TomlValue → Given A → Type 0
 Shows text it given = IsValueOf given it × StandsAt text it.text (text_of given)
 
--- ---- how nodes stand in one another
+-- ---- how nodes are nested
 
--- The node of this number stands in the one that it says, of these many: at its name there, or
--- after as many elements as it says.
+-- `IsIn text path count j it`: the node `j` is in its parent, one of `count` nodes: at its name
+-- there, or after the number of elements that its index gives.
 abbrev pub IsIn : List ℕ → (ℕ → Path) → ℕ → ℕ → TomlNode → Type 0
 IsIn text path count j it = (it.parent < count)
     × (((it.is_element ≡ false) × ((name : List ℕ) × StandsAt text it.name name
@@ -124,8 +124,8 @@ pub record IsJoined (nodes : List TomlNode) (j : ℕ) (it : TomlNode) : Type 0 w
   pub first : IsFirstIn nodes j 1 it.first
   pub next : 0 < j → IsFirstIn nodes it.parent (j + 1) it.next
 
--- The nodes are those of a tree: each is at a path, and tells what there is; no two are at one; and
--- at each path at which there is something is one of them. Their texts stand in this one.
+-- The nodes are those of a tree. Each is at a path and has the value there, no two are at the same
+-- path, and each path with a value has one of them. Their texts are in `text`.
 pub record AreNodesOf {A : Type 0} (given : Tree A) (text : List ℕ) (nodes : List TomlNode)
     : Type 0 where
   pub path : ℕ → Path

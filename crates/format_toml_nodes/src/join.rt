@@ -1,4 +1,4 @@
-//! From each node to the first in it, and to the next beside it.
+//! Links from each node to its first child and to its next sibling.
 ghost use Rattle.std.specs.Prelude.{◌≡◌, ◌+◌, ◌<◌, length};
 ghost use Rattle.format_toml_nodes.specs.Laying.{AreApart, JoinsFrom, JoinsOne};
 
@@ -18,7 +18,7 @@ fn join_one(number: usize, nodes: &mut [TomlNode])
     }
 }
 
-/// Joins nodes that say what they are in.
+/// Links nodes that have their parents.
 pub(crate) fn join(nodes: &mut [TomlNode])
     requires { AreApart nodes.old }
     ensures { JoinsFrom 1 nodes.old nodes.new }

@@ -1,13 +1,13 @@
-//! The tree of a document of TOML 1.0 as a list of nodes, in two buffers of the caller: the nodes,
-//! and the bytes of their names and texts. No memory is asked for, and no call calls itself.
+//! The tree of a TOML 1.0 document as an array of nodes, in two buffers of the caller: the nodes,
+//! and the bytes of their names and texts. It does not allocate, and does not recurse.
 //!
-//! [`size_of`](nodes::size_of) says how many nodes and bytes a tree wants, and
+//! [`size_of`](nodes::size_of) returns how many nodes and bytes a tree needs, and
 //! [`write_nodes`](nodes::write_nodes) writes them.
 //!
-//! The nodes stand in the order in which the document first speaks of them: so the first is that
-//! of the table that has all others, and a table or an array stands before what is in it. Each has
-//! the number of the node that it is in, of the first node in it, and of the next beside it, so
-//! that a caller walks them with a loop.
+//! The nodes are in the order in which the document first mentions them. So the first is the table
+//! that contains all others, and a table or an array precedes its contents. Each node has the
+//! number of its parent, of its first child and of its next sibling, so that a caller walks them
+//! with a loop.
 #![tactic(auto)]
 
 mod join;

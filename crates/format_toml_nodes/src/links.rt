@@ -1,4 +1,4 @@
-//! Nodes of the places of a tree, and where each stands.
+//! The nodes of the slots of a tree, and their positions.
 ghost use Rattle.std.specs.Prelude.{◌≡◌, ◌<◌, length};
 ghost use Rattle.format_toml_nodes.specs.Laying.{PutsElements, PutsEntries, PutsLinks};
 ghost use Rattle.format_toml_nodes.specs.Laying.{PutsValues};
@@ -9,7 +9,7 @@ use crate::values::{text, value_of};
 use format_toml_tree::tree::Slot;
 use std::alloc::Allocator;
 
-/// A node that stands in none.
+/// Returns a node without a parent.
 fn alone(value: TomlValue) -> TomlNode
     ensures value { result.value ≡ value }
     ensures first { result.first ≡ 0 }
@@ -17,7 +17,7 @@ fn alone(value: TomlValue) -> TomlNode
     TomlNode { value, ..NO_NODE }
 }
 
-/// Puts what there is at each place, with its bytes, and answers the place after these.
+/// Writes the value of each slot with its bytes, and returns the offset after these.
 pub(crate) fn put_values<'t, A: Allocator + Copy>(
     slots: &[Slot<'t, A>],
     buffer: &mut [u8],
@@ -39,8 +39,7 @@ pub(crate) fn put_values<'t, A: Allocator + Copy>(
     end
 }
 
-/// Says of the entries of a place where they stand, with their names, and answers the place after
-/// these.
+/// Writes the positions of a slot's entries, with their names, and returns the offset after these.
 fn put_entries<'t, A: Allocator + Copy>(
     slots: &[Slot<'t, A>],
     parent: usize,
@@ -64,7 +63,7 @@ fn put_entries<'t, A: Allocator + Copy>(
     end
 }
 
-/// Says of the elements of a place where they stand.
+/// Writes the positions of a slot's elements.
 fn put_elements<'t, A: Allocator + Copy>(
     slots: &[Slot<'t, A>],
     parent: usize,
@@ -79,7 +78,7 @@ fn put_elements<'t, A: Allocator + Copy>(
     }
 }
 
-/// Says of what is below each place where it stands, and answers the place after the names.
+/// Writes the positions of everything below each slot, and returns the offset after the names.
 pub(crate) fn put_links<'t, A: Allocator + Copy>(
     slots: &[Slot<'t, A>],
     at: usize,

@@ -1,6 +1,6 @@
-//! Nodes, and what they tell.
+//! Nodes, and their contents.
 
-/// A place in the text: that many bytes, from one on.
+/// A span of the text: `length` bytes from `offset` on.
 ///
 /// ```
 /// use format_toml_nodes::node::Span;
@@ -11,7 +11,7 @@
 #[repr(C)]
 #[derive(Clone, Copy, Debug, PartialEq, Eq, Drop)]
 pub struct Span {
-    /// How many bytes stand before it.
+    /// The number of bytes before it.
     pub offset: usize,
     /// How many bytes it has.
     pub length: usize,
@@ -41,13 +41,13 @@ pub const TOML_OFFSET_DATE_TIME: usize = 6;
 /// A date and a time with no offset.
 pub const TOML_LOCAL_DATE_TIME: usize = 7;
 
-/// A date alone.
+/// A date without a time.
 pub const TOML_LOCAL_DATE: usize = 8;
 
-/// A time alone.
+/// A time without a date.
 pub const TOML_LOCAL_TIME: usize = 9;
 
-/// What there is at a node. What its kind has no use for is 0.
+/// The value of a node. Fields that its kind does not use are 0.
 ///
 /// ```
 /// use format_toml_nodes::node::{NO_NODE, TOML_TABLE};
@@ -57,7 +57,7 @@ pub const TOML_LOCAL_TIME: usize = 9;
 #[repr(C)]
 #[derive(Clone, Copy, Debug, PartialEq, Eq, Drop)]
 pub struct TomlValue {
-    /// What it is: one of the numbers `TOML_TABLE` to `TOML_LOCAL_TIME`.
+    /// The kind: one of the numbers `TOML_TABLE` to `TOML_LOCAL_TIME`.
     pub kind: usize,
     /// The year of a date, from 0 to 9999.
     pub year: u16,
@@ -75,9 +75,9 @@ pub struct TomlValue {
     pub offset: i16,
     /// The integer, or 1 for `true` and 0 for `false`.
     pub integer: i64,
-    /// Where in the text its own bytes stand: those of a string, with its escapes undone; of a
+    /// The span of its own bytes in the text: those of a string, with its escapes undone; of a
     /// float, without underscores, as `-1.5e+3`, `inf` and `nan`; or the digits of the fraction of
-    /// a second. Other values have none.
+    /// a second. Other values have no bytes.
     pub text: Span,
 }
 
@@ -98,14 +98,15 @@ pub struct TomlNode {
     pub first: usize,
     /// The number of the next node in the same table or array, or 0 where there is none.
     pub next: usize,
-    /// How many elements stand before it in its array. In a table 0.
+    /// The number of elements before it in its array; 0 in a table.
     pub index: usize,
-    /// Where in the text its name in its table stands, its quotes and escapes undone. In an array
-    /// it has no bytes.
+    /// The span of its name in its table, with quotes and escapes undone. In an array it has no
+    /// bytes.
     pub name: Span,
-    /// What there is.
+    /// The value of a node.
     pub value: TomlValue,
-    /// Whether it is an element of an array. Else it is an entry of a table, or the first node.
+    /// Whether it is an element of an array. Otherwise it is an entry of a table, or the first
+    /// node.
     pub is_element: bool,
 }
 

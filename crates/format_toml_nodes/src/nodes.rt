@@ -63,11 +63,11 @@ pub fn size_of<'t, A: Allocator + Copy>(tree: &Tree<'t, A>) -> Size
 }
 
 /// Writes the nodes of a tree into the first entries of `nodes`, and the bytes of their names and
-/// texts into the first of `text`, as many of both as the size of the tree says. `false` says that
-/// one of them is too small; both then stay as they are.
+/// texts into the first of `text`. The size of the tree gives the number of both. Returns `false`
+/// if one of them is too small; both are then unchanged.
 ///
-/// No memory is asked for. Time is by the number of nodes and bytes. The elements of an array come
-/// one after the other by `next`, which is tested alone; that each tells its number is proved.
+/// Does not allocate. The time is by the number of nodes and bytes. The elements of an array are in
+/// order by `next`, which is only tested; that each has its number is proved.
 ///
 /// ```
 /// use format_toml_nodes::node::{NO_NODE, TOML_INTEGER};

@@ -1,11 +1,11 @@
-//! What is put into a buffer, as far as there is room.
+//! Functions that write into a buffer, as far as there is room.
 ghost use Rattle.std.specs.Prelude.{◌≡◌, set};
 ghost use Rattle.format_toml_nodes.specs.Laying.{ChangesAt, IsAbove, IsBefore, IsNamedAs};
 ghost use Rattle.format_toml_nodes.specs.Laying.{IsNumbered, Puts};
 
 use crate::node::{Span, TomlNode};
 
-/// Puts bytes at a place of the text, if there is room for them, and answers the place after.
+/// Writes bytes at an offset of the text, if they fit, and returns the offset after them.
 #[inline]
 pub(crate) fn put_bytes(bytes: &[u8], at: usize, text: &mut [u8]) -> usize
     ensures { Puts bytes.now at text.old result text.new }
@@ -43,7 +43,7 @@ pub(crate) fn put_name(number: usize, parent: usize, name: Span, nodes: &mut [To
     }
 }
 
-/// Says of a node, if it is there, that it stands after so many in the array of that number.
+/// Sets the parent and the index of a node in an array, if it exists.
 #[inline]
 pub(crate) fn put_index(number: usize, parent: usize, index: usize, nodes: &mut [TomlNode])
     ensures { ChangesAt (IsNumbered parent index) number nodes.old nodes.new }
@@ -58,7 +58,7 @@ pub(crate) fn put_index(number: usize, parent: usize, index: usize, nodes: &mut 
     }
 }
 
-/// Says of a node, if it is there, which is next beside it.
+/// Sets the next sibling of a node, if it exists.
 #[inline]
 pub(crate) fn put_next(number: usize, next: usize, nodes: &mut [TomlNode])
     ensures { ChangesAt (IsBefore next) number nodes.old nodes.new }

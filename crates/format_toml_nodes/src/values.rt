@@ -1,4 +1,4 @@
-//! What there is at a place of a tree, as a node tells it.
+//! Values of slots of a tree, in the form of nodes.
 ghost use Rattle.std.specs.Prelude.{◌≡◌, ℕ};
 ghost use Rattle.format_toml_nodes.specs.Nodes.{IsDateOf, IsDateTimeOf, IsTimeOf, IsValue};
 ghost use Rattle.format_toml_nodes.specs.Nodes.{IsValueOf, fraction_of, minutes_of, text_of};
@@ -25,7 +25,7 @@ fn fraction<A: Allocator>(date_time: &DateTime<A>) -> &str
     }
 }
 
-/// The bytes of what there is at a place: those of a string, of a float, or of a fraction.
+/// Returns the bytes of a slot's value: those of a string, of a float, or of a fraction.
 pub(crate) fn text<'t, A: Allocator>(kind: Kind<'t, A>) -> &'t str
     ensures { (n : ℕ) → result.now ≡ text_of (node_of kind.entry n) }
 {
@@ -144,7 +144,7 @@ fn given_value<A: Allocator>(value: &Value<A>, text: Span) -> TomlValue
     }
 }
 
-/// What there is at a place, with its bytes.
+/// Returns the value of a slot, with its bytes.
 pub(crate) fn value_of<'t, A: Allocator>(kind: Kind<'t, A>, text: Span) -> TomlValue
     ensures value { (n : ℕ) → IsValueOf (node_of kind.entry n) result }
     ensures text { result.text ≡ text }

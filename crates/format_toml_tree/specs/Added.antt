@@ -14,7 +14,7 @@ use Rattle.format_toml_tree.specs.Holds.{Goes, Holds, find, node_at}
 use Rattle.format_toml_tree.specs.Places.{get_push, get_set, longer, nowhere, some_node}
 use Rattle.format_toml_tree.specs.declared.tree.Slot.{Slot}
 
--- the paths of more places, of which the last has this one
+-- the paths of one slot more, where the slot `n` has the path `q`
 abbrev pub more_paths : ℕ → Path → (ℕ → Path) → ℕ → Path
 more_paths n q path i = cond (n == i) q (path i)
 
@@ -43,8 +43,7 @@ some_there (x ∷ xs) zero w = (x, refl)
 some_there (x ∷ xs) (suc i) w = some_there xs i (omega (arith, w))
 
 module _ {A : Type 0} where
-  -- What an added place and the one above it are: it is at a step below that, and nothing is below
-  -- it.
+  -- An added slot and its parent: the slot is one step below the parent, and nothing is below it.
   pub record AddsBelow (e : Step) (place : ℕ) (was now fresh : Slot A) : Type 0 where
     pub none_found : (name : List ℕ) → find fresh.places name ≡ None
     pub no_elements : fresh.elements.items ≡ []

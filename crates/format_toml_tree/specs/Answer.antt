@@ -1,4 +1,4 @@
--- What is answered, beside what the lines of a document give.
+-- The relation between the result and the tree that the lines of a document give.
 use Rattle.std.specs.Prelude.{◌≡◌, ℕ, List, [], Option, Result, Ok, Err, IsErr, IsErrAnd, true}
 use Rattle.std.specs.Prelude.{false}
 use Rattle.std.proofs.Common.{refl, subst, sym}
@@ -13,8 +13,8 @@ use Rattle.format_toml_tree.specs.declared.tree.Tree.{Tree}
 use Rattle.format_toml_tree.specs.declared.value.Item.{Item}
 
 module _ {A : Type 0} where
-  -- Where there is memory: a tree that holds the one that is given, or the line that is refused
-  -- first, and why.
+  -- Unless an allocation fails: a tree that holds the given one, or the first line that is
+  -- rejected, and why.
   abbrev pub IsAnswer : Result (Tree A) Fault → Result (Given A) (ℕ × Refusal) → Type 0
   IsAnswer (Ok tree) (Ok given) = HoldsTree tree.slots.items given
   IsAnswer (Ok tree) (Err e) = ⊥
@@ -23,7 +23,7 @@ module _ {A : Type 0} where
   IsAnswer (Err (Refused line why)) (Ok given) = ⊥
   IsAnswer (Err (Refused line why)) (Err e) = e ≡ (line, why)
 
-  -- so it is for whatever the lines give
+  -- for every outcome of the lines
   abbrev pub Answers : List (Option (Item A)) → Result (Tree A) Fault → Type 0
   Answers lines result = (outcome : Result (Given A) (ℕ × Refusal))
       → Gives (empty, []) 0 lines outcome → IsAnswer result outcome

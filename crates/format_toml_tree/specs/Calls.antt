@@ -1,4 +1,4 @@
--- What calls on places do: a place stays, one is set, an entry or an element is added.
+-- The effects of calls on slots: a slot is unchanged, one is set, an entry or an element is added.
 use Rattle.std.specs.Prelude.{◌≡◌, ◌⊎◌, ℕ, zero, suc, ◌+◌, ◌<◌, ◌≤◌, Bool, true, false, cond}
 use Rattle.std.specs.Prelude.{List, [], ◌∷◌, ◌++◌, length, set, get_or, Some, None, slice_get}
 use Rattle.std.specs.Borrow.{Bor}

@@ -1,4 +1,5 @@
--- What stands first of a date or a time leaves one rest, and what functions find of them.
+-- Proofs that the parts of dates and times leave a unique rest, and the results of functions for
+-- them.
 use Rattle.std.specs.Prelude.{◌≡◌, ◌≤◌, ◌+◌, ◌*◌, ◌-◌, ℕ, List, [], ◌∷◌, length}
 use Rattle.std.specs.Prelude.{Option, Some, None}
 use Rattle.std.specs.Borrow.{Bor}
@@ -25,7 +26,7 @@ is_nothing (c ∷ cs) e = absurd (omega (arith, e))
 
 -- ---- one rest
 
--- One output stands first, and leaves one rest.
+-- `IsOne stands`: outputs at the start of the same bytes are equal, and so are their rests.
 pub record IsOne {O : Type 0} (stands : Standing O) : Type 0 where
   pub one : (tokens : List ℕ) (o p : O) (rest other : List ℕ) → stands tokens o rest
       → stands tokens p other → (o ≡ p) × (rest ≡ other)
@@ -167,7 +168,7 @@ module _ (text r : List ℕ) (h : ℕ) (x : TwoDigits text h r) where
 
 -- three numbers with marks between them
 module _ {digits : Standing ℕ} (mark : ℕ) (first : IsOne digits) (text : List ℕ) where
-  -- none stand
+  -- no three numbers match
   abbrev pub NoTurn : Type 0
   NoTurn = (three : ℕ × ℕ × ℕ) (other : List ℕ) → InTurn digits mark text three other → ⊥
 

@@ -1,4 +1,4 @@
--- What functions find of dates with times after them, and of times alone.
+-- The results of functions for dates followed by times, and for times without dates.
 use Rattle.std.specs.Prelude.{◌≡◌, ℕ, List, [], ◌∷◌, length, Option, Some, None}
 use Rattle.std.specs.Prelude.{Result, Ok, Err, IfOk}
 use Rattle.std.specs.List.{All}
@@ -26,7 +26,6 @@ timed_digits clock digits o text (a, b, x, inl (none, e), m) =
     subst (λ l. All IsDigit l) (sym none) (λ k d less. absurd (omega (arith, less)))
 timed_digits clock digits o text (a, b, x, inr (some, all, e), m) = all
 
--- a fraction with an offset after it has all digits that stand
 split_by : (text digits rest : List ℕ) (o : Option Offset) → Fraction text digits rest
     → MaybeOffset o rest → SplitsFraction text digits rest
 unfolding Fraction SplitsFraction
@@ -109,7 +108,7 @@ module _ (A : Type 0) where
       unfolding Tells IsBehind TimeText
       behind_local x = (refl, (c, rest, is, f, (clock, digits, t, x)))
 
-  -- ---- alone
+  -- ---- times without dates
 
   pub alone_none : (text : List ℕ) → FindsTime text None
       → Tells (λ (d : DateTime A). IsAlone d text) None
@@ -130,7 +129,6 @@ module _ (A : Type 0) where
 
   -- ---- either
 
-  -- the third byte of a date is a digit, and that of a time is none
   date_or_time : {P : Type 0} (text rest : List ℕ) (date : Date) (d : DateTime A)
       → FullDate text date rest → IsAlone d text → P
   unfolding FullDate InTurn FourDigits TwoDigits IsAlone TimeText IsTimed Clock Marked

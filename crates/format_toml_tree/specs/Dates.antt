@@ -1,5 +1,6 @@
--- TOML 1.0 (Offset Date-Time, Local Date-Time, Local Date, Local Time): what is written, by its
--- ABNF, which is that of RFC 3339: which bytes stand first, and what is left after them.
+-- TOML 1.0 (Offset Date-Time, Local Date-Time, Local Date, Local Time): the written form by its
+-- ABNF, which is that of RFC 3339. Relations are between bytes, an output for a prefix of them, and
+-- the rest.
 use Rattle.std.specs.Prelude.{◌≡◌, ◌⊎◌, ◌≤◌, ◌<◌, ◌+◌, ◌*◌, ◌%◌, ◌==◌, ◌&&◌, ◌||◌, not, ℕ}
 use Rattle.std.specs.Prelude.{if◌then◌else◌, Bool, pos, neg_ℤ}
 use Rattle.std.specs.Prelude.{string_bytes}
@@ -14,7 +15,7 @@ use Rattle.format_toml_tree.specs.declared.value.Offset.{Offset}
 use Rattle.format_toml_tree.specs.declared.value.Offset.TheVariants.{Minutes, Zulu}
 use Rattle.format_toml_tree.specs.declared.value.Time.{Time}
 
--- Some bytes, what stands first in them, and the bytes that are left after it.
+-- `Standing O`: a relation between bytes, the output for a prefix of them, and the rest.
 abbrev pub Standing : Type 0 → Type 1
 Standing O = List ℕ → O → List ℕ → Type 0
 
@@ -64,8 +65,7 @@ days_in year month =
     else (if (month == 1) || ((month == 3) || ((month == 5) || ((month == 7) || ((month == 8)
     || ((month == 10) || (month == 12)))))) then 31 else 0))
 
--- full-date = date-fullyear "-" date-month "-" date-mday, of which the last is "based on
--- month/year"
+-- full-date = date-fullyear "-" date-month "-" date-mday, where date-mday is "based on month/year"
 unfoldable pub FullDate : Standing Date
 FullDate tokens date rest =
     InTurn FourDigits 45 tokens (date.year, date.month, date.day) rest
@@ -73,7 +73,7 @@ FullDate tokens date rest =
 
 -- ---- times
 
--- time-hour ":" time-minute ":" time-second, of which the last is 60 in a leap second
+-- time-hour ":" time-minute ":" time-second, where time-second is 60 in a leap second
 unfoldable pub Clock : Standing (ℕ × ℕ × ℕ)
 Clock tokens clock rest =
     InTurn TwoDigits 58 tokens clock rest × (clock.0 ≤ 23) × (clock.1 ≤ 59) × (clock.2 ≤ 60)
@@ -129,7 +129,7 @@ module _ {A : Type 0} where
       (clock : ℕ × ℕ × ℕ) × (digits : List ℕ) × IsTimeOf time clock digits
       × IsTimed clock digits offset tokens
 
-  -- what stands after a date: time-delim and a time, with an offset or none, or nothing
+  -- the bytes after a date: time-delim and a time, with an optional offset, or nothing
   unfoldable pub IsBehind : Date → DateTime A → List ℕ → Type 0
   IsBehind date (dates.Offset day time offset) tokens =
       (day ≡ date) × ((c : ℕ) × (rest : List ℕ) × IsDelimiter c × (tokens ≡ c ∷ rest)
@@ -140,12 +140,12 @@ module _ {A : Type 0} where
   IsBehind date (dates.Date day) tokens = (day ≡ date) × (tokens ≡ [])
   IsBehind date (dates.Time time) tokens = ⊥
 
-  -- local-time: partial-time alone
+  -- local-time: only partial-time
   unfoldable pub IsAlone : DateTime A → List ℕ → Type 0
   IsAlone d tokens = (time : Time A) × (d ≡ dates.Time time) × TimeText time None tokens
 
-  -- date-time = offset-date-time / local-date-time / local-date / local-time, of which the first
-  -- three begin with full-date
+  -- date-time = offset-date-time / local-date-time / local-date / local-time, where all but
+  -- local-time start with full-date
   unfoldable pub IsDateTime : DateTime A → List ℕ → Type 0
   IsDateTime d tokens =
       ((date : Date) × (rest : List ℕ) × FullDate tokens date rest × IsBehind date d rest)
@@ -153,27 +153,28 @@ module _ {A : Type 0} where
 
 -- ---- what functions answer of them
 
--- What stands first, and what is after it; none, where none does.
+-- The output at the start of the bytes, and the rest; `None` if there is no output.
 unfoldable pub Finds : {O : Type 0} → Standing O → List ℕ → Option (O × Bor (List ℕ)) → Type 0
 Finds {O} stands tokens None = (o : O) (rest : List ℕ) → stands tokens o rest → ⊥
 Finds stands tokens (Some found) = stands tokens found.0 found.1.now
 
--- What a relation tells of; none, where it tells of nothing.
+-- `Tells is o`: `o` satisfies `is`; or it is `None`, and nothing does.
 unfoldable pub Tells : {O : Type 0} → (O → Type 0) → Option O → Type 0
 Tells {O} is None = (o : O) → is o → ⊥
 Tells is (Some o) = is o
 
--- All digits that stand first are that many.
+-- `CountsDigits tokens n`: `tokens` starts with `n` digits, and no more.
 unfoldable pub CountsDigits : List ℕ → ℕ → Type 0
 CountsDigits tokens n =
     (n ≤ length tokens) × All IsDigit (take n tokens)
     × (n < length tokens → IsDigit (get_or tokens n 0) → ⊥)
 
--- there is no first byte, or it is no digit
+-- the bytes are empty, or do not start with a digit
 abbrev pub NoDigit : List ℕ → Type 0
 NoDigit tokens = (c : ℕ) (others : List ℕ) → tokens ≡ c ∷ others → IsDigit c → ⊥
 
--- The fraction with all of its digits, and what is after it; and none where none stands first.
+-- The fraction with all of its digits, and the rest; no digits if the bytes do not start with a
+-- fraction.
 unfoldable pub SplitsFraction : List ℕ → List ℕ → List ℕ → Type 0
 SplitsFraction tokens digits rest =
     ((digits ≡ []) × (tokens ≡ rest)

@@ -33,7 +33,6 @@ module _ {A : Type 0} where
   pub no_value : (v : Value A) → nothing ≡ valued v → ⊥
   no_value v e = cc
 
-  -- a dotted key, and its last name, are said where there is no value
   rule_keeps : (says : Says A) (node next : Node A) → ruled says node ≡ Ok next
       → (v : Value A) → node ≡ valued v → next ≡ valued v
   rule_keeps passes node next e v f = absurd (refuses (sym (ap (λ n. ruled passes n) f) ∙ e))

@@ -1,4 +1,4 @@
--- What the places of a tree hold, and that places that change or are added hold what is put there.
+-- The tree that slots hold, and proofs that slots that are changed or added hold the new contents.
 use Rattle.std.specs.Prelude.{◌≡◌, ℕ, suc, ◌+◌, ◌<◌, ◌≤◌}
 use Rattle.std.specs.Prelude.{List, [], ◌∷◌, ◌++◌, length, Option, Some, None, slice_get}
 use Rattle.std.specs.Prelude.{Result, Ok, Err, MatchResult}
@@ -35,7 +35,7 @@ module _ {A : Type 0} where
   says_of roles.Dotted = dots
   says_of (roles.Value v) = gives v.now
 
-  -- what a place of a kind, with that many elements, is
+  -- the node of a slot of this kind with `n` elements
   abbrev pub node_of : Kind A → ℕ → Node A
   node_of (kinds.Value v) n = valued v.now
   node_of kinds.Super n = super
@@ -81,7 +81,7 @@ module _ {A : Type 0} where
     pub kept : (i : ℕ) → i < length old → paths i ≡ path i
     pub grown : length old ≤ length new
 
-  -- A call answers the place of a state, or why a statement is refused.
+  -- The result of a call is the slot of a state, or why a statement is rejected.
   abbrev pub Told : List (Slot A) → (ℕ → Path) → Result (State A) Refusal → Result ℕ Stop
       → List (Slot A) → Type 0
   Told old path r (Ok j) new = (s : State A) × (r ≡ Ok s) × Goes old path s j new
@@ -155,7 +155,8 @@ module _ {A : Type 0} where
   abbrev pub Keeps : Tree A → Tree A → Type 0
   Keeps tree next = (p : Path) (v : Value A) → tree p ≡ valued v → next p ≡ valued v
 
-  -- The tree is filled below a place by a rule, which gives a tree or why a statement is refused.
+  -- The tree is filled below a slot by a rule, which gives a tree, or the reason why a statement is
+  -- rejected.
   abbrev pub FillsBy : (Tree A → Path → Result (Tree A) Refusal → Type 0) → List (Slot A) → ℕ
       → Result (Unit {0}) Stop → List (Slot A) → Type 0
   FillsBy By old place (Ok done) new =
@@ -167,7 +168,7 @@ module _ {A : Type 0} where
       (tree : Tree A) (path : ℕ → Path) → Holds old tree path
       → By tree (path place) (Err why)
 
-  -- there is a value at a place
+  -- the slot `place` has a value
   abbrev pub IsValueAt : List (Slot A) → ℕ → Type 0
   IsValueAt slots place = (s : Slot A) → slice_get slots place ≡ Some s
       → (value : Bor (Value A)) × (s.kind ≡ kinds.Value value)
@@ -176,7 +177,7 @@ module _ {A : Type 0} where
   abbrev pub StartsEmpty : List (Slot A) → Type 0
   StartsEmpty slots = (path : ℕ → Path) × Holds slots empty path × (0 < length slots)
 
-  -- What a line says is added, or it is refused.
+  -- The statement of a line is added, or it is rejected.
   abbrev pub AddsItem : List (Slot A) → ℕ → Item A → Result ℕ Stop → List (Slot A) → Type 0
   AddsItem old table item (Ok j) new =
       (tree : Tree A) (path : ℕ → Path) → Holds old tree path

@@ -1,4 +1,4 @@
--- Statements over the names of a key, one after the other.
+-- Statements over the names of a key, in sequence.
 use Rattle.std.specs.Prelude.{◌≡◌, ℕ, suc, ◌+◌, ◌<◌, ◌≤◌, List, [], ◌∷◌, length, drop}
 use Rattle.std.specs.Prelude.{get_or, Result, Ok, Err, string_bytes}
 use Rattle.std.specs.declared.string.String.{String}
@@ -46,7 +46,7 @@ module _ {A : Type 0} (before last : Says A) where
       ap (λ h. then (say h s (string_bytes name)) (λ t. say_key before last t (next ∷ names)))
       (sym (is.0 (omega arith)))
 
-  -- The names from the i-th on are left to say, in a state that the places hold.
+  -- The names from the `i`-th on remain, in a state that the slots hold.
   abbrev pub LeftToSay : List (Slot A) → ℕ → List (String A) → ℕ → ℕ → List (Slot A) → Type 0
   LeftToSay old table names i j new =
       (tree : Tree A) (path : ℕ → Path) → Holds old tree path → (s : State A)
@@ -74,7 +74,6 @@ module _ {A : Type 0} (before last : Says A) where
       next_name s = ap (λ l. say_key before last s l) (drop_here names i name within is)
           ∙ one_name s name (drop (i + 1) names) here role_here
 
-      -- one of them is said, and more are left
       pub said_more : (k : ℕ) (new : List (Slot A))
           → ((tree : Tree A) (path : ℕ → Path) → Holds mid tree path
           → Told mid path (say here (tree, path j) (string_bytes name)) (Ok k) new)
@@ -89,7 +88,6 @@ module _ {A : Type 0} (before last : Says A) where
             goes_on goes next,
           )
 
-      -- or the key is refused
       pub said_refused : (stop : Stop) (new : List (Slot A))
           → ((tree : Tree A) (path : ℕ → Path) → Holds mid tree path
           → Told mid path (say here (tree, path j) (string_bytes name)) (Err stop) new)
@@ -102,7 +100,6 @@ module _ {A : Type 0} (before last : Says A) where
           ∙ ap (λ p. then (say here (s.0, p) (string_bytes name)) rest) (sym goes.at)
           ∙ ap (λ r. then r rest) (said s.0 goes.paths goes.holds)
 
-  -- where none is left, all are said
   pub all_said : (old : List (Slot A)) (table : ℕ) (names : List (String A)) (i j : ℕ)
       (new : List (Slot A)) → LeftToSay old table names i j new → length names ≤ i
       → (tree : Tree A) (path : ℕ → Path) → Holds old tree path

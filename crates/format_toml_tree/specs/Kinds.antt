@@ -1,4 +1,4 @@
--- What nodes tell of the kind of what there is: a table, or an array.
+-- The results of nodes for their kind: a table, or an array.
 use Rattle.std.specs.Prelude.{◌≡◌, ◌↔◌, ◌≤◌, ⊤, ℕ, Bool, true, false, IsTrue, length}
 use Rattle.std.specs.Prelude.{Option, Some, None, slice_get}
 use Rattle.std.specs.Borrow.{Bor}
@@ -37,13 +37,13 @@ module _ {A : Type 0} where
   IsArray dotted = ⊥
   IsArray (tables n) = ⊤
 
-  -- What is told is so of what there is.
+  -- `Tells so node b`: `b` is true if and only if `so` holds for the contents of `node`.
   abbrev pub Tells : (Given A → Type 0) → Node A → Bool → Type 0
   Tells so node b =
       (tree : Tree A) (path : ℕ → Path) (p : Path) → IsAt node tree path p
       → IsTrue b ↔ so (tree p)
 
-  -- The node itself where it is so of what there is, and else none.
+  -- The result is the node itself if `so` holds for its contents, and otherwise `None`.
   abbrev pub AnswersItself : (Given A → Type 0) → Node A → Option (Node A) → Type 0
   AnswersItself so node None =
       (tree : Tree A) (path : ℕ → Path) (p : Path) → IsAt node tree path p → so (tree p) → ⊥
@@ -56,7 +56,7 @@ module _ {A : Type 0} where
   IsSlot node None = length node.tree.now.slots.items ≤ node.place
   IsSlot node (Some slot) = slice_get node.tree.now.slots.items node.place ≡ Some slot.now
 
-  -- ---- what a place tells
+  -- ---- results for a slot
 
   module _ (so : Given A → Type 0) (node : Node A) (b : Bool) where
     pub tells_at : (slot : Bor (Slot A)) → IsSlot node (Some slot)

@@ -1,4 +1,4 @@
--- Lines are added to a tree, one after the other.
+-- Lines that are added to a tree, in sequence.
 use Rattle.std.specs.Prelude.{◌≡◌, ℕ, zero, suc, ◌+◌, ◌<◌, ◌≤◌, List, [], ◌∷◌, length, drop}
 use Rattle.std.specs.Prelude.{get_or, slice_get, Option, Some, None, Result, Ok, Err, IsErr}
 use Rattle.std.specs.Prelude.{IsErrAnd, true, false}

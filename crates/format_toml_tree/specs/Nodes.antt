@@ -1,4 +1,4 @@
--- What nodes tell of the tree that places hold.
+-- The results of nodes for the tree that slots hold.
 use Rattle.std.specs.Prelude.{◌≡◌, ℕ, ◌<◌, List, [], ◌∷◌, length, slice_get, Option, Some, None}
 use Rattle.std.specs.Prelude.{string_bytes}
 use Rattle.std.specs.declared.string.String.{String}
@@ -38,7 +38,7 @@ module _ {A : Type 0} where
       (tree : Tree A) (path : ℕ → Path) (p : Path) → IsAt node tree path p
       → IsAt found tree path (named name ∷ p) × (tree (named name ∷ p) ≡ nothing → ⊥)
 
-  -- The value that is there is answered, if there is one.
+  -- The result is the value of the node, if it has one.
   abbrev pub Answers : Node A → Option (Bor (Value A)) → Type 0
   Answers node None =
       (tree : Tree A) (path : ℕ → Path) (p : Path) → IsAt node tree path p
@@ -80,7 +80,7 @@ module _ {A : Type 0} where
         (sym (is.holds.there node.place slot there) ∙ ap tree is.at ∙ e) in
         other held kind
 
-  -- What is answered is in the value that is there, if that is of this kind.
+  -- The result is the contents of the node's value, if that is of this kind.
   abbrev pub AnswersAs : {X : Type 0} → (X → Value A) → Node A → Option X → Type 0
   AnswersAs {X} make node None =
       (tree : Tree A) (path : ℕ → Path) (p : Path) → IsAt node tree path p
@@ -105,7 +105,7 @@ module _ {A : Type 0} where
     as_other value told other tree path p is x e =
         other x (valued_same (sym (told tree path p is) ∙ e))
 
-  -- The text that is there is answered, if there is one.
+  -- The result is the text of the node, if it has one.
   abbrev pub AnswersText : Node A → Option (Bor (List ℕ)) → Type 0
   AnswersText node None = AnswersAs (λ t. values.Text t) node None
   AnswersText node (Some s) = (text : String A) × (s.now ≡ string_bytes text)

@@ -1,4 +1,5 @@
--- The lines of a document give one tree, or one of them is refused first, and not both.
+-- Proofs that the lines of a document give one tree, or that one of them is rejected first, and not
+-- both.
 use Rattle.std.specs.Prelude.{◌≡◌, ℕ, ◌+◌, List, ◌∷◌, Option, Some, Result, Ok, Err}
 use Rattle.std.specs.declared.vec.Vec.{Vec}
 use Rattle.std.proofs.Common.{refl, sym, ap, subst, inl, inr, ◌∙◌, arith}
@@ -137,7 +138,6 @@ module _ {A : Type 0} where
   runs_once s (items.Entry key value) (a, f, e) (b, g, h) =
       e ∙ ap (λ x. then x (λ tree. Ok (tree, s.1))) (entry_once f g) ∙ sym h
 
-  -- Some lines give one answer.
   pub gives_once : {s : State A} {k : ℕ} {lines : List (Option (Item A))}
       {r t : Result (Tree A) (ℕ × Refusal)} → Gives s k lines r → Gives s k lines t → r ≡ t
   gives_once runs.ended runs.ended = refl

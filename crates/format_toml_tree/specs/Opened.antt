@@ -1,4 +1,4 @@
--- What a statement does to a name, over places.
+-- The effect of a statement on a name, over slots.
 use Rattle.std.specs.Prelude.{◌≡◌, ℕ, zero, suc, ◌+◌, ◌<◌, List, ◌∷◌, length, set, slice_get}
 use Rattle.std.specs.Prelude.{Some, None, Result, Ok, Err, IfOk, IsErr, IsErrAnd, true, false}
 use Rattle.std.proofs.Common.{refl, sym, ap, subst, ◌∙◌, arith}

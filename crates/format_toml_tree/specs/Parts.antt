@@ -1,4 +1,4 @@
--- The parts of a value fill the tree below its place, one after the other.
+-- The parts of a value fill the tree below its slot, in sequence.
 use Rattle.std.specs.Prelude.{◌≡◌, ℕ, ◌+◌, ◌<◌, ◌≤◌, List, ◌∷◌, length, drop, get_or}
 use Rattle.std.specs.Prelude.{Some, Result, Ok, Err, IsErr, IsErrAnd, true, false, slice_get}
 use Rattle.std.specs.declared.vec.Vec.{Vec}
@@ -55,7 +55,7 @@ module _ {A : Type 0} where
       no : tables n ≡ valued v → ⊥
       no e = cc
 
-  -- The parts from one on are left to fill the tree, by a rule on the parts that are left.
+  -- The parts from the `k`-th on remain to fill the tree, by a rule on the remaining parts.
   abbrev pub LeftToFill : {X : Type 0} → (Tree A → Path → List X → Result (Tree A) Refusal → Type 0)
       → List (Slot A) → ℕ → List X → ℕ → List (Slot A) → Type 0
   LeftToFill By old place parts k new =

@@ -28,7 +28,7 @@ same_path [] (e ∷ q) = false
 same_path (e ∷ p) [] = false
 same_path (e ∷ p) (f ∷ q) = same_step e f && same_path p q
 
--- a tree that has something at one path, and else what it had
+-- `tree` with `n` at the path `q`
 abbrev pub put : {N : Type 0} → (Path → N) → Path → N → Path → N
 put tree q n p = cond (same_path q p) n (tree p)
 
@@ -120,7 +120,6 @@ module _ {N : Type 0} (tree : Path → N) (q : Path) (n : N) where
       at p true f = ap (λ c. cond c n (tree p)) f ∙ sym e ∙ ap tree (path_same q p f)
       at p false f = ap (λ c. cond c n (tree p)) f
 
-  -- a path is that one, or has what it had
   pub put_cases : (p : Path) → ((p ≡ q) × (put tree q n p ≡ n)) ⊎ (put tree q n p ≡ tree p)
   put_cases p = by (same_path q p) refl
     where

@@ -1,5 +1,5 @@
--- What a statement says of a name, and what there is then (TOML 1.0: Keys, Table, Inline Table,
--- Array of Tables).
+-- Statements about a name, and their effects (TOML 1.0: Keys, Table, Inline Table, Array of
+-- Tables).
 use Rattle.std.specs.Prelude.{ℕ, Result, Ok, Err}
 use Rattle.format_toml_tree.specs.declared.roles.Refusal.{Refusal}
 use Rattle.format_toml_tree.specs.declared.roles.Refusal.TheVariants.{Defined, NoTable, Closed}
@@ -8,7 +8,7 @@ use Rattle.format_toml_tree.specs.declared.value.Value.{Value, out-Value}
 use Rattle.format_toml_tree.specs.declared.value.Value.TheOpen as forms
 
 module _ (A : Type 0) where
-  -- What there is at a path of a tree.
+  -- The contents of a tree at a path.
   pub data Node : Type 0 where
     nothing : Node
     -- a value: what is below it are the parts of an array or an inline table
@@ -19,10 +19,10 @@ module _ (A : Type 0) where
     header : Node
     -- a table that dotted keys defined
     dotted : Node
-    -- an array of that many tables
+    -- an array of this number of tables
     tables : ℕ → Node
 
-  -- What a statement says of a name.
+  -- A statement about a name.
   pub data Says : Type 0 where
     -- a header has it before its last name
     passes : Says
@@ -37,14 +37,14 @@ module _ (A : Type 0) where
 
 module _ {A : Type 0} where
   -- An inline table is closed: "keys and sub-tables cannot be added outside the braces". Any other
-  -- value is no table.
+  -- value is not a table.
   abbrev pub no_table : Value A → Refusal
   no_table v = elim (out-Value A v) [
     | forms.Table entries ↦ Closed
     | _ ↦ NoTable
   ]
 
-  -- What there is then, or why the statement is refused.
+  -- The contents after the statement, or why it is rejected.
   abbrev pub ruled : Says A → Node A → Result (Node A) Refusal
   -- "You don't need to specify all the super-tables if you don't want to."
   ruled passes nothing = Ok super
@@ -62,12 +62,12 @@ module _ {A : Type 0} where
   ruled defines header = Err Defined
   -- "such tables cannot be redefined using a [table] header"
   ruled defines dotted = Err Defined
-  -- "attempting to redefine an array of tables as a normal table" is refused
+  -- "attempting to redefine an array of tables as a normal table" is rejected
   ruled defines (tables n) = Err Defined
   ruled defines (valued v) = Err Defined
   ruled adds nothing = Ok (tables 0)
   ruled adds (tables n) = Ok (tables n)
-  -- "attempting to append to a statically defined array", or to a table, is refused
+  -- "attempting to append to a statically defined array", or to a table, is rejected
   ruled adds super = Err NoTables
   ruled adds header = Err NoTables
   ruled adds dotted = Err NoTables

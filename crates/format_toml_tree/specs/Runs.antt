@@ -1,4 +1,4 @@
--- The tree that the statements of a document give, or the first that is refused (TOML 1.0).
+-- The tree that the statements of a document give, or the first that is rejected (TOML 1.0).
 use Rattle.std.specs.Prelude.{◌≡◌, ℕ, suc, ◌+◌, ◌<◌, List, [], ◌∷◌, Result, Ok, Err, Option, Some}
 use Rattle.std.specs.Prelude.{None}
 use Rattle.std.specs.Prelude.{string_bytes}
@@ -15,13 +15,13 @@ use Rattle.format_toml_tree.specs.declared.value.Item.TheVariants as items
 use Rattle.format_toml_tree.specs.declared.value.Value.{Value}
 use Rattle.format_toml_tree.specs.declared.value.Value.TheVariants as values
 
--- goes on where there was no refusal
+-- continues if there is no error
 abbrev pub then : {X Y E : Type 0} → Result X E → (X → Result Y E) → Result Y E
 then (Ok x) f = f x
 then (Err e) f = Err e
 
 module _ (A : Type 0) where
-  -- What there is at each path.
+  -- The contents of each path.
   abbrev pub Tree : Type 0
   Tree = Path → Node A
 
@@ -92,7 +92,7 @@ module _ {A : Type 0} where
       nowhere : {tree : Tree A} {q : Path} {v : Value A} → (HasValue tree q → ⊥)
           → Fills tree q v (Ok tree)
 
-    -- Values are put at the next places of an array, one after the other.
+    -- Values are added to the end of an array, in sequence.
     pub data FillsPlaces : Tree A → Path → List (Value A) → Result (Tree A) Refusal → Type 0 where
       no_more : {tree : Tree A} {q : Path} → FillsPlaces tree q [] (Ok tree)
       place : {tree next : Tree A} {q : Path} {v : Value A} {vs : List (Value A)}
@@ -104,7 +104,7 @@ module _ {A : Type 0} where
           → Fills (put tree (placed k ∷ q) (valued v)) (placed k ∷ q) v (Err why)
           → FillsPlaces tree q (v ∷ vs) (Err why)
 
-    -- Keys are given their values in the table of a path, one after the other.
+    -- Keys get their values in the table of a path, in sequence.
     pub data FillsNames : Tree A → Path → List (Key A × Value A) → Result (Tree A) Refusal → Type 0
       where
         no_more_names : {tree : Tree A} {q : Path} → FillsNames tree q [] (Ok tree)
@@ -126,15 +126,14 @@ module _ {A : Type 0} where
           (s : State A) → say_key dots (gives v) (tree, q) key.names.items ≡ Ok s
           → Fills s.0 s.1 v r → FillsEntry tree q key v r
 
-  -- A statement, from the tree and the table that it is in to those after it, or why it is
-  -- refused.
+  -- A statement, from the tree and the current table to those after it, or why it is rejected.
   abbrev pub Runs : State A → Item A → Result (State A) Refusal → Type 0
   Runs s (items.Table key) r = r ≡ say_key passes defines (s.0, []) key.names.items
   Runs s (items.Tables key) r = r ≡ say_key passes adds (s.0, []) key.names.items
   Runs s (items.Entry key value) r = (t : Result (Tree A) Refusal)
       × FillsEntry s.0 s.1 key value t × (r ≡ then t (λ tree. Ok (tree, s.1)))
 
-  -- The lines of a document, from the k-th on, give a tree, or one of them is refused first.
+  -- The lines of a document, from the `k`-th on, give a tree, or one of them is rejected first.
   pub data Gives : State A → ℕ → List (Option (Item A)) → Result (Tree A) (ℕ × Refusal) → Type 0
     where
       ended : {s : State A} {k : ℕ} → Gives s k [] (Ok s.0)

@@ -1,4 +1,4 @@
--- What functions find of times, offsets, and dates with times after them.
+-- The results of functions for times, offsets, and dates followed by times.
 use Rattle.std.specs.Prelude.{◌≡◌, ◌⊎◌, ◌≤◌, ◌<◌, ◌+◌, ◌*◌, ℕ, ℤ, suc, pos, neg_ℤ}
 use Rattle.std.specs.Prelude.{List, [], ◌∷◌, ◌++◌, length, take, drop, Option, Some, None}
 use Rattle.std.specs.Borrow.{Bor}
@@ -226,7 +226,6 @@ one_run (x ∷ xs) (y ∷ ys) a b all each not nor e =
     one_run xs ys a b (All-tail IsDigit x xs all) (All-tail IsDigit y ys each) not nor
     (same_others e)
 
--- of a fraction that an offset is after the same is left
 pub left_of : (text digits rest more other : List ℕ) (o : Option Offset)
     → SplitsFraction text digits rest → Fraction text more other → MaybeOffset o other
     → rest ≡ other
@@ -255,7 +254,6 @@ time_first text none clock digits o (a, b, x, y, z) = none clock a x
 
 module _ (text mid digits rest : List ℕ) (clock : ℕ × ℕ × ℕ) (x : Clock text clock mid)
     (y : SplitsFraction mid digits rest) where
-  -- what an offset is after the same time
   behind_time : (other : ℕ × ℕ × ℕ) (more : List ℕ) (o : Option Offset)
       → IsTimed other more o text → MaybeOffset o rest
   unfolding IsTimed

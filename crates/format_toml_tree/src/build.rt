@@ -23,18 +23,18 @@ use std::fmt::{Display, Formatter};
 ///
 /// let fault = Fault::Refused { line: 2, why: Refusal::NoTable };
 /// let said = format!(in alloc; "{fault}");
-/// let wanted = "line 3: it takes a value for a table";
+/// let wanted = "line 3: key is not a table";
 /// assert!(rt; matches!(said, Ok(said) if said.as_str() == wanted));
 /// ```
 #[derive(Debug, Clone, Copy, PartialEq, Eq, Drop)]
 pub enum Fault {
-    /// A request for memory was refused.
+    /// Memory allocation failed.
     OutOfMemory,
-    /// A line is refused.
+    /// A line is rejected.
     Refused {
         /// Its number, counted from 0.
         line: usize,
-        /// Why it is refused.
+        /// The reason for the rejection.
         why: Refusal,
     },
 }
@@ -71,10 +71,10 @@ fn fault_at(line: usize, stop: Stop) -> Fault
     }
 }
 
-/// The tree of some lines, or the first that is refused.
+/// Builds the tree of some lines, or returns the first that is rejected.
 ///
-/// It fails with the number of the line, counted from 0, and why it is refused; or where a request
-/// for memory was refused. The tree borrows names and values from the lines. Time is by the number
+/// The error has the number of the line, counted from 0, and why it is rejected; or memory
+/// allocation failed. The tree borrows names and values from the lines. The time is by the number
 /// of all names, and for each by the logarithm of the number of entries of its table.
 ///
 /// ```

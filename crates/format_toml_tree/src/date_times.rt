@@ -41,7 +41,7 @@ fn time_of<A: Allocator>(
     })
 }
 
-/// A date with what stands after it: nothing, or a delimiter and a time.
+/// Parses the rest of a date: nothing, or a delimiter and a time.
 fn behind_date<A: Allocator>(
     alloc: A,
     date: Date,
@@ -82,14 +82,14 @@ fn time_alone<A: Allocator>(alloc: A, text: &[u8]) -> Result<Option<DateTime<A>>
     }
 }
 
-/// The date, the time, or both that a text is, as its parts; nothing where it is none of them.
+/// Returns the parts of a date, a time, or both; `None` if the text is none of them.
 ///
-/// It is one by the grammar of TOML 1.0, which is that of RFC 3339 (section 5.6) with a time or an
-/// offset left out, and with a space for the letter `T`. A month has the days that it has in its
-/// year. A second of 60 is read at each minute: which minutes have one is announced half a year
-/// before, so no grammar tells it. An offset of `-00:00` is that of `+00:00`.
+/// The grammar is that of TOML 1.0, which is that of RFC 3339 (section 5.6) with an optional time
+/// or offset, and with a space for the letter `T`. A month has the days that it has in its year. A
+/// second of 60 is accepted in each minute: leap seconds are announced half a year before, so no
+/// grammar can specify them. An offset of `-00:00` is that of `+00:00`.
 ///
-/// An error is for a request for memory that was refused, for the digits of a fraction.
+/// Fails with out of memory if the digits of a fraction cannot be allocated.
 ///
 /// ```
 /// use format_toml_tree::date_times::date_time;

@@ -16,7 +16,7 @@ fn digit(byte: u8) -> Option<u8>
     None
 }
 
-/// The number of the two digits that stand first, and what stands after them.
+/// Parses two digits, and returns their number and the remaining text.
 pub(crate) fn two_digits(text: &[u8]) -> Option<(u8, &[u8])>
     ensures { Finds TwoDigits text.now result }
 {
@@ -27,7 +27,7 @@ pub(crate) fn two_digits(text: &[u8]) -> Option<(u8, &[u8])>
     Some((tens * 10 + ones, rest))
 }
 
-/// The number of the two digits after a mark that stands first, and what stands after them.
+/// Parses a mark and two digits, and returns their number and the remaining text.
 pub(crate) fn marked(mark: u8, text: &[u8]) -> Option<(u8, &[u8])>
     ensures { Finds (Marked mark) text.now result }
 {
@@ -38,7 +38,7 @@ pub(crate) fn marked(mark: u8, text: &[u8]) -> Option<(u8, &[u8])>
     two_digits(rest)
 }
 
-/// The number of the four digits that stand first, and what stands after them.
+/// Parses four digits, and returns their number and the remaining text.
 fn four_digits(text: &[u8]) -> Option<(u16, &[u8])>
     ensures { Finds FourDigits text.now result }
 {
@@ -77,7 +77,7 @@ fn days_in(year: u16, month: u8) -> u8
     0
 }
 
-/// The date that stands first, and what stands after it.
+/// Parses a date, and returns it and the remaining text.
 pub(crate) fn date(text: &[u8]) -> Option<(Date, &[u8])>
     ensures { Finds FullDate text.now result }
 {

@@ -1,22 +1,23 @@
-//! The tree of a document of TOML 1.0 (toml.io/en/v1.0.0), from what its lines say.
+//! The tree of a TOML 1.0 document (toml.io/en/v1.0.0), from the statements of its lines.
 //!
-//! A document's lines are given as `&[Option<Item<A>>]`, with nothing for a blank one. Their text
-//! is read elsewhere. `build` answers their tree, or the first line that the standard refuses. The
-//! definition stands in `specs/Rules.antt`, a table of what a statement may say of what there is,
-//! in the words of the standard, and `specs/Runs.antt`, the statements in turn over a tree of
+//! The lines of a document are given as `&[Option<Item<A>>]`, with `None` for a blank one. Their
+//! text is parsed elsewhere. `build` returns their tree, or the first line that the standard
+//! rejects. The definition is in `specs/Rules.antt`, a table of the effects of statements in the
+//! words of the standard, and in `specs/Runs.antt`, the statements in sequence over a tree of
 //! paths.
 //!
-//! - `build` is proved to answer a tree exactly where the definition gives one, if there is memory,
-//!   and one that holds what that has at each path; else it names the first line that the
-//!   definition refuses, and why. `Tree::root`, `Node::get` and `Node::value` are proved to find
-//!   what the tree has at a path, and so are `as_str`, `as_i64`, `as_bool`, `as_float` and
-//!   `as_date_time`; `is_table`, `is_array`, `as_table` and `as_array` tell what that is.
-//! - `date_time` is proved to answer the parts of the date, the time or both that bytes are, and
-//!   nothing exactly where they are none, by `specs/Dates.antt`, if there is memory.
-//! - Tested alone, and proved to be safe, is the rest of `Node`: `at`, `len` and `name`, so the
-//!   order of entries, and `get_path`.
+//! - `build` is proved to return a tree if and only if the definition gives one, unless an
+//!   allocation fails. The tree has the same contents at each path. Otherwise `build` returns the
+//!   first line that the definition rejects, and why. `Tree::root`, `Node::get` and `Node::value`
+//!   are proved to find the contents of the tree at a path, and so are `as_str`, `as_i64`,
+//!   `as_bool`, `as_float` and `as_date_time`. `is_table`, `is_array`, `as_table` and `as_array`
+//!   are proved to return its kind.
+//! - `date_time` is proved to return the parts of a date, a time or both by `specs/Dates.antt`, and
+//!   `None` if and only if the bytes are none of these, unless an allocation fails.
+//! - The rest of `Node` is only tested, and proved to be safe: `at`, `len` and `name`, so the order
+//!   of entries, and `get_path`.
 //!
-//! Where the standard leaves something open, or speaks of examples alone:
+//! Choices where the standard leaves room, or gives only examples:
 //!
 //! - A dotted key may add to a table that headers passed through, and that no header defines, as
 //!   `[a.b.c]`, then `[a]` and `b.d = 1`. Then no header may define it. Python's `tomllib` does so

@@ -1,4 +1,4 @@
-//! What there is in the tree of a document.
+//! Nodes of the tree of a document.
 ghost use Rattle.format_toml_tree.specs.Nodes.{Answers, AnswersAs, AnswersText, Finds, IsTop};
 ghost use Rattle.format_toml_tree.specs.declared.value.DateTime.{DateTime as DateTimeOf};
 ghost use Rattle.format_toml_tree.specs.declared.value.Float.{Float as FloatOf};
@@ -12,7 +12,7 @@ use crate::tree::{Kind, Slot, Tree};
 use crate::value::{DateTime, Float, Value};
 use std::alloc::Allocator;
 
-/// What there is at a path of a document: a table, an array, or another value.
+/// A node at a path of a document: a table, an array, or another value.
 #[derive(Clone, Copy)]
 pub struct Node<'d, 't, A: Allocator> {
     tree: &'d Tree<'t, A>,
@@ -54,15 +54,15 @@ impl<'t, A: Allocator + Copy> Tree<'t, A> {
 }
 
 impl<'d, 't, A: Allocator + Copy> Node<'d, 't, A> {
-    /// What there is at this path.
+    /// Returns the slot at this path.
     fn slot(&self) -> Option<&'d Slot<'t, A>>
         ensures { IsSlot self.now result }
     {
         self.tree.slots.as_slice().get(self.place)
     }
 
-    /// The entry of a table that has this name, if it has one. It takes time by the logarithm of
-    /// the number of entries. What is no table has none.
+    /// Returns the entry of a table with this name, if it has one. The time is by the logarithm of
+    /// the number of entries. Returns `None` if the node is not a table.
     pub fn get(&self, name: &str) -> Option<Node<'d, 't, A>>
         ensures { Finds self.now name.now result }
     {
@@ -76,7 +76,7 @@ impl<'d, 't, A: Allocator + Copy> Node<'d, 't, A> {
         }
     }
 
-    /// What there is along a path: an entry of this table, an entry of that, and so on.
+    /// Returns the node along a path: an entry of this table, an entry of that, and so on.
     pub fn get_path(&self, names: &[&str]) -> Option<Node<'d, 't, A>> {
         let mut node = *self;
         for name in names {
@@ -85,7 +85,7 @@ impl<'d, 't, A: Allocator + Copy> Node<'d, 't, A> {
         Some(node)
     }
 
-    /// How many entries a table has, or elements an array. Another value has none.
+    /// Returns the number of entries of a table, or of elements of an array. Another value has 0.
     pub fn len(&self) -> usize {
         match self.slot() {
             None => 0,

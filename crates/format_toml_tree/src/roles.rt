@@ -1,4 +1,4 @@
-//! What a line says of a name, and what there is then.
+//! Statements about a name, and their effects.
 ghost use Rattle.std.specs.Prelude.{◌≡◌, ℕ, Ok, Err};
 ghost use Rattle.format_toml_tree.specs.Rules.{no_table, nothing, ruled};
 ghost use Rattle.format_toml_tree.specs.Holds.{node_of, nodes_of, says_of};
@@ -10,40 +10,40 @@ use std::error::Error;
 use std::fmt;
 use std::fmt::{Display, Formatter};
 
-/// Why a line is refused.
+/// The reason why a line is rejected.
 ///
 /// ```
 /// use format_toml_tree::roles::Refusal;
 ///
 /// let said = format!(in alloc; "{}", Refusal::Defined);
-/// assert!(rt; matches!(said, Ok(said) if said.as_str() == "it is defined already"));
+/// assert!(rt; matches!(said, Ok(said) if said.as_str() == "key is already defined"));
 /// ```
 #[derive(Debug, Clone, Copy, PartialEq, Eq, Drop)]
 pub enum Refusal {
-    /// What it defines is defined already.
+    /// It defines a key that is defined already.
     Defined,
     /// It takes a value for a table.
     NoTable,
     /// It adds to a table that is closed: an inline table, or by dotted keys one of a header.
     Closed,
-    /// It adds a table to what is no array of tables.
+    /// It adds a table to a value that is not an array of tables.
     NoTables,
 }
 
 impl Display for Refusal {
     fn fmt<W: fmt::Write>(&self, f: &mut Formatter<W>) -> fmt::Result {
         f.write_str(match *self {
-            Refusal::Defined => "it is defined already",
-            Refusal::NoTable => "it takes a value for a table",
-            Refusal::Closed => "it adds to a table that is closed",
-            Refusal::NoTables => "it adds a table to what is no array of tables",
+            Refusal::Defined => "key is already defined",
+            Refusal::NoTable => "key is not a table",
+            Refusal::Closed => "table cannot be extended",
+            Refusal::NoTables => "key is not an array of tables",
         })
     }
 }
 
 impl Error for Refusal {}
 
-/// What a line says of a name.
+/// The statement of a line about a name.
 #[derive(Clone, Copy)]
 pub enum Role<'t, A: Allocator> {
     /// A header passes through it.
@@ -58,7 +58,7 @@ pub enum Role<'t, A: Allocator> {
     Value(&'t Value<A>),
 }
 
-/// Why a value is no table that a line can add to.
+/// Returns why a value is not a table that a line can add to.
 fn closed<A: Allocator>(value: &Value<A>) -> Refusal
     ensures { result ≡ no_table value.now }
 {
@@ -68,7 +68,7 @@ fn closed<A: Allocator>(value: &Value<A>) -> Refusal
     }
 }
 
-/// What there is where there was nothing, and a line says this of it.
+/// Returns the kind that a new slot has after this statement of a line.
 pub fn first<'t, A: Allocator>(role: Role<'t, A>) -> Kind<'t, A>
     ensures { ruled (says_of role.entry) nothing ≡ Ok (node_of result 0) }
 {
@@ -81,7 +81,8 @@ pub fn first<'t, A: Allocator>(role: Role<'t, A>) -> Kind<'t, A>
     }
 }
 
-/// What there is where there was something, and a line says this of it.
+/// Returns the kind that an existing slot has after this statement of a line, or why the line is
+/// rejected.
 pub fn next<'t, A: Allocator>(kind: &Kind<'t, A>, role: Role<'t, A>) -> Result<Kind<'t, A>, Refusal>
     ensures { (n : ℕ) → ruled (says_of role.entry) (node_of kind.now n) ≡ nodes_of result n }
 {

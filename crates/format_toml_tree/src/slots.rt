@@ -1,4 +1,4 @@
-//! The places of a tree, one after the other.
+//! The slots of a tree, in sequence.
 ghost use Rattle.std.specs.Prelude.{◌≡◌};
 
 use crate::tree::{Kind, Slot, Tree};
@@ -24,7 +24,7 @@ impl<'t, A: Allocator + Copy> Tree<'t, A> {
 }
 
 impl<'t, A: Allocator + Copy> Slot<'t, A> {
-    /// What there is.
+    /// The value of a node.
     pub fn kind(&self) -> Kind<'t, A>
         ensures { result ≡ self.now.kind }
     {

@@ -8,7 +8,7 @@ ghost use Rattle.format_toml_tree.specs.Dates.{HourAndMinute, MaybeOffset, Split
 use crate::dates::{marked, two_digits};
 use crate::value::Offset;
 
-/// How many digits stand first.
+/// Returns the number of digits at the start.
 fn count_digits(text: &[u8]) -> usize
     ensures { CountsDigits text.now result }
 {
@@ -20,7 +20,7 @@ fn count_digits(text: &[u8]) -> usize
     text.len()
 }
 
-/// The digits of the fraction that stands first, or none, and what stands after it.
+/// Returns the digits of a fraction at the start, possibly none, and the remaining text.
 fn fraction(text: &[u8]) -> (&[u8], &[u8])
     ensures { SplitsFraction text.now result.0.now result.1.now }
 {
@@ -37,7 +37,7 @@ fn fraction(text: &[u8]) -> (&[u8], &[u8])
     behind.split_at(count)
 }
 
-/// The hour, the minute and the second that stand first, and what stands after them.
+/// Parses an hour, a minute and a second, and returns them and the remaining text.
 fn clock(text: &[u8]) -> Option<((u8, u8, u8), &[u8])>
     ensures { Finds Clock text.now result }
 {
@@ -50,7 +50,7 @@ fn clock(text: &[u8]) -> Option<((u8, u8, u8), &[u8])>
     Some(((hour, minute, second), rest))
 }
 
-/// The hour and the minute that stand first, and what stands after them.
+/// Parses an hour and a minute, and returns them and the remaining text.
 fn hour_and_minute(text: &[u8]) -> Option<((u8, u8), &[u8])>
     ensures { Finds HourAndMinute text.now result }
 {

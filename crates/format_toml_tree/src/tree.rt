@@ -12,7 +12,7 @@ use crate::value::{Item, Key, Value};
 use std::alloc::{AllocError, AllocFailed, Allocator};
 use std::collections::BTreeMap;
 
-/// What there is at a place of a tree.
+/// The contents of a slot of a tree.
 #[derive(Clone, Copy)]
 pub enum Kind<'t, A: Allocator> {
     /// A value. The places below it are those of its parts, where it has some.
@@ -27,10 +27,10 @@ pub enum Kind<'t, A: Allocator> {
     Tables,
 }
 
-/// What there is at a place of a tree, and the places below it.
+/// A slot of a tree: its contents, and the slots below it.
 #[derive(Drop)]
 pub struct Slot<'t, A: Allocator> {
-    /// What there is.
+    /// The value of a node.
     pub(crate) kind: Kind<'t, A>,
     /// Its name in the table that it is in; nothing where it is in an array.
     pub(crate) name: &'t str,
@@ -52,9 +52,9 @@ pub struct Tree<'t, A: Allocator> {
 /// Why a line adds nothing more.
 #[derive(Debug, Clone, Copy, PartialEq)]
 pub enum Stop {
-    /// A request for memory was refused.
+    /// Memory allocation failed.
     OutOfMemory,
-    /// The line is refused.
+    /// The line is rejected.
     Refused(Refusal),
 }
 
@@ -132,7 +132,8 @@ impl<'t, A: Allocator + Copy> Tree<'t, A> {
         Ok(place)
     }
 
-    /// Where lines go on that pass through a place: in the last table of an array of tables.
+    /// Returns the slot in which lines that pass through `place` continue: of an array of tables,
+    /// the last table.
     fn inside(&self, place: usize) -> usize
         requires { place < length self.now.slots.items }
         ensures { (s : Slot A) → slice_get self.now.slots.items place ≡ Some s
@@ -173,7 +174,8 @@ impl<'t, A: Allocator + Copy> Tree<'t, A> {
         }
     }
 
-    /// Where lines go on that say something of a place: in the table that it adds, or inside.
+    /// Returns the slot in which lines with a statement about `place` continue: the table that it
+    /// adds, or the one inside.
     fn open(&mut self, alloc: A, place: usize, role: Role<'t, A>) -> Result<usize, AllocError>
         requires { place < length self.old.slots.items }
         ensures { IfOk result (λ j. Opens self.old.slots.items place (says_of role.entry) j
@@ -188,7 +190,7 @@ impl<'t, A: Allocator + Copy> Tree<'t, A> {
         }
     }
 
-    /// Says something of a name in a table, and answers where lines go on.
+    /// Applies a statement to a name in a table, and returns the slot in which lines continue.
     fn say(
         &mut self,
         alloc: A,

@@ -1,4 +1,4 @@
-//! What the lines of a document say.
+//! The statements of the lines of a document.
 
 use std::alloc::Allocator;
 
@@ -56,9 +56,9 @@ pub enum DateTime<A: Allocator> {
     Offset(Date, Time<A>, Offset),
     /// A date and a time with no offset.
     Local(Date, Time<A>),
-    /// A date alone.
+    /// A date without a time.
     Date(Date),
-    /// A time alone.
+    /// A time without a date.
     Time(Time<A>),
 }
 
@@ -81,7 +81,7 @@ pub enum Value<A: Allocator> {
     Table(Vec<(Key<A>, Value<A>), A>),
 }
 
-/// What a line says that is not blank: `[key]`, `[[key]]`, `key = value`.
+/// The statement of a line that is not blank: `[key]`, `[[key]]`, `key = value`.
 #[derive(Debug, Drop, PartialEq)]
 pub enum Item<A: Allocator> {
     /// A table, whose entries the next lines say.

@@ -24,14 +24,14 @@ Spelled xs output o tokens = (o ≡ output) × (tokens ≡ xs)
 abbrev pub Itself : {T : Type 0} → T → Text T T
 Itself t = Spelled (t ∷ []) t
 
--- What a literal is spelled by, for what is made of it and of a slice that shows it.
+-- The spellings of a literal; the output is computed from the literal and a slice of the spelling.
 unfoldable pub LiterallyText : {S T L O : Type 0} → Reading T L → (S → List T → Type 0)
     → (S → L → O) → S
     → Text T O
 LiterallyText {L = L} reading spelled output literal o tokens =
     (slice : L) × spelled literal tokens × reading.shows slice tokens × (o ≡ output literal slice)
 
--- One token of these, for what is seen so.
+-- One token `k` of the set `these`, as `seen` maps it.
 unfoldable pub TokenOfText : {K T : Type 0} → (K → T) → (K → Type 0) → Text T K
 TokenOfText seen these k tokens = these k × (tokens ≡ seen k ∷ [])
 
@@ -55,13 +55,13 @@ NoTokensText reading slice tokens = (tokens ≡ []) × reading.shows slice []
 
 -- ---- texts made of texts
 
--- A text of one, and one of another after it.
+-- An encoding of `o1` by `first`, followed by an encoding of `o2` by `second`.
 unfoldable pub BothText : {T O1 O2 O : Type 0} → (O1 → O2 → O) → Text T O1 → Text T O2 → Text T O
 BothText {T} {O1} {O2} output first second o tokens =
     (o1 : O1) × (o2 : O2) × (xs : List T) × (ys : List T) × first o1 xs × second o2 ys
     × (tokens ≡ xs ++ ys) × (o ≡ output o1 o2)
 
--- A text of one or of the other.
+-- An encoding by `first` or by `second`.
 unfoldable pub EitherText : {T O : Type 0} → Text T O → Text T O → Text T O
 EitherText first second o tokens = first o tokens ⊎ second o tokens
 
@@ -70,20 +70,20 @@ unfoldable pub OptionalText : {T O : Type 0} → Text T O → Text T (Option O)
 OptionalText text None tokens = tokens ≡ []
 OptionalText text (Some o) tokens = text o tokens
 
--- Texts of these values, one after the other.
+-- Consecutive encodings of these values.
 unfoldable pub EachText : {T O : Type 0} → Text T O → Text T (List O)
 EachText text [] tokens = tokens ≡ []
 EachText {T} text (o ∷ os) tokens =
     (xs : List T) × (ys : List T) × text o xs × EachText text os ys × (tokens ≡ xs ++ ys)
 
--- Texts of these values, with a text of the separator between each two of them.
+-- Encodings of these values, with encodings of the separator between them.
 unfoldable pub PartedText : {T O D : Type 0} → Text T D → Text T O → Text T (List O)
 PartedText separator text [] tokens = tokens ≡ []
 PartedText {T} separator text (o ∷ os) tokens =
     (xs : List T) × (ys : List T) × text o xs × EachText (BothText (λ d o. o) separator text) os ys
     × (tokens ≡ xs ++ ys)
 
--- A text of that many values or more.
+-- An encoding of at least `n` values.
 abbrev pub AtLeast : {T O : Type 0} → ℕ → Text T (List O) → Text T (List O)
 AtLeast zero text os tokens = text os tokens
 AtLeast (suc n) text os tokens = text os tokens × (suc n ≤ length os)
@@ -92,23 +92,23 @@ AtLeast (suc n) text os tokens = text os tokens × (suc n ≤ length os)
 unfoldable pub InList : {T O A : Type 0} → Text T (List O) → Text T (Vec O A)
 InList text list tokens = text list.items tokens
 
--- A text of values, for what holds them.
+-- An encoding of the values that the accumulator stores.
 unfoldable pub GatheredText : {T O C : Type 0} → (C → List O → Type 0) → Text T (List O) → Text T C
 GatheredText {O = O} holds text all tokens = (os : List O) × holds all os × text os tokens
 
--- A text of a value, for what is made of it, by some part.
+-- An encoding of a value that `makes` turns into `u`, for `part` of the parser.
 unfoldable pub MadeText : {F T O U : Type 0} → (F → O → U → Type 0) → F → Text T O → Text T U
 MadeText {O = O} makes part text u tokens = (o : O) × text o tokens × makes part o u
 
--- A text of some value, for a slice that shows it.
+-- An encoding of some value, which the slice shows.
 unfoldable pub TakenText : {T L O : Type 0} → Reading T L → Text T O → Text T L
 TakenText {O = O} reading text slice tokens = (o : O) × text o tokens × reading.shows slice tokens
 
--- A text of a value, for the value and a slice that shows the text.
+-- An encoding of a value; the output is the value and a slice that shows the encoding.
 unfoldable pub AndTakenText : {T L O : Type 0} → Reading T L → Text T O → Text T (O × L)
 AndTakenText reading text both tokens = text both.0 tokens × reading.shows both.1 tokens
 
--- ---- what may stand after a text, and at the beginning of one
+-- ---- what may follow an encoding, and what may start one
 
 -- Any tokens.
 abbrev pub Anything : {T : Type 0} → List T → Type 0
@@ -144,7 +144,7 @@ BeginsIn these text = InFront text Anything (Begins these)
 abbrev pub MayBeginIn : {T O : Type 0} → (T → Type 0) → Text T O → Type 0
 MayBeginIn these text = InFront text (MayBegin these) (MayBegin these)
 
--- What is told of tokens, in two sets: those that are members, and those that are none.
+-- `member` decides a set of tokens: its members are `inside`, and all other tokens are `outside`.
 pub record Divides {T : Type 0} (member : T → Bool → Type 0) (inside outside : T → Type 0)
     : Type 0 where
   pub has : (t : T) → member t true ↔ inside t
@@ -152,7 +152,8 @@ pub record Divides {T : Type 0} (member : T → Bool → Type 0) (inside outside
 
 -- ---- grammars of texts
 
--- What stands by the grammar is a text; and a text stands where what is after it may follow it.
+-- Every match of the grammar is an encoding. Every encoding matches if `follow` accepts the tokens
+-- after it.
 pub record IsGrammarOf {T O : Type 0} (grammar : Grammar T O) (text : Text T O)
     (follow : List T → Type 0) : Type 0 where
   pub there : (tokens : List T) (o : O) (rest : List T) → grammar tokens o rest

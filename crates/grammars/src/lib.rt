@@ -1,6 +1,6 @@
-//! Grammars over tokens, and texts that stand for values: the words, and what holds of them.
+//! Grammars over tokens, and encodings of values: definitions and lemmas.
 //!
-//! A grammar says which output stands first in some tokens, and what is left after it; a text says
-//! which tokens are written for a value. Both are definitions and lemmas of `specs/`, with no
-//! parser in them and no code.
+//! A grammar relates tokens to an output whose match they start with, and to the rest. An encoding
+//! relates a value to its tokens. All of them are definitions and lemmas of `specs/`; the crate has
+//! no parser and no code.
 #![tactic(auto)]

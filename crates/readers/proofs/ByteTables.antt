@@ -1,4 +1,4 @@
--- What takes by a table of bytes say of the bytes.
+-- Lemmas about takes by a table of bytes.
 use Rattle.std.proofs.Common.{◌≡◌, ◌≢◌, ◌<◌, ◌∙◌, ℕ, Bool, true, false, List, [], ◌∷◌, ◌++◌}
 use Rattle.std.proofs.Common.{Option, None, refl, sym, ap, subst, inl, inr}
 use Rattle.std.specs.List.{All}
@@ -22,11 +22,10 @@ use Rattle.readers.proofs.PartRuns.{took_front}
 abbrev pub AreBytes : List ℕ → Type 0
 AreBytes bytes = All (λ b. b < 256) bytes
 
--- what a table answers, as a set of tokens that are seen as they are
+-- membership in a table, as a set of tokens that are seen as they are
 abbrev pub AskedOf : {S : Type 0} → (S → ℕ → Bool) → S → ℕ → Bool → Type 0
 AskedOf has set = AnswersSeen (λ t. t) (λ t answer. answer ≡ has set t)
 
--- a member is of P, and what is none is not
 pub told_yes : (P : ℕ → Type 0) (b : ℕ) → TellsByte P b true → P b
 told_yes P b told = told.1.0 refl
 
@@ -37,7 +36,6 @@ pub told_same : (x b : ℕ) → TellsByte (λ y. y ≢ x) b false → b ≡ x
 told_same x b told =
     elim (cases_eq b x) [ inl e ↦ e | inr other ↦ absurd (told_no (λ y. y ≢ x) b told other) ]
 
--- a table with the bytes of P tells of a byte whether it is of P
 table_tells : {S : Type 0} (has : S → ℕ → Bool) (P : ℕ → Type 0) (set made : S) → set ≡ made
     → HasExactly P (has made) → (b : ℕ) (answer : Bool) → b < 256 → AskedOf has set b answer
     → TellsByte P b answer
@@ -47,7 +45,6 @@ table_tells has P set made same exact b answer below (t, seen, is) =
     is ∙ ap (λ x. has set x) seen ∙ ap (λ s. has s b) same in
     (below, subst Q (sym told) (exact b below))
 
--- what stands after bytes in bytes
 behind_front : (front rest : List ℕ) → AreBytes (front ++ rest) → AreBytes rest
 behind_front [] rest bytes = bytes
 behind_front (x ∷ xs) rest bytes =
@@ -65,7 +62,6 @@ pub behind_token : (x : ℕ) (i j : Input ℕ) → TokenTaken x i j → AreBytes
 behind_token x i j taken bytes =
     All-rest (λ b. b < 256) x j.left.tokens i.left.tokens taken.splits bytes
 
--- what is told of bytes, of those that stand first
 all_told : (P Q : ℕ → Type 0) → ((b : ℕ) → b < 256 → P b → Q b) → (xs rest : List ℕ)
     → AreBytes (xs ++ rest) → All P xs → All Q xs
 all_told P Q is [] rest bytes all = All-nil Q
@@ -77,7 +73,6 @@ first_byte : (rest : List ℕ) → AreBytes rest → (x : ℕ) (more : List ℕ)
 first_byte rest bytes x more e =
     All-head (λ b. b < 256) x more (All-same (λ b. b < 256) (x ∷ more) rest (sym e) bytes)
 
--- the longest beginning, by what is told of bytes
 longest_told : (M N : ℕ → Bool → Type 0)
     → ((b : ℕ) (answer : Bool) → b < 256 → M b answer → N b answer)
     → (greatest : Option ℕ) (tokens front rest : List ℕ) → AreBytes tokens
@@ -104,7 +99,6 @@ ended_told M N is greatest front rest bytes (inl (x, more, e, stranger)) =
     inl (x, more, e, is x false (first_byte rest bytes x more e) stranger)
 ended_told M N is greatest front rest bytes (inr full) = inr full
 
--- a take by a table, as one by what is told of bytes
 pub took_bytes : {S : Type 0} (has : S → ℕ → Bool) (P : ℕ → Type 0) (set made : S) (least : ℕ)
     (greatest : Option ℕ) (i : Input ℕ) (taken : List ℕ) (j : Input ℕ) → set ≡ made
     → HasExactly P (has made) → AreBytes i.left.tokens

@@ -1,4 +1,4 @@
--- What readers and writers do to the bytes that they tell.
+-- The effect of readers and writers on their known bytes.
 use Rattle.std.proofs.Common.{◌≡◌, ℕ, ◌-◌, List, [], ◌++◌, length, take, drop, sym, ap, ◌∙◌}
 use Rattle.std.proofs.Common.{append_assoc, take-append-drop, arith}
 use Rattle.std.proofs.lemmas.List.{take_rest}

@@ -113,7 +113,6 @@ OfOneKind (pair a) (comment b) = ⊥
 OfOneKind (pair a) (section b) = ⊥
 OfOneKind (pair a) (pair b) = Unit {0}
 
--- the first byte says which kind a part is of
 by_first : (p q : Part) (b : ℕ) → FirstOf p b → FirstOf q b → OfOneKind p q
 by_first (white x) (white y) b h k = tt
 by_first (white x) (comment y) b h k = omega (arith, h, k)
@@ -142,13 +141,11 @@ one_kind p q input bp bq hp hq =
 
 -- ---- how long a part is
 
--- where a line ends, no byte stands first but a line feed
 pub ends_first : (P : ℕ → Type 0) (behind : List ℕ) → (P 10 → ⊥) → EndsLine behind
     → NotFirst P behind
 ends_first P [] never ends = tt
 ends_first P (b ∷ more) never ends = λ h. never (subst P ends h)
 
--- after the value stands `;`, a line feed or nothing
 pub line_tail : (P : ℕ → Type 0) (remark behind : List ℕ) → (P 59 → ⊥) → (P 10 → ⊥)
     → IsRemark remark → EndsLine behind → NotFirst P (remark ++ behind)
 line_tail P remark behind no59 no10 (inl none) ends =
@@ -170,7 +167,6 @@ pub blank_no_key : (b : ℕ) → IsBlank b → IsKeyByte b → ⊥
 blank_no_key b (inl e) k = let high = (key_high b k).0 in omega (arith, e, high)
 blank_no_key b (inr e) k = let high = (key_high b k).0 in omega (arith, e, high)
 
--- what may stand after a value may stand in it
 pub trailing_in_value : (b : ℕ) → IsTrailing b → IsValueByte b
 trailing_in_value b (inl (inl e)) = (λ f. omega (arith, e, f), λ f. omega (arith, e, f))
 trailing_in_value b (inl (inr e)) = (λ f. omega (arith, e, f), λ f. omega (arith, e, f))
@@ -200,7 +196,6 @@ pair_flat p behind =
     (ap (λ l. l ++ behind) (sym (append_assoc p.value p.trail p.remark))
     ∙ append_assoc (p.value ++ p.trail) p.remark behind)))
 
--- where a line ends no comment begins
 no_remark : (bp bq text : List ℕ) → EndsLine bp → bp ≡ 59 ∷ (text ++ bq) → ⊥
 no_remark [] bq text ends e = not_none (sym e)
 no_remark (b ∷ bs) bq text ends e = omega (arith, ends, same_first e)

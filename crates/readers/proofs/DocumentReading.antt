@@ -1,4 +1,4 @@
--- What sections one after another say, and a document.
+-- Lemmas about consecutive sections, and about a document.
 use Rattle.std.proofs.Common.{◌≡◌, ◌≤◌, ◌+◌, ◌∙◌, ◌⊎◌, ℕ, List, [], ◌∷◌, ◌++◌, length, Bool, true}
 use Rattle.std.proofs.Common.{false, Some, None, Ok, Err, refl, sym, ap, subst, arith, inl, inr}
 use Rattle.std.specs.Prelude.{map}
@@ -86,8 +86,6 @@ section_told told i o j
 section_told told i o j (ends, inr (inl (none, is))) = ok_is_err refl is
 section_told told i o j (ends, inr (inr (some, is))) = ok_is_err refl is
 
--- where a section fails by backtracking there is none; it fails otherwise for want of memory, and
--- there is one
 section_fails : {X : Type 0} (told : X → SectionText) (i : Input ℕ) (k : Kind) (j : Input ℕ)
     → SectionRuns told i (Err k) j
     → (NoSectionBegins i.left.tokens × (k ≡ backtrack))
@@ -132,7 +130,6 @@ sections_read told run reads (o ∷ os) s i u m (q, item, rest) =
       λ some. no_pair_behind parts q.1.left.tokens m.left.tokens no_pair with last_pair,
     )
 
--- sections, and one after them: one stands first
 first_section : (ps : List Part) (a b : List ℕ) → BeginsWith ps a b → BeginsAtSection ps
     → SectionBegins b → SectionBegins a
 first_section [] a b e at some =
@@ -299,7 +296,6 @@ longest_of_all (p ∷ ps) (q ∷ qs) input rest left (bp, hp, more) (bq, hq, mor
     longest_of_all ps qs bp rest left more
     (subst P (sym (only_part p q input bp bq hp hq).1) more') none
 
--- The same of parts as they stand in a document.
 pub longest_document : (ps qs : List Part) (input rest left : List ℕ) → BeginsWith ps input rest
     → BeginsWith qs input left → NoPairBeforeSections qs
     → ((part : Part) (behind : List ℕ) → Begins part rest behind
@@ -342,7 +338,6 @@ longest_document (p ∷ ps) (q ∷ qs) input rest left (bp, hp, more) (bq, hq, m
         (λ part behind begins. none part behind begins tt)
     go (pair p) ps qs input rest left more more' before none shorter = absurd before
 
--- The input is refused where no part follows.
 pub refused_there : (input rest : List ℕ) (parts : List Part) (n : ℕ)
     → BeginsDocument parts input rest
     → ((part : Part) (behind : List ℕ) → Begins part rest behind
@@ -376,13 +371,11 @@ refused_document told input o j n (ends, inl (all, parts, begins, texts, none, i
     refused_there input j.left.tokens parts n begins none some at
 refused_document told input o j n (ends, inr (reaches, is)) some at = ok_is_err refl is
 
--- a document fails for want of memory alone, and only where it has a section
 pub document_fails : {C : Type 0} (told : C → List SectionText) (i : Input ℕ) (k : Kind)
     (j : Input ℕ) → DocumentRuns told i (Err k) j → ReachesSection i.left.tokens × (k ≡ memory)
 document_fails told i k j (ends, inl (all, parts, begins, texts, none, is)) = ok_is_err is refl
 document_fails told i k j (ends, inr (reaches, is)) = (reaches, same_kind is)
 
--- the inner error of want of memory is out of memory
 pub inner_memory : (k inner : Kind) → k ≡ memory → inner_kind_of k ≡ Some inner → inner ≡ memory
 inner_memory k inner is e =
     let P : Kind → Type 0 = λ x. inner_kind_of x ≡ Some inner in
@@ -393,6 +386,5 @@ pub marked_memory : (is_memory : Bool) → as_inner (marked_kind is_memory) ≡ 
 marked_memory true e = refl
 marked_memory false e = e
 
--- the inner error of one that backtracks wants none
 pub inner_backtracks : (k : Kind) → Some backtrack ≡ Some (as_inner k) → k ≡ memory → ⊥
 inner_backtracks k told is = cc (same_some told ∙ ap as_inner is)

@@ -1,4 +1,4 @@
--- What is said of a text, said of the bytes that it is.
+-- Statements about a text, restated for its bytes.
 use Rattle.std.proofs.Common.{◌≡◌, ℕ, List, inr, subst, sym}
 use Rattle.std.specs.Prelude.{ℤ, Result, Ok, Err, IfOk}
 use Rattle.std.specs.Str.{IsUtf8}

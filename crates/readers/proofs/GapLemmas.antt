@@ -1,4 +1,4 @@
--- What is between sections and pairs: a repetition of white space and comments.
+-- The gap between sections and pairs: a repetition of whitespace and comments.
 use Rattle.std.proofs.Common.{◌≡◌, ◌∙◌, ℕ, false, List, [], ◌∷◌, length, None, Ok, Err, refl, sym}
 use Rattle.std.proofs.Common.{ap, subst, arith, inl, inr}
 use Rattle.std.specs.List.{AllByRecursion}
@@ -15,7 +15,7 @@ use Rattle.readers.specs.Document.{Part, Begins, BeginsWith}
 use Rattle.readers.specs.DocumentRuns.{IsGapPart, NoGapBegins}
 use Rattle.readers.proofs.PartRuns.{part_shortens}
 
--- What one run of a gap's item says: it takes white space or a comment, or there is none.
+-- One call of a gap's item consumes whitespace or a comment, or there is neither.
 pub record ReadsGapPart {S O : Type 0} (run : Runs S ℕ O) : Type 0 where
   pub takes : (s : S) (i : Input ℕ) (o : O) (t : S) (j : Input ℕ) → i.status.cut ≡ false
       → run s i (Ok o) t j

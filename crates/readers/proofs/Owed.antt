@@ -1,4 +1,4 @@
--- A written answer is what a run owes.
+-- A proof that the written output meets the contract of a run of the program.
 use Rattle.std.proofs.Common.{◌≡◌, ◌≤◌, ◌∙◌, Bool, ℕ, List, [], ◌∷◌, length, Option, Some, None}
 use Rattle.std.proofs.Common.{inl, inr, refl, sym, ap, subst, arith}
 use Rattle.std.specs.Borrow.{Bor}
@@ -33,7 +33,6 @@ written_is_owed format (Some bytes) Accepted text status told out_old out_new er
 written_is_owed format (Some bytes) Refused text status told out_old out_new err_old err_new
     (le, is_text) (one, kept, line) = inr (inl (one, le, kept, (text, is_text, line)))
 
--- the same by the word that asked for the format
 pub owed_by_word : (format other : Format) (known : Option (List ℕ)) (verdict : Verdict)
     (text : List ℕ) (status : ℕ) (told : Bool)
     (out_old out_new err_old err_new : Option (List ℕ)) → other ≡ format
@@ -50,7 +49,6 @@ owed_by_word format other known verdict text status told out_old out_new err_old
     (written_is_owed format known verdict text status told out_old out_new err_old err_new
     is wrote)
 
--- why there is no answer is owed too
 stopped_is_owed : (format : Format) (known : Option (List ℕ)) (stop : Stop) (status : ℕ)
     (told : Bool) (out err_old err_new : Option (List ℕ))
     → IfSome known (λ bytes. StopsAnswer format bytes stop) → status ≡ 2
@@ -89,7 +87,6 @@ one_word : (words : List (Bor (List ℕ))) (v w : List ℕ) → IsWord words v �
 one_word [] v w h k = absurd (omega (arith, h.0))
 one_word (x ∷ xs) v w h k = sym (h.1 x) ∙ k.1 x
 
--- words that ask for a format ask for no other
 pub asks_for_one : (words : List (Bor (List ℕ))) (format : Format)
     → IsWord words (format_word format) → (other : Format)
     → IsWord words (format_word other) ↔ (other ≡ format)

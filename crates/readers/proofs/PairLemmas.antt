@@ -32,7 +32,6 @@ pub All-middle : {X : Type 0} (P : X → Type 0) (xs : List X) (y : X) (ys : Lis
 All-middle P [] y ys all = All-head P y ys all
 All-middle P (x ∷ xs) y ys all = All-middle P xs y ys (All-tail P x (xs ++ y ∷ ys) all)
 
--- a longer beginning goes on with what follows the shorter one
 pub longer : {X : Type 0} (xs ys zs ws : List X) → xs ++ ys ≡ zs ++ ws → length xs < length zs
     → (y : X) × (more : List X) × (ys ≡ y ∷ (more ++ ws)) × (zs ≡ xs ++ y ∷ more)
 longer [] ys [] ws e h = absurd (omega arith)
@@ -42,7 +41,6 @@ longer (x ∷ xs) ys (z ∷ zs) ws e h =
     let (y, more, rest, whole) = longer xs ys zs ws (same_others e) (omega arith) in
     (y, more, rest, ap (λ a. a ∷ zs) (sym (same_first e)) ∙ ap (λ l. x ∷ l) whole)
 
--- the mark after a key is no byte of a key
 pub mark_is_no_key : IsKeyByte 61 → ⊥
 mark_is_no_key (inl h) = omega (arith, h.0, h.1)
 mark_is_no_key (inr (inl h)) = omega (arith, h.0, h.1)
@@ -60,7 +58,6 @@ no_line_after_key key more y k v all stranger (inr not_mark) (end, some, keys, v
     mark_is_no_key e in
     not_mark same.1
 
--- bytes of a key alone are no line
 no_line_of_key : (key : List ℕ) (k v : List ℕ) → All IsKeyByte key → IsPairLine key k v → ⊥
 no_line_of_key key k v all (end, some, keys, values, ends, e) =
     let P : List ℕ → Type 0 = λ l. All IsKeyByte l in
@@ -92,7 +89,6 @@ key_begins (x ∷ xs) all = (
   ([], omega arith, all, All-nil (λ b. b ≢ 10), inl refl, refl),
 )
 
--- The bytes are refused after those of a key, where no mark follows, or there are none.
 pub refused_after_key : (input key rest : List ℕ) → input ≡ key ++ rest → All IsKeyByte key
     → ((y : ℕ) (more : List ℕ) → rest ≡ y ∷ more
     → (IsKeyByte y → ⊥) × ((length key ≡ 0) ⊎ (y ≢ 61))) → IsRefusedPair input (length key)
@@ -131,7 +127,6 @@ refused_after_key input key rest e all stops = record {
         no_line_after_key key (mid ++ tail) y k v all s.0 s.1
         (subst P (ap (λ l. l ++ tail) is_other ∙ append_assoc key (y ∷ mid) tail) line)
 
--- nothing stands after the line feed of a line
 no_line_too_long : (key value more : List ℕ) (y : ℕ) (k v : List ℕ) → All IsKeyByte key
     → All (λ b. b ≢ 10) value → IsPairLine (key ++ (61 ∷ (value ++ (10 ∷ (y ∷ more))))) k v → ⊥
 no_line_too_long key value more y k v keys values (end, some, ks, vs, ends, e) =
@@ -150,7 +145,6 @@ no_line_too_long key value more y k v keys values (end, some, ks, vs, ends, e) =
         (λ h. h refl) (λ h. h refl) (e ∙ ap (λ l. v ++ l) feed) in
         not_none same.2
 
--- The bytes are refused after the line feed, where something follows it.
 pub refused_after_line : (input key value more : List ℕ) (y : ℕ)
     → input ≡ key ++ (61 ∷ (value ++ (10 ∷ (y ∷ more)))) → 0 < length key → All IsKeyByte key
     → All (λ b. b ≢ 10) value

@@ -1,4 +1,4 @@
--- What the runs of the parsers of a pair's line say of the bytes.
+-- Lemmas about the calls of the parsers of a pair's line.
 use Rattle.std.proofs.Common.{◌≡◌, ◌≢◌, ◌<◌, ◌+◌, ◌∙◌, ◌⊎◌, ℕ, Bool, true, false, List, [], ◌∷◌}
 use Rattle.std.proofs.Common.{◌++◌, length, None, Some, refl, ap, subst, arith, inl, inr}
 use Rattle.std.proofs.Common.{length-append}
@@ -14,7 +14,7 @@ use Rattle.winnow.specs.TakeWhile.Known.{TooFew, Took, none_first, took_all, too
 use Rattle.readers.specs.Pair.{IsKeyByte, IsPairLine, IsRefusedPair}
 use Rattle.readers.proofs.PairLemmas.{refused_after_key, refused_after_line}
 
--- The four parsers of a line succeeded: what they took, and what they left.
+-- The four parsers of a line succeeded: the bytes that they consumed, and the rest.
 pub record LineTaken (input k v x left : List ℕ) : Type 0 where
   pub some : 0 < length k
   pub keys : All IsKeyByte k
@@ -63,7 +63,6 @@ line_read input k v x left line nothing = (
       ∙ ap (λ l. k ++ (61 ∷ (v ++ l))) (ap (λ l. x ++ l) nothing ∙ append-nil x),
 )
 
--- after the value stands a line feed or nothing, and after no line feed that was taken no other
 pub line_stops : (value_set feed_set : ℕ → Bool → Type 0) (v x : List ℕ) (b c j : Input ℕ)
     → Took value_set 0 None b v c → Took feed_set 0 (Some 1) c x j
     → ((b : ℕ) → value_set b false → b ≡ 10) → ((b : ℕ) → feed_set b false → b ≢ 10)
@@ -101,7 +100,6 @@ line_left input k v x (y ∷ more) n line stops something at = by_feed line.feed
         let P : ℕ → Type 0 = λ m. IsRefusedPair input m in
         subst P n_is (refused_after_line input k v more y split line.some line.keys line.values)
 
--- no key stands first
 pub no_key : (key_set : ℕ → Bool → Type 0) (input : List ℕ) (k : Kind) (j : Input ℕ) (n : ℕ)
     → TooFew key_set 1 None (bytes_input input) k j → n + length j.left.tokens ≡ length input
     → ((b : ℕ) → key_set b false → IsKeyByte b → ⊥) → IsRefusedPair input n

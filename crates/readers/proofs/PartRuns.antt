@@ -1,4 +1,4 @@
--- What the runs of the parsers of a document's parts say of the bytes.
+-- Lemmas about the calls of the parsers of a document's parts.
 use Rattle.std.proofs.Common.{◌≡◌, ◌⊎◌, ◌<◌, ◌∙◌, ℕ, Bool, true, false, List, [], ◌∷◌, ◌++◌}
 use Rattle.std.proofs.Common.{length, None, refl, sym, ap, subst, arith, inl, inr, append_assoc}
 use Rattle.std.proofs.Common.{length-append}
@@ -26,13 +26,11 @@ use Rattle.readers.specs.Document.{NoSectionBegins}
 use Rattle.readers.specs.DocumentRuns.{NoGapBegins, IsFront}
 use Rattle.readers.proofs.DocumentLemmas.{same_front, no_part_of_none}
 
--- none of P stands first where no byte that stands first is of P
 not_first : (P : ℕ → Type 0) (tokens : List ℕ)
     → ((b : ℕ) (more : List ℕ) → tokens ≡ b ∷ more → P b → ⊥) → NotFirst P tokens
 not_first P [] other = tt
 not_first P (b ∷ more) other = other b more refl
 
--- a byte that does not stand first
 pub other_first : (b : ℕ) (tokens : List ℕ) → ((rest : List ℕ) → tokens ≡ b ∷ rest → ⊥)
     → NotFirst (λ x. x ≡ b) tokens
 other_first b tokens other =
@@ -49,7 +47,6 @@ took_front P member least i taken j all is other = (
   not_first P j.left.tokens (took_stops (λ b. P b → ⊥) member least i taken j other all),
 )
 
--- where it takes not one, none stands first
 pub no_front : (P : ℕ → Type 0) (member : ℕ → Bool → Type 0) (i : Input ℕ) (k : Kind)
     (j : Input ℕ) → TooFew member 1 None i k j → ((b : ℕ) → member b false → P b → ⊥)
     → NotFirst P i.left.tokens
@@ -72,7 +69,6 @@ front_before P sought i slice j is marks told =
     subst F (sym told.takes.shown)
     (told.takes.passed.tokens, all, not_first P j.left.tokens first)
 
--- where none stands that is not of P, a take of all is the longest front
 pub front_of_all : (P : ℕ → Type 0) (sought : List ℕ → Type 0) (i : Input ℕ) (k : Kind)
     (a : Input ℕ) (slice : Bor (List ℕ)) (j : Input ℕ) → ((b : ℕ) → (sought (b ∷ []) → ⊥) → P b)
     → NothingBefore bytes_reading sought 0 i k a → Takes bytes_reading a.left.tokens a slice j
@@ -126,7 +122,6 @@ category_read tokens a name b rest front_mark splits all end_mark utf8 = (
   (all, utf8),
 )
 
--- no section begins where no `[` stands
 pub no_open : (tokens : List ℕ) → ((rest : List ℕ) → tokens ≡ 91 ∷ rest → ⊥)
     → NoSectionBegins tokens
 no_open tokens other name behind (e, fits) = other _ e
@@ -139,20 +134,17 @@ one_name tokens a name b other behind front_mark (splits, all, stops) (e, fits) 
     same_front IsNameByte name other b (93 ∷ behind) all fits.0 stops (λ h. h.0 refl)
     (sym splits ∙ same_others (sym front_mark ∙ e) ∙ append_assoc other (93 ∷ []) behind)
 
--- so none begins where that does not end in `]`
 pub no_close : (tokens a name b : List ℕ) → tokens ≡ 91 ∷ a → IsFront IsNameByte a name b
     → ((rest : List ℕ) → b ≡ 93 ∷ rest → ⊥) → NoSectionBegins tokens
 no_close tokens a name b front_mark front never other behind begins =
     never behind (one_name tokens a name b other behind front_mark front begins).1
 
--- nor where it is no text
 pub no_text : (tokens a name b : List ℕ) → tokens ≡ 91 ∷ a → IsFront IsNameByte a name b
     → (IsUtf8 name → ⊥) → NoSectionBegins tokens
 no_text tokens a name b front_mark front refuses other behind begins =
     refuses (subst IsUtf8
     (sym (one_name tokens a name b other behind front_mark front begins).0) begins.1.1)
 
--- no gap begins where neither white space nor `;` stands
 pub no_gap : (tokens : List ℕ) → NotFirst IsWhite tokens → NotFirst (λ b. b ≡ 59) tokens
     → NoGapBegins tokens
 no_gap [] no_white no_mark part behind gap begins = no_part_of_none part behind begins
@@ -189,7 +181,6 @@ part_shortens part input behind begins =
 no_truth : IsTrue false → ⊥
 no_truth h = cc
 
--- what the answer of a test of a class says
 pub class_says : (P : ℕ → Type 0) (x y : ℕ) → y ≡ x → (IsTrue true ↔ P y) → P x
 class_says P x y e told = subst P e (told.0 refl)
 

@@ -1,4 +1,4 @@
--- What a section's name, a gap and pairs with gaps say together.
+-- Lemmas about a section's name, a gap, and pairs with gaps.
 use Rattle.std.proofs.Common.{◌≡◌, ◌≤◌, ◌∙◌, ℕ, List, [], ◌∷◌, ◌++◌, length, None, Ok, Err}
 use Rattle.std.proofs.Common.{refl, sym, ap, subst, arith, inl, inr}
 use Rattle.std.specs.Prelude.{map}
@@ -76,7 +76,7 @@ gap_before (comment text ∷ ps) qs all h = gap_before ps qs all.1 h
 gap_before (section name ∷ ps) qs all h = absurd all.0
 gap_before (pair p ∷ ps) qs all h = absurd all.0
 
--- What one run of a pair with the gap after it says: it takes them, or there is no pair.
+-- One call of a pair with the gap after it consumes them, or there is no pair.
 pub record ReadsPair {S : Type 0} (run : Runs S ℕ (Bor (List ℕ) × Bor (List ℕ))) : Type 0 where
   pub takes : (s : S) (i : Input ℕ) (o : Bor (List ℕ) × Bor (List ℕ)) (t : S) (j : Input ℕ)
       → run s i (Ok o) t j
@@ -245,7 +245,6 @@ pub same_text : {a c : List ℕ} {b d : List (List ℕ × List ℕ)} → a ≡ c
     → ◌≡◌ {A = SectionText} (a, b) (c, d)
 same_text e f = cc
 
--- pairs fail for want of memory alone
 pub pairs_fail : {C : Type 0} (told : C → List (List ℕ × List ℕ)) (i : Input ℕ) (k : Kind)
     (j : Input ℕ) → PairsRuns told i (Err k) j → k ≡ memory
 pairs_fail told i k j (ends, inl (all, parts, with, no_section, texts, no_pair, last, is)) =

@@ -24,7 +24,6 @@ same_last (a ∷ xs) [] x y e =
     absurd (omega (arith, ap (λ l. length l) e, length-append xs (x ∷ [])))
 same_last (a ∷ xs) (b ∷ ys) x y e = same_last xs ys x y (same_others e)
 
--- what is said of each read from i on is said of all that is dropped there
 All-drop_from_reads : (P : ℕ → Type 0) (xs : List ℕ) (i : ℕ)
     → ((k : ℕ) → i ≤ k → k < length xs → P (get_or xs k 0)) → All P (drop i xs)
 All-drop_from_reads P xs i reads =
@@ -53,7 +52,6 @@ trailing_from xs i inside here behind =
           (subst IsTrailing (sym (same_last ys front b c (sym kept ∙ e))) h),
     )
 
--- what is said of one value without its trail is said of each
 pub value_told : (bytes v : List ℕ) (r : Option (Bor (List ℕ))) → IsWithoutTrailing bytes v
     → MatchOption r (IsUtf8 v → ⊥) (λ s. (s.now ≡ v) × IsUtf8 v)
     → MatchOption r ((value : List ℕ) → IsWithoutTrailing bytes value → IsUtf8 value → ⊥)

@@ -13,7 +13,7 @@ IsBlank b = (b ≡ 32) ⊎ (b ≡ 9)
 abbrev pub IsWhite : ℕ → Type 0
 IsWhite b = IsBlank b ⊎ ((b ≡ 13) ⊎ (b ≡ 10))
 
--- what may stand after a value in its line: a space, a tab or a carriage return
+-- the bytes that may follow a value in its line: a space, a tab or a carriage return
 abbrev pub IsTrailing : ℕ → Type 0
 IsTrailing b = IsBlank b ⊎ (b ≡ 13)
 
@@ -29,16 +29,16 @@ IsNameByte b = (b ≢ 93) × (b ≢ 10)
 abbrev pub IsValueByte : ℕ → Type 0
 IsValueByte b = (b ≢ 59) × (b ≢ 10)
 
--- no byte of P stands first
+-- `NotFirst P bytes`: `bytes` does not start with a byte of `P`
 abbrev pub NotFirst : (ℕ → Type 0) → List ℕ → Type 0
 NotFirst P [] = ⊤
 NotFirst P (b ∷ more) = P b → ⊥
 
--- no byte of P stands last
+-- `NotLast P bytes`: `bytes` does not end with a byte of `P`
 abbrev pub NotLast : (ℕ → Type 0) → List ℕ → Type 0
 NotLast P bytes = (front : List ℕ) (b : ℕ) → bytes ≡ front ++ (b ∷ []) → P b → ⊥
 
--- a line feed stands first, or there is nothing
+-- the bytes start with a line feed, or are empty
 abbrev pub EndsLine : List ℕ → Type 0
 EndsLine [] = ⊤
 EndsLine (b ∷ more) = b ≡ 10
@@ -60,7 +60,7 @@ pub record PairBytes : Type 0 where
 pub data Part : Type 0 where
   -- spaces, tabs and ends of lines
   white : (bytes : List ℕ) → Part
-  -- what stands after `;`
+  -- the text after `;`
   comment : (text : List ℕ) → Part
   -- the name between `[` and `]`
   section : (name : List ℕ) → Part
@@ -98,7 +98,7 @@ pub record IsPairBefore (p : PairBytes) (behind : List ℕ) : Type 0 where
   -- and the line ends there
   pub ends : EndsLine behind
 
--- A part stands there where these bytes follow it in the input.
+-- `FitsBefore part behind`: `part` can be followed by the bytes `behind`.
 abbrev pub FitsBefore : Part → List ℕ → Type 0
 -- one or more bytes of white space, and then another byte or the end
 FitsBefore (white bytes) behind = (0 < length bytes) × All IsWhite bytes × NotFirst IsWhite behind
@@ -119,7 +119,7 @@ BeginsWith [] input rest = input ≡ rest
 BeginsWith (part ∷ parts) input rest =
     (behind : List ℕ) × Begins part input behind × BeginsWith parts behind rest
 
--- No pair stands before the first section.
+-- No pair precedes the first section.
 abbrev pub NoPairBeforeSections : List Part → Type 0
 NoPairBeforeSections [] = ⊤
 NoPairBeforeSections (white bytes ∷ parts) = NoPairBeforeSections parts
@@ -160,8 +160,8 @@ abbrev pub HasSections : List ℕ → List SectionText → Type 0
 HasSections input sections =
     (parts : List Part) × IsDocument input parts × (sections ≡ sections_of parts)
 
--- The input is no document, and n is the length of its longest beginning that is made of parts as a
--- document is.
+-- `IsRefusedDocument input n`: `input` is not a document, and `n` is the length of its longest
+-- prefix that consists of parts as a document does.
 pub record IsRefusedDocument (input : List ℕ) (n : ℕ) : Type 0 where
   -- no parts are the whole input
   pub no_document : (parts : List Part) → IsDocument input parts → ⊥
@@ -178,15 +178,15 @@ pub record IsRefusedDocument (input : List ℕ) (n : ℕ) : Type 0 where
 abbrev pub SectionBegins : List ℕ → Type 0
 SectionBegins input = (name : List ℕ) × (behind : List ℕ) × Begins (section name) input behind
 
--- What the input begins with as a document does has a section: there is an entry for the list of
--- sections.
+-- `ReachesSection input`: `input` starts with parts of a document, and one of these is a section,
+-- so the list of sections has an entry.
 abbrev pub ReachesSection : List ℕ → Type 0
 ReachesSection input =
     (parts : List Part) × (rest : List ℕ) × BeginsDocument parts input rest
     × (0 < length (sections_of parts))
 
--- A fault of the reader of documents: the input is refused at a place, or a request for memory was,
--- and no list has to grow without a section.
+-- The errors of the reader of documents: the input is rejected at an offset, or memory allocation
+-- failed. Without a section no list has to grow.
 abbrev pub IsDocumentFault : List ℕ → Fault → Type 0
 IsDocumentFault input (Refused n) = IsRefusedDocument input n
 IsDocumentFault input NoMemory = ReachesSection input

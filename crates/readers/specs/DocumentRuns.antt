@@ -1,4 +1,4 @@
--- What the readers of a document's parts answer.
+-- The results of the readers of a document's parts.
 use Rattle.std.specs.Prelude.{◌≡◌, ◌<◌, ℕ, List, [], ◌∷◌, ◌++◌, length, Ok, Err, ◌⊎◌, ⊤, All}
 use Rattle.std.specs.Borrow.{Bor}
 use Rattle.std.specs.List.{AllByRecursion}
@@ -21,7 +21,7 @@ IsWithoutTrailing bytes value =
     (trail : List ℕ) × (bytes ≡ value ++ trail) × All IsTrailing trail
     × NotLast IsTrailing value
 
--- The front is the longest beginning of bytes of P, and the rest follows.
+-- `IsFront P input front rest`: `front` is the longest prefix of bytes of `P`, and `rest` follows.
 abbrev pub IsFront : (ℕ → Type 0) → List ℕ → List ℕ → List ℕ → Type 0
 IsFront P input front rest = (input ≡ front ++ rest) × All P front × NotFirst P rest
 
@@ -53,7 +53,7 @@ ValueRuns i answer j =
     -- the bytes before `;` and the end of the line, without what trails, are text
     ((value : Bor (List ℕ)) × (rest ≡ j.left.tokens) × IsWithoutTrailing body value.now
     × IsUtf8 value.now × (answer ≡ Ok value))
-    -- they are none
+    -- they are not UTF-8
     ⊎ (((value : List ℕ) → IsWithoutTrailing body value → IsUtf8 value → ⊥)
     × (answer ≡ Err backtrack))))
 
@@ -71,9 +71,9 @@ BracketsRuns i answer j = IsEndOf bytes_reading j i × (
     -- `[`, the bytes of a name, as many as there are, and `]`
     ((name : Bor (List ℕ)) × (a : List ℕ) × (i.left.tokens ≡ 91 ∷ a)
     × IsFront IsNameByte a name.now (93 ∷ j.left.tokens) × (answer ≡ Ok name))
-    -- no `[` stands first
+    -- the input does not start with `[`
     ⊎ ((((rest : List ℕ) → i.left.tokens ≡ 91 ∷ rest → ⊥) × (answer ≡ Err backtrack))
-    -- no `]` stands after them
+    -- no `]` follows the bytes of the name
     ⊎ ((name : List ℕ) × (a : List ℕ) × (b : List ℕ) × (i.left.tokens ≡ 91 ∷ a)
     × IsFront IsNameByte a name b × ((rest : List ℕ) → b ≡ 93 ∷ rest → ⊥)
     × (answer ≡ Err backtrack))))
@@ -124,8 +124,7 @@ HasNoSection (comment text ∷ parts) = HasNoSection parts
 HasNoSection (section name ∷ parts) = ⊥
 HasNoSection (pair p ∷ parts) = HasNoSection parts
 
--- A run of the reader of pairs, each with the gap after it, where `told` is what a list of them
--- says.
+-- A call of the reader of pairs, each with the gap after it. `told` gives the pairs of a list.
 abbrev pub PairsRuns : {C : Type 0} → (C → List (List ℕ × List ℕ)) → Input ℕ → Answer C
     → Input ℕ → Type 0
 PairsRuns {C} told i answer j = IsEndOf bytes_reading j i × (
@@ -136,10 +135,12 @@ PairsRuns {C} told i answer j = IsEndOf bytes_reading j i × (
     -- there is no memory for them
     ⊎ (answer ≡ Err memory))
 
--- A run of the reader of a section with its pairs, where `told` is what a section says.
+-- A call of the reader of a section with its pairs. `told` gives the name and the pairs of a
+-- section.
 abbrev pub SectionRuns : {S : Type 0} → (S → SectionText) → Input ℕ → Answer S → Input ℕ → Type 0
 SectionRuns {S} told i answer j = IsEndOf bytes_reading j i × (
-    -- a section begins the input, and is taken with all the parts after it that are no section
+    -- the input starts with a section, which is consumed with all the parts after it that are not
+    -- sections
     ((s : S) × (name : List ℕ) × (parts : List Part)
     × BeginsWith (section name ∷ parts) i.left.tokens j.left.tokens × HasNoSection parts
     × NoGapBegins j.left.tokens × NoPairBegins j.left.tokens
@@ -157,11 +158,11 @@ BeginsAtSection (comment text ∷ parts) = ⊥
 BeginsAtSection (section name ∷ parts) = ⊤
 BeginsAtSection (pair p ∷ parts) = ⊥
 
--- A run of the reader of all sections, where `told` is what a list of them says.
+-- A call of the reader of all sections. `told` gives the sections of a list.
 abbrev pub SectionsRuns : {C : Type 0} → (C → List SectionText) → Input ℕ → Answer C → Input ℕ
     → Type 0
 SectionsRuns {C} told i answer j = IsEndOf bytes_reading j i × (
-    -- all the sections that there are, with all that stands after them
+    -- all the sections that there are, with all the parts after them
     ((all : C) × (parts : List Part) × BeginsWith parts i.left.tokens j.left.tokens
     × BeginsAtSection parts × (told all ≡ sections_of parts)
     × NoSectionBegins j.left.tokens
@@ -170,11 +171,12 @@ SectionsRuns {C} told i answer j = IsEndOf bytes_reading j i × (
     -- one begins the input, and there is no memory for them
     ⊎ (SectionBegins i.left.tokens × (answer ≡ Err memory)))
 
--- A run of the reader of a document, where `told` is what a list of sections says.
+-- A call of the reader of a document. `told` gives the sections of a list.
 abbrev pub DocumentRuns : {C : Type 0} → (C → List SectionText) → Input ℕ → Answer C → Input ℕ
     → Type 0
 DocumentRuns {C} told i answer j = IsEndOf bytes_reading j i × (
-    -- all that the input begins with as a document does, up to what is no part, or no part there
+    -- the parts of a document that the input starts with, up to bytes that are not a part, or not
+    -- one that is allowed there
     ((all : C) × (parts : List Part) × BeginsDocument parts i.left.tokens j.left.tokens
     × (told all ≡ sections_of parts)
     × ((part : Part) (behind : List ℕ) → Begins part j.left.tokens behind

@@ -7,12 +7,12 @@ use Rattle.format_calculator.specs.declared.fault.Fault.TheVariants.{Refused, No
 abbrev pub IsKeyByte : ℕ → Type 0
 IsKeyByte b = ((48 ≤ b) × (b ≤ 57)) ⊎ (((65 ≤ b) × (b ≤ 90)) ⊎ ((97 ≤ b) × (b ≤ 122)))
 
--- What may follow the value: nothing, or one line feed.
+-- The end of a line: nothing, or one line feed.
 abbrev pub IsLineEnd : List ℕ → Type 0
 IsLineEnd end = (end ≡ []) ⊎ (end ≡ 10 ∷ [])
 
--- A key of one or more letters and digits, `=`, a value of bytes that are no line feed, and at most
--- one line feed.
+-- `IsPairLine line key value`: `line` is a key of one or more letters and digits, `=`, a value
+-- without line feeds, and at most one line feed.
 abbrev pub IsPairLine : List ℕ → List ℕ → List ℕ → Type 0
 IsPairLine line key value =
     (end : List ℕ) × (0 < length key) × All IsKeyByte key × All (λ b. b ≢ 10) value
@@ -24,7 +24,8 @@ BeginsPairLine front =
     (more : List ℕ) × (key : List ℕ) × (value : List ℕ) × All (λ b. b < 256) more
     × IsPairLine (front ++ more) key value
 
--- The input is no line of a pair, and n is the length of its longest beginning that begins one.
+-- `IsRefusedPair input n`: `input` is not a pair's line, and `n` is the length of its longest
+-- prefix that such a line can start with.
 pub record IsRefusedPair (input : List ℕ) (n : ℕ) : Type 0 where
   pub no_line : (key value : List ℕ) → IsPairLine input key value → ⊥
   pub front : List ℕ
@@ -35,7 +36,7 @@ pub record IsRefusedPair (input : List ℕ) (n : ℕ) : Type 0 where
   pub longest : (other more : List ℕ) → input ≡ other ++ more → BeginsPairLine other
       → length other ≤ n
 
--- A fault of the reader of a pair: it takes no memory.
+-- The errors of the reader of a pair, which does not allocate.
 abbrev pub IsPairFault : List ℕ → Fault → Type 0
 IsPairFault input (Refused n) = IsRefusedPair input n
 IsPairFault input NoMemory = ⊥

@@ -1,4 +1,4 @@
--- What the program answers and writes.
+-- The results and the output of the program.
 use Rattle.std.specs.Prelude.{◌≡◌, Bool, true, IsTrue, ℕ, ◌<◌, ◌≤◌, List, [], ◌∷◌, ◌++◌, length}
 use Rattle.std.specs.Prelude.{◌⊎◌, ℤ, codes, Option, slice_index_or}
 use Rattle.std.specs.Borrow.{Bor}
@@ -21,13 +21,13 @@ use Rattle.format_calculator.specs.declared.fault.Fault.TheVariants.{Refused as 
 abbrev pub ConsumesAtMost : Option (List ℕ) → Option (List ℕ) → ℕ → Type 0
 ConsumesAtMost old new n = (bytes : List ℕ) × Consumes old new bytes × (length bytes ≤ n)
 
--- the known bytes grew by a beginning of these
+-- `AppendsSome old new bytes`: the known bytes grew by a prefix of `bytes`
 abbrev pub AppendsSome : Option (List ℕ) → Option (List ℕ) → List ℕ → Type 0
 AppendsSome old new bytes =
     (front : List ℕ) × (rest : List ℕ) × (bytes ≡ front ++ rest) × Appends old new front
 
--- What became of a text: it was appended whole where it is said to be told, and else a beginning of
--- it was.
+-- `Tells told old new text`: all of `text` was appended if `told` is true, and some prefix of it
+-- otherwise.
 abbrev pub Tells : Bool → Option (List ℕ) → Option (List ℕ) → List ℕ → Type 0
 Tells told old new text = (IsTrue told → Appends old new text) × AppendsSome old new text
 
@@ -53,7 +53,7 @@ document_lines (s ∷ ss) = section_lines s ++ document_lines ss
 abbrev pub number_line : ℤ → List ℕ
 number_line v = signed_decimal v ++ 10 ∷ []
 
--- the line of a refusal
+-- the line for rejected bytes
 abbrev pub refused_line : ℕ → List ℕ
 refused_line n = codes "refused at " ++ decimal n ++ 10 ∷ []
 
@@ -67,7 +67,7 @@ most_of Pair = most_bytes
 most_of Ini = most_bytes
 most_of Calc = 4096
 
--- the word that asks for a format
+-- the argument that selects a format
 abbrev pub format_word : Format → List ℕ
 format_word Pair = codes "pair"
 format_word Ini = codes "ini"
@@ -94,8 +94,8 @@ IsDocumentText bytes text =
 abbrev pub IsValueText : List ℕ → List ℕ → Type 0
 IsValueText bytes text = IsUtf8 bytes × ((v : ℤ) × IsValue bytes v × (text ≡ number_line v))
 
--- The bytes are not text, and n is where the first one stands that is no part of any; or they are,
--- and no formula that has a value, and n is at an end or between two characters.
+-- `IsRefusedFormula bytes n`: either `bytes` is not UTF-8, and `n` is the offset of the first
+-- invalid byte; or `bytes` is not a formula that has a value, and `n` is a character boundary.
 abbrev pub IsRefusedFormula : List ℕ → ℕ → Type 0
 IsRefusedFormula bytes n =
     ((IsUtf8 bytes → ⊥) × IsValidUpTo bytes n)
@@ -107,17 +107,17 @@ IsLinesText Pair bytes text = IsPairText bytes text
 IsLinesText Ini bytes text = IsDocumentText bytes text
 IsLinesText Calc bytes text = IsValueText bytes text
 
--- The bytes are not in the format, and n is where they are refused.
+-- `IsRefusedAt format bytes n`: `bytes` is not in the format, and `n` is the offset of the error.
 abbrev pub IsRefusedAt : Format → List ℕ → ℕ → Type 0
 IsRefusedAt Pair bytes n = IsRefusedPair bytes n
 IsRefusedAt Ini bytes n = IsRefusedDocument bytes n
 IsRefusedAt Calc bytes n = IsRefusedFormula bytes n
 
--- The bytes are refused, and the text says where.
+-- `IsRefusedText format bytes text`: `bytes` is rejected, and `text` gives the offset.
 abbrev pub IsRefusedText : Format → List ℕ → List ℕ → Type 0
 IsRefusedText format bytes text = (n : ℕ) × IsRefusedAt format bytes n × (text ≡ refused_line n)
 
--- the text of an answer, by its verdict
+-- the text that is written for a verdict
 unfoldable pub IsAnswerText : Format → List ℕ → Verdict → List ℕ → Type 0
 IsAnswerText format bytes Accepted text = IsLinesText format bytes text
 IsAnswerText format bytes Refused text = IsRefusedText format bytes text
@@ -130,7 +130,7 @@ stop_text Unwritable = codes "cannot write standard output" ++ 10 ∷ []
 stop_text TooLong = codes "input too long" ++ 10 ∷ []
 stop_text NoMemory = codes "out of memory" ++ 10 ∷ []
 
--- What stopped the reading and answering of these bytes.
+-- The reason why there is no verdict for these bytes.
 abbrev pub StopsAnswer : Format → List ℕ → Stop → Type 0
 StopsAnswer format bytes Usage = ⊥
 StopsAnswer format bytes Unreadable = Unit {0}
@@ -138,8 +138,8 @@ StopsAnswer format bytes Unwritable = ⊥
 StopsAnswer format bytes TooLong = most_of format < length bytes
 StopsAnswer format bytes NoMemory = Unit {0}
 
--- What a stop says of the bytes, and of what standard output held and holds: nothing was written,
--- or a beginning of the answer's lines.
+-- The meaning of a stop for the bytes, and for the contents of standard output before and after it:
+-- nothing was written, or a prefix of the output's lines.
 abbrev pub StopLeaves : Format → List ℕ → Stop → Option (List ℕ) → Option (List ℕ) → Type 0
 StopLeaves format bytes Usage old new = ⊥
 StopLeaves format bytes Unreadable old new = Keeps old new
@@ -149,25 +149,25 @@ StopLeaves format bytes Unwritable old new =
 StopLeaves format bytes TooLong old new = (most_of format < length bytes) × Keeps old new
 StopLeaves format bytes NoMemory old new = Keeps old new
 
--- What a run owes for these bytes, by its status and by whether its text stands whole on standard
--- error: to standard output, and to standard error, whose own faults are passed over.
+-- The contract of a run of the program for these bytes, by its exit status and by whether its
+-- message is complete on standard error. Errors of standard error itself are ignored.
 abbrev pub RunOwes : Format → List ℕ → ℕ → Bool → Option (List ℕ) → Option (List ℕ)
     → Option (List ℕ) → Option (List ℕ) → Type 0
 RunOwes format bytes status told out_old out_new err_old err_new =
-    -- the lines of the answer, and nothing to tell
+    -- the lines of the output, and no message
     ((status ≡ 0) × (told ≡ true) × (length bytes ≤ most_of format)
     × ((text : List ℕ) × IsLinesText format bytes text × Appends out_old out_new text)
     × Keeps err_old err_new)
-    -- where the bytes are refused
+    -- the bytes are rejected
     ⊎ (((status ≡ 1) × (length bytes ≤ most_of format) × Keeps out_old out_new
     × ((text : List ℕ) × IsRefusedText format bytes text
     × Tells told err_old err_new text))
-    -- why there is no answer
+    -- the reason why there is no output
     ⊎ ((status ≡ 2) × ((stop : Stop) × StopLeaves format bytes stop out_old out_new
     × Tells told err_old err_new (stop_text stop))))
 
--- What writing an answer leaves, by its verdict, with the status that is answered for it, and
--- whether the text stands whole on standard error.
+-- The effect of writing the text of a verdict, with the exit status, and with whether the message
+-- is complete on standard error.
 abbrev pub WritesAnswer : Verdict → List ℕ → ℕ → Bool → Option (List ℕ) → Option (List ℕ)
     → Option (List ℕ) → Option (List ℕ) → Type 0
 WritesAnswer Accepted text status told out_old out_new err_old err_new =

@@ -1,4 +1,4 @@
--- What the reader's sections say.
+-- The names and the pairs of the reader's sections.
 use Rattle.std.specs.Prelude.{ℕ, List, map}
 use Rattle.std.specs.Borrow.{Bor}
 use Rattle.readers.specs.declared.ini.sections.Section.{Section}

@@ -5,6 +5,6 @@ use Rattle.std.specs.Prelude.{◌<◌, ◌↔◌, ℕ, Bool, IsTrue}
 abbrev pub HasExactly : (ℕ → Type 0) → (ℕ → Bool) → Type 0
 HasExactly P has = (b : ℕ) → b < 256 → IsTrue (has b) ↔ P b
 
--- what such a set tells of a byte
+-- `TellsByte P b answer`: `answer` is whether the byte `b` is in `P`
 abbrev pub TellsByte : (ℕ → Type 0) → ℕ → Bool → Type 0
 TellsByte P b answer = (b < 256) × (IsTrue answer ↔ P b)

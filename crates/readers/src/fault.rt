@@ -1,4 +1,4 @@
-//! Why a reader gives no answer.
+//! The errors of readers.
 //!
 //! ```
 //! use readers::fault::Fault;

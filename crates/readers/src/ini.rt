@@ -16,11 +16,12 @@ use winnow::error::{EmptyError, ParseFault};
 use winnow::stream::{ByteStream, Range};
 use winnow::token::take_while;
 
-/// Reads one line of a key, `=` and a value: one or more ASCII letters or digits, `=`, bytes other
+/// Parses one line of a key, `=` and a value: one or more ASCII letters or digits, `=`, bytes other
 /// than a line feed, and at most one line feed.
 ///
-/// The answer is the key and the value, as slices of the input; the value may be empty. Other
-/// bytes are refused at the length of their longest beginning that begins such a line.
+/// Returns the key and the value, as slices of the input; the value may be empty. Other bytes are
+/// rejected. The offset of the error is the length of their longest prefix that such a line can
+/// start with.
 ///
 /// ```
 /// use readers::fault::Fault;

@@ -27,7 +27,7 @@ const LIMIT: usize = 1_048_576;
 /// That of a formula.
 const FORMULA_LIMIT: usize = 4_096;
 
-/// What a run comes to.
+/// The outcome of a run of the program.
 ///
 /// ```
 /// use readers::program::{Outcome, run_and_tell};
@@ -42,12 +42,12 @@ const FORMULA_LIMIT: usize = 4_096;
 pub struct Outcome {
     /// The exit status: 0, 1 or 2.
     pub status: u8,
-    /// Whether the text that is owed to the writer of errors stands there whole. With status 0 none
-    /// is owed, and this is true.
+    /// Whether the message is complete on the writer of errors. With status 0 there is no message,
+    /// and this is true.
     pub is_told: bool,
 }
 
-/// Why there is no answer: each ends the program with status 2.
+/// The reason why there is no output. Each ends the program with status 2.
 ///
 /// ```
 /// use readers::program::run;
@@ -67,7 +67,7 @@ pub enum Stop {
     Unwritable,
     /// The input has more bytes than the limit of its format.
     TooLong,
-    /// A request for memory was refused.
+    /// Memory allocation failed.
     NoMemory,
 }
 
@@ -86,7 +86,7 @@ impl Stop {
     }
 }
 
-/// What an input is read as.
+/// The format that an input is read as.
 ///
 /// ```
 /// use readers::program::run;
@@ -120,21 +120,21 @@ struct Answer<A: Allocator> {
     text: Vec<u8, A>,
 }
 
-/// The program over any reader and two writers. `words` are the arguments after its name; the
-/// answer is the exit status.
+/// Runs the program over any reader and two writers, and returns the exit status. `words` are the
+/// arguments after the program's name.
 ///
-/// The words are checked first, and nothing is read where they are not one reader's name, `pair`,
+/// The words are checked first, and nothing is read if they are not one reader's name, `pair`,
 /// `ini` or `calc`. At most one byte more than the limit is read, which is 4,096 for a formula and
-/// 1,048,576 for the others. The whole answer is computed before anything is written:
+/// 1,048,576 for the others. The whole output is computed before anything is written:
 ///
-/// - status 0: the answer's lines are on `output`: of a pair `KEY: VALUE`, of a document for each
-///   section `section NAME` and then its pairs, of a formula its value;
-/// - status 1: `refused at N` is on `errors`, N in bytes from the start, and nothing on `output`;
-///   where a formula is not text, N is the place of the first byte that is no part of any;
-/// - status 2: why there is no answer is on `errors`.
+/// - status 0: `output` has the lines of the output: for a pair `KEY: VALUE`, for a document each
+///   section as `section NAME` and then its pairs, for a formula its value;
+/// - status 1: `errors` has `refused at N`, N in bytes from the start, and `output` has nothing; if
+///   a formula is not UTF-8, N is the offset of the first invalid byte;
+/// - status 2: `errors` has the reason why there is no output.
 ///
-/// A fault of `errors` changes no status, and leaves a beginning of the text there;
-/// [`run_and_tell`] also says whether it stands whole. Neither writer is flushed.
+/// An error of `errors` changes no status, and leaves a prefix of the message there;
+/// [`run_and_tell`] also returns whether the message is complete. Neither writer is flushed.
 ///
 /// ```
 /// use readers::program::run;
@@ -170,8 +170,8 @@ pub fn run<A: Allocator + Copy, R: Read, W: Write, E: Write>(
     run_and_tell(alloc, words, input, output, errors).status
 }
 
-/// [`run`], with its status and also whether what it owes to `errors` stands there whole: the line
-/// of a refusal, the usage line, or why there is no answer.
+/// Like [`run`], and also returns whether the message on `errors` is complete: the line for
+/// rejected bytes, the usage line, or the reason why there is no output.
 ///
 /// ```
 /// use readers::program::{Outcome, run_and_tell};
@@ -212,7 +212,7 @@ pub fn run_and_tell<A: Allocator + Copy, R: Read, W: Write, E: Write>(
     }
 }
 
-/// Says why there is no answer.
+/// Writes the reason why there is no output.
 fn stopped<E: Write>(stop: Stop, errors: &mut E) -> Outcome
     ensures status { result.status ≡ 2 }
     ensures told { Tells result.is_told (E.contents errors.old) (E.contents errors.new)
@@ -359,7 +359,7 @@ fn answer_formula<A: Allocator + Copy>(alloc: A, bytes: &[u8]) -> Result<Answer<
     }
 }
 
-/// The answer to bytes that are refused.
+/// Returns the verdict and the line for rejected bytes.
 fn refusal<A: Allocator>(alloc: A, at: usize) -> Result<Answer<A>, AllocError>
     ensures { IfOk result (λ a. (a.verdict ≡ Verdict.Refused) × (a.text.items ≡ refused_line at)) }
 {
@@ -370,7 +370,7 @@ fn refusal<A: Allocator>(alloc: A, at: usize) -> Result<Answer<A>, AllocError>
     })
 }
 
-/// Writes an answer where it goes.
+/// Writes the text of a verdict to its writer.
 fn write_answer<A: Allocator, W: Write, E: Write>(
     answer: &Answer<A>,
     output: &mut W,

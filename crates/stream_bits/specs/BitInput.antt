@@ -12,24 +12,24 @@ use Rattle.streams.specs.Reading.{Reading}
 use Rattle.stream_bits.specs.BitList.{bits_of, length_bits}
 use Rattle.stream_bits.specs.BitReading.{bits_reading}
 
--- Whether bits can be read from that many bits of the first byte on: there is such a byte, or none
--- is begun, and a number of 64 bits counts the bits of all bytes.
+-- Whether bits can be read from bit `offset` of the first byte on. That byte exists or `offset` is
+-- 0, and a number of 64 bits counts the bits of all bytes.
 abbrev pub can_be_read : List ℕ → ℕ → Bool
 can_be_read bytes offset =
     nat_lt offset 8
     && (nat_eq offset 0 || nat_lt 0 (length bytes))
     && nat_le (length bytes) most_bytes
 
--- the bits left, where they can be read; a value that cannot be read has none
+-- the remaining bits if they can be read; an impossible value has no bits
 abbrev pub bits_where : Bool → List ℕ → ℕ → List Bool
 bits_where true bytes offset = drop offset (bits_of bytes)
 bits_where false bytes offset = []
 
--- the bits of bytes from that many bits of the first on
+-- the bits of `bytes` from bit `offset` of the first byte on
 abbrev pub bits_from : List ℕ → ℕ → List Bool
 bits_from bytes offset = bits_where (can_be_read bytes offset) bytes offset
 
--- what is left of bytes as bits, from that many bits of the first byte on
+-- the remaining bytes as bits, from bit `offset` of the first byte on
 abbrev pub bits_left : Remaining ℕ → ℕ → Remaining Bool
 bits_left left offset = record {
   tokens = bits_from left.tokens offset;
@@ -37,11 +37,11 @@ bits_left left offset = record {
   possible = can_be_read left.tokens offset;
 }
 
--- an input of bytes as one of bits, from that many bits of the first byte on
+-- an input of bytes as one of bits, from bit `offset` of the first byte on
 abbrev pub bits_input : Input ℕ → ℕ → Input Bool
 bits_input i offset = record { left = bits_left i.left offset; status = i.status }
 
--- Bits that can be read: there is such a byte, or none is begun, and all can be counted.
+-- Bits that can be read: the first byte exists or `offset` is 0, and all bits can be counted.
 pub record Readable (bytes : List ℕ) (offset : ℕ) : Type 0 where
   pub inside : offset < 8
   pub there : offset ≤ 8 * length bytes
@@ -88,7 +88,6 @@ pub bits_unreadable : (bytes : List ℕ) (offset : ℕ) → can_be_read bytes of
     → bits_from bytes offset ≡ []
 bits_unreadable bytes offset e = ap (λ b. bits_where b bytes offset) e
 
--- how many bits are left
 pub length_from : (bytes : List ℕ) (offset : ℕ) → can_be_read bytes offset ≡ true
     → length (bits_from bytes offset) ≡ 8 * length bytes - offset
 length_from bytes offset e =
@@ -111,7 +110,6 @@ bits_follow reading = record {
       dropped later more f;
 }
 
--- bits of which there are some can be read, and are within the bytes
 pub some_readable : (bytes : List ℕ) (offset : ℕ) (front rest : List Bool)
     → bits_from bytes offset ≡ front ++ rest → (bits : ℕ) → bits ≡ length front
     → (bits ≡ 0 → ⊥)

@@ -21,7 +21,7 @@ abbrev pub bit_number : Bool → ℕ
 bit_number true = 1
 bit_number false = 0
 
--- the number that bits stand for, of which the first is the greatest
+-- the number that bits encode, most significant bit first
 unfoldable pub number_of : List Bool → ℕ
 number_of [] = 0
 number_of (b ∷ bs) = bit_number b * 2 ^ length bs + number_of bs
@@ -106,7 +106,6 @@ number_append (x ∷ xs) ys =
     distributes : (b p q n m : ℕ) → b * (p * q) + (n * q + m) ≡ (b * p + n) * q + m
     distributes b p q n m = grind arith
 
--- that many bits stand for a number below so great a power
 pub number_below : (xs : List Bool) → number_of xs < 2 ^ length xs
 unfolding number_of
 number_below [] = omega arith

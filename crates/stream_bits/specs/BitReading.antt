@@ -13,7 +13,7 @@ use Rattle.stream_bits.specs.BitList.{bits_of, length_bits, length_low, low_bits
 abbrev pub byte_step : {S : Type 0} → Reading ℕ S → ℕ
 byte_step reading = (reading.advance no_place 1).passed
 
--- the place that many bits on, whether the stream stands inside a byte that is there or not
+-- the position after `bits` more bits, by whether the stream is inside a byte that exists
 abbrev pub moved : {S : Type 0} → Reading ℕ S → Bool → Place → ℕ → Place
 moved reading true p bits = record {
   passed = p.passed + (p.bits_read + bits) / 8 * byte_step reading;
@@ -21,8 +21,8 @@ moved reading true p bits = record {
 }
 moved reading false p bits = p
 
--- The place that many bits on: the bytes wholly passed move it as they do in the stream inside. A
--- place after more than seven bits of a byte stands still.
+-- The position after `bits` more bits. The bytes that are passed completely advance it as in the
+-- inner stream. A position after more than seven bits of a byte is unchanged.
 abbrev pub advance_bits : {S : Type 0} → Reading ℕ S → Place → ℕ → Place
 advance_bits reading p bits = moved reading (nat_lt p.bits_read 8) p bits
 
@@ -40,9 +40,10 @@ pub record ShowsBits {S : Type 0} (reading : Reading ℕ S) (slice : BitSlice S)
   pub counted : reading.units bytes ≡ length bytes
   pub bits : shown ≡ drop slice.1 (bits_of bytes ++ take slice.2 (low_bits 8 begun))
 
--- A slice that was cut from bits says where: how many bits of the first byte were read before it,
--- and how many of the byte after its bytes are read after it. Its bytes are those wholly passed:
--- none at a place after more than seven bits of a byte, which is not moved.
+-- A slice of bits holds its position: how many bits of the first byte were read before it, and how
+-- many of the byte after its bytes are read after it. Its bytes are those that are passed
+-- completely. There are none at a position after more than seven bits of a byte, which is
+-- unchanged.
 pub record StandsBetween {S : Type 0} (reading : Reading ℕ S) (bytes : List ℕ) (before units : ℕ)
     (slice : BitSlice S) (behind : ℕ) : Type 0 where
   pub begins : slice.1 ≡ before

@@ -81,9 +81,10 @@ begun_bits n (b ∷ bs) h k =
           ∙ take-append-le n (low_bits 8 b) (bits_of bs) fits,
     )
 
--- ---- a stream of bits of which some are passed
+-- ---- a stream of bits with some bits passed
 
--- The bytes `front` are passed inside, that many bits are passed, and that many of the next byte.
+-- `Moves reading i j offset bits`: after `offset` bits of the first byte, `bits` bits are passed.
+-- The bytes `front` are passed in the inner stream, and some bits of the next byte.
 pub record Moves {S : Type 0} (reading : Reading ℕ S) (i j : Input ℕ) (offset bits : ℕ)
     : Type 0 where
   pub counts : CountsBytes reading
@@ -181,7 +182,6 @@ module _ {S : Type 0} (reading : Reading ℕ S) (i j : Input ℕ) (offset bits :
             ∙ ap (λ l. drop offset (bits_of m.front ++ l)) begun.1;
       }
 
--- where a list of that many bits stands first, it is the one that is passed
 pub cut_bits : {S : Type 0} (reading : Reading ℕ S) (i j : Input ℕ) (offset bits : ℕ)
     → Moves reading i j offset bits → (slice : S)
     → ((front : List ℕ) → length front ≡ (offset + bits) / 8 → (rest : List ℕ)

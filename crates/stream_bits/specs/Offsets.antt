@@ -14,7 +14,8 @@ use Rattle.stream_bits.specs.BitList.{low_split}
 abbrev pub bytes_to_come : List (ℕ × ℕ) → List ℕ
 bytes_to_come bytes = map (λ x. x.1) bytes
 
--- the bits still to come: that many of a byte begun, and those of the bytes after it; or none
+-- the bits to come: the low `ahead` bits of the byte `begun`, and those of the bytes after it; or
+-- none
 abbrev pub bits_to_come : Bool → List (ℕ × ℕ) → ℕ → ℕ → List Bool
 bits_to_come true bytes begun ahead = low_bits ahead begun ++ bits_of (bytes_to_come bytes)
 bits_to_come false bytes begun ahead = []
@@ -47,7 +48,6 @@ length_to_come true bytes begun ahead =
     )
 length_to_come false bytes begun ahead = omega arith
 
--- the next bit of a byte begun
 pub next_bit : (possible : Bool) (bytes : List (ℕ × ℕ)) (begun ahead : ℕ) → possible ≡ true
     → (ahead ≡ 0 → ⊥)
     → bits_to_come possible bytes begun ahead
@@ -69,7 +69,6 @@ next_byte true bytes rest begun ahead offset b p none first =
     ∙ ap (λ l. bits_of (bytes_to_come l)) first ∙ bits_cons b (bytes_to_come rest)
 next_byte false bytes rest begun ahead offset b p none first = absurd (cc)
 
--- and where no byte is left there is none
 pub last_bit : (possible : Bool) (bytes : List (ℕ × ℕ)) (begun ahead : ℕ) → ahead ≡ 0
     → bytes ≡ [] → bits_to_come possible bytes begun ahead ≡ []
 last_bit true bytes begun ahead none nothing =
@@ -93,7 +92,8 @@ first_begun bytes rest offset b read inside first =
     (drop_at (low_bits read (b / 2 ^ (8 - read))) (low_bits (8 - read) b) read
     (length_low read (b / 2 ^ (8 - read)))))
 
--- A token with its offset, after others with theirs, stands after those tokens.
+-- `StandsAt all before start offset t`: in `all`, `t` follows the tokens of `before`. Its offset is
+-- `offset`, counted from `start`.
 pub record StandsAt {T : Type 0} (all : List T) (before : List (ℕ × T)) (start offset : ℕ) (t : T)
     : Type 0 where
   pub rest : List T

@@ -1,4 +1,4 @@
--- Bits within one byte, and bits of which none is passed.
+-- Bits within one byte, and bits with nothing passed.
 use Rattle.std.specs.Prelude.{◌≡◌, ℕ, ◌+◌, ◌*◌, ◌/◌, ◌%◌, ◌≤◌, ◌^◌, Bool, true, false}
 use Rattle.std.specs.Prelude.{List, [], ◌∷◌, ◌++◌, length, take, drop, ◌==◌}
 use Rattle.std.proofs.Common.{refl, sym, ap, subst, ◌∙◌, arith, length-append, length-drop}
@@ -71,7 +71,6 @@ shows_none reading slice offset shown = record {
       )));
 }
 
--- the bits of a byte from one bit on, that many of them
 pub within : (x offset count least : ℕ) → offset + count + least ≡ 8
     → take count (drop offset (low_bits 8 x)) ≡ low_bits count (x / 2 ^ least)
 within x offset count least fits =
@@ -114,7 +113,6 @@ pub record ReadsNumber {S : Type 0} (reading : Reading Bool S) (count : ℕ) (i 
   pub number : n ≡ number_of bits
   pub passes : Passes reading bits i j
 
--- a mask of that many ones
 pub one_shifted : (count : ℕ) → count ≤ 8 → 1 * 2 ^ count % 65536 ≡ 2 ^ count
 one_shifted count few =
     let small = pow_mono few in
@@ -161,7 +159,6 @@ module _ {S : Type 0} (reading : Reading ℕ S) (counts : CountsBytes reading) (
         passes = subst P behind (moves_pass reading i j offset count m);
       }
 
-  -- bits of a byte are read of which more are left
   pub reads_inside : (k : Input ℕ) → k ≡ i → (least ≡ 0 → ⊥)
       → ReadsNumber (bits_reading reading) count (bits_input i offset) n
       (bits_input k (offset + count))
@@ -186,7 +183,6 @@ module _ {S : Type 0} (reading : Reading ℕ S) (counts : CountsBytes reading) (
         passes = subst P behind (moves_pass reading i k offset count m);
       }
 
--- where no byte is left, no bit that can be read is
 pub no_byte : (bytes : List ℕ) (offset : ℕ) → can_be_read bytes offset ≡ true → bytes ≡ []
     → bits_from bytes offset ≡ []
 no_byte bytes offset readable none =
@@ -205,7 +201,6 @@ one_bit_number (b ∷ []) n one is = ap (λ x. x ∷ []) (bit b n (omega (arith,
     bit false n is = sym (ne_eqb n 1 (λ e. omega (arith, is, e)))
 one_bit_number (b ∷ c ∷ bits) n one is = absurd (omega arith)
 
--- nothing is after all
 pub nothing_behind : {T : Type 0} (all later : List T) → all ≡ all ++ later → later ≡ []
 nothing_behind all later e =
     nil_from_length later (omega (arith, ap (λ l. length l) e, length-append all later))

@@ -17,14 +17,16 @@ use streams::needed::Needed;
 use streams::stream::{Location, Stream, StreamIsPartial};
 use streams::token_test::TokenTest;
 
-/// The most bytes of which a number of 64 bits counts the bits.
+/// The maximum number of bytes whose bits a number of 64 bits counts.
 const MOST_BYTES: usize = usize::MAX / 8;
 
-/// The bits of a stream of bytes, each byte from its greatest bit on.
+/// The bits of a stream of bytes, the most significant bit of each byte first.
 ///
-/// The second field says how many bits of the first byte have been read. Offsets count bits. A
-/// value is impossible where that is 8 or more, or not 0 where no byte is left, or where there are
-/// more than `usize::MAX / 8` bytes: it has no bits left, and stays as it is.
+/// The second field is the number of bits of the first byte that have been read. Offsets count
+/// bits.
+///
+/// A value is impossible if that number is 8 or more, if it is not 0 and no byte remains, or if
+/// there are more than `usize::MAX / 8` bytes. It has no bits left, and does not change.
 ///
 /// ```
 /// let mut input = Bits(b"\x80".as_slice(), 0);
@@ -57,9 +59,9 @@ impl<I: ByteStream> Bits<I> {
         self.1 < 8 && (self.1 == 0 || 0 < bytes) && bytes <= MOST_BYTES
     }
 
-    /// The next `count` bits as a number, which are consumed; `None` where no byte is left.
+    /// Consumes the next `count` bits and returns them as a number, or `None` if no byte remains.
     ///
-    /// The caller owes a possible value, and that the bits stand in one byte.
+    /// The value must be possible, and the bits must be in one byte.
     ///
     /// ```
     /// assert_eq!(rt; Bits(b"\xAB".as_slice(), 4).next_of_byte(4), Some(0xB));

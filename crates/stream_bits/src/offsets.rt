@@ -31,7 +31,7 @@ pub struct BitOffsets<I: ByteStream> {
 }
 
 impl<I: ByteStream> BitOffsets<I> {
-    /// The bits of bytes, of which that many of the first byte were read.
+    /// Returns the bits of `bytes` after the first `read` bits of the first byte.
     #[inline(always)]
     pub(crate) fn new(bytes: I::IterOffsets, read: usize) -> BitOffsets<I>
         requires can { I.IterOffsets.can_next bytes }

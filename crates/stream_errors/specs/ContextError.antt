@@ -12,12 +12,12 @@ listed (Some contexts) = contexts.items
 abbrev pub contexts_of : {C A : Type 0} → ContextError C A → List C
 contexts_of e = listed e.contexts
 
--- whether a request for memory was refused
+-- whether memory allocation failed
 abbrev pub wants_memory : {C A : Type 0} → ContextError C A → Bool
 wants_memory e = e.is_memory
 
--- The context stands after the others, and the mark is as it was; or a request for memory was
--- refused, the contexts are as they were, and the error is marked.
+-- `IsPushed old context new`: the context follows the others, and the mark is unchanged; or memory
+-- allocation failed, the contexts are unchanged, and the error is marked.
 abbrev pub IsPushed : {C A : Type 0} → ContextError C A → C → ContextError C A → Type 0
 IsPushed old context new =
     ((contexts_of new ≡ contexts_of old ++ context ∷ []) × (wants_memory new ≡ wants_memory old))

@@ -5,7 +5,7 @@ use Rattle.streams.specs.Kind.{Kind, backtrack, memory}
 use Rattle.stream_errors.specs.declared.control.ControlError.{ControlError}
 use Rattle.stream_errors.specs.declared.control.ControlError.TheVariants.{NoMemory, Refused}
 
--- refused is backtrack
+-- `Refused` is a backtrack
 abbrev pub control_kind : ControlError → Kind
 control_kind Refused = backtrack
 control_kind NoMemory = memory

@@ -6,7 +6,7 @@ use Rattle.stream_errors.specs.declared.fault.ParseError.{ParseError}
 abbrev pub refused_input : {I E : Type 0} → ParseError I E → I
 refused_input e = e.input
 
--- how many units stand before the place of the failure
+-- the offset of the failure, in units
 abbrev pub refused_offset : {I E : Type 0} → ParseError I E → ℕ
 refused_offset e = e.offset
 

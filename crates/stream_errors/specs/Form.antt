@@ -10,12 +10,12 @@ abbrev pub assert_kind : ErrorForm → Kind
 assert_kind plain = backtrack
 assert_kind modal = cut
 
--- the kind of an error for want of that many units
+-- the kind of an error that needs `need` more units
 abbrev pub incomplete_kind : ErrorForm → Option ℕ → Kind
 incomplete_kind plain need = backtrack
 incomplete_kind modal need = incomplete need
 
--- the kind of a plain error by its mark: whether a request for memory was refused
+-- the kind of a plain error by its mark: whether memory allocation failed
 abbrev pub marked_kind : Bool → Kind
 marked_kind true = memory
 marked_kind false = backtrack
@@ -34,7 +34,7 @@ need_of_kind cut = None
 need_of_kind (incomplete need) = Some need
 need_of_kind memory = None
 
--- What a run answers: an output, or the kind of its error.
+-- The result of a call: an output, or the kind of its error.
 abbrev pub Answer : Type 0 → Type 0
 Answer O = Result O Kind
 

@@ -1,4 +1,4 @@
--- What becomes of a kind where something is kept in an error: a context, or the error of another.
+-- The kind of an error after something is stored in it: a context, or another error.
 use Rattle.std.specs.Prelude.{◌≡◌, ◌⊎◌, Bool, true, false, IsSome, IsTrue, None}
 use Rattle.std.proofs.Common.{refl, ap, inl, inr}
 use Rattle.streams.specs.Kind.{ErrorForm, Kind, backtrack, cut, incomplete, memory, modal, plain}
@@ -14,7 +14,7 @@ pub record Keeping : Type 0 where
 abbrev pub always_kept : Keeping
 always_kept = record { kept = true; refused = false }
 
--- it is kept, or a request for memory is refused
+-- it is stored, or memory allocation fails
 abbrev pub kept_or_refused : Keeping
 kept_or_refused = record { kept = true; refused = true }
 
@@ -25,20 +25,20 @@ KindGiven keeping promised kind =
     (IsTrue keeping.kept × (kind ≡ promised))
     ⊎ (IsTrue keeping.refused × (kind ≡ memory))
 
--- What adding a context leaves of a kind, by the form of the errors: an incomplete error keeps
--- none, and stays; each other keeps it, or was refused memory.
+-- `KeepsContext form keeping old new`: the kind `old` becomes `new` by adding a context. An
+-- incomplete error stores no context, and is unchanged. Every other error stores it, or fails to
+-- allocate.
 abbrev pub KeepsContext : ErrorForm → Keeping → Kind → Kind → Type 0
 KeepsContext form keeping old new =
     ((form ≡ modal) × IsSome (need_of_kind old) × (new ≡ old))
     ⊎ ((need_of_kind old ≡ None) × KindGiven keeping old new)
 
--- what the inner error says of a context says the error with a mode round it; an inner error that
--- has a mode itself may be incomplete, and keep none
+-- the storing of a context by an error with a mode, which is that of its inner error; an inner
+-- error that has a mode itself may be incomplete, and store nothing
 abbrev pub round_keeping : ErrorForm → Keeping → Keeping
 round_keeping plain keeping = keeping
 round_keeping modal keeping = record keeping { kept = true }
 
--- the one is refused memory where the other is
 pub round_refused : (form : ErrorForm) (keeping : Keeping)
     → IsTrue (round_keeping form keeping).refused → IsTrue keeping.refused
 round_refused plain keeping told = told
@@ -111,7 +111,6 @@ pub context_kept : {form : ErrorForm} {keeping : Keeping} (old new : Bool) → I
     → new ≡ old → KeepsContext form keeping (marked_kind old) (marked_kind new)
 context_kept old new kept same = inr (marked_whole old, inl (kept, ap marked_kind same))
 
--- ... and was refused memory where it is marked
 pub context_refused : {form : ErrorForm} {keeping : Keeping} (old new : Bool)
     → IsTrue keeping.refused → new ≡ true
     → KeepsContext form keeping (marked_kind old) (marked_kind new)

@@ -1,4 +1,4 @@
--- What a growth answers.
+-- The result of a growth.
 use Rattle.std.specs.Prelude.{Option, Some, None, Result, Ok, Err}
 
 -- the value, unless there is an error in its place

@@ -1,4 +1,4 @@
--- What becomes of the kinds of two errors that are joined.
+-- The kind of two joined errors.
 use Rattle.std.specs.Prelude.{◌≡◌, ◌⊎◌, None}
 use Rattle.std.proofs.Common.{refl, ap, inl, inr}
 use Rattle.streams.specs.Kind.{Kind, backtrack, cut, incomplete, memory}
@@ -8,8 +8,8 @@ use Rattle.stream_errors.specs.Mode.{mode_round}
 use Rattle.stream_errors.specs.declared.mode.ErrMode.{ErrMode}
 use Rattle.stream_errors.specs.declared.mode.ErrMode.TheVariants.{Backtrack, Cut, Incomplete}
 
--- Want of memory stays; else an error is incomplete where one was, as the first of two; else it
--- cuts where one did.
+-- The kind of two joined errors. It is out of memory if one is. Otherwise it is incomplete if one
+-- is, as the first of two. Otherwise it is a cut if one is.
 abbrev pub joint_kind : Kind → Kind → Kind
 joint_kind memory other = memory
 joint_kind backtrack other = other
@@ -67,13 +67,13 @@ is_cut promised kind (inr (is, grew)) = inr (ap (mode_round cut) is, grew)
 
 pub ruleset joins_round = (is_backtrack, is_cut)
 
--- an error with a mode asks for memory where its inner error does
+-- an error with a mode allocates if its inner error does
 abbrev pub inner_grows : {E : Type 0} → (E → Type 0) → ErrMode E Needed → Type 0
 inner_grows grows (Backtrack e) = grows e
 inner_grows grows (Cut e) = grows e
 inner_grows grows (Incomplete needed) = ⊥
 
--- two errors with a mode ask for memory where both backtrack and their inner errors do
+-- two errors with a mode allocate if both backtrack and their inner errors allocate
 abbrev pub inner_join_grows : {E : Type 0} → (E → E → Type 0) → ErrMode E Needed
     → ErrMode E Needed → Type 0
 inner_join_grows grows (Backtrack first) (Backtrack second) = grows first second

@@ -37,7 +37,7 @@ backtrack_of cut = backtrack
 backtrack_of (incomplete need) = incomplete need
 backtrack_of memory = memory
 
--- The mode is kept, and its inner error is what one call made of the old one.
+-- The mode is unchanged, and the inner error is the result of one call for the old one.
 abbrev pub MapsMode : {E F N : Type 0} → (E → F → Type 0) → ErrMode E N → ErrMode F N → Type 0
 MapsMode {E} {F} {N} step (Backtrack e) new = (f : F) × step e f × (new ≡ Backtrack f)
 MapsMode {E} {F} {N} step (Cut e) new = (f : F) × step e f × (new ≡ Cut f)

@@ -1,4 +1,4 @@
--- What recording an error does to a stream.
+-- The effect of recording an error on a stream.
 use Rattle.std.specs.Prelude.{◌≡◌, ◌⊎◌, Bool, true, false, [], ◌∷◌, ◌++◌, Result, MatchResult}
 use Rattle.streams.specs.Input.{Input}
 use Rattle.streams.specs.Kind.{Kind, memory}
@@ -8,9 +8,9 @@ abbrev pub with_recorded : {T : Type 0} → Input T → Kind → Input T
 with_recorded i kind =
     record i { status = record i.status { recorded = i.status.recorded ++ kind ∷ [] } }
 
--- A stream that records errors has the kind after those recorded before; or a request for memory
--- was refused, of which the error tells that is given back. One that records none gives the error
--- itself back. Where an error is given back, the stream is as it was.
+-- A stream that records errors has the kind after those recorded before; or memory allocation
+-- failed, and the returned error reports that. A stream that records nothing returns the error
+-- itself. If an error is returned, the stream is unchanged.
 abbrev pub Records : {E T : Type 0} → Bool → (E → Kind) → E → Input T → Result (Unit {0}) E
     → Input T → Type 0
 Records supports kind error before answer after = MatchResult answer

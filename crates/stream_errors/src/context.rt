@@ -11,7 +11,8 @@ use crate::mode::ErrMode;
 use std::alloc::Allocator;
 use streams::stream::Stream;
 
-/// An error that can be told what was being parsed. The list of contexts grows by an allocator.
+/// An error to which contexts can be added, which describe the input being parsed. The list of
+/// contexts grows by an allocator.
 ///
 /// ```
 /// let input = "a";
@@ -21,19 +22,19 @@ use streams::stream::Stream;
 /// assert_eq!(rt; told.context(), ["number"].as_slice());
 /// ```
 pub trait AddContext<I: Stream, C, A: Allocator>: HasKind {
-    // Whether keeping a context asks for memory.
+    // Whether storing a context allocates.
     ghost context_grows: { Bool };
 
     // Whether a context can be kept, and whether keeping it can be refused memory.
     ghost context_gives: { C → Keeping };
 
-    // Memory is refused only where keeping a context asks for it.
+    // Memory allocation fails only if storing a context allocates.
     ghost context_asks: { (context : C) → IsTrue (context_gives context).refused
         → IsTrue context_grows };
 
-    /// The error with one context more, of a parser that began at `token_start`. The kind stays;
-    /// only where keeping the context asks for memory can it be out of memory instead, and an
-    /// incomplete error keeps none.
+    /// Returns the error with one more context, of a parser that began at `token_start`. The kind
+    /// is unchanged. It can become out of memory only if storing the context allocates. An
+    /// incomplete error stores no context.
     fn add_context(self, alloc: A, input: &I, token_start: &I::Checkpoint, context: C) -> Self
         ensures kind { KeepsKind (IsTrue context_grows) (Self.kind self) (Self.kind result) }
         ensures kept { KeepsContext Self.form (context_gives context) (Self.kind self)

@@ -43,7 +43,7 @@ impl<C, A: Allocator> ContextError<C, A> {
         }
     }
 
-    /// Whether a request for memory was refused.
+    /// Whether memory allocation failed.
     #[inline(always)]
     pub(crate) fn wants_memory(&self) -> bool
         ensures { result ≡ self.now.is_memory }
@@ -60,8 +60,8 @@ impl<C, A: Allocator> ContextError<C, A> {
             None => &[],
         }
     }
-    /// Puts a context after the others. Where a request for memory is refused, the contexts stay,
-    /// and the error is marked: its kind is memory from then on.
+    /// Appends a context. If an allocation fails, the contexts are unchanged, and the error is
+    /// marked: from then on its kind is memory.
     pub fn push(&mut self, alloc: A, context: C)
     where
         C: Drop,

@@ -13,8 +13,8 @@ use std::alloc::Allocator;
 use streams::needed::Needed;
 use streams::stream::Stream;
 
-/// A plain error of a parser that says only whether something stands at a place, as the control
-/// character of an escape does.
+/// A plain error of a parser that only tests whether the input starts with something, as the
+/// control character of an escape does.
 ///
 /// ```
 /// assert!(rt; ParserError::<&[u8]>::is_backtrack(&ControlError::Refused));
@@ -22,9 +22,9 @@ use streams::stream::Stream;
 /// ```
 #[derive(Clone, Copy, Debug, PartialEq, Eq)]
 pub enum ControlError {
-    /// It does not stand there: the error backtracks.
+    /// The input does not start with it: the error backtracks.
     Refused,
-    /// A request for memory was refused.
+    /// Memory allocation failed.
     NoMemory,
 }
 

@@ -32,7 +32,7 @@ pub trait ErrorConvert<E: HasKind>: HasKind {
 /// assert_eq!(rt; same, b"ab".as_slice());
 /// ```
 pub trait ConvertInput<J> {
-    // What may be made of an input.
+    // The possible results of converting an input.
     ghost converts: { Self → J → Type 0 };
 
     /// The other input.

@@ -1,4 +1,4 @@
-//! An error that says nothing.
+//! An error without information.
 ghost use Rattle.std.specs.Prelude.{◌≡◌, if◌then◌else◌};
 ghost use Rattle.streams.specs.Kind.{Kind};
 ghost use Rattle.stream_errors.specs.Form.{marked_kind, plain};
@@ -9,7 +9,7 @@ use crate::parser_error::ParserError;
 use streams::needed::Needed;
 use streams::stream::Stream;
 
-/// A plain error that keeps nothing but whether memory was wanted.
+/// A plain error that stores only whether memory allocation failed.
 ///
 /// ```
 /// let error = EmptyError::from_input(&"ab");
@@ -21,7 +21,7 @@ pub struct EmptyError {
 }
 
 impl EmptyError {
-    /// Whether a request for memory was refused.
+    /// Whether memory allocation failed.
     #[inline(always)]
     pub(crate) fn wants_memory(&self) -> bool
         ensures { result ≡ self.now.is_memory }

@@ -18,18 +18,18 @@ use streams::stream::Stream;
 /// assert!(rt; ParserError::<&str>::is_backtrack(&error));
 /// ```
 pub trait FromExternalError<I: Stream, E>: HasKind {
-    // Whether keeping the other error asks for memory.
+    // Whether storing the other error allocates.
     ghost external_grows: { Bool };
 
     // Whether an error can be kept, and whether keeping it can be refused memory.
     ghost external_gives: { E → Keeping };
 
-    // Memory is refused only where keeping the other error asks for it.
+    // Memory allocation fails only if storing the other error allocates.
     ghost external_asks: { (error : E) → IsTrue (external_gives error).refused
         → IsTrue external_grows };
 
-    /// A backtracking error at the place of `input`, for `error`. Only where keeping that asks for
-    /// memory can it be out of memory instead.
+    /// Returns a backtracking error at the offset of `input`, for `error`. It can be out of memory
+    /// instead only if storing `error` allocates.
     fn from_external_error(input: &I, error: E) -> Self
         ensures kind { IsOrMemory backtrack (IsTrue external_grows) (Self.kind result) }
         ensures given { KindGiven (external_gives error) backtrack (Self.kind result) };

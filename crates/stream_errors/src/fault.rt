@@ -1,11 +1,11 @@
-//! The faults of a whole parse.
+//! The errors of a whole parse.
 ghost use Rattle.std.specs.Prelude.{◌≡◌, ◌+◌};
 ghost use Rattle.streams.specs.Input.{Remains, back_at};
 
 use streams::needed::Needed;
 use streams::stream::Stream;
 
-/// Where and why a whole parse refuses its input.
+/// The error of a whole parse, with its offset.
 ///
 /// ```
 /// match Parser::<_, &str, EmptyError>::parse(&mut Digit1, "12a") {
@@ -26,8 +26,8 @@ pub struct ParseError<I, E> {
 impl<I, E> ParseError<I, E> {
     ghost use Rattle.stream_errors.specs.Fault.{refused_input, refused_offset, refused_inner};
 
-    /// The fault at the place where `input` stands; the input goes back to `start`. The caller
-    /// owes an earlier place of this input.
+    /// Returns the error at the current offset of `input`, and resets the input to `start`. `start`
+    /// must be an earlier position of this input.
     pub fn new(input: I, start: I::Checkpoint, inner: E) -> ParseError<I, E>
     where
         I: Stream,
@@ -90,8 +90,8 @@ impl<I, E> ParseError<I, E> {
 /// Why a whole parse gives no output. `N` is [`Needed`] wherever it is used.
 #[derive(Debug, PartialEq, Drop)]
 pub enum ParseFault<I, E, N = Needed> {
-    /// The input is refused at a place.
+    /// The input is invalid at an offset.
     Refused(ParseError<I, E>),
-    /// A parser asked for more of an input that is whole.
+    /// A parser needed more input, although the input is complete.
     Incomplete(N),
 }

@@ -7,11 +7,11 @@ use crate::parser_error::ParserError;
 use std::alloc::{AllocError, AllocFailed};
 use streams::stream::Stream;
 
-/// What a growth answers, with its error as one of a parser. winnow has no such trait, since it
-/// ends the process where memory is wanted.
+/// The result of a growth, with its error as one of a parser. winnow has no such trait, since it
+/// ends the process if an allocation fails.
 ///
-/// There is no `From` in its place: with a second one `?` could not tell which error type the
-/// parser before it has.
+/// It is not a `From`: with a second one, `?` could not determine the error type of the parser
+/// before it.
 ///
 /// ```
 /// let mut list = Vec::new(alloc);
@@ -20,10 +20,11 @@ use streams::stream::Stream;
 /// assert_eq!(rt; list.as_slice(), b"a".as_slice());
 /// ```
 pub trait OrNoMemory<T> {
-    // What was answered, unless memory was refused.
+    // The value, unless memory allocation failed.
     ghost answered: { Self → Option T };
 
-    /// What was answered; want of memory, at the place of `input`, where a request was refused.
+    /// Returns the value, or an out-of-memory error at the offset of `input` if an allocation
+    /// failed.
     fn or_no_memory<I: Stream, E: ParserError<I>>(self, input: &I) -> Result<T, E>
         ensures { MatchResult result (λ value. answered self ≡ Some value)
             (λ error. (answered self ≡ None) × (E.kind error ≡ memory)) };

@@ -1,3 +1,3 @@
-//! What contracts see of an error. The trait stands in the crate `streams`, since a stream that
-//! records errors shows their kinds.
+//! The kinds of errors, on which contracts depend. The trait is in the crate `streams`, since a
+//! stream that records errors shows their kinds.
 pub use streams::has_kind::HasKind;

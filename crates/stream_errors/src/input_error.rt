@@ -1,4 +1,4 @@
-//! An error with the input at its place.
+//! An error with the input where it occurred.
 ghost use Rattle.std.specs.Prelude.{◌≡◌, false, refl, if◌then◌else◌};
 ghost use Rattle.streams.specs.Kind.{Kind};
 ghost use Rattle.stream_errors.specs.Form.{marked_kind, plain};
@@ -34,7 +34,7 @@ impl<I> InputError<I> {
         }
     }
 
-    /// Whether a request for memory was refused.
+    /// Whether memory allocation failed.
     #[inline(always)]
     pub(crate) fn wants_memory(&self) -> bool
         ensures { result ≡ self.now.is_memory }

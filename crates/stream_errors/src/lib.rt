@@ -1,8 +1,8 @@
-//! Errors of parsers: their kinds, and the faults of a whole parse.
+//! Errors of parsers: their kinds, and the errors of a whole parse.
 //!
-//! Contracts see an error by its kind alone: backtrack, cut, incomplete with its need, or want of
-//! memory (`Kind` of the crate `streams`). A plain error type has backtrack and memory only;
-//! [`ErrMode`](crate::mode::ErrMode) round it has all four.
+//! Contracts depend only on the kind of an error: backtrack, cut, incomplete with its need, or out
+//! of memory (`Kind` of the crate `streams`). A plain error type has backtrack and memory only;
+//! [`ErrMode`](crate::mode::ErrMode) around it has all four.
 #![tactic(auto)]
 
 pub mod context;

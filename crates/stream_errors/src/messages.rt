@@ -15,14 +15,14 @@ use streams::partial::Partial;
 use streams::stream::Stream;
 use text_positions::excerpt::Excerpt;
 
-/// An input whose line can be shown: bytes, text, and a stream round them. winnow asks for `AsBStr`
-/// there.
+/// An input whose line can be shown: bytes, text, and a stream around them. winnow requires
+/// `AsBStr` there.
 ///
 /// ```
 /// assert_eq!(rt; "größe".shown_bytes(), "größe".as_bytes());
 /// ```
 pub trait ShownBytes {
-    /// The bytes of the input, from where it stands.
+    /// Returns the remaining bytes of the input.
     fn shown_bytes(&self) -> &[u8];
 }
 
@@ -50,7 +50,7 @@ impl<I: Stream + ShownBytes> ShownBytes for Partial<I> {
     }
 }
 
-/// The line of the place with a caret under it, and below that the inner error.
+/// The line of the error with a caret under its position, and below that the inner error.
 impl<I: ShownBytes, E: Display> Display for ParseError<I, E> {
     fn fmt<W: fmt::Write>(&self, f: &mut fmt::Formatter<W>) -> fmt::Result {
         let excerpt = Excerpt::new(self.input().shown_bytes(), self.offset());
@@ -69,8 +69,8 @@ impl<I: ShownBytes, E: Display> Display for ParseFault<I, E> {
     }
 }
 
-/// What was expected, which is the innermost context, and then in what, as
-/// `expected a number in a setting`. Nothing is written where there is no context.
+/// The innermost context as the expected item, and then the outer ones, as `expected a number in a
+/// setting`. Nothing is written if there is no context.
 impl<C: Display, A: Allocator> Display for ContextError<C, A> {
     fn fmt<W: fmt::Write>(&self, f: &mut fmt::Formatter<W>) -> fmt::Result {
         if self.wants_memory() {

@@ -5,7 +5,7 @@ ghost use Rattle.stream_errors.specs.Mode.{cut_of, backtrack_of};
 use crate::has_kind::HasKind;
 use crate::mode::ErrMode;
 
-/// An error that says whether other branches may be tried, and can be told.
+/// An error that determines whether other branches may be tried, and can change that.
 ///
 /// ```
 /// let error = EmptyError::from_input(&"");
@@ -13,12 +13,13 @@ use crate::mode::ErrMode;
 /// assert_eq!(rt; ErrMode::Cut(error).backtrack(), ErrMode::Backtrack(error));
 /// ```
 pub trait ModalError: HasKind {
-    /// The error, such that no other branch is tried. Incomplete stays, and so does want of memory.
+    /// Changes the error such that no other branch is tried. Incomplete and out of memory are
+    /// unchanged.
     fn cut(self) -> Self
         ensures { Self.kind result ≡ cut_of (Self.kind self) };
 
-    /// The error, such that another branch may be tried. Incomplete stays, and so does want of
-    /// memory.
+    /// Changes the error such that another branch may be tried. Incomplete and out of memory are
+    /// unchanged.
     fn backtrack(self) -> Self
         ensures { Self.kind result ≡ backtrack_of (Self.kind self) };
 }

@@ -11,9 +11,9 @@ use crate::parser_error::ParserError;
 use streams::needed::Needed;
 use streams::stream::Stream;
 
-/// An error with how the parsers around it take it.
+/// An error with the way in which the parsers around it treat it.
 ///
-/// Its kind is memory where the inner error is marked so, else that of the variant. `N` is
+/// Its kind is memory if the inner error is marked so. Otherwise it is that of the variant. `N` is
 /// [`Needed`] wherever the error is used.
 ///
 /// ```
@@ -26,12 +26,12 @@ pub enum ErrMode<E, N = Needed> {
     Backtrack(E),
     /// No other branch is tried.
     Cut(E),
-    /// More input may change the answer.
+    /// More input may change the result.
     Incomplete(N),
 }
 
 impl<E, N> ErrMode<E, N> {
-    /// The same mode, round what `f` makes of the inner error. `f` is called once, and not for an
+    /// Applies `f` to the inner error, and keeps the mode. `f` is called once, and not for an
     /// incomplete error.
     #[inline(always)]
     pub fn map<F, G: FnOnce(E) -> F + Drop>(self, f: G) -> ErrMode<F, N>

@@ -11,11 +11,11 @@ use crate::has_kind::HasKind;
 use streams::needed::Needed;
 use streams::stream::Stream;
 
-/// What parsers ask of their error type, as winnow's documentation has it.
+/// The requirements of parsers on their error type, as in winnow's documentation.
 ///
-/// Contracts see an error by its kind alone. A plain error type has the kinds backtrack and
-/// memory, a modal one, as [`ErrMode`](crate::mode::ErrMode), all four. Kind memory says that a
-/// request for memory was refused; no parser backtracks over it.
+/// Contracts depend only on the kind of an error. A plain error type has the kinds backtrack and
+/// memory, a modal one, as [`ErrMode`](crate::mode::ErrMode), all four. Kind memory means that
+/// memory allocation failed; no parser backtracks over it.
 ///
 /// ```
 /// let plain = EmptyError::assert(&"", "why");
@@ -30,13 +30,13 @@ pub trait ParserError<I: Stream>: HasKind + Drop {
     // The kind of an inner error.
     ghost inner_kind: { Self.Inner → Kind };
 
-    // The pairs whose joining asks for memory.
+    // The pairs of errors whose joining allocates.
     ghost or_grows: { Self → Self → Type 0 };
 
-    // The errors that ask for memory to add a place.
+    // The errors that allocate to add a position.
     ghost append_grows: { Self → Type 0 };
 
-    /// A backtracking error at the place of `input`.
+    /// Returns a backtracking error at the offset of `input`.
     fn from_input(input: &I) -> Self
         ensures { Self.kind result ≡ backtrack };
 
@@ -49,19 +49,19 @@ pub trait ParserError<I: Stream>: HasKind + Drop {
     fn incomplete(input: &I, needed: Needed) -> Self
         ensures { Self.kind result ≡ incomplete_kind Self.form (need_of needed) };
 
-    /// The error for want of memory.
+    /// Returns the out-of-memory error.
     fn no_memory(input: &I) -> Self
         ensures { Self.kind result ≡ memory };
 
-    /// Joins the errors of two branches. Two that backtrack give one that does. Want of memory on
-    /// either side stays; else the error is incomplete where one was, as the first of two; else it
-    /// cuts where one did. Only where joining asks for memory can it also be out of memory.
+    /// Joins the errors of two branches. Two that backtrack give one that does. The result is out
+    /// of memory if either is. Otherwise it is incomplete if one is, as the first of two. Otherwise
+    /// it is a cut if one is. It can also be out of memory if joining allocates, but only then.
     fn or(self, other: Self) -> Self
         ensures { IsOrMemory (joint_kind (Self.kind self) (Self.kind other))
             (or_grows self other) (Self.kind result) };
 
-    /// Adds the place of an enclosing parser. The kind stays; only where that asks for memory can
-    /// it be out of memory instead.
+    /// Adds the position of an enclosing parser. The kind is unchanged. It can become out of memory
+    /// only if adding the position allocates.
     fn append(self, input: &I, token_start: &I::Checkpoint) -> Self
         ensures { IsOrMemory (Self.kind self) (append_grows self) (Self.kind result) };
 
@@ -69,11 +69,11 @@ pub trait ParserError<I: Stream>: HasKind + Drop {
     fn is_backtrack(&self) -> bool
         ensures { IsTrue result ↔ (Self.kind self.now ≡ backtrack) };
 
-    /// Whether more input may change the answer.
+    /// Returns whether more input may change the result.
     fn is_incomplete(&self) -> bool
         ensures { IsTrue result ↔ IsSome (need_of_kind (Self.kind self.now)) };
 
-    /// Whether a request for memory was refused.
+    /// Whether memory allocation failed.
     fn is_memory(&self) -> bool
         ensures { IsTrue result ↔ (Self.kind self.now ≡ memory) };
 

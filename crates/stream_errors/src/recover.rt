@@ -18,9 +18,9 @@ pub trait Recover<E: HasKind>: Stream {
     ghost supports_recovery: { Bool };
 
     /// Records an error of a parser that began at `token_start` and failed at `err_start`, after
-    /// those recorded before; nothing else of the stream changes. Where memory for that is refused
-    /// it answers out of memory, and a stream without recovery hands `err` back: both leave the
-    /// stream as it was.
+    /// those recorded before. Nothing else of the stream changes. If an allocation for that fails,
+    /// the error is out of memory. A stream without recovery returns `err`. Both leave the stream
+    /// unchanged.
     fn record_err(
         &mut self,
         token_start: &Self::Checkpoint,

@@ -21,12 +21,12 @@ use streams::stream::Stream;
 /// assert_eq!(rt; kept, error);
 /// ```
 pub trait FromRecoverableError<I: Stream, E: HasKind>: HasKind {
-    // Whether keeping the error asks for memory.
+    // Whether storing the error allocates.
     ghost recoverable_grows: { Bool };
 
-    /// The error for `error`, of a parser that began at `token_start` and failed at `err_start`.
-    /// The kind stays; only where keeping the error asks for memory can it be out of memory
-    /// instead.
+    /// Returns the error for `error`, of a parser that began at `token_start` and failed at
+    /// `err_start`. The kind is unchanged. It can become out of memory only if storing the error
+    /// allocates.
     fn from_recoverable_error(
         token_start: &I::Checkpoint,
         err_start: &I::Checkpoint,

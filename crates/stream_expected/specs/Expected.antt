@@ -6,7 +6,7 @@ use Rattle.stream_errors.specs.Form.{marked_kind}
 use Rattle.stream_errors.specs.Join.{IsOrMemory, joint_kind}
 use Rattle.stream_expected.specs.declared.expected.ExpectedError.{ExpectedError}
 
--- what was expected at the place of the error, a branch after the other
+-- the items that were expected at the offset of the error, branch by branch
 abbrev pub expected_of : {C A : Type 0} → ExpectedError C A → List C
 expected_of e = listed e.expected
 
@@ -14,14 +14,13 @@ expected_of e = listed e.expected
 abbrev pub within_of : {C A : Type 0} → ExpectedError C A → List C
 within_of e = listed e.within
 
--- whether a request for memory was refused
+-- whether memory allocation failed
 abbrev pub refused_memory : {C A : Type 0} → ExpectedError C A → Bool
 refused_memory e = e.is_memory
 
--- Of two errors what either expected is kept, in order, and in what it was is let go; or a request
--- for memory was refused by the joining. Where one of them was refused memory, the first that was
--- is
--- left as it is.
+-- `KeepsBoth first second joined`: `joined` has the expected items of both, in order, and no outer
+-- contexts; or the joining failed to allocate. If one of them is out of memory already, the first
+-- that is stays unchanged.
 abbrev pub KeepsBoth : {C A : Type 0} → ExpectedError C A → ExpectedError C A → ExpectedError C A
     → Type 0
 KeepsBoth first second joined =
@@ -33,8 +32,8 @@ KeepsBoth first second joined =
     × (refused_memory joined ≡ false))
     ⊎ (refused_memory joined ≡ true)))
 
--- The first context that an error is given is what was expected, and each further one says in what;
--- or a request for memory was refused, and what was said before is kept.
+-- `IsGiven old context new`: the first context of an error is the expected item, and each later one
+-- is an outer context; or memory allocation failed, and the old contexts are kept.
 abbrev pub IsGiven : {C A : Type 0} → ExpectedError C A → C → ExpectedError C A → Type 0
 IsGiven old context new =
     ((expected_of old ≡ []) × (expected_of new ≡ context ∷ []) × (within_of new ≡ within_of old)
@@ -45,7 +44,7 @@ IsGiven old context new =
     ⊎ ((expected_of new ≡ expected_of old) × (within_of new ≡ within_of old)
     × (refused_memory new ≡ true))
 
--- the kind of two errors that are joined, by their marks: where the first was refused memory, ...
+-- the kind of two joined errors, by their marks: if the first is out of memory, ...
 first_kind : (first second joined : Bool) → first ≡ true → joined ≡ first
     → IsOrMemory (joint_kind (marked_kind first) (marked_kind second)) ⊤ (marked_kind joined)
 first_kind true second true is same = inl refl

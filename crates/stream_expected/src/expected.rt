@@ -20,12 +20,12 @@ use stream_errors::recoverable::FromRecoverableError;
 use streams::needed::Needed;
 use streams::stream::Stream;
 
-/// A plain error that keeps what several branches expected, where
-/// [`ContextError`](stream_errors::context_error::ContextError) keeps the contexts of the last.
-/// winnow has no such type.
+/// A plain error that stores the items that several branches expected.
+/// [`ContextError`](stream_errors::context_error::ContextError) stores only the contexts of the
+/// last one. winnow has no such type.
 ///
-/// The first context that an error is given says what was expected, each further one in what.
-/// `alt` answers the error of its last branch; a choice by hand joins those of all.
+/// The first context of an error is the expected item, each later one an outer context. `alt`
+/// returns the error of its last branch; a choice that is written by hand can join those of all.
 ///
 /// ```
 /// let mut error = ExpectedError::new();
@@ -45,7 +45,7 @@ pub struct ExpectedError<C, A: Allocator = Global> {
 }
 
 impl<C, A: Allocator> ExpectedError<C, A> {
-    /// A backtracking error that says nothing.
+    /// Returns a backtracking error without contexts.
     #[inline(always)]
     pub fn new() -> ExpectedError<C, A>
         ensures expected { expected_of result ≡ [] }
@@ -59,7 +59,7 @@ impl<C, A: Allocator> ExpectedError<C, A> {
         }
     }
 
-    /// What was expected, the first branch's first.
+    /// Returns the expected items, those of the first branch first.
     pub fn expected(&self) -> &[C]
         ensures { result.now ≡ expected_of self.now }
     {
@@ -79,8 +79,9 @@ impl<C, A: Allocator> ExpectedError<C, A> {
         }
     }
 
-    /// Says what was expected, or in what where that is said already. Where a request for memory
-    /// is refused what was said before stays, and the kind of the error is memory from then on.
+    /// Adds the expected item, or an outer context if there is an expected item already. If an
+    /// allocation fails, the contexts are unchanged, and from then on the kind of the error is
+    /// memory.
     pub fn push(&mut self, alloc: A, context: C)
     where
         C: Drop,
@@ -104,9 +105,9 @@ impl<C, A: Allocator> ExpectedError<C, A> {
         self.within = Some(within);
     }
 
-    /// The error of two branches, with what either expected, as `or` makes it. In what only one
-    /// of them stood is let go. Where one of them was refused memory, the first that was is
-    /// answered as it is.
+    /// Joins the errors of two branches, with the expected items of both, as `or` does. Their outer
+    /// contexts, each of one branch only, are dropped. If one of them is out of memory, the first
+    /// that is is returned unchanged.
     pub fn joined(self, other: ExpectedError<C, A>) -> ExpectedError<C, A>
     where
         C: Drop,
@@ -128,7 +129,7 @@ impl<C, A: Allocator> ExpectedError<C, A> {
     }
 }
 
-/// One list after the other, and whether a request for memory was refused.
+/// Concatenates two lists, and returns whether memory allocation failed.
 fn listed_behind<C: Drop, A: Allocator>(
     first: Option<Vec<C, A>>,
     second: Option<Vec<C, A>>,
@@ -293,7 +294,8 @@ impl<I: Stream, C, A: Allocator> FromRecoverableError<I, ExpectedError<C, A>>
     }
 }
 
-/// What was expected, and then in what, as `expected a switch, a number or a text in a value`.
+/// The expected items, and then the outer contexts, as `expected a switch, a number or a text in a
+/// value`.
 impl<C: Display, A: Allocator> Display for ExpectedError<C, A> {
     fn fmt<W: fmt::Write>(&self, f: &mut fmt::Formatter<W>) -> fmt::Result {
         if self.is_memory {

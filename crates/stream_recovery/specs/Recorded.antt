@@ -1,4 +1,4 @@
--- What is seen of a stream that records errors.
+-- The view of a stream that records errors.
 use Rattle.std.specs.Prelude.{List, ◌++◌, map}
 use Rattle.streams.specs.Input.{Input, Status}
 use Rattle.streams.specs.Kind.{Kind}

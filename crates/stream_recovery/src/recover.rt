@@ -8,9 +8,9 @@ use stream_errors::recover::Recover;
 use stream_errors::recoverable::FromRecoverableError;
 use streams::stream::Stream;
 
-/// What is recorded is made of the error by
-/// [`from_recoverable_error`](stream_errors::recoverable::FromRecoverableError). Where that, or the
-/// list of errors, finds no memory, nothing is recorded, and out of memory is answered.
+/// The recorded value is made from the error by
+/// [`from_recoverable_error`](stream_errors::recoverable::FromRecoverableError). If that, or the
+/// list of errors, fails to allocate, nothing is recorded, and the error is out of memory.
 impl<I, R, A, E> Recover<E> for Recoverable<I, R, A>
 where
     I: Stream,

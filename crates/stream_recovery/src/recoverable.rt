@@ -31,7 +31,7 @@ pub struct Recoverable<I, R, A: Allocator = Global> {
 }
 
 impl<I, R, A: Allocator> Recoverable<I, R, A> {
-    /// The stream inside, where it now stands, and the errors that were recorded, in order.
+    /// Returns the inner stream, at its current position, and the recorded errors, in order.
     #[inline(always)]
     pub fn into_parts(self) -> (I, Vec<R, A>)
         ensures input { result.0 ≡ recorded_input self }
@@ -41,8 +41,8 @@ impl<I, R, A: Allocator> Recoverable<I, R, A> {
         (input, errors)
     }
 
-    /// Records an error after the others. Where memory for it is refused, it is handed back, and
-    /// the stream is as it was.
+    /// Appends an error to the recorded ones. If an allocation for it fails, returns the error, and
+    /// the stream is unchanged.
     #[inline(always)]
     pub fn push_err(&mut self, err: R) -> Result<(), R>
         ensures { MatchResult result
@@ -72,7 +72,7 @@ impl<I: Stream, R: HasKind + Drop, A: Allocator> Recoverable<I, R, A> {
         }
     }
 
-    /// The stream inside, where it now stands.
+    /// Returns the inner stream, at its current position.
     #[inline(always)]
     pub fn as_inner(&self) -> &I
         ensures { result.now ≡ recorded_input self.now }

@@ -18,7 +18,6 @@ module _ (all lit : List ℕ) where
         length-append front rest,
       )
 
-  -- the literal stands first
   pub caseless_first : length lit ≤ length all
       → lower_case (take (length lit) all) ≡ lower_case lit
       → ComparesAs length (IsCaseless lit) all (Ok (length lit))

@@ -1,4 +1,4 @@
--- What a comparison says of lengths.
+-- Lemmas about comparisons and lengths.
 use Rattle.std.proofs.Common.{◌≡◌, ℕ, List, [], ◌∷◌, ◌++◌, length, ◌≤◌, ◌<◌, refl, sym, ap, ◌∙◌}
 use Rattle.std.proofs.Common.{arith, length-append}
 use Rattle.std.proofs.lemmas.List.{append-nil}
@@ -11,7 +11,6 @@ use Rattle.stream_searches.specs.Compare.{StandsFirst, IsShort}
 pub eqb-Decides : (a b : ℕ) → Decides (eqb a b) (a ≡ b)
 eqb-Decides a b = (eqb-true a b, eq-eqb a b)
 
--- what stands first is no longer than the whole
 pub StandsFirst-length : (t all : List ℕ) → StandsFirst (λ xs. xs ≡ t) all → length t ≤ length all
 StandsFirst-length t all (front, rest, e, split) =
     omega (arith, ap (λ l. length l) e, ap (λ l. length l) split, length-append front rest)
@@ -21,13 +20,11 @@ pub IsShort-length : (t all : List ℕ) → IsShort (λ xs. xs ≡ t) all → le
 IsShort-length t all (x, more, e) =
     omega (arith, ap (λ l. length l) e, length-append all (x ∷ more))
 
--- a beginning that is shorter is short
 pub IsShort-of_beginning : (t all rest : List ℕ) → t ≡ all ++ rest → length all < length t
     → IsShort (λ xs. xs ≡ t) all
 IsShort-of_beginning t all [] e h = absurd (omega (arith, ap (λ l. length l) (e ∙ append-nil all)))
 IsShort-of_beginning t all (x ∷ rest) e h = (x, rest, sym e)
 
--- what stands first begins the whole
 pub StandsFirst-begins : (t all : List ℕ) → StandsFirst (λ xs. xs ≡ t) all
     → (rest : List ℕ) × (all ≡ t ++ rest)
 StandsFirst-begins t all (front, rest, e, split) = (rest, split ∙ ap (λ l. l ++ rest) e)

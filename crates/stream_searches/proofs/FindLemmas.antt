@@ -1,4 +1,4 @@
--- What searches of bytes find, as lists.
+-- The results of searches of bytes, as lists.
 use Rattle.std.proofs.Common.{◌≡◌, ℕ, ◌+◌, ◌<◌, Bool, true, List, [], ◌∷◌, ◌++◌, length, take, drop}
 use Rattle.std.proofs.Common.{Option, Some, None, refl, sym, ap, ◌∙◌, arith, inl, inr, ◌⊎◌}
 use Rattle.std.proofs.Common.{length-append, get_or}
@@ -17,7 +17,6 @@ use Rattle.memchr.proofs.lemmas.MatchLemmas.{OccursAt-from_part, OccursAt-split}
 use Rattle.stream_searches.specs.FindSlice.{Stands, IsFirstMatch, FindsSlice}
 use Rattle.stream_searches.specs.Three.{IsOneOfThree}
 
--- a needle that stands after some bytes occurs there
 occurs : (hay needle front rest : List ℕ) → hay ≡ front ++ (needle ++ rest)
     → OccursAt hay needle (length front)
 occurs hay needle front rest e =
@@ -32,7 +31,6 @@ occurs hay needle front rest e =
     ∙ ap (λ l. take (length needle) l)
     (drop_at front (needle ++ rest) (length front) refl) ∙ take-append_seam needle rest)
 
--- The first place of a needle is its least one; where it has none, it stands nowhere.
 pub needle_stands : (hay needle : List ℕ) (r : Option ℕ) → FindsNeedle hay needle 0 r
     → MatchOption r ((front hit rest : List ℕ) → Stands (λ xs. xs ≡ needle) hay front hit rest
     → ⊥) (λ k. IsFirstMatch length (λ xs. xs ≡ needle) hay k (k + length needle))
@@ -63,13 +61,11 @@ needle_stands hay needle (Some k) (before, here) =
       ];
     }
 
--- the bytes at a place, after those before it
 byte_split : (hay : List ℕ) (k d : ℕ) → k < length hay
     → hay ≡ take k hay ++ (get_or hay k d ∷ drop (k + 1) hay)
 byte_split hay k d h =
     sym (take-append-drop k hay) ∙ ap (λ l. take k hay ++ l) (at_drop_more (λ l. l) hay k d h)
 
--- The first byte that passes a test, where the lists sought are the single bytes that pass it.
 pub byte_stands : (test : ℕ → Bool) (sought : List ℕ → Type 0)
     → ((b : ℕ) → test b ≡ true → sought (b ∷ []))
     → ((xs : List ℕ) → sought xs → (b : ℕ) × (xs ≡ b ∷ []) × (test b ≡ true))

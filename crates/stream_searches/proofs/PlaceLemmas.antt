@@ -9,11 +9,9 @@ use Rattle.std.proofs.Math.Seq.{take-append_seam}
 use Rattle.memchr.specs.Find.{IsFirst, NoneBefore, Nowhere, OccursAt, Passes, is_byte}
 use Rattle.memchr.proofs.lemmas.MatchLemmas.{OccursAt-from_part, OccursAt-split}
 
--- Candidates, of which each place that is sought is one, where nothing that is sought stands before
--- the start.
+-- Every offset that is searched for is a candidate, and none precedes the start.
 module _ (P Q : ℕ → Type 0) (limit : ℕ) (are : (n : ℕ) → P n → (n < limit) × Q n)
     (low start : ℕ) (before : Nowhere P low start) where
-  -- no candidate is left
   pub none_left : (end : ℕ) → Nowhere Q start limit → Nowhere P low end
   none_left end nowhere n l h p = elim (cases_lt n start) [
     | inl less ↦ before n l less p
@@ -27,14 +25,13 @@ module _ (P Q : ℕ → Type 0) (limit : ℕ) (are : (n : ℕ) → P n → (n < 
     | inr more ↦ let here = are n p in next.before n more h here.1
   ]
 
-  -- a candidate that is not what is sought
   pub one_more : (at : ℕ) → NoneBefore Q start limit at → (P at → ⊥) → Nowhere P low (at + 1)
   one_more at next is_not n l h p = elim (cases_lt n at) [
     | inl less ↦ none_before at next n l less p
     | inr more ↦ let same : n ≡ at = omega (arith, more, h) in is_not (subst P same p)
   ]
 
--- what is found in the part from a place on is found in the whole
+-- a match in the suffix from an offset on is one in the whole
 module _ (P R : ℕ → Type 0) (start size end : ℕ) (whole : end ≡ start + size)
     (into : (k : ℕ) → P (start + k) → R k) where
   pub shifted_none : Nowhere R 0 size → Nowhere P start end
@@ -55,7 +52,6 @@ module _ (P R : ℕ → Type 0) (start size end : ℕ) (whole : end ≡ start + 
             (into (n - start) (subst P same p));
       }
 
--- a byte of the part from a place on
 pub passes_part : (test : ℕ → Bool) (all left : List ℕ) (start : ℕ) → left ≡ drop start all
     → (k : ℕ) → Passes test all (start + k) → Passes test left k
 passes_part test all left start same k here =
@@ -66,7 +62,6 @@ pub passes_whole : (test : ℕ → Bool) (all left : List ℕ) (start : ℕ) →
 passes_whole test all left start same k here =
     sym (ap test (ap (λ l. slice_index l k) same ∙ get_or-drop start all k 0)) ∙ here
 
--- a literal in the part from a place on
 pub occurs_part : (all left literal : List ℕ) (start : ℕ) → start ≤ length all
     → left ≡ drop start all → (k : ℕ) → OccursAt all literal (start + k) → OccursAt left literal k
 occurs_part all left literal start within same k here =
@@ -91,7 +86,6 @@ occurs_whole all left literal start within same k here =
           ∙ sym (ap (λ l. slice_index l (k + j)) same) ∙ here.reads j less;
     }
 
--- where a literal stands its first byte stands
 pub first_byte : (all literal : List ℕ) → 0 < length literal → (n : ℕ) → OccursAt all literal n
     → (n < length all) × Passes (is_byte (slice_index literal 0)) all n
 first_byte all literal some n here =
@@ -128,7 +122,6 @@ of_one_byte all literal one (Some k) (first, passes) =
       },
     )
 
--- where a literal stands its first bytes stand
 pub first_bytes : (all literal : List ℕ) (count : ℕ) → count ≤ length literal
     → (n : ℕ) → OccursAt all literal n
     → (n < length all + 1) × OccursAt all (take count literal) n
@@ -143,7 +136,6 @@ first_bytes all literal count within n here =
       },
     )
 
--- whether a literal stands at a place, told by whether what is left begins with it
 pub stands_here : (all left literal : List ℕ) (at : ℕ) → at ≤ length all → left ≡ drop at all
     → (r : Bool) → (r ≡ true → left ≡ literal ++ drop (length literal) left)
     → ((rest : List ℕ) → left ≡ literal ++ rest → r ≡ true)
@@ -165,7 +157,6 @@ stands_here all left literal at within same false begins told = λ here.
     both_ways _ refl (told (drop (at + length literal) all)
     (same ∙ OccursAt-split all literal at here))
 
--- what is found from a place on, where nothing stands before it
 pub found_behind : (P : ℕ → Type 0) (low start end : ℕ) → low ≤ start → Nowhere P low start
     → (r : Option ℕ) → IsFirst P start end r → IsFirst P low end r
 found_behind P low start end within before None nowhere = λ n l h p.
@@ -186,7 +177,6 @@ found_behind P low start end within before (Some k) (first, here) =
       here,
     )
 
--- a candidate at which what is sought stands is the first place of it
 pub found_here : (P Q : ℕ → Type 0) (limit : ℕ)
     (are : (n : ℕ) → P n → (n < limit) × Q n) (low start end at : ℕ) → low ≤ start
     → Nowhere P low start → NoneBefore Q start limit at → at < end → P at

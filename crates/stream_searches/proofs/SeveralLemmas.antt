@@ -11,15 +11,14 @@ use Rattle.stream_searches.specs.Compare.{StandsFirst}
 use Rattle.stream_searches.specs.FindSlice.{Stands, IsFirstMatch}
 use Rattle.stream_searches.specs.Three.{IsOneOfThree}
 
--- no list that is sought stands at a place before n
+-- `NoneFirst all P n`: no needle occurs at an offset below `n`
 abbrev pub NoneFirst : List ℕ → (List ℕ → Type 0) → ℕ → Type 0
 NoneFirst all P n = (k : ℕ) → k < n → StandsFirst P (drop k all) → ⊥
 
--- each list that is sought begins with a byte that passes the test
+-- `Begin test P`: every needle begins with a byte that passes the test
 abbrev pub Begin : (ℕ → Bool) → (List ℕ → Type 0) → Type 0
 Begin test P = (xs : List ℕ) → P xs → (b : ℕ) × (bs : List ℕ) × (xs ≡ b ∷ bs) × (test b ≡ true)
 
--- the byte with which a list that is sought begins
 first_passes : (test : ℕ → Bool) (P : List ℕ → Type 0) → Begin test P → (all : List ℕ) (k : ℕ)
     → StandsFirst P (drop k all) → test (get_or all k 0) ≡ true
 first_passes test P begin all k (front, rest, p, split) =
@@ -42,7 +41,6 @@ skipped test P begin all start at before nowhere k h s = elim (cases_lt k start)
       ∙ first_passes test P begin all k s)
 ]
 
--- a list that is sought stands where its bytes are the first of those left
 stands_first : (P : List ℕ → Type 0) (all front hit rest : List ℕ) → Stands P all front hit rest
     → StandsFirst P (drop (length front) all)
 stands_first P all front hit rest s = (
@@ -53,7 +51,6 @@ stands_first P all front hit rest s = (
       ∙ drop_at front (hit ++ rest) (length front) refl,
 )
 
--- no byte that is left passes the test: none stands anywhere
 pub none_left : (test : ℕ → Bool) (P : List ℕ → Type 0) → Begin test P
     → (all : List ℕ) (start : ℕ) → NoneFirst all P start
     → Nowhere (Passes test (drop start all)) 0 (length (drop start all))
@@ -94,7 +91,6 @@ found_first P all at n before within front rest p split is_length =
       ];
     }
 
--- one place more at which none stands
 pub one_more : (P : List ℕ → Type 0) (all : List ℕ) (at : ℕ) → NoneFirst all P at
     → (StandsFirst P (drop at all) → ⊥) → NoneFirst all P (at + 1)
 one_more P all at before here k h s = elim (cases_lt k at) [
@@ -139,12 +135,11 @@ begin_three a b c some_a some_b some_c xs (inr (inr e)) =
       or_right (eqb x (get_or a 0 0) || eqb x (get_or b 0 0)) (eqb x x) (eq-eqb x x refl),
     )
 
--- none stands first at once
 pub none_at_start : (all : List ℕ) (P : List ℕ → Type 0) → NoneFirst all P 0
 none_at_start all P k h s = absurd (omega arith)
 
--- What is known at a byte that begins one of three lists, where none stands before the place of the
--- search.
+-- The state at a byte that begins one of three lists, if none of these occurs before the offset of
+-- the search.
 pub record Candidate (all a b c : List ℕ) (start at : ℕ) : Type 0 where
   pub within : start + at < length all
   pub before : NoneFirst all (IsOneOfThree a b c) (start + at)

@@ -14,7 +14,6 @@ use Rattle.streams.specs.Text.{width, width_chars, length_encodes}
 use Rattle.stream_searches.specs.FindSlice.{Stands, FindsSlice}
 use Rattle.stream_searches.specs.Three.{IsOneOfThree}
 
--- a text that stands in a text stands after a text, where it is not empty
 front_is_text : (all front lit rest : List ℕ) → IsUtf8 all → IsUtf8 lit
     → all ≡ front ++ (lit ++ rest) → (lit ≡ [] → front ≡ []) → IsUtf8 front
 front_is_text all front [] rest all_utf8 lit_utf8 split none =
@@ -33,7 +32,6 @@ front_is_text all front (b ∷ bs) rest all_utf8 lit_utf8 split none =
     ∙ take-append_seam front ((b ∷ bs) ++ rest))
     (IsUtf8-take all (length front) all_utf8 boundary)
 
--- what stands in a text by its characters stands by its bytes
 bytes_stand : (all : List ℕ) (P Q : List ℕ → Type 0)
     → ((cs : List ℕ) → Q cs → P (encode_utf8_all cs)) → IsUtf8 all → (front hit rest : List ℕ)
     → Stands Q (chars all) front hit rest

@@ -18,7 +18,7 @@ use Rattle.stream_searches.specs.declared.compare.CompareResult.TheVariants.{Ok,
 abbrev pub lower_case : List ℕ → List ℕ
 lower_case xs = map to_ascii_lowercase xs
 
--- Lists that differ in the case of ASCII letters alone.
+-- `IsCaseless literal xs`: the lists are equal except for the case of ASCII letters.
 abbrev pub IsCaseless : List ℕ → List ℕ → Type 0
 IsCaseless literal xs = lower_case xs ≡ lower_case literal
 
@@ -96,7 +96,6 @@ lower_case_width cs =
     sym (length_encodes (lower_case cs)) ∙ ap (λ l. length l) (sym (lower_case_encodes cs))
     ∙ lower_case-length (encode_utf8_all cs) ∙ length_encodes cs
 
--- a text in lower case spells its characters in lower case, whatever follows
 chars_lower_case : (text rest : List ℕ) → IsUtf8 text
     → chars (lower_case text ++ rest) ≡ lower_case (chars text) ++ chars rest
 chars_lower_case text rest utf8 =

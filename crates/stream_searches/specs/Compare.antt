@@ -1,20 +1,20 @@
--- What a comparison answers.
+-- The result of a comparison.
 use Rattle.std.specs.Prelude.{◌≡◌, ℕ, List, ◌∷◌, ◌++◌, length}
 use Rattle.std.proofs.Common.{sym, ap, ◌∙◌}
 use Rattle.stream_searches.specs.declared.compare.CompareResult.{CompareResult}
 use Rattle.stream_searches.specs.declared.compare.CompareResult.TheVariants.{Ok, Incomplete, Error}
 
--- A list of tokens that the literal spells stands first in the tokens.
+-- `StandsFirst spelled tokens`: `tokens` starts with a list that the literal spells.
 abbrev pub StandsFirst : {T : Type 0} → (List T → Type 0) → List T → Type 0
 StandsFirst {T} spelled tokens =
     (front : List T) × (rest : List T) × spelled front × (tokens ≡ front ++ rest)
 
--- The tokens are a proper beginning of a list that the literal spells.
+-- `IsShort spelled tokens`: `tokens` is a proper prefix of a list that the literal spells.
 abbrev pub IsShort : {T : Type 0} → (List T → Type 0) → List T → Type 0
 IsShort {T} spelled tokens = (x : T) × (more : List T) × spelled (tokens ++ x ∷ more)
 
--- It stands first, and takes that many units; the tokens are too short to tell; or it does not
--- stand first.
+-- The tokens start with the literal, of `n` units; or they are too short to decide; or they do not
+-- start with it.
 abbrev pub ComparesAs : {T : Type 0} → (List T → ℕ) → (List T → Type 0) → List T → CompareResult
     → Type 0
 ComparesAs {T} units spelled tokens (Ok n) =

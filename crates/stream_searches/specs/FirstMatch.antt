@@ -11,7 +11,7 @@ use Rattle.streams.specs.Utf8.{two_bytes, three_bytes, four_bytes}
 use Rattle.stream_searches.specs.FindSlice.{Stands, IsFirstMatch}
 use Rattle.stream_searches.specs.Three.{IsOneOfThree}
 
--- No list that is sought stands in another one after its first token.
+-- `NoneInside sought`: no needle occurs in another one after its first token.
 abbrev pub NoneInside : {T : Type 0} → (List T → Type 0) → Type 0
 NoneInside {T} sought =
     (front inner rest : List T) → sought (front ++ (inner ++ rest)) → sought inner
@@ -23,7 +23,6 @@ StaysFirst {T} units sought =
     (tokens more : List T) (start end : ℕ) → IsFirstMatch units sought tokens start end
     → IsFirstMatch units sought (tokens ++ more) start end
 
--- of two beginnings of a list one is a beginning of the other
 beginnings : {T : Type 0} (xs behind ys rest : List T) → xs ++ behind ≡ ys ++ rest
     → ((e : List T) × (xs ≡ ys ++ e) × (rest ≡ e ++ behind))
     ⊎ ((e : List T) × (ys ≡ xs ++ e) × (behind ≡ e ++ rest))
@@ -42,8 +41,6 @@ some_length reading (x ∷ xs) h = omega arith
 
 module _ {T S : Type 0} (reading : Reading T S) (sought : List T → Type 0)
     (none_inside : NoneInside sought) where
-  -- a match in more tokens that begins earlier would stand in the tokens, or have the first match
-  -- inside
   least_of_more : (tokens more : List T) (start end : ℕ)
       (m : IsFirstMatch reading.units sought tokens start end) (other hit behind : List T)
       → Stands sought (tokens ++ more) other hit behind → reading.units other < start → ⊥
@@ -102,7 +99,6 @@ module _ {T S : Type 0} (reading : Reading T S) (sought : List T → Type 0)
     ];
   }
 
--- lists of one length do not stand inside one another
 pub one_length_inside : {T : Type 0} (sought : List T → Type 0)
     → ((xs ys : List T) → sought xs → sought ys → length xs ≡ length ys) → NoneInside sought
 one_length_inside sought same front inner rest p q some =
@@ -175,7 +171,6 @@ spelling c = by (cases_lt c 128) (cases_lt c 2048) (cases_lt c 65536)
           inner = (inner (c / 4096), (inner (c / 64), (inner c, tt)));
         }
 
--- the bytes of a character do not stand inside those of another
 pub characters_inside : (sought : List ℕ → Type 0)
     → ((xs : List ℕ) → sought xs → (c : ℕ) × (xs ≡ encode_utf8 c)) → NoneInside sought
 characters_inside sought are [] inner rest p q some = omega (arith, some)
@@ -191,7 +186,7 @@ characters_inside sought are (x ∷ front) inner rest p q some =
     subst P split (later_inner front (inner ++ rest) (subst P (sym behind) w.inner)) in
     s.leads all.0
 
--- ---- the lists that are sought
+-- ---- the needles
 
 -- a single list
 pub literal_stays : {T S : Type 0} (reading : Reading T S) (literal : List T)

@@ -36,7 +36,6 @@ module _ {T : Type 0} (eq : T → T → Bool) where
       in and_from (eq x y) (pointwise eq (xs ++ zs) (ys ++ ws)) p.0
       (equal_parts xs ys zs ws p.1 f)
 
-  -- a beginning of the literal equals that of a list that equals it
   equal_front : (xs ys zs : List T) → EqualsList eq xs (ys ++ zs)
       → EqualsList eq (take (length ys) xs) ys
   equal_front xs [] zs e = refl
@@ -65,7 +64,6 @@ module _ {T : Type 0} (eq : T → T → Bool) where
         length-append tokens (x ∷ more),
       )
 
-  -- the literal stands first
   pub stands : (tokens literal : List T) → length literal ≤ length tokens
       → starts_with eq tokens literal ≡ true
       → ComparesAs length (EqualsList eq literal) tokens (Ok (length literal))
@@ -152,7 +150,7 @@ module _ {T : Type 0} (eq : T → T → Bool) (literal : T) where
       let n = equal_length eq (literal ∷ []) ((x ∷ xs) ++ y ∷ more) e
       in omega (arith, n, length-append xs (y ∷ more))
 
-  -- no token is left
+  -- no token remains
   pub one_none : IsEquivalence eq → (tokens : List T) → tokens ≡ []
       → ComparesAs length (EqualsList eq (literal ∷ [])) tokens Incomplete
   one_none equivalence tokens none =

@@ -1,6 +1,6 @@
 //! Comparisons of the input with a literal.
 //!
-//! Those of bytes stand here, those of other streams in the files below.
+//! Those of bytes are here, those of other streams in the files below.
 ghost use Rattle.std.specs.Prelude.{◌≡◌, ℕ, List, [], ◌∷◌, length};
 ghost use Rattle.std.proofs.Common.{ap, sym, ◌∙◌};
 ghost use Rattle.std.specs.Char.{encode_utf8};
@@ -13,12 +13,12 @@ mod wrapped;
 
 use streams::stream::Stream;
 
-/// What a comparison of the input with a literal answers.
+/// The result of comparing the input with a literal.
 #[derive(Clone, Copy, Debug, PartialEq, Eq)]
 pub enum CompareResult {
-    /// The literal stands first, and takes that many units.
+    /// The input starts with the literal. Holds the length of the match in units.
     Ok(usize),
-    /// The input is a proper beginning of the literal.
+    /// The input is a proper prefix of the literal.
     Incomplete,
     /// Neither.
     Error,

@@ -24,10 +24,10 @@ use streams::stream::Stream;
 /// assert_eq!(rt; b"a".as_slice().find_slice(b"".as_slice()), Some(0..0));
 /// ```
 pub trait FindSlice<T>: Stream {
-    // The lists of tokens that are sought.
+    // The needles: lists of tokens that are searched for.
     ghost sought: { T → List Self.Seen → Type 0 };
 
-    /// The first range, in units, at which `substr` stands. Nothing is consumed.
+    /// Returns the first range, in units, at which `substr` occurs. Consumes nothing.
     fn find_slice(&self, substr: T) -> Option<ops::Range<usize>>
         ensures { FindsSlice Self.reading.units (sought substr) (Self.view self.now).left.tokens
             result };

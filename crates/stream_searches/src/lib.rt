@@ -1,4 +1,4 @@
-//! Literals beside the beginning of a stream, and searches of a stream for them.
+//! Comparisons of literals with the start of a stream, and searches of a stream for them.
 #![tactic(auto)]
 
 pub mod caseless;

@@ -1,4 +1,4 @@
--- What a repetition puts its outputs into.
+-- Accumulators of the outputs of a repetition.
 use Rattle.std.specs.Prelude.{◌≡◌, ◌⊎◌, ◌≤◌, ◌<◌, ◌+◌, ◌-◌, ◌^◌, ℕ, min, List, [], ◌∷◌, ◌++◌}
 use Rattle.std.specs.Prelude.{length}
 use Rattle.std.specs.Prelude.{Option, None, ⊤, vec_capacity, vec_len}
@@ -14,7 +14,7 @@ pub mod Entries
 pub mod Holds
 pub mod Known
 
--- What an accumulator is to a repetition.
+-- An accumulator, as a repetition uses it.
 pub record Accumulator (C O : Type 0) : Type 1 where
   -- the empty ones, made for that many outputs where that is known
   pub starts : Option ℕ → C → Type 0
@@ -58,7 +58,6 @@ number_kept = record {
   grows = λ _ _. ⊥;
 }
 
--- none is refused by what keeps nothing, or a number
 pub nothing_wants : {O : Type 0} → Wants (nothing_kept {O = O}) → ⊥
 nothing_wants (inl (capacity, never)) = never
 nothing_wants (inr (all, o, never)) = never
@@ -67,8 +66,8 @@ pub number_wants : {O : Type 0} → Wants (number_kept {O = O}) → ⊥
 number_wants (inl (capacity, never)) = never
 number_wants (inr (all, o, never)) = never
 
--- what it is to keep the outputs as one text, in order, where `spell` gives the bytes of each;
--- memory is wanted for those that there is no room for
+-- the accumulator that stores the outputs as one text, in order, where `spell` gives the bytes of
+-- each; it allocates for those that there is no room for
 abbrev pub spelled : {O A : Type 0} → (O → List ℕ) → Accumulator (String A) O
 spelled spell = record {
   starts = λ _ text. string_bytes text ≡ [];
@@ -85,8 +84,8 @@ characters_kept = spelled encode_utf8
 abbrev pub texts_kept : {A : Type 0} → Accumulator (String A) (Bor (List ℕ))
 texts_kept = spelled (λ text. text.now)
 
--- what it is to keep pairs of a key and a value by their keys, in the order `cmp` of these: an
--- equal key that is there stays, and takes the value; memory is wanted for a new key alone
+-- the accumulator that stores pairs of a key and a value by their keys, in the order `cmp` of
+-- these: an equal key in the map stays, and gets the new value; it allocates only for a new key
 abbrev pub entries_kept : {K X : Type 0} → (K → K → Ordering) → Accumulator (BTreeMap K X) (K × X)
 entries_kept cmp = record {
   starts = λ _ map. map.entries ≡ [];

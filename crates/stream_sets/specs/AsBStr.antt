@@ -45,7 +45,7 @@ begins c first others e ascii = record {
   ascii = ascii;
 }
 
--- the first byte of a character: itself where it is an ASCII character, and else 192 or more
+-- the first byte of a character: the character itself if it is ASCII, and 192 or more otherwise
 pub utf8_first : (c : ℕ) → FirstByte (λ x. x) (λ x. x) encode_utf8_all c
 utf8_first c = by (cases_lt c 128) (cases_lt c 2048) (cases_lt c 65536)
   where

@@ -1,4 +1,4 @@
--- Classes of characters, by their numbers: ASCII alone.
+-- Classes of characters, by their numbers, for ASCII only.
 use Rattle.std.specs.Prelude.{◌≡◌, ◌≤◌, ℕ, ◌⊎◌}
 
 -- a letter from A to Z or from a to z

@@ -1,4 +1,4 @@
--- The longest beginning of members, and that there is one.
+-- The longest prefix of members, and a proof that there is one.
 use Rattle.std.specs.Prelude.{◌≡◌, ◌⊎◌, ◌≤◌, ◌+◌, ℕ, Bool, true, false, List, [], ◌∷◌, ◌++◌}
 use Rattle.std.specs.Prelude.{length, Option, Some}
 use Rattle.std.specs.List.{All}
@@ -14,7 +14,8 @@ pub within_is : {greatest : Option ℕ} {most n : ℕ} → greatest ≡ Some mos
 within_is {n = n} e within =
     let P : Option ℕ → Type 0 = λ g. IsWithin g n in subst P e within
 
--- A beginning of members of a count in all, of which some are passed, and what is left of it.
+-- A prefix of `count` members: `passed` of them are passed, `front` remains of it, and `rest`
+-- follows.
 record Stopped {T : Type 0} (member : T → Bool → Type 0) (greatest : Option ℕ) (passed : ℕ)
     (front rest : List T) : Type 0 where
   count : ℕ
@@ -23,7 +24,8 @@ record Stopped {T : Type 0} (member : T → Bool → Type 0) (greatest : Option 
   within : IsWithin greatest count
   stops : (x : T) (more : List T) → rest ≡ x ∷ more → member x false ⊎ (greatest ≡ Some count)
 
--- The tokens' longest beginning of members, of at most the greatest number.
+-- `IsLongest member greatest tokens front rest`: `front` is the longest prefix of members of
+-- `tokens`, with at most `greatest` members, and `rest` follows.
 pub record IsLongest {T : Type 0} (member : T → Bool → Type 0) (greatest : Option ℕ)
     (tokens front rest : List T) : Type 0 where
   pub splits : tokens ≡ front ++ rest
@@ -52,7 +54,6 @@ module _ {T : Type 0} (member : T → Bool → Type 0) (greatest : Option ℕ)
     stops = s.stops;
   }
 
-  -- two longest beginnings of members leave the same
   one_stopped : (n : ℕ) (f g rest more : List T) → Stopped member greatest n f rest
       → Stopped member greatest n g more → f ++ rest ≡ g ++ more → rest ≡ more
   one_stopped n [] [] rest more s t e = e

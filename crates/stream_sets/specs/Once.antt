@@ -1,4 +1,4 @@
--- Sets that tell one thing of each token, and streams that see tokens apart.
+-- Sets in which membership is a function of the token, and streams that distinguish tokens.
 use Rattle.std.specs.Prelude.{Bool, not, ◌≡◌, true, false, IsTrue, ◌↔◌}
 use Rattle.std.proofs.Common.{refl, sym, subst, inl, inr, ◌∙◌}
 use Rattle.streams.specs.Equal.{true_is_false}
@@ -9,15 +9,14 @@ use Rattle.stream_sets.specs.Sets.{EitherTells}
 abbrev pub Others : {X K : Type 0} → (X → K → Bool → Type 0) → X → K → Bool → Type 0
 Others tells set k b = tells set k (not b)
 
--- Nothing is told both that it is a member and that it is none.
+-- `TellsOnce tells`: no token is both a member and not a member.
 abbrev pub TellsOnce : {T : Type 0} → (T → Bool → Type 0) → Type 0
 TellsOnce {T} tells = (t : T) → tells t true → tells t false → ⊥
 
--- Tokens that are seen alike are the same.
+-- `SeesApart seen`: tokens with the same view are the same.
 abbrev pub SeesApart : {K T : Type 0} → (K → T) → Type 0
 SeesApart {K} seen = (t u : K) → seen t ≡ seen u → t ≡ u
 
--- what is told of tokens is told of what is seen of them
 pub seen_once : {K T : Type 0} (seen : K → T) (tells : K → Bool → Type 0) → SeesApart seen
     → TellsOnce tells → TellsOnce (AnswersSeen seen tells)
 seen_once {K} seen tells apart once x (t, is, has) (u, was, lacks) =
@@ -29,7 +28,6 @@ pub others_once : {X K : Type 0} (tells : X → K → Bool → Type 0) (set : X)
     → TellsOnce (Others tells set)
 others_once tells set once t lacks has = once t has lacks
 
--- what is true exactly where something holds is told once
 pub holds_once : {T : Type 0} (P : T → Type 0) → TellsOnce (λ t b. IsTrue b ↔ P t)
 holds_once P t (there, back) (other, again) = true_is_false (sym (again (there refl)))
 

@@ -1,4 +1,4 @@
--- How many times something may stand.
+-- Ranges of counts.
 use Rattle.std.specs.Prelude.{◌≡◌, ◌<◌, ◌≤◌, ◌-◌, ◌^◌, ℕ, nat_le, if◌then◌else◌, Option, Some, None}
 use Rattle.std.specs.Prelude.{⊤, MatchOption}
 use Rattle.std.proofs.lemmas.Bool.{le-leb, lt-leb}

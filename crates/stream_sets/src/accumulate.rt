@@ -1,4 +1,4 @@
-//! What repetition puts its outputs into.
+//! Accumulators of the outputs of a repetition.
 ghost use Rattle.std.specs.BTreeMap.{IsEmpty};
 ghost use Rattle.std.specs.Prelude.{List, ◌≡◌, [], MatchResult, string_bytes, ⊤};
 ghost use Rattle.stream_sets.specs.Accumulator.{Accumulator, Wants, characters_kept, entries_kept};
@@ -12,8 +12,8 @@ ghost use Rattle.stream_sets.specs.Accumulator.Holds.{texts_hold};
 use std::alloc::{AllocError, Allocator};
 use std::collections::BTreeMap;
 
-/// What a repetition puts its outputs into: nothing, a number, a list, a text or a map. `A` is the
-/// allocator that it is made with.
+/// An accumulator of the outputs of a repetition: nothing, a number, a list, a text or a map. `A`
+/// is the allocator that it is made with.
 ///
 /// ```
 /// use std::alloc::{AllocError, Global};
@@ -28,18 +28,18 @@ pub trait Accumulate<O, A>: Drop {
     // The outputs that it took since it was empty.
     ghost holds: { Self → List O → Type 0 };
 
-    // When it asks for no memory.
+    // The condition under which it does not allocate.
     ghost spares_memory: { Type 0 };
 
-    /// An empty one, for `capacity` outputs if that is known. It fails only where a request for
-    /// memory was refused.
+    /// Returns an empty accumulator, for `capacity` outputs if that is known. Fails only if an
+    /// allocation fails.
     fn initial(alloc: A, capacity: Option<usize>) -> Result<Self, AllocError>
     where
         Self: Sized,
         ensures { MatchResult result (accumulator.starts capacity)
             (λ _. accumulator.start_grows capacity) };
 
-    /// Takes one output more. It fails only where a request for memory was refused.
+    /// Adds one output. Fails only if an allocation fails.
     fn accumulate(&mut self, output: O) -> Result<(), AllocError>
         ensures { MatchResult result (λ _. accumulator.takes self.old output self.new)
             (λ _. accumulator.grows self.old output) };
@@ -47,7 +47,7 @@ pub trait Accumulate<O, A>: Drop {
     // It took these.
     ghost gathers: { Holds accumulator holds };
 
-    // It is refused none.
+    // Under this condition it never fails.
     ghost never_wants: { spares_memory → Wants accumulator → ⊥ };
 }
 
@@ -134,8 +134,8 @@ impl<O: Drop, A: Drop> Accumulate<O, A> for usize {
     }
 }
 
-/// A text to whose end the characters are put. An empty one takes no memory; more is wanted only
-/// where the bytes of a character have no room.
+/// A text to which the characters are appended. An empty one does not allocate; a longer one
+/// allocates only if the bytes of a character have no room.
 ///
 /// ```
 /// let text: Result<String, EmptyError> =
@@ -166,8 +166,8 @@ impl<A: Allocator> Accumulate<char, A> for String<A> {
     }
 }
 
-/// A text to whose end the texts are put. An empty one takes no memory; more is wanted only where
-/// the bytes of a text have no room.
+/// A text to which the texts are appended. An empty one does not allocate; a longer one allocates
+/// only if the bytes of a text have no room.
 ///
 /// ```
 /// let text: Result<String, EmptyError> =
@@ -198,8 +198,9 @@ impl<'i, A: Allocator> Accumulate<&'i str, A> for String<A> {
     }
 }
 
-/// A map that the pairs of a key and a value are put into. The last value of a key stands, beside
-/// the first of its equal keys. An empty one takes no memory; more is wanted only for a new key.
+/// A map into which the pairs of a key and a value are inserted. It has the last value of a key,
+/// with the first of its equal keys. An empty one does not allocate; a larger one allocates only
+/// for a new key.
 ///
 /// ```
 /// use std::collections::BTreeMap;

@@ -79,7 +79,7 @@ where
     ghost units_bytes: { (tokens : List Self.Seen)
         → Self.reading.units tokens ≡ length (bytes_of tokens) };
 
-    // Tokens that are seen alike are one character.
+    // Tokens with the same view are one character.
     ghost one_code: { (token other : Self.Token) → Self.seen_as token ≡ Self.seen_as other
         → Self.Token.code token ≡ Self.Token.code other };
 }

@@ -1,5 +1,5 @@
-//! What parsers ask of the tokens of a stream: counts, classes of characters and sets of tokens;
-//! what slices stand for, and what outputs are put into.
+//! Requirements of parsers on the tokens of a stream: counts, classes of characters and sets of
+//! tokens. Also values of slices, and accumulators of outputs.
 #![tactic(auto)]
 
 pub mod accumulate;

@@ -1,4 +1,4 @@
-//! Numbers that say how many tokens.
+//! Numbers of tokens.
 ghost use Rattle.std.specs.Prelude.{◌≡◌, ℕ};
 
 /// An unsigned integer that a `usize` holds.

@@ -11,11 +11,11 @@ use std::str::FromStr;
 /// assert_eq!(rt; b"256".as_slice().parse_slice(), None::<u8>);
 /// ```
 pub trait ParseSlice<R> {
-    // What a slice reads as.
+    // The value that a slice is parsed as.
     ghost reads: { Self → Option R → Type 0 };
 
-    /// The value that the slice reads as; `None` where the type refuses the text, and where bytes
-    /// are not UTF-8.
+    /// Parses the slice as a value. Returns `None` if the type rejects the text, or if bytes are
+    /// not UTF-8.
     fn parse_slice(&self) -> Option<R>
         ensures { reads self.now result };
 }

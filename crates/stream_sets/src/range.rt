@@ -1,4 +1,4 @@
-//! How many times something may stand.
+//! Ranges of counts.
 ghost use Rattle.std.specs.Prelude.{◌≡◌, ◌≤◌, ◌-◌, Some, None};
 ghost use Rattle.std.specs.Range.{range_inclusive_start, range_inclusive_end};
 
@@ -17,7 +17,7 @@ use std::ops;
 pub struct Range {
     /// The least count.
     pub start_inclusive: usize,
-    /// The greatest count, if there is one. It may be below the least: such a range is refused
+    /// The greatest count, if there is one. It may be below the least: such a range is rejected
     /// where it is used.
     pub end_inclusive: Option<usize>,
 }

@@ -22,13 +22,13 @@ use std::ops;
 /// assert!(rt; !Pred(|b: u8| b.is_ascii_digit()).contains_token(b'a'));
 /// ```
 pub trait ContainsToken<T> {
-    // The states in which any token may be asked for.
+    // The states in which any token may be tested.
     ghost can_test: { Self → Type 0 } = { λ _. ⊤ };
 
     // Whether a token is a member.
     ghost tells: { Self → T → Bool → Type 0 };
 
-    // When it tells one thing of each token: no token is both a member and none.
+    // The condition under which no token is both a member and not a member.
     ghost decides: { Self → Type 0 } = { λ _. ⊤ };
 
     /// Whether `token` is a member.
@@ -36,7 +36,7 @@ pub trait ContainsToken<T> {
         requires { can_test self.now }
         ensures { tells self.now token result };
 
-    // It tells one thing.
+    // Under this condition membership is a function of the token.
     ghost once: { (s : Self) → decides s → TellsOnce (tells s) };
 }
 
@@ -188,8 +188,8 @@ fn is_among<C: AsChar + Copy>(members: &[C], character: char) -> bool
         .any(|member: &C| (*member).as_char() == character)
 }
 
-/// The set of the tokens for which a closure holds. The closure owes answers that depend on the
-/// token alone.
+/// The set of the tokens for which a closure returns true. The closure's result must depend only on
+/// the token.
 #[derive(Clone, Copy, Drop)]
 pub struct Pred<F>(pub F);
 

@@ -1,4 +1,4 @@
--- What is known of the characters of a text and of its places.
+-- Lemmas about the characters and the offsets of a text.
 use Rattle.std.proofs.Common.{◌≡◌, ◌∙◌, ◌+◌, ◌&&◌, ℕ, Bool, true, false, List, [], ◌∷◌, ◌++◌}
 use Rattle.std.proofs.Common.{length, take, drop, Option, Some, None, is_some, true≢false, Bor}
 use Rattle.std.proofs.Common.{refl, sym, ap, subst, arith, append_assoc, length-append}
@@ -33,7 +33,6 @@ pub passes_chars : (front text rest : List ℕ) → chars text ≡ front ++ char
 passes_chars front text rest splits =
     record { tokens = splits; place = refl; possible = refl; status = refl }
 
--- all characters are passed where no byte is left
 pub passes_all : (text rest : List ℕ) → rest ≡ []
     → Passes text_reading (chars text) (text_input text) (text_input rest)
 passes_all text rest none =
@@ -69,7 +68,6 @@ module _ (text front rest : List ℕ) (utf8 : IsUtf8 text) (splits : chars text 
       ∙ ap chars (drop_at (encode_utf8_all front) (encode_utf8_all rest) offset behind_front)
       ∙ chars_all rest
 
-  -- the slice before the offset shows the characters there, and the others are left after it
   pub takes_front : (slice : Bor (List ℕ)) (later : List ℕ) → slice.now ≡ take offset text
       → later ≡ drop offset text
       → Takes text_reading front (text_input text) slice (text_input later)
@@ -81,8 +79,7 @@ module _ (text front rest : List ℕ) (utf8 : IsUtf8 text) (splits : chars text 
 
 -- ---- loops over the characters with their offsets
 
--- The characters `front` of a text are passed, of which P is known, and the iterator stands after
--- them.
+-- The characters `front` of a text are passed, `P` holds for them, and the iterator is at the rest.
 pub record Passed (P : List ℕ → Type 0) (text : List ℕ) (s : CharIndices) : Type 0 where
   pub front : List ℕ
   pub splits : chars text ≡ front ++ chars (char_indices_rest s)

@@ -9,7 +9,7 @@ use Rattle.streams.specs.Following.{Following, FitsBehind, fits_behind, most_byt
 use Rattle.streams.specs.Input.{Input, IsEndOf}
 use Rattle.streams.specs.Reading.{Reading}
 
--- What is seen of a slice of bytes: the bytes, with no place kept, whole.
+-- The view of a slice of bytes: the bytes, without an offset, as complete input.
 abbrev pub bytes_input : List ℕ → Input ℕ
 bytes_input = counted_input
 
@@ -25,7 +25,6 @@ bytes_follow = record {
       dropped later more f;
 }
 
--- what is left of a slice of which a part is left
 pub slice_ends : (n : ℕ) (xs : List ℕ)
     → IsEndOf bytes_reading (bytes_input (take (length xs - n) (drop n xs))) (bytes_input xs)
 slice_ends n xs = record {

@@ -9,7 +9,7 @@ use Rattle.streams.specs.Reading.{Reading, ShowsOneList}
 pub length-positive : {T : Type 0} (x : T) (xs : List T) → 0 < length (x ∷ xs)
 length-positive x xs = omega arith
 
--- What is seen of a list of tokens: the tokens, with no place kept, whole.
+-- The view of a list of tokens: the tokens, without an offset, as complete input.
 abbrev pub counted_input : {T : Type 0} → List T → Input T
 counted_input tokens = record { left = at_start tokens; status = no_status }
 

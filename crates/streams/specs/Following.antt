@@ -1,19 +1,19 @@
--- What may come after the tokens that are left.
+-- The tokens that can follow the remaining ones.
 use Rattle.std.specs.Prelude.{◌≡◌, ◌+◌, ◌-◌, ◌/◌, ◌^◌, ◌≤◌, ℕ, true, List, [], ◌++◌}
 use Rattle.std.proofs.Common.{subst, ◌∙◌, arith}
 use Rattle.streams.specs.Input.{Input, Remaining, Ends, IsEndOf}
 use Rattle.streams.specs.Reading.{Reading}
 
--- Which tokens more input may add after those that are left.
+-- The tokens that more input can add after the remaining ones.
 pub record Following (T : Type 0) : Type 1 where
   -- the second list may come after the first
   pub can_follow : List T → List T → Type 0
-  -- what may come after a list may come after what is left of it
+  -- tokens that can follow a list can follow each suffix of it
   pub kept : (dropped later more : List T) → can_follow (dropped ++ later) more
       → can_follow later more
 
--- More input may add these tokens to what is left: it can be read at all, and they may come after
--- its tokens.
+-- `Follows following left more`: more input can add `more` to the remaining input `left`. It can be
+-- read at all, and `more` can follow its tokens.
 pub record Follows {T : Type 0} (following : Following T) (left : Remaining T)
     (more : List T) : Type 0 where
   pub possible : left.possible ≡ true

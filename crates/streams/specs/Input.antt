@@ -1,4 +1,4 @@
--- What a parser sees of a stream.
+-- A parser's view of a stream.
 use Rattle.std.specs.Prelude.{◌≡◌, ◌≤◌, Bool, true, false, List, [], ◌++◌, length}
 use Rattle.std.proofs.Common.{append_assoc, refl, ap, ◌∙◌, sym, subst, arith, length-append}
 use Rattle.streams.specs.Kind.{Kind}
@@ -6,14 +6,14 @@ use Rattle.streams.specs.Place.{Place, no_place}
 use Rattle.streams.specs.Reading.{Reading, units-nil}
 use Rattle.streams.specs.Equal.{same_rest}
 
--- What is left to read: the tokens, their place, and whether they can be read at all (a place
--- inside a byte that is not there cannot).
+-- The remaining input: the tokens, their position, and whether they can be read at all (a position
+-- inside a byte that does not exist cannot).
 pub record Remaining (T : Type 0) : Type 0 where
   pub tokens : List T
   pub place : Place
   pub possible : Bool
 
--- What is never moved back: whether more input may come, and the kinds of the errors recorded.
+-- The state that is never reset: whether more input may come, and the kinds of the recorded errors.
 pub record Status : Type 0 where
   pub cut : Bool
   pub recorded : List Kind
@@ -23,7 +23,7 @@ pub record Input (T : Type 0) : Type 0 where
   pub left : Remaining T
   pub status : Status
 
--- Later is what is left of earlier after some first tokens are dropped.
+-- `Ends reading later earlier`: `later` is `earlier` without some first tokens.
 pub record Ends {T S : Type 0} (reading : Reading T S) (later earlier : Remaining T) : Type 0 where
   pub dropped : List T
   pub tokens : earlier.tokens ≡ dropped ++ later.tokens
@@ -66,7 +66,7 @@ with_more i more still_cut =
 abbrev pub back_at : {T : Type 0} → Remaining T → Input T → Input T
 back_at x now = record now { left = x }
 
--- what is left of a stream that keeps no place, at these tokens
+-- the remaining input of a stream without offsets, at these tokens
 abbrev pub at_start : {T : Type 0} → List T → Remaining T
 at_start tokens = record { tokens = tokens; place = no_place; possible = true }
 
@@ -139,7 +139,6 @@ pub takes_end : {T S : Type 0} {reading : Reading T S} {front : List T} {i : Inp
     {j : Input T} → Takes reading front i s j → IsEndOf reading j i
 takes_end p = passes_end p.passed
 
--- back at the start of a run that left an end
 pub is_end_of_back : {T S : Type 0} {reading : Reading T S} {a b : Input T} {x : Remaining T}
     → x ≡ a.left → IsEndOf reading b a → IsEndOf reading (back_at x b) a
 is_end_of_back {reading = reading} {a = a} e p = let P : Remaining _
@@ -153,7 +152,6 @@ pub ends_remain : {T S : Type 0} {reading : Reading T S} {a b : Remaining T} →
     → Remains b a
 ends_remain e = record { dropped = e.dropped; tokens = e.tokens }
 
--- a reset goes back to what was left at the start
 pub remains_of_start : {T S : Type 0} {reading : Reading T S} {a b : Input T} {x : Remaining T}
     → x ≡ a.left → IsEndOf reading b a → Remains b.left x
 remains_of_start {b = b} e p = let P : Remaining _

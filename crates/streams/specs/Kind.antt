@@ -6,13 +6,13 @@ pub data ErrorForm : Type 0 where
   plain : ErrorForm
   modal : ErrorForm
 
--- An error is seen by its kind alone.
+-- The kind of an error, which is all that contracts depend on.
 pub data Kind : Type 0 where
   -- another branch may be tried
   backtrack : Kind
   -- no other branch is tried
   cut : Kind
-  -- more input may change the answer: how many units more, where that is known
+  -- more input may change the result; holds the number of missing units, if known
   incomplete : Option ℕ → Kind
-  -- a request for memory was refused
+  -- memory allocation failed
   memory : Kind

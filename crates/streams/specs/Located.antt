@@ -9,7 +9,7 @@ use Rattle.streams.specs.Reading.{Reading}
 abbrev pub place_at : Place → ℕ → Place
 place_at place passed = record place { passed = passed }
 
--- what is left, with that many units passed
+-- the remaining input, with `passed` units passed
 abbrev pub located_left : {T : Type 0} → Remaining T → ℕ → Remaining T
 located_left left passed = record left { place = place_at left.place passed }
 

@@ -1,4 +1,4 @@
--- How much more input is wanted.
+-- The amount of input that is needed.
 use Rattle.std.specs.Prelude.{ℕ, Option, Some, None, Result, Ok, Err}
 use Rattle.std.specs.Int.NonZero.{non_zero_usize_get}
 use Rattle.streams.specs.declared.needed.Needed.{Needed}
@@ -9,7 +9,7 @@ abbrev pub need_of : Needed → Option ℕ
 need_of Unknown = None
 need_of (Size n) = Some (non_zero_usize_get n)
 
--- an answer, with its need as a number
+-- a result, with its need as a number
 abbrev pub by_need : {O : Type 0} → Result O Needed → Result O (Option ℕ)
 by_need (Ok o) = Ok o
 by_need (Err needed) = Err (need_of needed)

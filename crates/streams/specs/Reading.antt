@@ -3,11 +3,11 @@ use Rattle.std.specs.Prelude.{◌≡◌, ◌<◌, ◌+◌, ℕ, List, [], ◌∷
 use Rattle.std.proofs.Common.{refl, arith}
 use Rattle.streams.specs.Place.{Place, further}
 
--- What a stream of tokens T and slices S says of itself.
+-- The properties of a stream of tokens `T` and slices `S`.
 pub record Reading (T S : Type 0) : Type 1 where
   -- the units that tokens take: bytes, items or bits
   pub units : List T → ℕ
-  -- the place that many units on
+  -- the position after this number of units
   pub advance : Place → ℕ → Place
   -- the tokens that a slice may stand for
   pub shows : S → List T → Type 0
@@ -19,7 +19,7 @@ pub record Reading (T S : Type 0) : Type 1 where
   pub advance_none : (p : Place) → advance p 0 ≡ p
   -- some units on, and then some more
   pub advance_add : (p : Place) (m n : ℕ) → advance (advance p m) n ≡ advance p (m + n)
-  -- a count of units that is kept beside does not change how the place moves
+  -- an additional count of units does not change how the position advances
   pub advance_further : (p : Place) (n k : ℕ) → advance (further p n) k ≡ further (advance p k) n
   -- a slice has one length
   pub one_length : (s : S) (xs ys : List T) → shows s xs → shows s ys → units xs ≡ units ys
@@ -33,7 +33,6 @@ ShowsOneList {T} {S} reading = (slice : S) (xs ys : List T) → reading.shows sl
 pub units-nil : {T S : Type 0} (reading : Reading T S) → reading.units [] ≡ 0
 units-nil reading = omega (arith, reading.units_add [] [])
 
--- no units are taken by no tokens alone
 pub units-zero : {T S : Type 0} (reading : Reading T S) (xs : List T) → reading.units xs ≡ 0
     → xs ≡ []
 units-zero reading [] e = refl

@@ -8,16 +8,16 @@ use Rattle.streams.specs.Input.{Input, Takes}
 use Rattle.streams.specs.Place.{Place, same_place}
 use Rattle.streams.specs.Reading.{Reading, ShowsOneList}
 
--- the offset is after some first tokens
+-- `IsBoundary units tokens offset`: `offset` is the number of units of some first tokens
 abbrev pub IsBoundary : {T : Type 0} → (List T → ℕ) → List T → ℕ → Type 0
 IsBoundary {T} units tokens offset =
     (front : List T) × (rest : List T) × (tokens ≡ front ++ rest) × (offset ≡ units front)
 
--- a question on a token answers b for a token that is seen as x
+-- `AnswersSeen seen answers x b`: a predicate gives `b` for a token whose view is `x`
 abbrev pub AnswersSeen : {K T : Type 0} → (K → T) → (K → Bool → Type 0) → T → Bool → Type 0
 AnswersSeen {K} seen answers x b = (t : K) × (seen t ≡ x) × answers t b
 
--- the offset of the first token that is answered true, or none where all are answered false
+-- the offset of the first token for which the predicate is true, or `None` if it is false for all
 abbrev pub FindsFirst : {T : Type 0} → (T → Bool → Type 0) → (List T → ℕ) → List T → Option ℕ
     → Type 0
 FindsFirst {T} answers units tokens found = MatchOption found
@@ -38,7 +38,7 @@ FindsOffset counts units tokens n answer =
     (λ offset. (n ≤ length tokens) × (offset ≡ units (take n tokens)))
     (λ need. (length tokens < n) × (need ≡ (if counts then Some (n - length tokens) else None)))
 
--- one step of an iterator over what is left
+-- one step of an iterator over the remaining items
 abbrev pub GivesNext : {A : Type 0} → List A → Option A → List A → Type 0
 GivesNext before item after = MatchOption item (before ≡ []) (λ x. before ≡ x ∷ after)
 
@@ -48,8 +48,8 @@ Cuts {T} reading offset earlier slice later =
     (front rest : List T) → earlier.left.tokens ≡ front ++ rest → offset ≡ reading.units front
     → Takes reading front earlier slice later
 
--- Now stands in the place of before: what is left is what the slice shows. Where its units lead
--- from a place to where before begins, now begins at that place.
+-- `now` replaces `before`: its remaining input is the tokens of `slice`. If the slice's units lead
+-- from a position to the start of `before`, `now` begins at that position.
 pub record IsUpdate {T S : Type 0} (reading : Reading T S) (before : Input T) (slice : S)
     (now : Input T) : Type 0 where
   pub shown : reading.shows slice now.left.tokens
@@ -74,7 +74,6 @@ update_begins {reading = reading} {front = front} {earlier = earlier} {now = now
     ∙ sym t.passed.place in
     same_place now.left.place from (u.passed from leads) (u.bits from (ap (λ p. p.bits_read) leads))
 
--- and what is left of it is those tokens
 pub update_tokens : {T S : Type 0} {reading : Reading T S} {front : List T}
     {before now : Input T} {slice : S} → ShowsOneList reading → reading.shows slice front
     → IsUpdate reading before slice now → now.left.tokens ≡ front

@@ -46,7 +46,8 @@ text_follows = record {
   kept = λ dropped later more f. f;
 }
 
--- What is seen of the bytes of a text: the characters that they spell, with no place kept, whole.
+-- The view of the bytes of a text: the characters that they encode, without an offset, as complete
+-- input.
 abbrev pub text_input : List ℕ → Input ℕ
 text_input bytes = record { left = at_start (chars bytes); status = no_status }
 

@@ -10,7 +10,7 @@ use Rattle.std.proofs.lemmas.List.{nil_from_length}
 use Rattle.streams.specs.Stream.{with_offsets}
 use Rattle.streams.specs.declared.token_slice.TokenSlice.{TokenSlice}
 
--- the tokens that are left
+-- the remaining tokens
 abbrev pub tokens_of : {T : Type 0} → TokenSlice T → List T
 tokens_of s = s.tokens.now
 

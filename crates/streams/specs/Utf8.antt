@@ -1,4 +1,4 @@
--- What the bytes of a character spell.
+-- The decoding of the bytes of a character.
 use Rattle.std.specs.Prelude.{◌≡◌, ℕ, zero, suc, ◌+◌, ◌-◌, ◌*◌, ◌/◌, ◌%◌, ◌<◌, ◌≤◌, List, [], ◌∷◌}
 use Rattle.std.specs.Prelude.{◌++◌}
 use Rattle.std.specs.Char.{encode_utf8}
@@ -8,7 +8,7 @@ use Rattle.std.proofs.lemmas.Bool.{cases_lt, lt-ltb, le-ltb}
 use Rattle.std.proofs.lemmas.List.{append-nil}
 use Rattle.std.proofs.lemmas.Str.{chars-nil, encode_ascii}
 
--- a first byte says how many follow, and which bits of the character it holds
+-- a first byte determines how many follow, and which bits of the character it holds
 led : (a n v : ℕ) (bs : List ℕ) → n ≡ continuation_len a → v ≡ lead_bits a
     → chars (a ∷ bs) ≡ chars_after n v bs
 unfolding chars

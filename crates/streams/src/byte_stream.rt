@@ -7,11 +7,11 @@ use crate::locating::LocatingSlice;
 use crate::partial::Partial;
 use crate::stream::Stream;
 
-/// A stream whose tokens are bytes, each seen as its number, whose units are bytes, which always
-/// stands between two bytes, and which is followed by bytes.
+/// A stream of bytes: its tokens are bytes, each seen as its number, and its units are bytes. It is
+/// always between two bytes, and bytes follow it.
 ///
-/// It is implemented by `&[u8]` and by the streams that wrap one. What contracts and laws of
-/// parsers of bytes need of any stream of bytes stands here.
+/// It is implemented by `&[u8]` and by the streams that wrap one. It has the properties that
+/// contracts and laws of parsers of bytes need of any stream of bytes.
 ///
 /// ```
 /// // It does nothing; its contract says that 97 and 98 are below 256.
@@ -28,7 +28,7 @@ pub trait ByteStream: Stream<Token = u8, Seen = u8> {
     // A byte is seen as its number.
     ghost sees_number: { (b : ℕ) → Self.seen_as b ≡ b };
 
-    // The stream never stands inside a byte.
+    // The stream is never inside a byte.
     ghost stands_between: { (s : Self) → (Self.view s).left.place.bits_read ≡ 0 };
 
     // It can always be read.

@@ -1,11 +1,11 @@
-//! What contracts see of an error.
+//! The kinds of errors, on which contracts depend.
 ghost use Rattle.streams.specs.Kind.{ErrorForm, Kind};
 
-/// An error that contracts see by its kind.
+/// An error with a kind, on which contracts depend.
 ///
-/// The traits that make and change errors stand on it, so that a bound on several of them speaks
-/// of one kind, and a stream that records errors shows their kinds. It has no functions: an error
-/// type says which kind each of its values has, and which kinds it has at all.
+/// It is a supertrait of the traits that make and change errors, so that a bound on several of them
+/// refers to one kind, and a stream that records errors shows their kinds. It has no functions: an
+/// error type defines the kind of each of its values, and which kinds it has at all.
 ///
 /// ```
 /// fn kind_of<E: HasKind + ParserError<&'static str>>(error: &E) -> bool {
@@ -20,6 +20,6 @@ pub trait HasKind {
     // The kind of an error.
     ghost kind: { Self → Kind };
 
-    // Whether the type has all kinds, or backtrack and memory alone.
+    // Whether the type has all kinds, or only backtrack and memory.
     ghost form: { ErrorForm };
 }

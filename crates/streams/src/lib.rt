@@ -1,8 +1,8 @@
-//! Streams: the input of a parser, and what a parser sees of it.
+//! Streams: the input of a parser, and a parser's view of it.
 //!
-//! A parser sees an input as `specs/Input.antt` has it: the tokens left, the place where they
-//! begin, and a status that is never moved back. Each stream says by its ghost members how it is
-//! seen, and each call of [`Stream`](crate::stream::Stream) is exact over that.
+//! A parser's view of an input is defined in `specs/Input.antt`: the remaining tokens, the position
+//! where they begin, and a status that is never reset. Each stream defines its view by its ghost
+//! members, and each call of [`Stream`](crate::stream::Stream) is exact over that.
 #![tactic(auto)]
 
 pub mod byte_stream;

@@ -33,7 +33,7 @@ pub struct LocatedCheckpoint<I: Stream> {
 }
 
 impl<I: Stream> LocatingSlice<I> {
-    /// The stream, of which this is the start.
+    /// Returns a stream whose offsets count from the start of `input`.
     #[inline(always)]
     pub fn new(input: I) -> LocatingSlice<I>
         ensures { ⟦<LocatingSlice<I> as Stream>⟧.view result ≡ located_input (I.view input) 0 }

@@ -1,12 +1,12 @@
-//! How much more input is wanted.
+//! The amount of input that is needed.
 ghost use Rattle.std.specs.Prelude.{◌≡◌, ◌==◌, Some, None, if◌then◌else◌};
 
 use std::num::NonZeroUsize;
 
-/// What a parser lacks where it answers that the input is incomplete.
+/// The amount of input that a parser needs when it returns `Incomplete`.
 ///
-/// The unit is that of the stream's offsets: bytes of bytes and text, items of token lists, bits
-/// of bits.
+/// The unit is that of the stream's offsets: bytes of bytes and text, items of token lists, bits of
+/// bits.
 ///
 /// ```
 /// assert_eq!(rt; Needed::new(0), Needed::Unknown);
@@ -18,7 +18,7 @@ use std::num::NonZeroUsize;
 pub enum Needed {
     /// More is needed, and how much is not known.
     Unknown,
-    /// At least that many units more are needed.
+    /// At least this number of further units is needed.
     Size(NonZeroUsize),
 }
 

@@ -7,10 +7,10 @@ use crate::needed::Needed;
 use crate::stream::{Location, Stream, StreamIsPartial, UpdateSlice};
 use crate::token_test::TokenTest;
 
-/// A stream of which only a beginning may be there.
+/// A stream that may have only a prefix of the input.
 ///
-/// A parser whose answer more input could change answers that it is incomplete, until the stream
-/// is marked as complete.
+/// A parser returns `Incomplete` if more input could change its result, until the stream is marked
+/// as complete.
 ///
 /// ```
 /// let mut input = Partial::new(b"ab".as_slice());

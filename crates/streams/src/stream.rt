@@ -11,7 +11,7 @@ ghost use Rattle.streams.specs.Needed.{by_need};
 use crate::needed::Needed;
 use crate::token_test::TokenTest;
 
-/// An input that parsers take tokens from, as winnow's documentation has it.
+/// An input that parsers take tokens from, as in winnow's documentation.
 ///
 /// Offsets count units: bytes of bytes and text, items of token lists, bits of bits.
 ///
@@ -24,7 +24,7 @@ pub trait Stream: Drop {
     /// The smallest part of the input.
     type Token: Drop;
 
-    /// What contracts see of a token.
+    /// The view of a token in contracts.
     type Seen;
 
     /// A part of the input, as parsers answer it.
@@ -36,19 +36,19 @@ pub trait Stream: Drop {
     /// A place to go back to.
     type Checkpoint: Drop;
 
-    // What a parser sees.
+    // A parser's view of the stream.
     ghost view: { Self → Input Self.Seen };
 
-    // What was left at a checkpoint.
+    // The remaining input at a checkpoint.
     ghost seen: { Self.Checkpoint → Remaining Self.Seen };
 
     // How tokens are counted and handed out.
     ghost reading: { Reading Self.Seen Self.Slice };
 
-    // What contracts see of a token.
+    // The view of a token in contracts.
     ghost seen_as: { Self.Token → Self.Seen };
 
-    // Whether `offset_at` says how many tokens are missing.
+    // Whether `offset_at` reports how many tokens are missing.
     ghost counts_missing: { Bool };
 
     // The lists that more input may add after those left.
@@ -64,7 +64,7 @@ pub trait Stream: Drop {
         ensures items { offsets_left result
             ≡ with_offsets reading.units 0 (view self.now).left.tokens };
 
-    /// How many units are left.
+    /// Returns the number of remaining units.
     fn eof_offset(&self) -> usize
         ensures { result ≡ reading.units (view self.now).left.tokens };
 
@@ -87,14 +87,14 @@ pub trait Stream: Drop {
         ensures { FindsOffset counts_missing reading.units (view self.now).left.tokens tokens
             (by_need result) };
 
-    /// The tokens before `offset`, in units, which are consumed. The caller owes an offset of this
-    /// stream between two tokens or at an end.
+    /// Consumes the tokens before `offset`, in units, and returns their slice. `offset` must be
+    /// between two tokens of this stream, or at its start or end.
     fn next_slice(&mut self, offset: usize) -> Self::Slice
         requires { IsBoundary reading.units (view self.old).left.tokens offset }
         ensures ends { IsEndOf reading (view self.new) (view self.old) }
         ensures cuts { Cuts reading offset (view self.old) result (view self.new) };
 
-    /// All that is left, which is consumed.
+    /// Consumes all remaining tokens and returns their slice.
     fn finish(&mut self) -> Self::Slice
         ensures ends { IsEndOf reading (view self.new) (view self.old) }
         ensures takes { Takes reading (view self.old).left.tokens (view self.old) result
@@ -109,8 +109,8 @@ pub trait Stream: Drop {
     fn reset(&mut self, checkpoint: &Self::Checkpoint)
         ensures { view self.new ≡ back_at (seen checkpoint.now) (view self.old) };
 
-    /// How many units lie between a place and the present one. The caller owes an earlier place of
-    /// this stream.
+    /// Returns the number of units between `start` and the current position. `start` must be an
+    /// earlier position of this stream.
     fn offset_from(&self, start: &Self::Checkpoint) -> usize
         requires { Remains (view self.now).left (seen start.now) }
         ensures { result + reading.units (view self.now).left.tokens
@@ -131,7 +131,7 @@ pub trait Stream: Drop {
 /// assert!(rt; !b"ab".as_slice().is_partial());
 /// ```
 pub trait StreamIsPartial: Stream {
-    /// What `complete` answers and `restore_partial` takes.
+    /// The state that `complete` returns and `restore_partial` takes.
     type PartialState: Drop;
 
     // Whether the type has a flag.
@@ -168,7 +168,7 @@ pub trait StreamIsPartial: Stream {
     ghost whole_state: { supports_partial ≡ false → (s : Self.PartialState) → flag s ≡ false };
 }
 
-/// A stream that knows its place.
+/// A stream that knows its offset.
 ///
 /// ```
 /// let mut input = LocatingSlice::new(b"ab".as_slice());
@@ -192,11 +192,11 @@ pub trait Location: Stream {
 /// assert_eq!(rt; b"abc".as_slice().update_slice(b"b".as_slice()), b"b".as_slice());
 /// ```
 pub trait UpdateSlice: Stream {
-    /// A stream over `slice`, with the same flag. Where the slice is what was just taken of this
-    /// stream, it begins where that did; at which place it begins otherwise is not promised.
+    /// Returns a stream over `slice`, with the same flag. If the slice was just taken from this
+    /// stream, the new stream begins where the slice did. Otherwise its offset is unspecified.
     fn update_slice(self, slice: Self::Slice) -> Self
         ensures { IsUpdate Self.reading (Self.view self) slice (Self.view result) };
 
-    // A slice shows one list of tokens, so what is left of a stream over it is those.
+    // A slice shows one list of tokens, so these are the remaining tokens of a stream over it.
     ghost one_list: { ShowsOneList Self.reading };
 }

@@ -1,8 +1,8 @@
 //! Text as a stream of characters.
 //!
 //! The stream of winnow for `&str`: tokens are characters, and each offset and each need counts
-//! bytes of UTF-8, one to four a character. Where an offset is asked for after more characters
-//! than there are, the need is unknown, since nothing tells how many bytes a missing one takes.
+//! bytes of UTF-8, one to four a character. If an offset after more characters than there are is
+//! requested, the need is unknown, since a missing character has an unknown number of bytes.
 //!
 //! ```
 //! let mut input = "aé€";
@@ -91,7 +91,7 @@ impl<'a> Stream for &'a str {
     #[inline(always)]
     fn next_slice(&mut self, offset: usize) -> &'a str {
         let all = *self;
-        // That a text is UTF-8, and so may be cut between two characters, is known of its bytes.
+        // The bytes of a text show that it is UTF-8, and so may be split between two characters.
         let _bytes = all.as_bytes();
         let (front, rest) = all.split_at(offset);
         *self = rest;
@@ -101,7 +101,7 @@ impl<'a> Stream for &'a str {
     #[inline(always)]
     fn finish(&mut self) -> &'a str {
         let all = *self;
-        // That a text is UTF-8 is known of its bytes.
+        // The bytes of a text show that it is UTF-8.
         let _bytes = all.as_bytes();
         *self = &all[all.len()..];
         all

@@ -1,17 +1,17 @@
 //! Questions on tokens.
 ghost use Rattle.std.specs.Prelude.{Bool};
 
-/// A question on a token that is answered yes or no, such as a closure.
+/// A predicate on tokens, such as a closure.
 ///
-/// It stands in the place of a bound `Fn(Token) -> bool`.
+/// It is used instead of a bound `Fn(Token) -> bool`.
 pub trait TokenTest<T> {
-    // The states in which it may be asked about any token.
+    // The states in which it may be called for any token.
     ghost can_test: { Self → Type 0 };
 
-    // The answers that it may give.
+    // The results that it may give.
     ghost answers: { Self → T → Bool → Type 0 };
 
-    /// Whether the answer for `token` is yes.
+    /// Returns whether the predicate is true for `token`.
     fn test(&self, token: T) -> bool
         requires { can_test self.now }
         ensures { answers self.now token result };

@@ -1,4 +1,4 @@
--- The line of a place, of what stands before the place and after it.
+-- The line of an offset, in terms of the bytes before and after it.
 use Rattle.std.proofs.Common.{◌≡◌, ◌∙◌, ◌+◌, ◌-◌, ◌≤◌, ◌<◌, ◌⊎◌, ℕ, List, ◌∷◌, [], ◌++◌, length}
 use Rattle.std.proofs.Common.{ap, arith, inl, inr, refl, subst, sym, take, drop, min}
 use Rattle.std.proofs.lemmas.Bool.{cases_lt}
@@ -39,8 +39,6 @@ one_in before behind start n here there k d low high feed =
           (sym (get_or-append_right before behind (length before) k d refl beyond) ∙ feed)
     ]
 
--- the line of what stands before a place and after it, by where it begins before the place and by
--- how much of it stands after
 pub line_in : (before behind : List ℕ) (start n : ℕ) → start ≤ length before
     → (start ≡ 0) ⊎ (slice_index before (start - 1) ≡ 10)
     → AllWithin IsWithinLine before start (length before) → n ≤ length behind
@@ -54,7 +52,6 @@ line_in before behind start n bound begins here some ends there = (
   ends_in before behind n ends,
 )
 
--- what stands between two places
 pub between_places : (bytes : List ℕ) (start end : ℕ) → start ≤ end
     → take (end - start) (drop start bytes) ≡ drop start (take end bytes)
 between_places bytes start end ordered =
@@ -62,7 +59,6 @@ between_places bytes start end ordered =
     sym (subst (λ n. drop start (take n bytes) ≡ take (end - start) (drop start bytes)) at
     (drop-take start (end - start) bytes))
 
--- the last of what stands between two places
 last_is : (bytes rest : List ℕ) (start end last : ℕ) → start ≤ end → end ≤ length bytes
     → take (end - start) (drop start bytes) ≡ rest ++ last ∷ []
     → (start + length rest + 1 ≡ end) × (slice_index bytes (end - 1) ≡ last)
@@ -80,7 +76,6 @@ last_is bytes rest start end last ordered bound is =
           ∙ get_or_at rest last [] 0 (length rest) refl,
     )
 
--- what stands before the last of it
 front_is : (bytes rest : List ℕ) (start end last : ℕ) → start ≤ end → end ≤ length bytes
     → take (end - start) (drop start bytes) ≡ rest ++ last ∷ []
     → rest ≡ drop start (take (end - 1) bytes)
@@ -93,7 +88,6 @@ front_is bytes rest start end last ordered bound is =
     ∙ sym (drop-take start (length rest) bytes)
     ∙ ap (λ n. drop start (take n bytes)) place
 
--- what stands before a place and after it is all
 whole_is : (bytes before behind : List ℕ) (offset : ℕ) → before ≡ take offset bytes
     → behind ≡ drop offset bytes → before ++ behind ≡ bytes
 whole_is bytes before behind offset is_before is_behind =
@@ -106,7 +100,7 @@ whole_size bytes before behind offset is_before is_behind =
     sym (length-append before behind)
     ∙ ap (λ l. length l) (whole_is bytes before behind offset is_before is_behind)
 
--- what `line` knows of the places between which the line stands
+-- the facts that `line` establishes about the start and the end of the line
 pub record Places (bytes : List ℕ) (offset start end : ℕ) : Type 0 where
   pub line : IsLine bytes start end
   pub from : start ≤ min offset (length bytes)
@@ -160,7 +154,7 @@ shown_whole bytes offset start end it none = (
   inr (none, between_places bytes start end it.line.0),
 )
 
--- ... as where its last is none, ...
+-- ... and if its last byte is not a carriage return, ...
 pub shown_with_last : (bytes rest : List ℕ) (offset start end last : ℕ)
     → Places bytes offset start end
     → take (end - start) (drop start bytes) ≡ rest ++ last ∷ [] → (last ≡ 13 → ⊥)

@@ -1,4 +1,4 @@
--- What stands before a place, character by character.
+-- The text before an offset, character by character.
 use Rattle.std.proofs.Common.{◌≡◌, ◌∙◌, ◌+◌, ℕ, List, [], ◌∷◌, ◌++◌, length, refl, sym, ap, arith}
 use Rattle.std.proofs.Common.{append_assoc, suc}
 use Rattle.std.specs.List.{All, flat_map}
@@ -37,7 +37,6 @@ behind_line before line column c feed it = record {
   column_is = refl;
 }
 
--- after the first line feeds of two texts that are the same stands the same
 behind_first : (xs ys a b : List ℕ) → All IsWithinLine xs → All IsWithinLine ys
     → xs ++ 10 ∷ a ≡ ys ++ 10 ∷ b → a ≡ b
 behind_first [] [] a b p q e = cc
@@ -48,7 +47,6 @@ behind_first (x ∷ xs) [] a b p q e =
 behind_first (x ∷ xs) (y ∷ ys) a b p q e =
     behind_first xs ys a b (All-tail IsWithinLine x xs p) (All-tail IsWithinLine y ys q) cc
 
--- what has a line feed is no part of a line
 no_feed : (xs ys b : List ℕ) → All IsWithinLine xs → xs ≡ ys ++ 10 ∷ b → ⊥
 no_feed [] [] b p e = cc
 no_feed [] (y ∷ ys) b p e = cc
@@ -81,7 +79,6 @@ same_lines (x ∷ xs) (y ∷ ys) a b p q pa qb e =
     (sym (first_line x xs a) ∙ (e ∙ first_line y ys b))) in
     (ap (λ n. suc n) both.0, both.1)
 
--- what stands before a place has one line and one column
 pub one_place : (before : List ℕ) (line column line' column' : ℕ) → IsPosition before line column
     → IsPosition before line' column' → (line ≡ line') × (column ≡ column')
 one_place before line column line' column' p q =

@@ -1,4 +1,4 @@
--- The line of a place, as it is shown.
+-- The line of an offset, as it is shown.
 use Rattle.std.specs.Prelude.{◌≡◌, ◌⊎◌, ◌≤◌, ◌<◌, ◌-◌, ℕ, List, length, take, drop, min}
 use Rattle.std.specs.List.{AllWithin, slice_index}
 use Rattle.text_positions.specs.Position.{IsWithinLine}
@@ -12,13 +12,14 @@ IsLine bytes start end =
     × AllWithin IsWithinLine bytes start end
     × ((end ≡ length bytes) ⊎ (slice_index bytes end ≡ 10))
 
--- The line between these places ends with a carriage return, and a line feed stands after it.
+-- The line from `start` to `end` ends with a carriage return, and a line feed follows.
 abbrev pub EndsWithReturn : List ℕ → ℕ → ℕ → Type 0
 EndsWithReturn bytes start end =
     (start < end) × (end < length bytes) × (slice_index bytes (end - 1) ≡ 13)
 
--- This is the line that has the place, or at whose end it is, without the carriage return and the
--- line feed that end it. A place after the end is the end.
+-- `IsLineShown bytes offset shown`: `shown` is the line that contains `offset` or ends there,
+-- without the carriage return and the line feed that end it. An offset after the end counts as the
+-- end.
 abbrev pub IsLineShown : List ℕ → ℕ → List ℕ → Type 0
 IsLineShown bytes offset shown =
     (start : ℕ) × (end : ℕ) × IsLine bytes start end

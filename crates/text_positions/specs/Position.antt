@@ -10,8 +10,8 @@ IsWithinLine c = c ≡ 10 → ⊥
 abbrev pub ended : List ℕ → List ℕ
 ended line = line ++ 10 ∷ []
 
--- A place after these characters has this line and this column, both counted from 1: before it
--- stand whole lines, each with its line feed, and then what has begun of its own line.
+-- The position after the characters `before` has this line and this column, both counted from 1. It
+-- follows complete lines, each with its line feed, and then the start of its own line.
 pub record IsPosition (before : List ℕ) (line column : ℕ) : Type 0 where
   pub lines : List (List ℕ)
   pub begun : List ℕ

@@ -1,4 +1,4 @@
-//! The line of a place, with a caret under the place.
+//! The line of an offset, with a caret under its column.
 ghost use Rattle.std.specs.Prelude.{◌≡◌, ◌≤◌, ◌⊎◌, ◌-◌, length, take, drop};
 ghost use Rattle.std.specs.List.{AllWithin, slice_index};
 ghost use Rattle.std.specs.Str.{IsCharBoundary, IsUtf8, chars};
@@ -8,11 +8,12 @@ ghost use Rattle.text_positions.specs.Position.{IsPosition, IsWithinLine};
 use crate::{Position, position_of};
 use std::fmt;
 
-/// A place in a text or in bytes, shown as compilers do: its line and column, the line itself, and
-/// a caret under the place. Of a text with no line feed it shows the text and the caret alone.
+/// A position in a text or in bytes, shown as compilers do: its line and column, the line itself,
+/// and a caret under the position. For a text without line feeds it shows only the text and the
+/// caret.
 ///
 /// Lines end as [`position_of`] counts them, with their line feeds. A carriage return is a
-/// character of its line, under which the caret can stand; before a line feed it is not shown.
+/// character of its line, and the caret can be under it; before a line feed it is not shown.
 ///
 /// ```
 /// use text_positions::Position;
@@ -95,10 +96,10 @@ impl fmt::Display for Excerpt<'_> {
     }
 }
 
-/// The line and the column of the place that lies `offset` bytes after the start of some bytes.
+/// Returns the line and the column of `offset`, in bytes from the start of some bytes.
 ///
-/// Bytes that are no text count as the characters do that stand for them where they are printed.
-/// A place after the end is the end.
+/// Bytes that are not UTF-8 count as the characters that are printed for them. An offset after the
+/// end counts as the end.
 pub fn position_in(bytes: &[u8], offset: usize) -> Position
     ensures place { IsUtf8 bytes.now → IsCharBoundary bytes.now offset
         → IsPosition (chars (take offset bytes.now)) result.line result.column }
@@ -134,7 +135,7 @@ fn place_behind(before: &[u8]) -> Position {
     Position { line, column }
 }
 
-/// What stands before a place, and what after it.
+/// Splits `bytes` at `offset`.
 fn parted(bytes: &[u8], offset: usize) -> (&[u8], &[u8])
     ensures before { result.0.now ≡ take offset bytes.now }
     ensures behind { result.1.now ≡ drop offset bytes.now }
@@ -155,7 +156,7 @@ fn line_start(before: &[u8]) -> usize
     start
 }
 
-/// How many bytes stand before the first line feed, or the end.
+/// Returns the number of bytes before the first line feed, or of all bytes.
 fn line_length(behind: &[u8]) -> usize
     ensures bound { result ≤ length behind.now }
     ensures ends { (result ≡ length behind.now) ⊎ (slice_index behind.now result ≡ 10) }

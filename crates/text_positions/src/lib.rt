@@ -10,22 +10,23 @@ pub mod excerpt;
 /// A place in a text, as a reader of the text would say it.
 #[derive(Clone, Copy, Debug, PartialEq, Eq, Drop)]
 pub struct Position {
-    /// The number of the line, from 1 on: one more than line feeds stand before the place.
+    /// The number of the line, from 1 on: one more than the number of line feeds before the
+    /// position.
     pub line: usize,
-    /// The number of the column, from 1 on: one more than characters stand between the last line
-    /// feed before the place, or the start of the text, and the place.
+    /// The number of the column, from 1 on: one more than the number of characters since the last
+    /// line feed before the position, or since the start of the text.
     pub column: usize,
 }
 
-/// The line and the column of the place that lies `offset` bytes after the start of a text.
+/// Returns the line and the column of `offset`, in bytes from the start of a text.
 ///
 /// Both are counted from 1, as compilers and editors show them. A column counts characters, and
 /// neither bytes nor cells of a screen. A line ends with its line feed, so the carriage return of
-/// `"\r\n"` is the last character of its line. The end of the text is a place too.
+/// `"\r\n"` is the last character of its line. The end of the text has a position too.
 ///
-/// `None` where the text has no such place: after its end, or within a character.
+/// Returns `None` if the offset exceeds the length of the text or is within a character.
 ///
-/// It goes once over the text before the place, and takes no memory.
+/// Reads the text before the offset once, and does not allocate.
 ///
 /// ```
 /// use text_positions::{Position, position_of};

@@ -1,2 +1,3 @@
-//! What parsers that one state and one input decide answer for good. winnow has no such function.
+//! Final results of parsers whose result is a function of state and input. winnow has no such
+//! function.
 pub use winnow_exact::for_good::parse_for_good;

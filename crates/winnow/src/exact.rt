@@ -1,8 +1,6 @@
-//! Functions as parsers that read by a grammar, and input in pieces by a grammar: what it is read
-//! as, between which places, when more is asked for, and how it fails. winnow has no such traits.
-pub use winnow_begun::begun::Begun;
+//! Functions as parsers with a grammar, and parsers of partial input with a grammar: what they
+//! read, and between which offsets. winnow has no such traits.
 pub use winnow_exact::by_pieces::ByPieces;
 pub use winnow_exact::pieces::ReadsPieces;
 pub use winnow_exact::rule::{By, Rule};
 pub use winnow_exact::spans::ReadsSpanned;
-pub use winnow_failures::fails::Fails;

@@ -1,8 +1,8 @@
 //! The parser library winnow under its own module names.
 //!
-//! A user names this crate alone. Each item stands in the module where winnow has it, and is
-//! defined and proved in the crate that its documentation names; what the clauses of public
-//! functions cite stands in `Rattle.winnow.specs`.
+//! Users depend only on this crate. Each item is in the module where winnow has it, and is defined
+//! and proved in the crate that its documentation names. The definitions that clauses of public
+//! functions cite are in `Rattle.winnow.specs`.
 //!
 //! ```
 //! use winnow::ascii::impls::Digit1;

@@ -1,4 +1,4 @@
-//! What most users of parsers name.
+//! The names that most users of parsers need.
 pub use crate::{Func, ModalParser, Parser, RecoverableParser, RecoveringParser};
 pub use stream_errors::modal::ModalError;
 pub use stream_errors::parser_error::ParserError;

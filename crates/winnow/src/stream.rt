@@ -1,4 +1,4 @@
-//! What parsers read: streams, and the sets, literals and numbers that they are asked for.
+//! Streams, and the sets, literals and numbers that parsers match against them.
 pub use byte_sets::byte_set::ByteSet;
 pub use stream_errors::recover::Recover;
 pub use stream_recovery::recoverable::Recoverable;

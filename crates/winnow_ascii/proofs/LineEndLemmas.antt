@@ -1,4 +1,4 @@
--- Literals that are tried in turn, and literals that do not stand first.
+-- Lemmas about literals that are tried in order, and about literals that do not match.
 use Rattle.std.proofs.Common.{◌≡◌, ◌⊎◌, inl, inr, ℕ, List, [], ◌∷◌, Err, Bor, subst}
 use Rattle.streams.specs.Input.{Input}
 use Rattle.streams.specs.Kind.{Kind, backtrack}
@@ -19,7 +19,7 @@ literal_stays reading form spelled output i k j (inl (front, slice, spells, take
 literal_stays reading form spelled output i k j (inr (inl (short, cut, e, same))) = same
 literal_stays reading form spelled output i k j (inr (inr (other, whole, e, same))) = same
 
--- "\n" backtracked, and "\r\n" answers
+-- "\n" backtracked, and the result is that of "\r\n"
 pub second_line_end : {T S : Type 0} (spells : Bor (List ℕ) → List T → Type 0)
     (reading : Reading T S) (form : ErrorForm) (i : Input T) (answer : Answer S) (j m : Input T)
     (k : Kind) (text : Bor (List ℕ)) → text.now ≡ 10 ∷ [] → k ≡ backtrack
@@ -34,7 +34,6 @@ second_line_end spells reading form i answer j m k text is kind first second =
     let R : Input _ → Type 0 = λ x. CrlfRuns spells reading form x answer j in
     inr (text, is, subst P kind (subst Q same first), subst R same second)
 
--- what is short or another does not stand first
 pub not_first : {T : Type 0} (units : List T → ℕ) (spelled : List T → Type 0) (tokens : List T)
     (result : CompareResult) → ComparesAs units spelled tokens result
     → (result ≡ Incomplete) ⊎ (result ≡ Error) → StandsFirst spelled tokens → ⊥

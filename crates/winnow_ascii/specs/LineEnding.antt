@@ -1,4 +1,4 @@
--- A line end.
+-- The semantics of `line_ending`.
 use Rattle.std.specs.Prelude.{◌≡◌, ℕ, List, [], ◌∷◌, Err, ◌⊎◌}
 use Rattle.std.specs.Borrow.{Bor}
 use Rattle.streams.specs.Input.{Input}
@@ -17,11 +17,11 @@ pub mod Says
 abbrev pub LineEndingRuns : {T S : Type 0} → (Bor (List ℕ) → List T → Type 0) → Reading T S
     → ErrorForm → Input T → Answer S → Input T → Type 0
 LineEndingRuns {T} {S} spells reading form i answer j =
-    -- "\n" does not backtrack: it answers
+    -- "\n" does not backtrack: the result is that of "\n"
     ((text : Bor (List ℕ)) × (text.now ≡ 10 ∷ [])
     × LiteralRuns reading form (spells text) (λ slice. slice) i answer j
     × (answer ≡ Err backtrack → ⊥))
-    -- it backtracks: "\r\n" answers
+    -- "\n" backtracks: the result is that of "\r\n"
     ⊎ ((text : Bor (List ℕ)) × (text.now ≡ 10 ∷ [])
     × LiteralRuns reading form (spells text) (λ slice. slice) i (Err backtrack) i
     × CrlfRuns spells reading form i answer j)

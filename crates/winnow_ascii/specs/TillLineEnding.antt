@@ -1,4 +1,4 @@
--- What stands before a line end.
+-- The semantics of `till_line_ending`.
 use Rattle.std.specs.Prelude.{◌≡◌, ℕ, List, [], ◌∷◌, None, Ok, Err, ◌⊎◌, length}
 use Rattle.std.specs.Borrow.{Bor}
 use Rattle.streams.specs.Input.{Input, Takes}
@@ -14,27 +14,26 @@ pub mod Known
 pub mod Laws
 pub mod Says
 
--- A line is taken: what stands before the first carriage return or line feed; or all that is left,
--- where there is neither and an error for want of more input backtracks.
+-- Takes a line: the input up to the first carriage return or line feed; or all remaining input, if
+-- neither occurs and the error for missing input is a backtrack.
 abbrev pub LineRuns : {T S : Type 0} → (ℕ × ℕ → List T → Type 0) → Reading T S → ErrorForm
     → Input T → S → Input T → Type 0
 LineRuns sought reading form i slice j =
-    -- what stands before the first match
+    -- the input up to the first match
     ((start : ℕ) × (end : ℕ)
     × (m : IsFirstMatch reading.units (sought (13, 10)) i.left.tokens start end)
     × Takes reading m.front i slice j)
-    -- all that is left
+    -- all remaining input
     ⊎ (HasNoLineEnd sought i.left.tokens × ShortKind form None i backtrack
     × Takes reading i.left.tokens i slice j × (j.left.tokens ≡ []))
 
--- No line is taken: there is neither, and the error for want of more input does not backtrack.
+-- Neither occurs, and the error for missing input is not a backtrack: no line is taken.
 abbrev pub LacksLineEnd : {T : Type 0} → (ℕ × ℕ → List T → Type 0) → ErrorForm → Input T → Kind
     → Input T → Type 0
 LacksLineEnd sought form i k j =
     HasNoLineEnd sought i.left.tokens × ShortKind form None i k × (k ≡ backtrack → ⊥) × (j ≡ i)
 
--- A run of the parser of what stands before a line end. A text stands for the lists that `spells`
--- says.
+-- A call of `till_line_ending`. `spells` gives the lists that a text spells.
 abbrev pub TillLineEndingRuns : {T S : Type 0} → (Bor (List ℕ) → List T → Type 0)
     → (ℕ × ℕ → List T → Type 0) → Reading T S → ErrorForm → Input T → Answer S → Input T → Type 0
 TillLineEndingRuns {T} {S} spells sought reading form i answer j =
@@ -46,7 +45,7 @@ TillLineEndingRuns {T} {S} spells sought reading form i answer j =
     ⊎ (((slice : S) × (both : Bor (List ℕ)) × (both.now ≡ 13 ∷ 10 ∷ [])
     × LineRuns sought reading form i slice j
     × StandsFirst (spells both) j.left.tokens × (answer ≡ Ok slice))
-    -- "\r" follows, and the input ends before a line feed could stand after it
+    -- "\r" follows, and the input ends before a possible line feed
     ⊎ (((slice : S) × (return : Bor (List ℕ)) × (both : Bor (List ℕ)) × (k : Kind)
     × (return.now ≡ 13 ∷ []) × (both.now ≡ 13 ∷ 10 ∷ [])
     × LineRuns sought reading form i slice j
@@ -63,11 +62,11 @@ TillLineEndingRuns {T} {S} spells sought reading form i answer j =
     -- no line is taken
     ⊎ ((k : Kind) × LacksLineEnd sought form i k j × (answer ≡ Err k)))))
 
--- The two characters that end a line are not sought by an empty list.
+-- The search for the two characters that end a line never matches an empty list.
 abbrev pub SeeksSome : {T : Type 0} → (ℕ × ℕ → List T → Type 0) → Type 0
 SeeksSome {T} sought = (xs : List T) → sought (13, 10) xs → xs ≡ [] → ⊥
 
--- A text of a carriage return stands for one token.
+-- A text that is one carriage return spells one token.
 abbrev pub SpellsOne : {T : Type 0} → (Bor (List ℕ) → List T → Type 0) → Type 0
 SpellsOne {T} spells =
     (text : Bor (List ℕ)) (xs : List T) → text.now ≡ 13 ∷ [] → spells text xs → length xs ≡ 1

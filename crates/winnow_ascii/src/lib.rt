@@ -1,8 +1,8 @@
-//! The parsers of ASCII's classes of characters, and of line ends.
+//! Parsers of ASCII character classes and of line endings.
 //!
-//! Each of the first is a take of the members of a class, by the definition of `specs/Class.antt`.
-//! They work on each stream whose tokens are characters, as bytes and text. Each of the others is
-//! the definition of its name in `specs/`.
+//! The parsers of classes take the members of a class, as defined in `specs/Class.antt`. They work
+//! on every stream whose tokens are characters, such as bytes and text. Each parser of line endings
+//! is specified by the definition of its name in `specs/`.
 #![tactic(auto)]
 
 pub mod ascii;

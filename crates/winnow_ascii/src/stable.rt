@@ -24,7 +24,7 @@ pub trait LineEnds: StreamIsPartial + Compare<&'static str> + FindSlice<(char, c
     // A list that ends a line is not empty.
     ghost seeks_some: { SeeksSome Self.sought };
 
-    // A text of a carriage return stands for one token.
+    // A text that is one carriage return spells one token.
     ghost spells_one: { SpellsOne Self.spells };
 }
 

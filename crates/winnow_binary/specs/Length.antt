@@ -1,4 +1,4 @@
--- A length, and what stands after it.
+-- The semantics of length-prefixed parsers.
 use Rattle.std.specs.Prelude.{◌≡◌, ℕ, Ok, Err, ◌⊎◌}
 use Rattle.streams.specs.Input.{Input}
 use Rattle.streams.specs.Kind.{Kind}
@@ -11,7 +11,7 @@ pub mod Laws
 abbrev pub LengthRuns : {S V T N O : Type 0} → (N → ℕ) → Runs S T N → (ℕ → Runs V T O)
     → Runs (S × V) T O
 LengthRuns {S} {V} {T} {N} {O} number count following s i answer t j =
-    -- the length is read, and what follows it answers
+    -- `count` parses the length, and the result is that of `following`
     ((n : N) × (a : Input T) × count s.0 i (Ok n) t.0 a
     × following (number n) s.1 a answer t.1 j)
     -- no length is read, and what follows it is not run

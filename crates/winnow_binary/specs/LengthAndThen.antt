@@ -1,4 +1,4 @@
--- A length, and a parser of that many tokens.
+-- The semantics of `length_and_then`.
 use Rattle.std.specs.Prelude.{◌≡◌, ◌<◌, ◌-◌, ℕ, Bool, false, List, length, Some, None, Err, ◌⊎◌}
 use Rattle.std.specs.Prelude.{if◌then◌else◌}
 use Rattle.streams.specs.Input.{Input, Passes}
@@ -17,11 +17,11 @@ pub mod Laws
 abbrev pub length_and_then_count : {P G I N O E : Type 0} → LengthAndThen P G I N O E → P
 length_and_then_count s = s.count
 
--- the parser of what stands after it
+-- the parser of the tokens after the length
 abbrev pub length_and_then_parser : {P G I N O E : Type 0} → LengthAndThen P G I N O E → G
 length_and_then_parser s = s.parser
 
--- some first tokens of an input as an input of their own, where they stand, to which no more comes
+-- the tokens `taken` as a complete input at the same position
 abbrev pub only_first : {T : Type 0} → List T → Input T → Input T
 only_first taken i =
     record i {
@@ -33,8 +33,8 @@ only_first taken i =
 abbrev pub TakenRuns : {S T L O : Type 0} → Reading T L → ErrorForm → Bool → Runs S T O → ℕ
     → Runs S T O
 TakenRuns {S} {T} {L} {O} reading form counts run n s i answer t j =
-    -- there are as many: its run is the answer, where a need for more backtracks, and what it
-    -- leaves is dropped
+    -- there are `n` tokens: the result is that of the parser on them, with `Incomplete` turned into
+    -- a backtrack; the tokens that it leaves are discarded
     ((taken : List T) × (rest : Input T) × (length taken ≡ n) × Passes reading taken i j
     × CompleteErrRuns run s (only_first taken i) answer t rest)
     -- there are too few, and it is not run
@@ -42,7 +42,7 @@ TakenRuns {S} {T} {L} {O} reading form counts run n s i answer t j =
     × ShortKind form (if counts then Some (n - length i.left.tokens) else None) i k
     × (answer ≡ Err k) × (t ≡ s) × (j ≡ i))
 
--- A run of the parser of a length, and one of the other on that many tokens.
+-- A call of the parser of the length, and one of the other parser on `n` tokens.
 abbrev pub LengthAndThenRuns : {S V T N L O : Type 0} → (N → ℕ) → Reading T L → ErrorForm → Bool
     → Runs S T N → Runs V T O → Runs (S × V) T O
 LengthAndThenRuns number reading form counts count run =

@@ -1,4 +1,4 @@
--- A length, and that many items.
+-- The semantics of `length_repeat`.
 use Rattle.std.specs.Prelude.{ℕ, Some}
 use Rattle.streams.specs.Kind.{Kind}
 use Rattle.stream_sets.specs.Accumulator.{Accumulator}
@@ -18,12 +18,12 @@ length_repeat_count s = s.count
 abbrev pub length_repeat_parser : {P G I N O C E A : Type 0} → LengthRepeat P G I N O C E A → G
 length_repeat_parser s = s.parser
 
--- That many items: a repetition from that many times to that many.
+-- `n` items: a repetition of exactly `n` times.
 abbrev pub ItemsBehind : {S T O C : Type 0} → Runs S T O → Accumulator C O → Kind → ℕ
     → Runs S T C
 ItemsBehind run into assert_kind n = RepeatManyRuns run into assert_kind (from_to n (Some n))
 
--- A run of the parser of a length, and a repetition of the other, that many times.
+-- A call of the parser of the length, and a repetition of the other parser by its number.
 abbrev pub LengthRepeatRuns : {S V T N O C : Type 0} → (N → ℕ) → Accumulator C O → Kind
     → Runs S T N → Runs V T O → Runs (S × V) T C
 LengthRepeatRuns number into assert_kind count run =

@@ -1,4 +1,4 @@
--- A length, and that many tokens.
+-- The semantics of `length_take`.
 use Rattle.std.specs.Prelude.{ℕ, Bool, ⊤}
 use Rattle.streams.specs.Reading.{Reading}
 use Rattle.stream_errors.specs.Form.{ErrorForm}
@@ -14,7 +14,7 @@ pub mod Reads
 abbrev pub length_take_count : {P I N E : Type 0} → LengthTake P I N E → P
 length_take_count s = s.count
 
--- A run of the parser of a length, and a take of that many tokens.
+-- A call of the parser of the length, and a `take` of `n` tokens.
 abbrev pub LengthTakeRuns : {S T N L : Type 0} → (N → ℕ) → Reading T L → ErrorForm → Bool
     → Runs S T N → Runs S T L
 LengthTakeRuns number reading form counts count s i answer t j =

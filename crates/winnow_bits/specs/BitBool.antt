@@ -15,6 +15,6 @@ BitBoolRuns reading form i answer j =
     ((b : Bool) × Passes reading (b ∷ []) i j × (answer ≡ Ok b))
     -- the place cannot be read
     ⊎ (((i.left.possible ≡ false) × (answer ≡ Err (assert_kind form)) × (j ≡ i))
-    -- no bit is left, and a cut input lacks one
+    -- no bit remains: an error, or `Incomplete` on partial input
     ⊎ ((k : Kind) × (i.left.possible ≡ true) × (i.left.tokens ≡ []) × ShortKind form (Some 1) i k
     × (answer ≡ Err k) × (j ≡ i)))

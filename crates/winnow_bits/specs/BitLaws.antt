@@ -18,7 +18,7 @@ abbrev pub StaysOnError : {S T O : Type 0} → Runs S T O → Type 0
 StaysOnError {S} {T} {O} run =
     (s : S) (i : Input T) (k : Kind) (t : S) (j : Input T) → run s i (Err k) t j → j ≡ i
 
--- What is taken are the first bits, as many as the state says, and then the rest are left.
+-- The output is the number of the first `n` bits, where `n` is the state, and the rest remains.
 abbrev pub TakesFirstBits : {O L : Type 0} → (O → ℕ) → Reading Bool L → Runs ℕ Bool O → Type 0
 TakesFirstBits {O} number reading run =
     (n : ℕ) (i : Input Bool) (o : O) (m : ℕ) (j : Input Bool) → run n i (Ok o) m j

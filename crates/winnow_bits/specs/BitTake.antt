@@ -1,4 +1,4 @@
--- Takes of that many bits, as a number.
+-- The semantics of `take` of bits, as a number.
 use Rattle.std.specs.Prelude.{◌≡◌, ◌<◌, ◌≤◌, ℕ, Bool, true, false, length, Some, Ok, Err, ◌⊎◌}
 use Rattle.streams.specs.Input.{Input}
 use Rattle.streams.specs.Kind.{Kind}
@@ -14,8 +14,7 @@ pub mod Laws
 abbrev pub bit_take_count : {I O E : Type 0} → Take I O E → ℕ
 bit_take_count s = s.count
 
--- A take of some bits cannot be answered: the output does not hold that many, or the place cannot
--- be read.
+-- A `take` of `n` bits is impossible: the output has fewer bits, or the offset is invalid.
 abbrev pub CannotTake : ℕ → ℕ → Input Bool → Type 0
 CannotTake width n i = (0 < n) × ((width < n) ⊎ (i.left.possible ≡ false))
 
@@ -23,11 +22,11 @@ CannotTake width n i = (0 < n) × ((width < n) ⊎ (i.left.possible ≡ false))
 abbrev pub BitTakeRuns : {O S : Type 0} → (O → ℕ) → ℕ → Reading Bool S → ErrorForm → ℕ → Input Bool
     → Answer O → Input Bool → Type 0
 BitTakeRuns {O} number width reading form n i answer j =
-    -- the first n bits are taken, and are the number, of which the first bit is the greatest
+    -- takes the first `n` bits as a number, most significant bit first
     ((o : O) × (n ≤ width) × ((n ≡ 0) ⊎ (i.left.possible ≡ true))
     × ReadsNumber reading n i (number o) j × (answer ≡ Ok o))
     -- the take cannot be answered
     ⊎ ((CannotTake width n i × (answer ≡ Err (assert_kind form)) × (j ≡ i))
-    -- there are too few bits, and a cut input lacks that many
+    -- there are fewer than `n` bits: an error, or `Incomplete` on partial input
     ⊎ ((k : Kind) × (n ≤ width) × (i.left.possible ≡ true) × (length i.left.tokens < n)
     × ShortKind form (Some n) i k × (answer ≡ Err k) × (j ≡ i)))

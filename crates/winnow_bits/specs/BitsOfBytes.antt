@@ -21,7 +21,7 @@ bits_parser s = s.parser
 abbrev pub with_status : {T V : Type 0} → Input T → Input V → Input T
 with_status i of = record i { status = of.status }
 
--- The bytes of which no bit was read are left: as many as are whole among the bits left.
+-- The whole bytes among the remaining bits remain.
 pub record LeavesWholeBytes {S : Type 0} (reading : Reading ℕ S) (i : Input ℕ) (k : Input Bool)
     (j : Input ℕ) : Type 0 where
   pub begun : List ℕ
@@ -32,7 +32,7 @@ pub record LeavesWholeBytes {S : Type 0} (reading : Reading ℕ S) (i : Input �
 abbrev pub BitsOfBytesRuns : {S L O : Type 0} → Reading ℕ L → ErrorForm → Runs S Bool O
     → Runs S ℕ O
 BitsOfBytesRuns {S} {L} {O} reading form run s i answer t j =
-    -- the parser succeeds, and the bytes of which it read no bit are left
+    -- the parser succeeds, and the whole bytes among its remaining bits remain
     ((o : O) × (k : Input Bool) × (length i.left.tokens ≤ most_bytes)
     × run s (bits_input i 0) (Ok o) t k × (k.left.possible ≡ true) × LeavesWholeBytes reading i k j
     × (answer ≡ Ok o))
@@ -43,6 +43,6 @@ BitsOfBytesRuns {S} {L} {O} reading form run s i answer t j =
     ⊎ (((o : O) × (k : Input Bool) × (length i.left.tokens ≤ most_bytes)
     × run s (bits_input i 0) (Ok o) t k × (k.left.possible ≡ false)
     × (answer ≡ Err (assert_kind form)) × (j ≡ i))
-    -- the bits of that many bytes cannot be counted, and nothing is run
+    -- the number of bits overflows, and the parser is not run
     ⊎ ((most_bytes < length i.left.tokens) × (t ≡ s) × (answer ≡ Err (assert_kind form))
     × (j ≡ i))))

@@ -18,8 +18,8 @@ pub mod Laws
 abbrev pub bytes_parser : {P I O E F : Type 0} → Bytes P I O E F → P
 bytes_parser s = s.parser
 
--- The bytes of which no bit was read, as an input of their own: what is left of a byte begun is
--- passed, and the rest is their bits.
+-- `k` is the input of the remaining whole bytes: the remaining bits of a partly consumed byte are
+-- skipped.
 pub record WholeBytesOf {S : Type 0} (reading : Reading Bool S) (i : Input Bool)
     (k : Input ℕ) : Type 0 where
   pub begun : List Bool
@@ -37,8 +37,8 @@ pub record WholeBytesOf {S : Type 0} (reading : Reading Bool S) (i : Input Bool)
 abbrev pub BytesOfBitsRuns : {S L O : Type 0} → Reading Bool L → ErrorForm → Runs S ℕ O
     → Runs S Bool O
 BytesOfBitsRuns {S} {L} {O} reading form run s i answer t j =
-    -- the parser succeeds on the bytes of which no bit was read, and the bits of those that it
-    -- leaves are left
+    -- the parser succeeds on the remaining whole bytes, and the bits of the bytes that it leaves
+    -- remain
     ((o : O) × (k : Input ℕ) × (m : Input ℕ) × WholeBytesOf reading i k × run s k (Ok o) t m
     × (answer ≡ Ok o) × (j ≡ bits_input m 0))
     -- it fails, and nothing is consumed

@@ -48,7 +48,6 @@ reads_both reading some more count i x j y k n p q total is = record {
   passes = passes_both reading p.bits q.bits i j k p.passes q.passes;
 }
 
--- that many bits stand for a number below so great a power
 pub reads_below : {S : Type 0} (reading : Reading Bool S) (count : ℕ) (i : Input Bool) (n : ℕ)
     (j : Input Bool) → ReadsNumber reading count i n j → n < 2 ^ count
 reads_below reading count i n j r =
@@ -56,7 +55,6 @@ reads_below reading count i n j r =
     let places : 2 ^ length r.bits ≡ 2 ^ count = ap (λ l. 2 ^ l) r.as_many in
     omega (arith, below, places, r.number)
 
--- and below that of a greater width
 pub reads_within : {S : Type 0} (reading : Reading Bool S) (count width : ℕ) (i : Input Bool)
     (n : ℕ) (j : Input Bool) → ReadsNumber reading count i n j → count ≤ width → n < 2 ^ width
 reads_within reading count width i n j r fits =
@@ -64,7 +62,6 @@ reads_within reading count width i n j r fits =
     let more = pow_mono fits in
     omega (arith, below, more)
 
--- as many bits fewer are left
 pub reads_fewer : {S : Type 0} (reading : Reading Bool S) (count : ℕ) (i : Input Bool) (n : ℕ)
     (j : Input Bool) → ReadsNumber reading count i n j
     → length i.left.tokens ≡ count + length j.left.tokens

@@ -1,4 +1,4 @@
--- The bits of bytes that more bytes stand after.
+-- Lemmas about the bits of bytes that are followed by more bytes.
 use Rattle.std.specs.Prelude.{◌≡◌, ◌≤◌, ℕ, true, List, ◌++◌, length, Bool, Option}
 use Rattle.std.proofs.Common.{sym, ap, ◌∙◌, arith, length-append}
 use Rattle.streams.specs.Following.{most_bytes}
@@ -31,7 +31,6 @@ more_bits bytes more counted =
           ∙ ap (λ l. l ++ bits_of more) (sym (bits_readable bytes 0 first)),
     )
 
--- so the bits of a longer input are those of the input and of what is added
 pub longer_bits : (i : Input ℕ) (more : List ℕ) (flag : Bool)
     → length (i.left.tokens ++ more) ≤ most_bytes
     → bits_input (with_more i more flag) 0 ≡ with_more (bits_input i 0) (bits_of more) flag

@@ -3,12 +3,12 @@ use Rattle.std.specs.Prelude.{◌+◌, ◌*◌, ◌/◌, ◌^◌, ℕ, Option, S
 use Rattle.std.specs.Prelude.{if◌then◌else◌}
 use Rattle.streams.specs.Kind.{Kind, backtrack, cut, incomplete, memory}
 
--- that many bits in bytes: those that are whole, and one more
+-- a need of `n` bits in bytes: the whole bytes, and one more
 abbrev pub need_in_bytes : Option ℕ → Option ℕ
 need_in_bytes None = None
 need_in_bytes (Some n) = Some (n / 8 + 1)
 
--- that many bytes in bits, where a number of 64 bits counts them
+-- a need of `n` bytes in bits, if it is below 2^64
 abbrev pub need_in_bits : Option ℕ → Option ℕ
 need_in_bits None = None
 need_in_bits (Some n) = if nat_lt (8 * n) (2 ^ 64) then Some (8 * n) else None

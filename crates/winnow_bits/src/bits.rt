@@ -27,11 +27,12 @@ use streams::needed::Needed;
 use streams::stream::{Stream, StreamIsPartial};
 use winnow_core::short::short;
 
-/// A parser of `count` bits as a number, of which the first bit is the greatest.
+/// Parses `count` bits and returns them as a number, most significant bit first.
 ///
-/// Where there are fewer it fails, and consumes nothing; on a cut input it is incomplete, with a
-/// need of `count` bits. A count above the width of the output, and an impossible input, are
-/// assert errors. No bits are the number 0, wherever the input stands.
+/// If there are fewer bits it fails without consuming input; on partial input the error is
+/// `Incomplete` with a need of `count` bits. It returns an assert error if `count` exceeds the
+/// width of the output, or if the offset of the input is invalid. If `count` is 0 it returns 0, at
+/// any offset.
 ///
 /// ```
 /// use winnow::binary::bits::impls::Bits;
@@ -58,9 +59,9 @@ where
     }
 }
 
-/// A parser of `count` bits that must be the number `pattern`, which is the output.
+/// Parses `count` bits that must be the number `pattern`, and returns it.
 ///
-/// Where they are another number it fails, and consumes nothing. Its other errors are those of
+/// If they are another number it fails without consuming input. Its other errors are those of
 /// [`take`](crate::bits::take).
 ///
 /// Known as `literal`, `just` and `tag` elsewhere.
@@ -94,10 +95,10 @@ where
     }
 }
 
-/// One bit, as `true` where it is 1. Known as `any` elsewhere.
+/// Parses one bit and returns `true` if it is 1. Known as `any` elsewhere.
 ///
-/// Where none is left it fails, and on a cut input it is incomplete with a need of 1 bit. An
-/// impossible input is an assert error.
+/// If no bit remains it fails; on partial input the error is `Incomplete` with a need of 1 bit. It
+/// returns an assert error if the offset of the input is invalid.
 ///
 /// ```
 /// use winnow::binary::bits::bool;
@@ -126,12 +127,14 @@ pub fn bool<Input: ByteStream + StreamIsPartial, Error: ParserError<Bits<Input>>
     }
 }
 
-/// A parser of bytes by `parser`, which reads their bits.
+/// Runs `parser` on the bits of the bytes.
 ///
-/// The bytes of which it read no bit are left: what it left of a byte begun is dropped. Where it
-/// fails, nothing is consumed, and a need of n bits is one of n / 8 + 1 bytes. More than
-/// `usize::MAX / 8` bytes, and an impossible place left by `parser`, are assert errors, which
-/// backtrack where errors have no mode. An unknown need stays so, and so does each other kind.
+/// The bytes after the last consumed bit remain; the rest of a partly consumed byte is discarded.
+/// If `parser` fails, no input is consumed. Its need of `n` bits becomes a need of `n / 8 + 1`
+/// bytes; an unknown need and the other kinds of errors are unchanged.
+///
+/// More than `usize::MAX / 8` bytes, and an invalid offset left by `parser`, are assert errors; if
+/// the error type has no mode, they backtrack.
 ///
 /// ```
 /// use winnow::binary::bits::{bits, take};
@@ -153,11 +156,13 @@ pub fn bits<Input, Output, BitError, ByteError, ParseNext>(
     }
 }
 
-/// A parser of bits by `parser`, which reads bytes from the first of which no bit was read.
+/// Runs `parser` on the remaining whole bytes.
 ///
-/// What is left of a byte begun is dropped. Where it fails, nothing is consumed, and a need of n
-/// bytes is one of 8 n bits, or unknown where that is no `usize` or n is unknown; other kinds stay.
-/// An impossible input is an assert error, which backtracks where errors have no mode.
+/// The rest of a partly consumed byte is discarded. If `parser` fails, no input is consumed. Its
+/// need of `n` bytes becomes a need of `8 * n` bits, or an unknown need if that overflows `usize`
+/// or `n` is unknown; the other kinds of errors are unchanged.
+///
+/// An invalid offset of the input is an assert error; if the error type has no mode, it backtracks.
 ///
 /// ```
 /// use winnow::binary::bits::bytes;

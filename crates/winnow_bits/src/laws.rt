@@ -13,7 +13,7 @@ use streams::byte_stream::ByteStream;
 use streams::stream::StreamIsPartial;
 use winnow_core::parser::Parser;
 
-/// After an error of [`bits`](crate::bits::bits) the input is as it was.
+/// After an error of [`bits`](crate::bits::bits) the input is unchanged.
 pub fn bits_stays_on_an_error<
     I: ByteStream + Copy,
     P: Parser<Bits<I>, O, E>,
@@ -24,7 +24,7 @@ pub fn bits_stays_on_an_error<
     ensures { StaysOnError (⟦<BitsParser<P, I, O, E, F> as Parser<I, O, F>>⟧.meaning F.form) }
 {}
 
-/// After an error of [`bytes`](crate::bits::bytes) the input is as it was.
+/// After an error of [`bytes`](crate::bits::bytes) the input is unchanged.
 pub fn bytes_stays_on_an_error<
     I: ByteStream + Copy,
     P: Parser<I, O, E>,
@@ -35,8 +35,8 @@ pub fn bytes_stays_on_an_error<
     ensures { StaysOnError (⟦<Bytes<P, I, O, E, F> as Parser<Bits<I>, O, F>>⟧.meaning F.form) }
 {}
 
-/// The number that [`take`](crate::bits::take) answers is that of the first bits, as many as are
-/// asked for; they and then the rest are the bits that were there.
+/// [`take`](crate::bits::take) returns the number of the first bits, as many as requested; these
+/// bits followed by the rest are the original bits.
 pub fn taken_bits_and_the_rest_are_the_input<
     I: ByteStream + StreamIsPartial,
     O: BitOutput,

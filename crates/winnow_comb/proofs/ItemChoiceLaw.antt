@@ -7,7 +7,7 @@ use Rattle.winnow_core.specs.Runs.{Runs}
 use Rattle.winnow_comb.specs.Alt.Slice.{AltSliceRuns, Backtracked}
 use Rattle.winnow_comb.specs.Laws.{AnswersAsFirst, ChoosesFirstItem, branch_runs}
 
--- after branches that backtracked, the branch x answers
+-- branches backtracked, and the result is that of the branch x
 answers : {S T O : Type 0} (run : Runs S T O) (start : Remaining T) (before : List S) (x : S)
     (rest ran : List S) (y : S) (i m : Input T) (answer : Answer O) (j : Input T)
     → Backtracked run start before i ran m → run x m answer y j

@@ -19,7 +19,7 @@ alt_alternatives s = s.alternatives
 -- choice among more than two is nested to the right, and its last branch is only run.
 abbrev pub OrElse : {S1 S2 T O : Type 0} → Runs S1 T O → Runs S2 T O → Runs (S1 × S2) T O
 OrElse {S1} {S2} {T} {O} run others s i answer t j =
-    -- the branch does not backtrack: it answers
+    -- the branch does not backtrack: its result is the result
     (run s.0 i answer t.0 j × (answer ≡ Err backtrack → ⊥) × (t.1 ≡ s.1))
     -- it backtracks: the others answer
     ⊎ ((a : Input T) × run s.0 i (Err backtrack) t.0 a × others s.1 (back_at i.left a) answer t.1 j)

@@ -6,6 +6,6 @@ use Rattle.stream_errors.specs.Form.{Answer}
 pub mod Laws
 pub mod Says
 
--- A run that backtracks and takes nothing.
+-- A call that backtracks without consuming input.
 abbrev pub FailRuns : {T O : Type 0} → Input T → Answer O → Input T → Type 0
 FailRuns i answer j = (answer ≡ Err backtrack) × (j ≡ i)

@@ -5,13 +5,13 @@ use Rattle.streams.specs.Kind.{Kind, backtrack}
 use Rattle.stream_errors.specs.Form.{Answer}
 use Rattle.winnow_core.specs.Runs.{Runs}
 
--- Whatever a run answers, the input is back where it was.
+-- Every call resets the input, whatever its result.
 abbrev pub GoesBack : {S T O : Type 0} → Runs S T O → Type 0
 GoesBack {S} {T} {O} run =
     (s : S) (i : Input T) (answer : Answer O) (t : S) (j : Input T) → run s i answer t j
     → j.left ≡ i.left
 
--- Where a run answers none, the input is back where it was.
+-- A call that returns `None` resets the input.
 abbrev pub GoesBackOnNone : {S T O : Type 0} → Runs S T (Option O) → Type 0
 GoesBackOnNone {S} {T} {O} run =
     (s : S) (i : Input T) (t : S) (j : Input T) → run s i (Ok None) t j → j.left ≡ i.left

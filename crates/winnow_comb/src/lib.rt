@@ -1,7 +1,7 @@
-//! The combinators of choice, options and sequence: parsers that are made of parsers.
+//! Combinators for choices, options and sequences.
 //!
-//! Each is proved to be its definition, which stands in `specs/` under its name: the runs of the
-//! combinator, over the runs of its children.
+//! Each one is proved to satisfy the definition of its name in `specs/`, which relates the calls of
+//! the combinator to the calls of its children.
 #![tactic(auto)]
 
 pub mod combinator;

@@ -1,4 +1,4 @@
--- Runs that succeed and consume, one after the other.
+-- Consecutive calls that succeed and consume input.
 use Rattle.std.specs.Prelude.{◌<◌, List, length, Ok}
 use Rattle.std.specs.List.{FoldsTo}
 use Rattle.streams.specs.Input.{Input}

@@ -1,7 +1,7 @@
 -- Closures that each call leaves as they were.
 use Rattle.std.specs.Prelude.{◌≡◌, Bool, true, Option, Some}
 
--- A closure is after each call as it was.
+-- No call changes the closure.
 abbrev pub Stays : {G O U : Type 0} → (G → O → U → G → Type 0) → G → Type 0
 Stays {G} {O} {U} step f = (o : O) (u : U) (h : G) → step f o u h → h ≡ f
 
@@ -15,7 +15,7 @@ Gives step f o u = step f o u f
 abbrev pub Finds : {G O : Type 0} → (G → O → Bool → G → Type 0) → G → O → O → Type 0
 Finds tests f o u = tests f o true f × (u ≡ o)
 
--- ---- a closure that may refuse
+-- ---- a closure that may return `None`
 
 -- it gives an output
 abbrev pub GivesSome : {G O U : Type 0} → (G → O → Option U → G → Type 0) → G → O → U → Type 0

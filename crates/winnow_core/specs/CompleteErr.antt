@@ -21,7 +21,7 @@ complete_kind memory = memory
 abbrev pub CompleteErrBecomes : Unit {0} → Kind → Kind → Unit {0} → Type 0
 CompleteErrBecomes g k l h = l ≡ complete_kind k
 
--- Where the child asks for more input, the run backtracks.
+-- A call of the child, with `Incomplete` turned into a backtrack.
 abbrev pub CompleteErrRuns : {S T O : Type 0} → Runs S T O → Runs S T O
 CompleteErrRuns run s i answer t j =
     MakesError CompleteErrBecomes run (s, tt) i answer (t, tt) j

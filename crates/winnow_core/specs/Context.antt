@@ -1,4 +1,4 @@
--- Errors that are told what was being parsed.
+-- The semantics of `context`.
 use Rattle.std.specs.Prelude.{◌≡◌, ◌⊎◌, IsSome, None}
 use Rattle.streams.specs.Kind.{Kind, memory}
 use Rattle.stream_errors.specs.Form.{need_of_kind}
@@ -8,22 +8,22 @@ use Rattle.winnow_core.specs.Runs.{Runs}
 use Rattle.winnow_core.specs.declared.combinator.impls.context.Context.{Context}
 pub mod Laws
 
--- the parser whose errors are told
+-- the parser to whose errors the context is added
 abbrev pub context_parser : {F I O E C A : Type 0} → Context F I O E C A → F
 context_parser s = s.parser
 
--- what they are told
+-- the context
 abbrev pub context_told : {F I O E C A : Type 0} → Context F I O E C A → C
 context_told s = s.context
 
--- What a kind becomes, by what the type of errors says of a context that is to be kept. The
--- context itself stays.
+-- The kind `l` of an error of kind `k` after a context is added, by `Keeping` of the error type.
+-- The context itself is unchanged.
 abbrev pub ContextBecomes : {C : Type 0} → (C → C → Type 0) → (C → Type 0) → C × (C → Keeping)
     → Kind → Kind → C × (C → Keeping) → Type 0
 ContextBecomes {C} IsClone ClonesAlways c k l d = (d ≡ c) × (
     -- an incomplete error keeps none, and stays: nothing is cloned for it
     (IsSome (need_of_kind k) × (l ≡ k))
-    -- a clone of the context is kept, or was refused memory to be kept
+    -- a clone of the context is stored, or the allocation for it failed
     ⊎ (((copy : C) × (need_of_kind k ≡ None) × IsClone c.0 copy × KindGiven (c.1 copy) k l)
     -- memory was refused to the clone
     ⊎ ((need_of_kind k ≡ None) × (¬ (ClonesAlways c.0)) × (l ≡ memory))))

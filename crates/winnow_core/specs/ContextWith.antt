@@ -1,4 +1,4 @@
--- Errors that are told what was being parsed by a closure.
+-- The semantics of `context_with`.
 use Rattle.std.specs.Iterator.{Drains}
 use Rattle.std.specs.List.{FoldsTo}
 use Rattle.std.specs.Prelude.{◌≡◌, List, Option}
@@ -11,16 +11,16 @@ use Rattle.winnow_core.specs.declared.combinator.impls.context_with.ContextWith.
 pub mod Laws
 pub mod Says
 
--- the parser whose errors are told
+-- the parser to whose errors the context is added
 abbrev pub context_with_parser : {P I O E F C FI A : Type 0} → ContextWith P I O E F C FI A → P
 context_with_parser s = s.parser
 
--- the closure that says what they are told
+-- the closure that returns the contexts
 abbrev pub context_with_closure : {P I O E F C FI A : Type 0} → ContextWith P I O E F C FI A → F
 context_with_closure s = s.context
 
--- What a kind becomes: one call of the closure makes an iterator, and each of its items, in order,
--- is a context that the error is told. The closure stays.
+-- The kind `l` of an error of kind `k` after contexts are added. One call of the closure returns an
+-- iterator, whose items are added in order. The closure is unchanged.
 abbrev pub ContextWithBecomes : {F C J : Type 0} → (F → J → Type 0)
     → (J → Option C → J → Type 0) → F × (C → Keeping) → Kind → Kind → F × (C → Keeping) → Type 0
 ContextWithBecomes {F} {C} {J} makes steps f k l g = (g ≡ f) × (

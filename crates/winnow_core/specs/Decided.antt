@@ -7,20 +7,20 @@ use Rattle.winnow_core.specs.Runs.{Runs}
 pub mod Adapters
 pub mod Inputs
 
--- The answer is no want of memory.
+-- The result is not out of memory.
 abbrev pub NotMemory : {O : Type 0} → Answer O → Type 0
 NotMemory answer = answer ≡ Err memory → ⊥
 
--- Both are outputs that are alike, or errors of one kind.
+-- Both are equal outputs, or errors of the same kind.
 abbrev pub AlikeAnswers : {O : Type 0} → (O → O → Type 0) → Answer O → Answer O → Type 0
 AlikeAnswers alike (Ok o) (Ok p) = alike o p
 AlikeAnswers alike (Ok o) (Err l) = ⊥
 AlikeAnswers alike (Err k) (Ok p) = ⊥
 AlikeAnswers alike (Err k) (Err l) = k ≡ l
 
--- Want of memory aside: from this state a run keeps the state, and changes nothing of the input
--- but what is left of it; and two runs on one input are alike in their answers, and leave the same.
--- Where one of them wants memory, nothing is said of either.
+-- A call from this state keeps the state, and changes nothing of the input except the remaining
+-- tokens. Two calls on the same input have equal results and the same rest. If one of them is out
+-- of memory, neither is specified.
 pub record IsDecided {S T O : Type 0} (s : S) (run : Runs S T O) (alike : O → O → Type 0)
     : Type 0 where
   pub kept : (i : Input T) (answer : Answer O) (t : S) (j : Input T) → NotMemory answer

@@ -5,15 +5,15 @@ use Rattle.streams.specs.Kind.{memory}
 use Rattle.stream_errors.specs.Form.{Answer}
 use Rattle.winnow_core.specs.Runs.{Runs}
 
--- Both answers are outputs, or errors of one kind.
+-- Both results are outputs, or errors of the same kind.
 abbrev pub SameOutcome : {O : Type 0} → Answer O → Answer O → Type 0
 SameOutcome (Ok m) (Ok n) = ⊤
 SameOutcome (Ok m) (Err l) = ⊥
 SameOutcome (Err k) (Ok n) = ⊥
 SameOutcome (Err k) (Err l) = k ≡ l
 
--- One state and one input decide whether a run succeeds, the kind of its error, its new state and
--- what it leaves, where it does not want for memory; its outputs may differ.
+-- Unless a call is out of memory, state and input determine whether it succeeds, the kind of its
+-- error, its new state and the rest. Its outputs may differ.
 abbrev pub Decides : {S T O : Type 0} → Runs S T O → Type 0
 Decides {S} {T} {O} run =
     (s : S) (i : Input T) (answer other : Answer O) (t u : S) (j k : Input T)

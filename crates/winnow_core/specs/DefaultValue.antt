@@ -1,4 +1,4 @@
--- A default value in the place of an output.
+-- The semantics of `default_value`.
 use Rattle.winnow_core.specs.MakesOutput.{MakesOutput}
 use Rattle.winnow_core.specs.Runs.{Runs}
 use Rattle.winnow_core.specs.declared.combinator.impls.default_value.DefaultValue.{DefaultValue}

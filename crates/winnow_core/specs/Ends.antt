@@ -5,13 +5,12 @@ use Rattle.streams.specs.Input.{Input, IsEndOf, back_at, ends-length, is_end_of_
 use Rattle.streams.specs.Input.{is_end_of_refl}
 use Rattle.streams.specs.Reading.{Reading, units-zero}
 
--- an input that is the same is an end
 pub same_ends : {T L : Type 0} (reading : Reading T L) (i j : Input T) → j ≡ i → IsEndOf reading j i
 same_ends reading i j same =
     let P : Input _ → Type 0 = λ x. IsEndOf reading x i
     in subst P (sym same) (is_end_of_refl reading i)
 
--- back at the start after a run that left an end
+-- an input that is reset to the start, after a call that left a suffix
 pub back_ends : {T L : Type 0} (reading : Reading T L) (i a j : Input T) → j ≡ back_at i.left a
     → IsEndOf reading a i → IsEndOf reading j i
 back_ends reading i a j same ends =

@@ -18,8 +18,8 @@ pub mod Same
 pub mod Settled
 pub mod Whole
 
--- From this state a parser answers on a whole input what stands first by its grammar, and keeps the
--- state; it fails only where none does, or for want of memory.
+-- On complete input, a parser in this state returns a match of its grammar and keeps the state. It
+-- fails only if the input does not start with a match, or with out of memory.
 pub record IsExact {S T O : Type 0} (s : S) (run : Runs S T O)
     (grammar : Grammar T O) : Type 0 where
   pub kept : (i : Input T) (answer : Answer O) (t : S) (j : Input T) → i.status.cut ≡ false
@@ -30,7 +30,7 @@ pub record IsExact {S T O : Type 0} (s : S) (run : Runs S T O)
       → run s i (Err k) t j → (k ≡ memory) ⊎ NoneStands grammar i.left.tokens
   pub unique : IsUnique grammar
 
--- On a whole input it fails with such kinds alone.
+-- On complete input all its errors have an allowed kind.
 pub record FailsBy {S T O : Type 0} (allowed : Kind → Type 0) (s : S) (run : Runs S T O) : Type 0
   where
     pub fails : (i : Input T) (k : Kind) (t : S) (j : Input T) → i.status.cut ≡ false
@@ -41,16 +41,17 @@ pub fails_wider : {S T O : Type 0} {s : S} {run : Runs S T O} {allowed also : Ki
     → ((k : Kind) → allowed k → also k) → FailsBy allowed s run → FailsBy also s run
 fails_wider wider f = record { fails = λ i k t j is ran. wider k (f.fails i k t j is ran) }
 
--- On a whole input it fails so that others are tried, or for want of memory.
+-- On complete input all its errors are backtracks or out of memory.
 abbrev pub IsSoft : {S T O : Type 0} → S → Runs S T O → Type 0
 IsSoft s run = FailsBy (λ k. (k ≡ memory) ⊎ (k ≡ backtrack)) s run
 
--- On a whole input it fails so that others are tried.
+-- On complete input all its errors are backtracks.
 abbrev pub Backtracks : {S T O : Type 0} → S → Runs S T O → Type 0
 Backtracks s run = FailsBy (λ k. k ≡ backtrack) s run
 
--- What a call tells by a grammar. It leaves an end of its input. On a whole one an output stands,
--- with what is left; an error backtracks and says that none stands, or is out of memory.
+-- The result of a call, in terms of a grammar. It leaves a suffix of its input. On complete input,
+-- an output is a match with the remaining tokens; an error is out of memory, or a backtrack of an
+-- input that does not start with a match.
 pub record Reads {T L O E : Type 0} (reading : Reading T L) (kind : E → Kind)
     (grammar : Grammar T O) (i : Input T) (result : Result O E) (j : Input T) : Type 0 where
   pub ends : IsEndOf reading j i
@@ -58,11 +59,10 @@ pub record Reads {T L O E : Type 0} (reading : Reading T L) (kind : E → Kind)
   pub none : i.status.cut ≡ false → IfErr result (λ e. (kind e ≡ memory)
       ⊎ ((kind e ≡ backtrack) × NoneStands grammar i.left.tokens))
 
--- On a whole input an error lets others be tried: none is for want of memory.
+-- On complete input every error is a backtrack, never out of memory.
 abbrev pub IsSpared : {T O E : Type 0} → (E → Kind) → Input T → Result O E → Type 0
 IsSpared kind i result = i.status.cut ≡ false → IfErr result (λ e. kind e ≡ backtrack)
 
--- so it is of a call
 pub spared_told : {S T O E : Type 0} {s : S} {run : Runs S T O} (kind : E → Kind)
     → Backtracks s run → (i : Input T) (result : Result O E) (t : S) (j : Input T)
     → run s i (answer_by kind result) t j → IsSpared kind i result

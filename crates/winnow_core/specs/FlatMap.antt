@@ -21,11 +21,11 @@ abbrev pub MakesParsers : {G O H : Type 0} → (G → O → H → G → Type 0) 
 MakesParsers {G} {O} {H} step can_parse =
     (g : G) (o : O) (made : H) (h : G) → step g o made h → can_parse made
 
--- A run of the child, and one of the parser that the closure makes of its output.
+-- A call of the child, and one of the parser that the closure returns for its output.
 abbrev pub FlatMapRuns : {S G H V T O U : Type 0} → (G → O → H → G → Type 0) → (H → V)
     → Runs S T O → Runs V T U → Runs (S × G) T U
 FlatMapRuns {S} {G} {H} {V} {T} {O} {U} step state run second s i answer t j =
-    -- the child succeeds, and what the parser made answers is the answer
+    -- the child succeeds, and the result is that of the parser that the closure returns
     ((o : O) × (a : Input T) × (made : H) × (v : V) × run s.0 i (Ok o) t.0 a
     × step s.1 o made t.1 × second (state made) a answer v j)
     -- the child fails, and no parser is made

@@ -24,7 +24,7 @@ pub record AnswersAlike {S U T O : Type 0} (along : S → U) (run : Runs S T O)
   pub back : (s : S) (i : Input T) (answer : Answer O) (u : U) (j : Input T)
       → other_run (along s) i answer u j → (t : S) × (along t ≡ u) × run s i answer t j
 
--- parsers that mean the same answer alike, under errors of the same form
+-- parsers with the same semantics have equal results, for errors of the same form
 pub answers_alike : {S U T O : Type 0} {along : S → U} {m : Meaning S T O} {n : Meaning U T O}
     (form other_form : ErrorForm) → SameMeaning along m n → form ≡ other_form
     → AnswersAlike along (m form) (n other_form)
@@ -44,7 +44,7 @@ abbrev pub ShowsOne : {T L : Type 0} → Reading T L → (L → List T) → Type
 ShowsOne {T} {L} reading tokens_of =
     (l : L) (xs : List T) → reading.shows l xs → tokens_of l ≡ xs
 
--- Where a run answers a slice, the tokens of the slice and then the rest are the input before.
+-- If a call returns a slice, the tokens of the slice and then the rest are the original input.
 abbrev pub TakesFromTheFront : {S T L : Type 0} → (L → List T) → Runs S T L → Type 0
 TakesFromTheFront {S} {T} {L} tokens_of run =
     (s : S) (i : Input T) (slice : L) (t : S) (j : Input T)

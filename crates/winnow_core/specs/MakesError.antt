@@ -8,8 +8,8 @@ pub mod Known
 pub mod Laws
 pub mod Says
 
--- A run of the child; where it fails, its kind becomes another, and the input stays there. What
--- changes it may have a state.
+-- A call of the child. If it fails, `becomes` changes the kind, and the input is unchanged.
+-- `becomes` may have a state.
 abbrev pub MakesError : {S G T O : Type 0} → (G → Kind → Kind → G → Type 0) → Runs S T O
     → Runs (S × G) T O
 MakesError {S} {G} {T} {O} becomes run s i answer t j =

@@ -7,7 +7,7 @@ use Rattle.winnow_core.specs.Runs.{Runs}
 pub mod Laws
 pub mod Says
 
--- A run of the child, and what is made of its output and of where it began and ended.
+-- A call of the child, whose output is turned into another, by the inputs before and after it.
 abbrev pub MakesOutput : {S T O U : Type 0} → (Input T → O → Input T → U → Type 0) → Runs S T O
     → Runs S T U
 MakesOutput {S} {T} {O} {U} makes run s i answer t j =

@@ -19,7 +19,7 @@ abbrev pub MapErrBecomes : {G E D : Type 0} → (E → Kind) → (D → Kind) �
 MapErrBecomes {G} {E} {D} kind new_kind step g k l h =
     (old : E) × (new : D) × (kind old ≡ k) × step g old new h × (l ≡ new_kind new)
 
--- The error is what one call of the closure made of an error of the child's kind.
+-- The error is the result of one call of the closure, for an error of the child's kind.
 abbrev pub MapErrRuns : {S G T O E D : Type 0} → (E → Kind) → (D → Kind)
     → (G → E → D → G → Type 0) → Runs S T O → Runs (S × G) T O
 MapErrRuns kind new_kind step run = MakesError (MapErrBecomes kind new_kind step) run

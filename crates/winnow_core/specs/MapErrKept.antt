@@ -29,7 +29,8 @@ abbrev pub MapErrKeptBecomes : {G E D : Type 0} → (E → Kind) → (D → Kind
 MapErrKeptBecomes kind new_kind step g k l h =
     MapErrBecomes kind new_kind step g k l h × (l ≡ k)
 
--- The error is what one call of the closure made of an error of the child's kind, and of that kind.
+-- The error is the result of one call of the closure, for an error of the child's kind, and has the
+-- same kind.
 abbrev pub MapErrKeptRuns : {S G T O E D : Type 0} → (E → Kind) → (D → Kind)
     → (G → E → D → G → Type 0) → Runs S T O → Runs (S × G) T O
 MapErrKeptRuns kind new_kind step run =

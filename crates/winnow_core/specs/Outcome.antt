@@ -1,4 +1,4 @@
--- What a parser does with a list of tokens.
+-- The outcomes of a parser on a list of tokens.
 use Rattle.std.specs.Prelude.{◌≡◌, ⊤, ℕ, Bool, true, false, List, ◌++◌, Option, Ok, Err}
 use Rattle.std.proofs.Common.{refl, sym, subst, ap}
 use Rattle.streams.specs.Input.{Input}
@@ -6,10 +6,8 @@ use Rattle.streams.specs.Kind.{backtrack, cut, incomplete, memory}
 use Rattle.stream_errors.specs.Form.{Answer, ErrorForm, plain, modal}
 pub mod Errors
 
--- It takes some tokens and returns an output; it fails, and lets other branches be tried or not; it
--- asks for so much more input, where that is known; or it is out of memory. The list is what is
--- then
--- left.
+-- The outcome: it returns an output; it backtracks; it cuts; it is incomplete, with a need if that
+-- is known; or it is out of memory. The list is the remaining tokens.
 pub data Outcome (T O : Type 0) : Type 0 where
   took : O → List T → Outcome T O
   backs : List T → Outcome T O
@@ -32,11 +30,11 @@ on_cut = record { form = modal; more = true; possible = true }
 abbrev pub grown : Bool → Setting
 grown flag = record { form = modal; more = flag; possible = true }
 
--- What it does with tokens.
+-- A relation between settings, tokens and outcomes.
 abbrev pub Does : Type 0 → Type 0 → Type 1
 Does T O = Setting → List T → Outcome T O → Type 0
 
--- the outcome of a run, by its answer and what is left
+-- the outcome of a result and the remaining tokens
 abbrev pub outcome_of : {T O : Type 0} → Answer O → List T → Outcome T O
 outcome_of (Ok o) rest = took o rest
 outcome_of (Err backtrack) rest = backs rest
@@ -49,7 +47,7 @@ lacks_by modal true need tokens = asks need tokens
 lacks_by modal false need tokens = backs tokens
 lacks_by plain more need tokens = backs tokens
 
--- what is done where there are too few tokens: more are asked for, or it fails
+-- the outcome if tokens are missing: incomplete, or a backtrack
 abbrev pub lacks : {T O : Type 0} → Setting → Option ℕ → List T → Outcome T O
 lacks at need tokens = lacks_by at.form at.more need tokens
 
@@ -61,7 +59,7 @@ misused_by plain place = backs place
 abbrev pub misused : {T O : Type 0} → Setting → List T → Outcome T O
 misused at place = misused_by at.form place
 
--- It neither asks for more nor is out of memory.
+-- The outcome is neither incomplete nor out of memory.
 abbrev pub IsFinal : {T O : Type 0} → Outcome T O → Type 0
 IsFinal (took o rest) = ⊤
 IsFinal (backs place) = ⊤
@@ -77,8 +75,8 @@ longer more (cuts place) = cuts (place ++ more)
 longer more (asks need place) = asks need (place ++ more)
 longer more wants = wants
 
--- Two outcomes of the same tokens: outputs alike, and the same is left. Memory may be refused at
--- any time.
+-- Two outcomes of the same tokens: equal outputs or the same error, with the same remaining tokens.
+-- Out of memory is equal to every outcome.
 abbrev pub Alike : {T O : Type 0} → (O → O → Type 0) → Outcome T O → Outcome T O → Type 0
 Alike alike (took o rest) (took p end) = alike o p × (rest ≡ end)
 Alike alike (took o rest) (backs end) = ⊥
@@ -102,7 +100,6 @@ Alike alike (asks need place) (asks other end) = (need ≡ other) × (place ≡ 
 Alike alike (asks need place) wants = ⊤
 Alike alike wants y = ⊤
 
--- want of memory is like all
 pub alike_wants : {T O : Type 0} (alike : O → O → Type 0) (x : Outcome T O) → Alike alike x wants
 alike_wants alike (took o rest) = tt
 alike_wants alike (backs place) = tt
@@ -110,7 +107,7 @@ alike_wants alike (cuts place) = tt
 alike_wants alike (asks need place) = tt
 alike_wants alike wants = tt
 
--- what holds of two that are alike
+-- elimination of two equal outcomes
 pub by_alike : {T O : Type 0} {alike : O → O → Type 0}
     (P : Outcome T O → Outcome T O → Type 0)
     → ((o p : O) (rest : List T) → alike o p → P (took o rest) (took p rest))
@@ -146,7 +143,6 @@ by_alike P a b c d e f (asks need place) (asks other end) (same, is) =
 by_alike P a b c d e f (asks need place) wants is = f (asks need place)
 by_alike P a b c d e f wants y is = e y
 
--- outcomes that are known to be alike ones
 pub both : {T O : Type 0} (alike : O → O → Type 0) {x y u v : Outcome T O} → x ≡ u → y ≡ v
     → Alike alike u v → Alike alike x y
 both alike {x} {y} {u} {v} e f is =
@@ -156,7 +152,7 @@ both alike {x} {y} {u} {v} e f is =
 pub final_by : {T O : Type 0} {x y : Outcome T O} → x ≡ y → IsFinal x → IsFinal y
 final_by e final = subst IsFinal e final
 
--- outcomes that are alike for one reason are so for a wider one
+-- equality of outcomes for a weaker equality of outputs
 pub alike_wider : {T O : Type 0} {alike also : O → O → Type 0}
     → ((o p : O) → alike o p → also o p) → (x y : Outcome T O) → Alike alike x y
     → Alike also x y
@@ -169,7 +165,6 @@ pub as_longer : {T U : Type 0} (more : List T) {y u : Outcome T U} → y ≡ u
     → longer more y ≡ longer more u
 as_longer more e = ap (λ x. longer more x) e
 
--- what a run answers, by what is known of its answer
 pub gave : {T O : Type 0} {answer : Answer O} {a : Answer O} (rest : List T) → answer ≡ a
     → outcome_of answer rest ≡ outcome_of a rest
 gave rest e = ap (λ a. outcome_of a rest) e

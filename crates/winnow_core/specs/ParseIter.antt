@@ -10,18 +10,17 @@ use Rattle.winnow_core.specs.declared.combinator.impls.parse_iter.Unread.{Unread
 pub mod Known
 pub mod Laws
 
--- Where an iterator stands: it reads on in an input that began here, of which so much is left; or
--- it has ended.
+-- The position of an iterator: the start of its input and the unread input, or ended.
 pub data Standing (T : Type 0) : Type 0 where
   reads : Remaining T → Input T → Standing T
   ended : Standing T
 
--- What an iterator is: the state of its parser, and where it stands.
+-- The state of an iterator: the state of its parser, and its position.
 pub record ParseIterState (S T : Type 0) : Type 0 where
   pub parser : S
   pub standing : Standing T
 
--- what is left unread, as an iterator has it
+-- the position of an iterator, by its unread input
 abbrev pub standing_by : {I C T : Type 0} → (I → Input T) → (C → Remaining T)
     → Option (Unread I C) → Standing T
 standing_by view seen (Some unread) = reads (seen unread.start) (view unread.input)
@@ -38,7 +37,7 @@ parse_iter_state state view seen s = record {
   standing = standing_by view seen s.unread;
 }
 
--- where it stands
+-- its position
 abbrev pub parse_iter_standing : {P I O E K T L N C : Type 0} → (I → Input T)
     → (C → Remaining T) → ParseIter P I O E K T L N C → Standing T
 parse_iter_standing view seen s = standing_by view seen s.unread
@@ -51,7 +50,7 @@ parse_iter_parser s = s.parser.now
 abbrev pub parse_iter_name : {P I O E K T L N C : Type 0} → ParseIter P I O E K T L N C → ℕ
 parse_iter_name s = s.parser.ghost_name
 
--- Where it stands is reached from its start: what is left is an end of what it began on.
+-- The unread input is a suffix of the input at the start.
 abbrev pub IsReached : {T L : Type 0} → Reading T L → Standing T → Type 0
 IsReached reading (reads start i) = Ends reading i.left start
 IsReached reading ended = ⊤
@@ -75,8 +74,8 @@ EndsIter {O = O} run assert_kind s i k t j =
     -- it consumes nothing
     ⊎ ((o : O) × run s i (Ok o) t j × (j.left.tokens ≡ i.left.tokens) × (k ≡ assert_kind))
 
--- One call of an iterator: the item that it gives, if it gives one, and what becomes of it. Faults
--- are those of a start, the input where an error arose, and the kind of the error.
+-- One call of an iterator: its item, if there is one, and its new state. Errors are given by the
+-- start, the input at the error and the kind.
 abbrev pub ParseIterNext : {S T O F : Type 0} → Runs S T O → Kind
     → (Remaining T → Input T → Kind → F → Type 0) → ParseIterState S T → Option (Result O F)
     → ParseIterState S T → Type 0

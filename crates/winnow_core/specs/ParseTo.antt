@@ -12,7 +12,7 @@ pub mod Says
 abbrev pub parse_to_parser : {F I O U E : Type 0} → ParseTo F I O U E → F
 parse_to_parser s = s.parser
 
--- An output is settled into what it reads as; where it reads as nothing, it backtracks.
+-- Converts the output by `reads`, and backtracks if that is `None`.
 abbrev pub ParseToSettles : {O U : Type 0} → (O → Option U → Type 0) → Unit {0} → O → Answer U
     → Unit {0} → Type 0
 ParseToSettles {O} {U} reads g o answer h =

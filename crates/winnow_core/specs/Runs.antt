@@ -1,18 +1,19 @@
--- What a run of a parser is, and what a parser means.
+-- The relation of the calls of a parser, and its semantics.
 use Rattle.std.specs.Prelude.{◌≡◌}
 use Rattle.streams.specs.Input.{Input, IsEndOf}
 use Rattle.streams.specs.Reading.{Reading}
 use Rattle.stream_errors.specs.Form.{Answer, ErrorForm}
 
--- A run goes from a state and an input to an answer, a new state and a new input.
+-- `run s i answer t j`: from state `s` and input `i`, a call returns `answer` and leaves state `t`
+-- and input `j`.
 abbrev pub Runs : Type 0 → Type 0 → Type 0 → Type 1
 Runs S T O = S → Input T → Answer O → S → Input T → Type 0
 
--- What a parser means: its runs, by the form of its errors.
+-- The semantics of a parser: its calls, by the form of errors.
 abbrev pub Meaning : Type 0 → Type 0 → Type 0 → Type 1
 Meaning S T O = ErrorForm → Runs S T O
 
--- Each run leaves an end of its input.
+-- Every call leaves a suffix of its input.
 abbrev pub LeaveEnds : {S T L O : Type 0} → Reading T L → Runs S T O → Type 0
 LeaveEnds {S} {T} {L} {O} reading run =
     (s : S) (i : Input T) (answer : Answer O) (t : S) (j : Input T)

@@ -48,7 +48,7 @@ along_id P same {U} n m r =
     let Q : _ → Type 0 = λ z. P U U (λ s. s) m z in
     subst Q (meaning_path n m r) (same U m)
 
--- What holds of each meaning and itself holds of two that are one.
+-- A property of every semantics and itself also holds for two equal ones.
 pub along1 : {T O : Type 0}
     (P : (S U : Type 0) → (S → U) → Meaning S T O → Meaning U T O → Type 0)
     → ((S : Type 0) (m : Meaning S T O) → P S S (λ s. s) m m) → {S U : Type 0} {m : Meaning S T O}

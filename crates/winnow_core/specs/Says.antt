@@ -1,4 +1,4 @@
--- What a parser says that it does, and that its runs do it.
+-- The specified outcomes of a parser, and their proof.
 use Rattle.std.specs.Prelude.{◌≡◌, Bool, true, false, List, ◌++◌, ℕ, Option}
 use Rattle.std.proofs.Common.{refl, subst, ap, ◌∙◌}
 use Rattle.streams.specs.Input.{Input}
@@ -15,19 +15,19 @@ pub mod Leaf
 pub mod Longer
 pub mod Whole
 
--- What is said of runs from a state.
+-- The specified outcomes of the calls from a state.
 pub record Says (T O : Type 0) : Type 1 where
-  -- what is asked of the parser, so that it does what is said
+  -- the precondition
   pub premise : Type 0
   -- when what it does with tokens stays where more follow
   pub stable : Type 0
   -- what it does with tokens
   pub does : Does T O
-  -- which of its outputs are alike
+  -- which of its outputs are equal
   pub alike : O → O → Type 0
 
--- Some tokens have one outcome. On a whole input no more is asked for. What is final stays where
--- more tokens follow, whether still more may come or not.
+-- The tokens determine the outcome. On complete input no outcome is incomplete. A final outcome is
+-- unchanged if more tokens follow, whether the input is then complete or not.
 pub record Lawful {T O : Type 0} (stable : Type 0) (alike : O → O → Type 0) (does : Does T O)
     : Type 0 where
   pub one : (at : Setting) (tokens : List T) (x y : Outcome T O) → does at tokens x
@@ -42,8 +42,8 @@ pub record IsAt {T : Type 0} (at : Setting) (i : Input T) : Type 0 where
   pub more : i.status.cut ≡ at.more
   pub possible : i.left.possible ≡ at.possible
 
--- What one run did: it kept its state, changed nothing of the input but what is left, and its
--- outcome is said.
+-- One call keeps its state, changes nothing of the input except the remaining tokens, and has a
+-- specified outcome.
 pub record Did {S T O : Type 0} (does : Does T O) (at : Setting) (s : S) (i : Input T)
     (answer : Answer O) (t : S) (j : Input T) : Type 0 where
   pub kept : t ≡ s
@@ -76,13 +76,13 @@ pub record EachDoes {S T O : Type 0} (does : Does T O) (s : S) (meaning : Meanin
   pub did : (at : Setting) (i : Input T) (answer : Answer O) (t : S) (j : Input T) → IsAt at i
       → meaning at.form s i answer t j → Did does at s i answer t j
 
--- Runs from the state do what is said.
+-- The calls from the state have the specified outcomes.
 pub record Said {S T O : Type 0} (says : Says T O) (s : S) (meaning : Meaning S T O) : Type 0
   where
     pub runs : says.premise → EachDoes says.does s meaning
     pub law : says.premise → Lawful says.stable says.alike says.does
 
--- Nothing is said.
+-- No specification.
 abbrev pub nothing_said : {T O : Type 0} → Says T O
 nothing_said = record {
   premise = ⊥;
@@ -102,8 +102,8 @@ setting_of form i = record { form = form; more = i.status.cut; possible = i.left
 pub here : {T : Type 0} (form : ErrorForm) (i : Input T) → IsAt (setting_of form i) i
 here form i = record { more = refl; possible = refl }
 
--- What one call tells: its outcome is said, and no other is; and on a cut input a final one is that
--- of every longer input.
+-- The contract of one call: its outcome is specified and unique; on partial input a final outcome
+-- is the outcome of every longer input.
 pub record Tells {T O : Type 0} (says : Says T O) (form : ErrorForm) (i : Input T)
     (x : Outcome T O) : Type 0 where
   pub does : says.does (setting_of form i) i.left.tokens x

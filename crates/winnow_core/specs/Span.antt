@@ -6,7 +6,7 @@ use Rattle.winnow_core.specs.MakesOutput.{MakesOutput}
 use Rattle.winnow_core.specs.Runs.{Runs}
 use Rattle.winnow_core.specs.declared.combinator.impls.span.Span.{Span}
 
--- the parser whose places are answered
+-- the parser whose span is returned
 abbrev pub span_parser : {F I O E : Type 0} → Span F I O E → F
 span_parser s = s.parser
 

@@ -9,11 +9,11 @@ use Rattle.winnow_core.specs.declared.combinator.impls.take.Take.{Take}
 pub mod Laws
 pub mod Says
 
--- the parser whose slice is answered
+-- the parser whose slice is returned
 abbrev pub take_parser : {F I O E : Type 0} → Take F I O E → F
 take_parser s = s.parser
 
--- A run of the child, in whose place the tokens between its start and its end are answered.
+-- A call of the child; the output is replaced by a slice of the tokens from its start to its end.
 abbrev pub TakeRuns : {S T L O : Type 0} → Reading T L → Runs S T O → Runs S T L
 TakeRuns {S} {T} {L} {O} reading run s i answer t j =
     -- the child succeeds

@@ -1,4 +1,4 @@
--- What comes of what a part does: how parsers are made of parsers.
+-- The outcome of a combinator, computed from the outcome of a child.
 use Rattle.std.specs.Prelude.{◌≡◌, true, false, Bool, List, ◌++◌, ℕ, Option, Err}
 use Rattle.std.proofs.Common.{refl, sym, subst, ap, ◌∙◌}
 use Rattle.streams.specs.Input.{Input, back_at}
@@ -11,12 +11,13 @@ use Rattle.winnow_core.specs.Outcome.{final_by, gave, outcome_of}
 use Rattle.winnow_core.specs.Says.{Did, Lawful}
 pub mod Steps
 
--- What comes of a part, by the tokens that it began at and those that it left.
+-- A relation between the tokens at the start of a child, the tokens that it leaves, and the
+-- outcome.
 abbrev pub Comes : Type 0 → Type 0 → Type 1
 Comes T U = Setting → List T → List T → Outcome T U → Type 0
 
--- What comes where a part took an output, where it backs, cuts, or asks for more. What is out of
--- memory is so in the whole.
+-- The outcome if a child returned an output, backtracked, cut, or was incomplete. If the child is
+-- out of memory, so is the combinator.
 pub record Next (T O U : Type 0) : Type 1 where
   pub on_took : O → Comes T U
   pub on_backs : Comes T U
@@ -36,14 +37,15 @@ abbrev pub Then : {T O U : Type 0} → Does T O → Next T O U → Does T U
 Then {T} {O} does next at tokens y =
     (x : Outcome T O) × does at tokens x × ComesOf next at tokens x y
 
--- ---- laws of what comes
+-- ---- laws of these outcomes
 
 -- Of both comes one outcome.
 pub record Meets {T U : Type 0} (beside : U → U → Type 0) (came also : Comes T U) : Type 0 where
   pub one : (at : Setting) (tokens place : List T) (y z : Outcome T U)
       → came at tokens place y → also at tokens place z → Alike beside y z
 
--- On a whole input no more is asked for, and what is final stays where more tokens follow.
+-- On complete input no outcome is incomplete, and a final outcome is unchanged if more tokens
+-- follow.
 pub record Holds {T U : Type 0} (stable : Type 0) (came : Comes T U) : Type 0 where
   pub whole : (at : Setting) (tokens place : List T) (need : Option ℕ) (end : List T)
       → at.more ≡ false → came at tokens place (asks need end) → ⊥
@@ -51,7 +53,7 @@ pub record Holds {T U : Type 0} (stable : Type 0) (came : Comes T U) : Type 0 wh
       → IsFinal y → came on_cut tokens place y
       → came (grown flag) (tokens ++ more) (place ++ more) (longer more y)
 
--- Of outcomes that are alike comes one outcome.
+-- Equal outcomes of the child give equal outcomes.
 pub record NextMeets {T O U : Type 0} (alike : O → O → Type 0) (beside : U → U → Type 0)
     (next also : Next T O U) : Type 0 where
   pub took : (o p : O) → alike o p → Meets beside (next.on_took o) (also.on_took p)
@@ -59,7 +61,7 @@ pub record NextMeets {T O U : Type 0} (alike : O → O → Type 0) (beside : U �
   pub cuts : Meets beside next.on_cuts also.on_cuts
   pub asks : (need : Option ℕ) → Meets beside (next.on_asks need) (also.on_asks need)
 
--- What comes holds. Where a part asks for more on a cut input, it is not final.
+-- All four satisfy `Holds`. If a child is incomplete on partial input, the outcome is not final.
 pub record NextHolds {T O U : Type 0} (stable : Type 0) (next : Next T O U) : Type 0 where
   pub took : (o : O) → Holds stable (next.on_took o)
   pub backs : Holds stable next.on_backs
@@ -118,7 +120,7 @@ module _ {T O U : Type 0} {stable : Type 0} {next : Next T O U} (h : NextHolds s
       absurd (h.asks is need tokens place y final c)
   stays_comes is more flag tokens wants y final c = absurd (final_by {y = wants} c final)
 
--- What a part does, and what comes of it, is lawful.
+-- A lawful child with a lawful continuation is lawful.
 pub then_law : {T O U : Type 0} {alike : O → O → Type 0} {beside : U → U → Type 0}
     {stable first : Type 0} {does : Does T O} {next : Next T O U} → Lawful first alike does
     → NextMeets alike beside next next → NextHolds stable next → (stable → first)
@@ -151,7 +153,7 @@ hands_on next at tokens rest memory b c a e = gave rest e
 
 module _ {S T O U : Type 0} {does : Does T O} {next : Next T O U} {at : Setting} {s t : S}
     {i j : Input T} {a : Answer O} where
-  -- a run of the part, and what comes of it where it ended, in a whole with a state of its own
+  -- a call of the child and its continuation, in a combinator with a state of its own
   pub did_in : {P : Type 0} {answer : Answer U} (p q : P) → q ≡ p → Did does at s i a t j
       → ComesOf next at i.left.tokens (outcome_of a j.left.tokens)
       (outcome_of answer j.left.tokens) → Did (Then does next) at p i answer q j

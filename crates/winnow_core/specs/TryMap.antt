@@ -27,8 +27,8 @@ TryMapSettles {G} {O} {U} {R} step g o answer h = (h.1 ≡ g.1) × (
     ⊎ ((r : R) × (k : Kind) × step g.0 o (Err r) h.0 × KindGiven (g.1 r) backtrack k
     × (answer ≡ Err k)))
 
--- The output is what one call of the closure made of the child's; where the closure fails, the run
--- has the error that is made of the closure's.
+-- The output is the result of one call of the closure. If the closure fails, the error is made from
+-- that of the closure.
 abbrev pub TryMapRuns : {S G T O U R : Type 0} → (G → O → Result U R → G → Type 0) → Runs S T O
     → Runs (S × (G × (R → Keeping))) T U
 TryMapRuns step run = Settles (TryMapSettles step) run

@@ -1,4 +1,4 @@
--- A value in the place of an output.
+-- The semantics of `value`.
 use Rattle.std.specs.Prelude.{◌≡◌, Ok, Err, ◌⊎◌}
 use Rattle.streams.specs.Input.{Input}
 use Rattle.streams.specs.Kind.{Kind, memory}

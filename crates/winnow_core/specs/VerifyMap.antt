@@ -1,4 +1,4 @@
--- An output made of another by a closure that may refuse it.
+-- The semantics of `verify_map`.
 use Rattle.std.specs.Prelude.{◌≡◌, Option, Some, None, Ok, Err, ◌⊎◌}
 use Rattle.streams.specs.Input.{Input, back_at}
 use Rattle.streams.specs.Kind.{Kind, backtrack}
@@ -8,11 +8,11 @@ use Rattle.winnow_core.specs.declared.combinator.impls.verify_map.VerifyMap.{Ver
 pub mod Laws
 pub mod Says
 
--- the parser whose output is mapped or refused
+-- the parser whose output is mapped or rejected
 abbrev pub verify_map_parser : {F G I O U E : Type 0} → VerifyMap F G I O U E → F
 verify_map_parser s = s.parser
 
--- the closure that maps or refuses
+-- the closure that maps or rejects
 abbrev pub verify_map_closure : {F G I O U E : Type 0} → VerifyMap F G I O U E → G
 verify_map_closure s = s.filter
 
@@ -22,7 +22,7 @@ abbrev pub VerifyMapRuns : {S G T O U : Type 0} → Runs S T O → (G → O → 
 VerifyMapRuns {S} {G} {T} {O} {U} run step s i answer t j =
     -- the closure gives an output
     ((o : O) × (u : U) × run s.0 i (Ok o) t.0 j × step s.1 o (Some u) t.1 × (answer ≡ Ok u))
-    -- the closure refuses: back at the start
+    -- the closure returns `None`, and the input is reset
     ⊎ (((o : O) × (a : Input T) × run s.0 i (Ok o) t.0 a × step s.1 o None t.1
     × (answer ≡ Err backtrack) × (j ≡ back_at i.left a))
     -- the child fails, and the closure is not called

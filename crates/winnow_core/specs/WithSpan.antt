@@ -1,4 +1,4 @@
--- An output with the places between which it was read.
+-- The semantics of `with_span`.
 use Rattle.std.specs.Prelude.{◌≡◌, ℕ}
 use Rattle.std.specs.declared.ops.Range.{Range}
 use Rattle.winnow_core.specs.MakesOutput.{MakesOutput}
@@ -7,7 +7,7 @@ use Rattle.winnow_core.specs.Span.{places}
 use Rattle.winnow_core.specs.declared.combinator.impls.with_span.WithSpan.{WithSpan}
 pub mod Says
 
--- the parser whose places are answered too
+-- the parser whose span is returned too
 abbrev pub with_span_parser : {F I O E : Type 0} → WithSpan F I O E → F
 with_span_parser s = s.parser
 

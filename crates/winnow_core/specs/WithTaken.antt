@@ -7,7 +7,7 @@ use Rattle.winnow_core.specs.declared.combinator.impls.with_taken.WithTaken.{Wit
 pub mod Laws
 pub mod Says
 
--- the parser whose slice is answered too
+-- the parser whose slice is returned too
 abbrev pub with_taken_parser : {F I O E : Type 0} → WithTaken F I O E → F
 with_taken_parser s = s.parser
 

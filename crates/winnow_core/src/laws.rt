@@ -22,9 +22,9 @@ use streams::partial::Partial;
 use streams::stream::{Stream, StreamIsPartial};
 use streams::token_slice::TokenSlice as Tokens;
 
-/// Each longer input gets the answer of a cut one, from a parser that says what it does and is
-/// stable: the same kind of error or an output alike, the same state, and the rest with what was
-/// added. The longer input may be cut still, or complete. Want of memory is no such answer.
+/// A final result of a stable parser with specified outcomes on partial input is also the result on
+/// every longer input, partial or complete: the same kind of error or an equal output, the same
+/// state, and the rest followed by the added tokens. Out of memory is not a final result.
 pub fn a_longer_input_gets_the_answer_of_a_cut_one<
     P: Parser<I, O, E>,
     I: Stream,
@@ -35,13 +35,13 @@ pub fn a_longer_input_gets_the_answer_of_a_cut_one<
         → EachLongerGets s P.meaning (P.says s).alike }
 {}
 
-/// After `parse_next` the input is an end of the input before, whatever it answers.
+/// `parse_next` leaves a suffix of the input, whatever it returns.
 pub fn leaves_an_end<P: Parser<I, O, E>, I: Stream, O, E: ParserError<I>>()
     ensures { LeaveEnds I.reading (P.meaning E.form) }
 {}
 
-/// Where [`verify_map`](crate::parser::Parser::verify_map) fails though its parser succeeded, the
-/// input is back where it was.
+/// If [`verify_map`](crate::parser::Parser::verify_map) fails although its parser succeeded, the
+/// input is reset.
 pub fn verify_map_goes_back<
     P: Parser<I, O, E>,
     G: FnMut(O) -> Option<O2>,
@@ -54,8 +54,8 @@ pub fn verify_map_goes_back<
         (⟦<VerifyMap<P, G, I, O, O2, E> as Parser<I, O2, E>>⟧.meaning E.form) }
 {}
 
-/// Where [`verify`](crate::parser::Parser::verify) fails though its parser succeeded, the input is
-/// back where it was.
+/// If [`verify`](crate::parser::Parser::verify) fails although its parser succeeded, the input is
+/// reset.
 pub fn verify_goes_back<
     P: Parser<I, O, E>,
     G: FnMut(&O) -> bool,
@@ -67,8 +67,8 @@ pub fn verify_goes_back<
         (⟦<Verify<P, G, I, O, E> as Parser<I, O, E>>⟧.meaning E.form) }
 {}
 
-/// Where [`try_map`](crate::parser::Parser::try_map) fails though its parser succeeded, the input
-/// is back where it was.
+/// If [`try_map`](crate::parser::Parser::try_map) fails although its parser succeeded, the input is
+/// reset.
 pub fn try_map_goes_back<
     P: Parser<I, O, E>,
     G: FnMut(O) -> Result<O2, E2>,
@@ -82,8 +82,8 @@ pub fn try_map_goes_back<
         (⟦<TryMap<P, G, I, O, O2, E, E2> as Parser<I, O2, E>>⟧.meaning E.form) }
 {}
 
-/// Where [`parse_to`](crate::parser::Parser::parse_to) fails though its parser succeeded, the input
-/// is back where it was.
+/// If [`parse_to`](crate::parser::Parser::parse_to) fails although its parser succeeded, the input
+/// is reset.
 pub fn parse_to_goes_back<
     P: Parser<I, O, E>,
     I: Stream,
@@ -95,8 +95,8 @@ pub fn parse_to_goes_back<
         (⟦<ParseTo<P, I, O, O2, E> as Parser<I, O2, E>>⟧.meaning E.form) }
 {}
 
-/// Where [`and_then`](crate::parser::Parser::and_then) fails though its outer parser succeeded, the
-/// input is back where it was.
+/// If [`and_then`](crate::parser::Parser::and_then) fails although its outer parser succeeded, the
+/// input is reset.
 pub fn and_then_goes_back<
     P: Parser<I, O, E>,
     G: Parser<O, O2, E>,
@@ -109,10 +109,10 @@ pub fn and_then_goes_back<
         (⟦<AndThen<P, G, I, O, O2, E> as Parser<I, O2, E>>⟧.meaning E.form) }
 {}
 
-/// Where a parser means over a partial stream what another means over the plain one, as each parser
-/// of the library does (the laws of [`complete`](crate::laws::complete) and its like), what the
-/// partial stream is answered the plain one is answered: so it is of a partial stream that is
-/// marked complete.
+/// If a parser over a partial stream has the semantics of another over the plain stream, both give
+/// the same results, for instance on a partial stream that is marked complete. The laws of
+/// [`complete`](crate::laws::complete) and similar modules prove the premise for every parser of
+/// the library.
 pub fn a_complete_stream_is_answered_as_the_plain_one<
     P: Parser<I, O, E>,
     Q: Parser<Partial<I>, O, F>,
@@ -125,8 +125,8 @@ pub fn a_complete_stream_is_answered_as_the_plain_one<
         → AnswersAlike along (P.meaning E.form) (Q.meaning F.form) }
 {}
 
-/// Over bytes, the slice that [`take`](crate::parser::Parser::take) answers and then the rest are
-/// the input before.
+/// Over bytes, the slice that [`take`](crate::parser::Parser::take) returns, followed by the rest,
+/// is the original input.
 pub fn taken_bytes_and_the_rest_are_the_input<
     'a,
     P: Parser<&'a [u8], O, E>,
@@ -137,8 +137,8 @@ pub fn taken_bytes_and_the_rest_are_the_input<
         (⟦<Take<P, &'a [u8], O, E> as Parser<&'a [u8], &'a [u8], E>>⟧.meaning E.form) }
 {}
 
-/// Over text, the slice that [`take`](crate::parser::Parser::take) answers and then the rest are
-/// the input before.
+/// Over text, the slice that [`take`](crate::parser::Parser::take) returns, followed by the rest,
+/// is the original input.
 pub fn taken_text_and_the_rest_are_the_input<
     'a,
     P: Parser<&'a str, O, E>,
@@ -149,8 +149,8 @@ pub fn taken_text_and_the_rest_are_the_input<
         (⟦<Take<P, &'a str, O, E> as Parser<&'a str, &'a str, E>>⟧.meaning E.form) }
 {}
 
-/// Over a list of tokens, the slice that [`take`](crate::parser::Parser::take) answers and then the
-/// rest are the input before.
+/// Over a list of tokens, the slice that [`take`](crate::parser::Parser::take) returns, followed by
+/// the rest, is the original input.
 pub fn taken_tokens_and_the_rest_are_the_input<
     't,
     T: 't,
@@ -163,8 +163,8 @@ pub fn taken_tokens_and_the_rest_are_the_input<
         E.form) }
 {}
 
-/// Over bytes, the slice that [`with_taken`](crate::parser::Parser::with_taken) answers beside the
-/// output and then the rest are the input before.
+/// Over bytes, the slice that [`with_taken`](crate::parser::Parser::with_taken) returns with the
+/// output, followed by the rest, is the original input.
 pub fn bytes_with_the_output_and_the_rest_are_the_input<
     'a,
     P: Parser<&'a [u8], O, E>,
@@ -175,8 +175,8 @@ pub fn bytes_with_the_output_and_the_rest_are_the_input<
         (⟦<WithTaken<P, &'a [u8], O, E> as Parser<&'a [u8], (O, &'a [u8]), E>>⟧.meaning E.form) }
 {}
 
-/// Over text, the slice that [`with_taken`](crate::parser::Parser::with_taken) answers beside the
-/// output and then the rest are the input before.
+/// Over text, the slice that [`with_taken`](crate::parser::Parser::with_taken) returns with the
+/// output, followed by the rest, is the original input.
 pub fn text_with_the_output_and_the_rest_are_the_input<
     'a,
     P: Parser<&'a str, O, E>,
@@ -187,8 +187,8 @@ pub fn text_with_the_output_and_the_rest_are_the_input<
         (⟦<WithTaken<P, &'a str, O, E> as Parser<&'a str, (O, &'a str), E>>⟧.meaning E.form) }
 {}
 
-/// Over a list of tokens, the slice that [`with_taken`](crate::parser::Parser::with_taken) answers
-/// beside the output and then the rest are the input before.
+/// Over a list of tokens, the slice that [`with_taken`](crate::parser::Parser::with_taken) returns
+/// with the output, followed by the rest, is the original input.
 pub fn tokens_with_the_output_and_the_rest_are_the_input<
     't,
     T: 't,
@@ -201,8 +201,8 @@ pub fn tokens_with_the_output_and_the_rest_are_the_input<
         E.form) }
 {}
 
-/// Over a stream of which some function gives the tokens that each slice shows, those of the slice
-/// that [`take`](crate::parser::Parser::take) answers and then the rest are the input before.
+/// Over a stream whose slices determine their tokens by a function, the tokens of the slice that
+/// [`take`](crate::parser::Parser::take) returns, followed by the rest, are the original input.
 pub fn the_slice_taken_and_the_rest_are_the_input<
     P: Parser<I, O, E>,
     I: Stream,
@@ -215,8 +215,8 @@ pub fn the_slice_taken_and_the_rest_are_the_input<
 {}
 
 /// Over such a stream, the tokens of the slice that
-/// [`with_taken`](crate::parser::Parser::with_taken) answers beside the output and then the rest
-/// are the input before.
+/// [`with_taken`](crate::parser::Parser::with_taken) returns with the output, followed by the rest,
+/// are the original input.
 pub fn the_slice_with_the_output_and_the_rest_are_the_input<
     P: Parser<I, O, E>,
     I: Stream,
@@ -228,8 +228,8 @@ pub fn the_slice_with_the_output_and_the_rest_are_the_input<
         (⟦<WithTaken<P, I, O, E> as Parser<I, (O, I::Slice), E>>⟧.meaning E.form) }
 {}
 
-/// On a cut input a stable parser asks for more, or is out of memory, or answers what every longer
-/// input gets, still cut or complete.
+/// On partial input a stable parser returns `Incomplete`, is out of memory, or returns the result
+/// of every longer input, partial or complete.
 pub fn a_cut_input_is_answered_as_each_longer_one<
     P: Stable<I, O, E>,
     I: Stream,
@@ -239,8 +239,8 @@ pub fn a_cut_input_is_answered_as_each_longer_one<
     ensures { E.form ≡ modal → EachSettlesOnCut I.following (P.meaning E.form) }
 {}
 
-/// [`Eof`](crate::combinator::impls::Eof) is not stable, and no block can say that it is: what is
-/// the end of a cut input is none where a token follows.
+/// [`Eof`](crate::combinator::impls::Eof) is not stable, and cannot implement `Stable`: it matches
+/// at the end of partial input, but not if a token follows.
 pub fn eof_is_not_stable<I: Stream, E: ParserError<I>>()
     ensures { (slice : I.Slice) (x : I.Seen) → I.reading.shows slice []
         → I.following.can_follow [] (x ∷ [])

@@ -11,7 +11,7 @@ use stream_searches::compare::{Compare, CompareResult};
 use streams::needed::Needed;
 use streams::stream::StreamIsPartial;
 
-/// Takes a literal from the beginning of the input.
+/// Matches a literal at the start of the input.
 #[inline(always)]
 pub fn take_literal<T, I: StreamIsPartial + Compare<T>, E: ParserError<I>>(
     input: &mut I,

@@ -1,4 +1,4 @@
-//! The trait of parsers.
+//! The `Parser` trait.
 #![tactic(auto, using(streams::specs::Ends::ends_follow))]
 
 ghost use Rattle.std.specs.Prelude.{⊤, ◌≡◌, false, IfErr};
@@ -49,7 +49,7 @@ use crate::combinator::impls::{
     WithTaken,
 };
 use crate::parser::fault::fault_at;
-pub use crate::parser::func::Func;
+pub use crate::parser::func::{Func, FuncWith};
 pub use crate::parser::modal::ModalParser;
 use std::alloc::Allocator;
 use std::marker::PhantomData;
@@ -60,39 +60,40 @@ use stream_errors::parser_error::ParserError;
 use stream_sets::parse_slice::ParseSlice;
 use streams::stream::{Location, Stream, StreamIsPartial};
 
-/// A parser: it takes tokens from an input and makes an output of them, as winnow's documentation
-/// has it.
+/// A parser: consumes tokens from an input and returns an output, as winnow's trait of this name.
 ///
-/// Parsers are made of parsers: a value such as `b'='` or `b"key"` is a parser of itself, a tuple
-/// runs its members in order.
+/// Parsers are composed from parsers. Literals such as `b'='` and `b"key"` are parsers, and a tuple
+/// runs its members in order and returns a tuple of their outputs.
 ///
 /// ```
 /// assert_eq!(rt; ('a', '=').parse_peek("a=1"), Ok::<_, EmptyError>(("1", ('a', '='))));
 /// ```
 pub trait Parser<I: Stream, O, E: ParserError<I>>: Sized {
-    // The states in which it may be run: closures in it may be called.
+    // Precondition of every call: the closures in the parser may be called.
     ghost can_parse: { Self → Type 0 } = { λ _. ⊤ };
 
-    // Its states: what of a parser its runs depend on, as the children's states and the closures.
+    // The part of a parser that its results depend on: for instance its closures, or the states of
+    // its children.
     ghost State: { Type 0 };
 
-    // The state that a parser is in.
+    // The current state of a parser.
     ghost state: { Self → State };
 
-    // What the parser means: by the form of its errors, its runs from a state and an input to an
-    // answer, a new state and a new input.
+    // The parser's semantics: for each form of errors, a relation between a state, an input, a
+    // result, the new state and the remaining input.
     ghost meaning: { Meaning State I.Seen O };
 
-    // What it says that it does with tokens, from a state. A parser that says nothing has
-    // `nothing_said`.
+    // The parser's specified outcomes, for a state. `nothing_said` specifies nothing.
     ghost says: { State → Says I.Seen O };
 
-    // What it claims of its runs from a state: what they read by a grammar, and what one input
-    // decides of them. A parser that claims nothing says `no_claim`.
+    // The parser's specification, for a state: its grammar, and whether its result is a function of
+    // the input. `no_claim` specifies nothing.
     ghost claim: { State → Claim I.Seen O };
 
-    /// Takes tokens from the beginning of `input`. Whatever it answers, the input is left at an
-    /// end of what it was, and where it stands after an error is said by each parser.
+    /// Runs the parser at the start of `input` and returns its output.
+    ///
+    /// On success `input` is the rest. After an error it is a suffix of the original input; each
+    /// parser documents which one.
     fn parse_next(&mut self, input: &mut I) -> Result<O, E>
         requires { can_parse self.old }
         ensures again { can_parse self.new }
@@ -100,11 +101,12 @@ pub trait Parser<I: Stream, O, E: ParserError<I>>: Sized {
             (answer_by E.kind result) (state self.new) (I.view input.new) }
         ensures ends { IsEndOf I.reading (I.view input.new) (I.view input.old) };
 
-    /// Parses all of `input`: the parser is run, and then nothing may be left.
+    /// Parses all of `input`, and fails if any input remains.
     ///
-    /// An error says where the failing run left the input, in units from its start (bytes of
-    /// bytes), with the error less its mode; or, where a parser asked for more of an input that is
-    /// whole, how much. The caller owes a stream type that is not partial.
+    /// The error holds the inner error, without its mode, and the offset at which the failing
+    /// parser stopped, in the units of the stream (bytes, for `&[u8]` and `&str`). If a parser
+    /// needs more input, the error is [`ParseFault::Incomplete`] with the number of units instead.
+    /// The stream type must not be partial.
     ///
     /// ```
     /// assert!(rt; Parser::<_, char, EmptyError>::parse(&mut 'a', "ab").is_err());
@@ -135,11 +137,14 @@ pub trait Parser<I: Stream, O, E: ParserError<I>>: Sized {
         }
     }
 
-    /// As [`parse_next`](Parser::parse_next), and the parser's outcome is told: what it takes and
-    /// leaves, with which kind of error it fails and where, or how much more it asks for. It is
-    /// the outcome that the parser says of these tokens, and no other is; on a cut input every
-    /// longer one gets it too, if the parser is stable. The caller owes what the parser asks for
-    /// (`premise`).
+    /// Like [`parse_next`](Parser::parse_next), with a contract in terms of the parser's specified
+    /// outcomes.
+    ///
+    /// The outcome is the output and the rest, the kind of the error and the input after it, or the
+    /// need. It is the only outcome for these tokens. On partial input, if the parser is stable,
+    /// every longer input has the same outcome.
+    ///
+    /// Requires the parser's precondition (`premise`).
     #[inline(always)]
     final fn read_outcome(&mut self, input: &mut I) -> Result<O, E>
         requires callable { can_parse self.old }
@@ -156,9 +161,10 @@ pub trait Parser<I: Stream, O, E: ParserError<I>>: Sized {
     }
 
     /// Calls [`parse`](Parser::parse), and specifies the parser's outcome as
-    /// [`read_outcome`](Parser::read_outcome) does: an output that leaves nothing; or a fault, which
-    /// is at the offset where the parser failed, or where its output left something. The caller
-    /// must ensure what the parser requires (`premise`), and a stream type that is not partial.
+    /// [`read_outcome`](Parser::read_outcome) does: an output that leaves nothing, or a fault. The
+    /// fault is at the offset where the parser failed, or where its output left something. The
+    /// caller must ensure what the parser requires (`premise`), and a stream type that is not
+    /// partial.
     #[inline(always)]
     final fn parse_outcome(&mut self, input: I) -> Result<O, ParseFault<I, E::Inner>>
     where
@@ -177,10 +183,13 @@ pub trait Parser<I: Stream, O, E: ParserError<I>>: Sized {
         self.parse(input)
     }
 
-    /// As [`parse_next`](Parser::parse_next), and the parser's grammar says what it answers: on a
-    /// whole input an output stands first, and an error backtracks and says that none does, or
-    /// wants memory; and none wants memory where the parser asks for none (`spared`). The caller
-    /// owes what the parser asks for (`premise`), and that its failures let others be tried
+    /// Like [`parse_next`](Parser::parse_next), with a contract in terms of the parser's grammar.
+    ///
+    /// On complete input it returns `Ok` only if the input starts with a match, and backtracks only
+    /// if it does not. The only other error is out of memory, and only of a parser that allocates
+    /// (`spared`).
+    ///
+    /// Requires the parser's precondition (`premise`), and that its errors are backtracks
     /// (`backtracks`).
     #[inline(always)]
     final fn read(&mut self, input: &mut I) -> Result<O, E>
@@ -199,11 +208,13 @@ pub trait Parser<I: Stream, O, E: ParserError<I>>: Sized {
         self.parse_next(input)
     }
 
-    /// As [`parse`](Parser::parse), and the parser's grammar says what it answers: an output stands
-    /// first in the tokens and leaves nothing, and a fault says that none does, or is out of
-    /// memory. It asks for no more tokens, and for no memory where the parser asks for none
-    /// (`spared`). The caller owes what the parser asks for (`premise`), and a stream type that is
-    /// not partial.
+    /// Like [`parse`](Parser::parse), with a contract in terms of the parser's grammar.
+    ///
+    /// It returns `Ok` only if the whole input matches, and an error only if it does not. The only
+    /// other error is out of memory, and only of a parser that allocates (`spared`);
+    /// [`ParseFault::Incomplete`] is never returned.
+    ///
+    /// Requires the parser's precondition (`premise`), and a stream type that is not partial.
     #[inline(always)]
     final fn read_all(&mut self, input: I) -> Result<O, ParseFault<I, E::Inner>>
     where
@@ -224,12 +235,12 @@ pub trait Parser<I: Stream, O, E: ParserError<I>>: Sized {
         self.parse(input)
     }
 
-    /// Parses all of `input`, an item a run: an iterator over the outputs.
+    /// Returns an iterator that parses `input` repeatedly until it is empty.
     ///
-    /// Where no unit is left it gives `None`, and the parser is not run. A run that fails, or that
-    /// consumes nothing, gives one fault, as [`parse`](Parser::parse) has it, of which the place is
-    /// counted from the start of `input`; then it gives `None` for good. The caller owes a stream
-    /// type that is not partial.
+    /// If a call fails, or succeeds without consuming input, the iterator yields one error, as
+    /// [`parse`](Parser::parse) does, with its offset from the start of `input`, and then only
+    /// `None`. On empty input it returns `None` without running the parser. The stream type must
+    /// not be partial.
     ///
     /// ```
     /// // Two items, and then the fault at offset 2.
@@ -249,7 +260,7 @@ pub trait Parser<I: Stream, O, E: ParserError<I>>: Sized {
         ParseIter::new(self, input)
     }
 
-    /// Runs the parser on a stream that is handed over: the rest and the output, or the error.
+    /// Runs the parser on an owned input and returns the rest and the output, or the error.
     ///
     /// ```
     /// assert_eq!(rt; 'a'.parse_peek("ab"), Ok::<_, EmptyError>(("b", 'a')));
@@ -269,7 +280,7 @@ pub trait Parser<I: Stream, O, E: ParserError<I>>: Sized {
         }
     }
 
-    /// The parser after a reference, as a parser: it runs this one, whose state goes on.
+    /// Borrows the parser as a parser. Its state is shared with `self`.
     #[inline(always)]
     final fn by_ref(&mut self) -> ByRef<'_, Self, I, O, E>
         ensures state { by_ref_parser result ≡ self.old }
@@ -281,7 +292,9 @@ pub trait Parser<I: Stream, O, E: ParserError<I>>: Sized {
         }
     }
 
-    /// A clone of `value` in the place of the output; want of memory where the clone is refused it.
+    /// Replaces the output with a clone of `value`.
+    ///
+    /// Fails with out of memory if the clone fails to allocate.
     #[inline(always)]
     final fn value<O2: Clone>(self, value: O2) -> Value<Self, I, O, O2, E>
         ensures parser { value_parser result ≡ self }
@@ -290,7 +303,7 @@ pub trait Parser<I: Stream, O, E: ParserError<I>>: Sized {
         Value::new(self, value)
     }
 
-    /// The default value of `O2` in the place of the output.
+    /// Replaces the output with `O2::default()`.
     #[inline(always)]
     final fn default_value<O2: Default>(self) -> DefaultValue<Self, I, O, O2, E>
         ensures { default_value_parser result ≡ self }
@@ -298,7 +311,7 @@ pub trait Parser<I: Stream, O, E: ParserError<I>>: Sized {
         DefaultValue::new(self)
     }
 
-    /// Nothing in the place of the output. Known as `ignore` elsewhere.
+    /// Discards the output. Known as `ignore` elsewhere.
     #[inline(always)]
     final fn void(self) -> Void<Self, I, O, E>
         ensures { void_parser result ≡ self }
@@ -306,7 +319,7 @@ pub trait Parser<I: Stream, O, E: ParserError<I>>: Sized {
         Void::new(self)
     }
 
-    /// The output, converted by `From`.
+    /// Converts the output with `From`.
     #[inline(always)]
     final fn output_into<O2: From<O>>(self) -> OutputInto<Self, I, O, O2, E>
         ensures { output_into_parser result ≡ self }
@@ -314,7 +327,7 @@ pub trait Parser<I: Stream, O, E: ParserError<I>>: Sized {
         OutputInto::new(self)
     }
 
-    /// The slice that was read, in the place of the output. Known as `recognize` elsewhere.
+    /// Replaces the output with the consumed slice. Known as `recognize` elsewhere.
     #[inline(always)]
     final fn take(self) -> Take<Self, I, O, E>
         ensures { take_parser result ≡ self }
@@ -322,7 +335,7 @@ pub trait Parser<I: Stream, O, E: ParserError<I>>: Sized {
         Take::new(self)
     }
 
-    /// The output, and the slice that was read. Known as `consumed` elsewhere.
+    /// Returns the output and the consumed slice. Known as `consumed` elsewhere.
     #[inline(always)]
     final fn with_taken(self) -> WithTaken<Self, I, O, E>
         ensures { with_taken_parser result ≡ self }
@@ -330,8 +343,8 @@ pub trait Parser<I: Stream, O, E: ParserError<I>>: Sized {
         WithTaken::new(self)
     }
 
-    /// Where the parser began and where it ended, in units from the start of the stream, in the
-    /// place of the output.
+    /// Replaces the output with its span: the offsets of its start and end, from the start of the
+    /// stream and in its units.
     #[inline(always)]
     final fn span(self) -> Span<Self, I, O, E>
     where
@@ -341,7 +354,8 @@ pub trait Parser<I: Stream, O, E: ParserError<I>>: Sized {
         Span::new(self)
     }
 
-    /// The output, and where the parser began and ended, in units from the start of the stream.
+    /// Returns the output and its span: the offsets of its start and end, from the start of the
+    /// stream and in its units.
     #[inline(always)]
     final fn with_span(self) -> WithSpan<Self, I, O, E>
     where
@@ -351,7 +365,7 @@ pub trait Parser<I: Stream, O, E: ParserError<I>>: Sized {
         WithSpan::new(self)
     }
 
-    /// What `map` makes of the output.
+    /// Applies `map` to the output.
     #[inline(always)]
     final fn map<G, O2>(self, map: G) -> Map<Self, G, I, O, O2, E>
     where
@@ -362,8 +376,10 @@ pub trait Parser<I: Stream, O, E: ParserError<I>>: Sized {
         Map::new(self, map)
     }
 
-    /// What `map` makes of the output. Where it fails, the parser backtracks with its error (or is
-    /// want of memory, where keeping that was refused it), and the input is back at the start.
+    /// Applies the fallible `map` to the output.
+    ///
+    /// If `map` fails, the parser backtracks with that error and resets the input. It fails with
+    /// out of memory if the error cannot be stored.
     #[inline(always)]
     final fn try_map<G, O2, E2>(self, map: G) -> TryMap<Self, G, I, O, O2, E, E2>
     where
@@ -375,8 +391,8 @@ pub trait Parser<I: Stream, O, E: ParserError<I>>: Sized {
         TryMap::new(self, map)
     }
 
-    /// What `filter` makes of the output. Where that is `None`, the parser backtracks, and the
-    /// input is back at the start. Known as `map_opt` elsewhere.
+    /// Applies `filter` to the output, and backtracks and resets the input if it returns `None`.
+    /// Known as `map_opt` elsewhere.
     #[inline(always)]
     final fn verify_map<G, O2>(self, filter: G) -> VerifyMap<Self, G, I, O, O2, E>
     where
@@ -387,8 +403,9 @@ pub trait Parser<I: Stream, O, E: ParserError<I>>: Sized {
         VerifyMap::new(self, filter)
     }
 
-    /// What the parser answers that `map` makes of the output, after what this one read. It owes
-    /// that each parser that it makes can be run.
+    /// Runs the parser that `map` returns for the output, on the remaining input.
+    ///
+    /// Requires that every parser that `map` returns can be called.
     #[inline(always)]
     final fn flat_map<G, H, O2>(self, map: G) -> FlatMap<Self, G, H, I, O, O2, E>
     where
@@ -400,8 +417,10 @@ pub trait Parser<I: Stream, O, E: ParserError<I>>: Sized {
         FlatMap::new(self, map)
     }
 
-    /// What `inner` answers on the output, as an input to which no more comes; what it leaves is
-    /// dropped. Where it fails, its error is answered, and the input is back at the start.
+    /// Parses the output with `inner`, as complete input.
+    ///
+    /// Any part of the output that `inner` does not consume is discarded. If `inner` fails, its
+    /// error is returned and the input is reset.
     #[inline(always)]
     final fn and_then<G, O2>(self, inner: G) -> AndThen<Self, G, I, O, O2, E>
     where
@@ -414,8 +433,8 @@ pub trait Parser<I: Stream, O, E: ParserError<I>>: Sized {
         AndThen::new(self, inner)
     }
 
-    /// What the output reads as, by `FromStr`. Where it reads as nothing, the parser backtracks,
-    /// and the input is back at the start. Known as `from_str` elsewhere.
+    /// Converts the output with `FromStr`, and backtracks and resets the input if that fails. Known
+    /// as `from_str` elsewhere.
     #[inline(always)]
     final fn parse_to<O2>(self) -> ParseTo<Self, I, O, O2, E>
     where
@@ -425,8 +444,8 @@ pub trait Parser<I: Stream, O, E: ParserError<I>>: Sized {
         ParseTo::new(self)
     }
 
-    /// The output, where `filter` finds it true; else the parser backtracks, and the input is back
-    /// at the start. Known as `satisfy` elsewhere.
+    /// Returns the output if `filter` is true for it; otherwise backtracks and resets the input.
+    /// Known as `satisfy` elsewhere.
     #[inline(always)]
     final fn verify<G>(self, filter: G) -> Verify<Self, G, I, O, E>
     where
@@ -437,8 +456,10 @@ pub trait Parser<I: Stream, O, E: ParserError<I>>: Sized {
         Verify::new(self, filter)
     }
 
-    /// The output; an error keeps a clone of `context`. Its kind stays, or is memory, where that
-    /// was refused. Known as `labelled` elsewhere.
+    /// Adds a clone of `context` to errors.
+    ///
+    /// The error keeps its kind, or becomes out of memory if the context cannot be stored. Known as
+    /// `labelled` elsewhere.
     #[inline(always)]
     final fn context<C, A>(self, alloc: A, context: C) -> Context<Self, I, O, E, C, A>
     where
@@ -451,8 +472,9 @@ pub trait Parser<I: Stream, O, E: ParserError<I>>: Sized {
         Context::new(self, context, alloc)
     }
 
-    /// The output; an error keeps each item that `context` gives, which must end. Its kind stays,
-    /// or is memory, where that was refused.
+    /// Adds each item of the iterator that `context` returns to errors. The iterator must end.
+    ///
+    /// The error keeps its kind, or becomes out of memory if an item cannot be stored.
     #[inline(always)]
     final fn context_with<F, C, FI, A>(
         self,
@@ -470,7 +492,7 @@ pub trait Parser<I: Stream, O, E: ParserError<I>>: Sized {
         ContextWith::new(self, context, alloc)
     }
 
-    /// The output; an error becomes what `map` makes of it, and the input stays where it arose.
+    /// Applies `map` to errors. The input is not reset.
     #[inline(always)]
     final fn map_err<G, E2>(self, map: G) -> MapErr<Self, G, I, O, E, E2>
     where
@@ -481,7 +503,7 @@ pub trait Parser<I: Stream, O, E: ParserError<I>>: Sized {
         MapErr::new(self, map)
     }
 
-    /// The output; an error for want of more input backtracks instead.
+    /// Turns `Incomplete` into a backtrack.
     #[inline(always)]
     final fn complete_err(self) -> CompleteErr<Self, I, O, E>
         ensures { complete_err_parser result ≡ self }
@@ -489,7 +511,7 @@ pub trait Parser<I: Stream, O, E: ParserError<I>>: Sized {
         CompleteErr::new(self)
     }
 
-    /// The output; an error is converted by `From`.
+    /// Converts errors with `From`.
     #[inline(always)]
     final fn err_into<E2: From<E>>(self) -> ErrInto<Self, I, O, E, E2>
         ensures { err_into_parser result ≡ self }
@@ -497,12 +519,12 @@ pub trait Parser<I: Stream, O, E: ParserError<I>>: Sized {
         ErrInto::new(self)
     }
 
-    // Each run leaves an end of its input.
+    // Every call leaves a suffix of its input.
     ghost leaves_ends: { (form : ErrorForm) → LeaveEnds I.reading (meaning form) };
 
-    // Its runs do what is said.
+    // The semantics satisfy `says`.
     ghost said: { (s : State) → Said (says s) s meaning };
 
-    // Its runs keep what is claimed.
+    // The semantics satisfy `claim`.
     ghost claimed: { (s : State) → Claimed (claim s) s meaning };
 }

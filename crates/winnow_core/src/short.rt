@@ -6,8 +6,8 @@ use stream_errors::parser_error::ParserError;
 use streams::needed::Needed;
 use streams::stream::StreamIsPartial;
 
-/// The error of a parser for which the input is too short: a cut input is incomplete with the need,
-/// and a whole one fails.
+/// Returns the error for missing tokens: `Incomplete` with the need on partial input, and a
+/// backtrack on complete input.
 #[inline(always)]
 pub fn short<I: StreamIsPartial, E: ParserError<I>>(input: &I, needed: Needed) -> E
     ensures { ShortKind E.form (need_of needed) (I.view input.now) (E.kind result) }

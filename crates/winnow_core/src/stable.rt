@@ -14,15 +14,15 @@ pub use crate::stable::one_token::ComparesOneToken;
 use stream_errors::parser_error::ParserError;
 use streams::stream::Stream;
 
-/// A parser that on a cut input asks for more, or answers what it answers on every longer input.
+/// A parser that on partial input returns `Incomplete`, or the result that it returns on every
+/// longer input.
 ///
-/// The longer input may be cut still, or complete; it gets the same output or kind of error, the
-/// same new state, and what was left with what was added. Want of memory is no such answer. What
-/// may be added is what the stream says may follow: any bytes, any valid text, or whole bytes of
-/// bits.
+/// The longer input may be partial or complete. It has the same output or kind of error, the same
+/// new state, and the same rest followed by the added tokens. Out of memory is exempt. The stream
+/// specifies which tokens may be added: any bytes, any valid text, or whole bytes of bits.
 ///
-/// The law is about errors with a mode, as `ErrMode`, since only these tell a need of more input
-/// from a failure. A parser of a caller's own may implement the trait by proving the law.
+/// The law is about errors with a mode, such as `ErrMode`, since only these distinguish
+/// `Incomplete` from a failure. User-defined parsers may implement the trait by proving the law.
 ///
 /// ```
 /// let asks: Result<&str, ErrMode<EmptyError>> = Digit1.parse_next(&mut Partial::new("12"));
@@ -37,12 +37,12 @@ pub trait Stable<I: Stream, O, E: ParserError<I>>: Parser<I, O, E> {
     #[inline(always)]
     fn stay() {}
 
-    // Each run of a final answer on a cut input is one on each longer input.
+    // A call with a final result on partial input is also a call on every longer input.
     ghost stable: { IsStable I.following (Self.meaning modal) };
 
-    /// As [`parse_next`](crate::parser::Parser::parse_next) on a cut input: it asks for more,
-    /// or is out of memory, or every longer input gets this answer, this new state and this rest
-    /// with what was added. The caller owes errors with a mode, and a cut input.
+    /// Like [`parse_next`](crate::parser::Parser::parse_next) on partial input: it returns
+    /// `Incomplete`, is out of memory, or every longer input has this result, this new state and
+    /// this rest followed by the added tokens. Requires errors with a mode, and partial input.
     ///
     /// ```
     /// let mut input = Partial::new("12;");
@@ -64,9 +64,8 @@ pub trait Stable<I: Stream, O, E: ParserError<I>>: Parser<I, O, E> {
         self.parse_next(input)
     }
 
-    /// The output; an error becomes what `map` makes of it, and the input stays where it arose.
-    /// Whoever runs the parser owes that `map` keeps the kind of each error, and that both types
-    /// of errors have a mode or none.
+    /// Applies `map` to errors. The input is not reset. To call the parser, `map` must keep the
+    /// kind of every error, and both error types must have a mode or neither.
     ///
     /// ```
     /// let mut digits = Digit1.map_err_kept(|error: ErrMode<EmptyError>| error);

@@ -1,4 +1,4 @@
--- What is known while turns are read.
+-- Invariants of the loop that reads turns.
 use Rattle.std.proofs.Common.{◌≡◌, ◌<◌, ◌∙◌, ℕ, List, [], ◌∷◌, ◌++◌, length, Ok, Err, refl, ap}
 use Rattle.std.proofs.Common.{sym, subst, inl, inr, Option, Some, None}
 use Rattle.std.proofs.lemmas.Fn.{FoldsTo-push}
@@ -36,7 +36,6 @@ pub accumulates_more : {C O : Type 0} {takes : C → O → C → Type 0} {before
 accumulates_more {takes = takes} {before = before} {outputs = outputs} {c = c} {d = d} {o = o} a
     e = record { taken = FoldsTo-push takes before outputs c o d a.taken e }
 
--- no units are left: no tokens
 pub nothing_left : {T L : Type 0} (reading : Reading T L) (xs : List T) (n : ℕ)
     → n ≡ reading.units xs → n ≡ 0 → xs ≡ []
 nothing_left reading xs n units none = units-zero reading xs (sym units ∙ none)

@@ -1,4 +1,4 @@
--- Controls of text with escapes that the token which stands first settles.
+-- Controls of text with escapes whose result the first token determines.
 use Rattle.std.specs.Prelude.{◌≡◌, Bool, true, List, [], ◌∷◌, ◌++◌, length}
 use Rattle.std.proofs.Common.{◌∙◌, ap, arith, length-append, refl, inl, inr}
 use Rattle.streams.specs.Following.{Following, Follows, follows_end}
@@ -14,7 +14,7 @@ use Rattle.winnow_core.specs.Stable.Longer.{same_more, takes_more, passes_more}
 use Rattle.winnow_token.specs.Any.{AnyRuns}
 use Rattle.winnow_token.specs.OneOf.{OneOfRuns}
 
--- As `IsStable`, on an input of which something is left.
+-- Like `IsStable`, for an input with remaining tokens.
 abbrev pub IsSettled : {S T O : Type 0} → Following T → Runs S T O → Type 0
 IsSettled {S} {T} {O} following run =
     (more : List T) (flag : Bool) (s : S) (i : Input T) (answer : Answer O) (t : S) (j : Input T)
@@ -22,7 +22,7 @@ IsSettled {S} {T} {O} following run =
     → (i.left.tokens ≡ [] → ⊥) → run s i answer t j
     → run s (with_more i more flag) answer t (with_more j more flag)
 
--- As `Grows`, on an input of which something is left.
+-- Like `Grows`, for an input with remaining tokens.
 abbrev pub GrowsOnSome : {S T O : Type 0} → Following T → Runs S T O → Type 0
 GrowsOnSome {S} {T} {O} following run =
     (more : List T) (flag : Bool) (s : S) (i : Input T) (answer : Answer O) (t : S) (j : Input T)
@@ -40,7 +40,6 @@ grows_on_some {following = following} ends settled more flag s i answer t j (is_
       (e.cut ∙ is_cut, follows_end following more e follows),
     )
 
--- something is left of the longer input too
 pub still_some : {T : Type 0} (xs more : List T) → (xs ≡ [] → ⊥) → xs ++ more ≡ [] → ⊥
 still_some xs more some none =
     some (no_tokens xs (omega (arith, ap (λ l. length l) none, length-append xs more)))

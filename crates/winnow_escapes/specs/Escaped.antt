@@ -13,7 +13,7 @@ use Rattle.winnow_escapes.specs.declared.ascii.turns.Turn.{Turn}
 use Rattle.winnow_escapes.specs.declared.ascii.turns.Turn.TheVariants.{Normal, Escape}
 pub mod Laws
 
--- the parser of what stands for itself
+-- the parser of literal text
 abbrev pub escaped_normal : {N K X I O D P C E A : Type 0} → Escaped N K X I O D P C E A → N
 escaped_normal s = s.normal
 
@@ -21,14 +21,14 @@ escaped_normal s = s.normal
 abbrev pub escaped_control : {N K X I O D P C E A : Type 0} → Escaped N K X I O D P C E A → K
 escaped_control s = s.control
 
--- the parser of what stands after a control
+-- the parser of the input after a control
 abbrev pub escaped_escape : {N K X I O D P C E A : Type 0} → Escaped N K X I O D P C E A → X
 escaped_escape s = s.escape
 
 -- ---- turns
 
--- A turn, where something is left: normal; or, where that backtracks, from the same place the
--- control and then the escape.
+-- A turn, if input remains: `normal`; or, if that backtracks, `control` and then `escape`, from the
+-- same offset.
 abbrev pub EscapeTurnRuns : {S W V T O D P : Type 0} → Runs S T O → Runs W T D → Runs V T P
     → Runs (S × W × V) T (Turn O P)
 EscapeTurnRuns {S} {W} {V} {T} {O} {D} {P} normal control escape s i answer t j =
@@ -47,13 +47,13 @@ EscapeTurnRuns {S} {W} {V} {T} {O} {D} {P} normal control escape s i answer t j 
     ⊎ (((x : Input T) × (d : D) × (y : Input T) × (k : Kind)
     × normal s.0 i (Err backtrack) t.0 x × control s.1 (back_at i.left x) (Ok d) t.1 y
     × escape s.2 y (Err k) t.2 j × (answer ≡ Err k))
-    -- the control is refused memory
+    -- the control fails with out of memory
     ⊎ ((x : Input T) × normal s.0 i (Err backtrack) t.0 x
     × control s.1 (back_at i.left x) (Err memory) t.1 j × (t.2 ≡ s.2)
     × (answer ≡ Err memory))))))
 
--- No turn, where something is left: normal backtracks, and from the same place the control refuses.
--- What it consumed is consumed.
+-- No turn, although input remains: `normal` backtracks, and `control` does not match at the same
+-- offset. The input that `control` consumed stays consumed.
 abbrev pub NoTurnRuns : {S W V T O D : Type 0} → Runs S T O → Runs W T D → S × W × V → Input T
     → S × W × V → Input T → Type 0
 NoTurnRuns {S} {W} {V} {T} {O} {D} normal control s i t j =
@@ -95,16 +95,16 @@ turns_kept normals escapes = record {
   grows = grows_by_turn normals.grows escapes.grows;
 }
 
--- What ends the turns, after those of a chain. `short` is the kind for more input, of which it is
--- not known how much.
+-- The end of the turns, after those of a chain. `short` is the kind for more input of an unknown
+-- amount.
 abbrev pub EscapesEnd : {S W V T O D P C : Type 0} → Runs S T O → Runs W T D → Runs V T P
     → Accumulator C (Turn O P) → Kind → Kind → C → S × W × V → Input T → Answer C → S × W × V
     → Input T → Type 0
 EscapesEnd {S} {W} {V} {T} {O} {D} {P} {C} normal control escape into assert_kind short some u m
     answer t j =
-    -- nothing is left of a whole input
+    -- complete input is at its end
     ((m.left.tokens ≡ []) × (m.status.cut ≡ false) × (answer ≡ Ok some) × (t ≡ u) × (j ≡ m))
-    -- nothing is left of a cut one
+    -- partial input is at its end
     ⊎ (((m.left.tokens ≡ []) × (m.status.cut ≡ true) × (answer ≡ Err short) × (t ≡ u) × (j ≡ m))
     -- there is no turn
     ⊎ ((NoTurnRuns normal control u m t j × (answer ≡ Ok some))
@@ -113,7 +113,7 @@ EscapesEnd {S} {W} {V} {T} {O} {D} {P} {C} normal control escape into assert_kin
     -- it consumes nothing
     ⊎ (((o : Turn O P) × EscapeTurnRuns normal control escape u m (Ok o) t j
     × (j.left.tokens ≡ m.left.tokens) × (answer ≡ Err assert_kind))
-    -- it consumes, and what it gives is one too many for the memory
+    -- it consumes input, and there is no memory for its output
     ⊎ ((o : Turn O P) × EscapeTurnRuns normal control escape u m (Ok o) t j
     × (length j.left.tokens < length m.left.tokens) × into.grows some o
     × (answer ≡ Err memory))))))

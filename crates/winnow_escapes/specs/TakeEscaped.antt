@@ -11,7 +11,7 @@ use Rattle.winnow_escapes.specs.declared.ascii.impls.take_escaped.TakeEscaped.{T
 use Rattle.winnow_escapes.specs.declared.ascii.turns.Turn.{Turn}
 pub mod Laws
 
--- the parser of what stands for itself
+-- the parser of literal text
 abbrev pub take_escaped_normal : {N K X I O D P E : Type 0} → TakeEscaped N K X I O D P E → N
 take_escaped_normal s = escaped_normal (take_parser s.taken)
 
@@ -19,7 +19,7 @@ take_escaped_normal s = escaped_normal (take_parser s.taken)
 abbrev pub take_escaped_control : {N K X I O D P E : Type 0} → TakeEscaped N K X I O D P E → K
 take_escaped_control s = escaped_control (take_parser s.taken)
 
--- the parser of what stands after a control
+-- the parser of the input after a control
 abbrev pub take_escaped_escapable : {N K X I O D P E : Type 0} → TakeEscaped N K X I O D P E → X
 take_escaped_escapable s = escaped_escape (take_parser s.taken)
 
@@ -27,8 +27,8 @@ take_escaped_escapable s = escaped_escape (take_parser s.taken)
 abbrev pub no_turns_kept : {O P : Type 0} → Accumulator ⊤ (Turn O P)
 no_turns_kept = turns_kept nothing_kept nothing_kept
 
--- Turns of which nothing is kept, in whose place the tokens between their start and their end are
--- answered.
+-- Turns whose outputs are dropped. The result is the slice of the tokens between their start and
+-- their end.
 abbrev pub TakeEscapedRuns : {S W V T L O D P : Type 0} → Reading T L → Runs S T O → Runs W T D
     → Runs V T P → Kind → Kind → Runs (S × W × V) T L
 TakeEscapedRuns reading normal control escape assert_kind short =

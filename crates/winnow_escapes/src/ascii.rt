@@ -15,17 +15,18 @@ use stream_errors::parser_error::ParserError;
 use streams::stream::StreamIsPartial;
 use winnow_core::parser::Parser;
 
-/// Takes text with escapes as it stands: turns of `normal`, or of `control` and then `escapable`,
-/// while anything is left. It answers the slice of all of them.
+/// Takes text with escapes without unescaping it: turns of `normal`, or of `control` and then
+/// `escapable`, while input remains. Returns the slice of all of them.
 ///
-/// A turn is `normal`; where that backtracks, it is `control` and `escapable`, from the same place.
-/// Where `control` refuses, the text ends with success, and what `control` consumed stays consumed:
-/// it belongs to the slice. So it is where `control` was cut off, since its error cannot tell.
+/// A turn is `normal`; if that backtracks, it is `control` and `escapable`, from the same offset.
+/// If `control` does not match, the text ends with success, and the input that `control` consumed
+/// stays consumed: it belongs to the slice. The same holds if `control` was cut off, since its
+/// error cannot report that.
 ///
 /// Another failure of `normal`, each failure of `escapable`, and out of memory of `control` are
-/// handed on, with the input where they left it. A turn that consumes nothing is an assert error.
-/// At the end of a whole input it succeeds; at the end of a cut one it is incomplete with an
-/// unknown need, and the input stays at that end. No memory is taken.
+/// returned unchanged, with the input where they left it. A turn that consumes no input is an
+/// assert error. At the end of complete input it succeeds. At the end of partial input it is
+/// incomplete with an unknown need, and the input stays at that end. Does not allocate.
 ///
 /// ```
 /// use winnow::ascii::take_escaped;
@@ -55,18 +56,19 @@ where
     TakeEscaped::new(normal, control, escapable)
 }
 
-/// Reads text with escapes, and puts what it stands for into an accumulator: the outputs of
-/// `normal`, and those of `escape` after a `control`.
+/// Parses text with escapes, and accumulates its meaning: the outputs of `normal`, and those of
+/// `escape` after a `control`.
 ///
-/// A turn is `normal`; where that backtracks, it is `control` and `escape`, from the same place; so
-/// it goes on while anything is left. Where `control` refuses, the text ends with success, and what
-/// `control` consumed stays consumed. So it is where `control` was cut off, since its error cannot
-/// tell.
+/// A turn is `normal`; if that backtracks, it is `control` and `escape`, from the same offset.
+/// Turns are read while input remains. If `control` does not match, the text ends with success, and
+/// the input that `control` consumed stays consumed. The same holds if `control` was cut off, since
+/// its error cannot report that.
 ///
 /// Another failure of `normal`, each failure of `escape`, and out of memory of `control` are
-/// handed on, with the input where they left it. A turn that consumes nothing is an assert error.
-/// At the end of a whole input it succeeds; at the end of a cut one it is incomplete with an
-/// unknown need, and the input stays at that end. Memory is taken by the accumulator alone.
+/// returned unchanged, with the input where they left it. A turn that consumes no input is an
+/// assert error. At the end of complete input it succeeds. At the end of partial input it is
+/// incomplete with an unknown need, and the input stays at that end. Only the accumulator
+/// allocates.
 ///
 /// Known as `escaped_transform` in nom.
 ///

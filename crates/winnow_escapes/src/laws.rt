@@ -11,8 +11,8 @@ use stream_errors::parser_error::ParserError;
 use streams::stream::StreamIsPartial;
 use winnow_core::parser::Parser;
 
-/// Over bytes, the slice that [`take_escaped`](crate::ascii::take_escaped) answers and then the
-/// rest are the input before.
+/// States that over bytes the slice of [`take_escaped`](crate::ascii::take_escaped) followed by the
+/// rest is the original input.
 pub fn escaped_bytes_and_the_rest_are_the_input<
     'a,
     N: Parser<&'a [u8], O, E>,
@@ -28,8 +28,8 @@ pub fn escaped_bytes_and_the_rest_are_the_input<
         E.form) }
 {}
 
-/// Over text, the slice that [`take_escaped`](crate::ascii::take_escaped) answers and then the
-/// rest are the input before.
+/// States that over text the slice of [`take_escaped`](crate::ascii::take_escaped) followed by the
+/// rest is the original input.
 pub fn escaped_text_and_the_rest_are_the_input<
     'a,
     N: Parser<&'a str, O, E>,
@@ -45,8 +45,9 @@ pub fn escaped_text_and_the_rest_are_the_input<
         E.form) }
 {}
 
-/// Over a stream of which some function gives the tokens that each slice shows, those of the slice
-/// that [`take_escaped`](crate::ascii::take_escaped) answers and the rest are the input before.
+/// States that the tokens of the slice of [`take_escaped`](crate::ascii::take_escaped) followed by
+/// the rest are the original input. The stream must have a function that gives the tokens of each
+/// slice.
 pub fn the_escaped_slice_and_the_rest_are_the_input<
     N: Parser<I, O, E>,
     K: Parser<I, D, ControlError>,

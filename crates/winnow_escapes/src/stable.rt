@@ -1,4 +1,4 @@
-//! Controls of text with escapes that the token which stands first settles.
+//! Controls of text with escapes whose result the first token determines.
 ghost use Rattle.std.specs.Prelude.{not};
 ghost use Rattle.stream_errors.specs.Form.{plain};
 ghost use Rattle.winnow_escapes.specs.Controls.{IsSettled, any_settles, literal_settles};
@@ -11,12 +11,12 @@ use winnow_core::parser::Parser;
 use winnow_core::stable::ComparesOneToken;
 use winnow_token::token::impls::{Any, NoneOf, OneOf};
 
-/// A control of text with escapes that the token which stands first settles: where something is
-/// left of a cut input it answers what it answers on every longer input.
+/// A control of text with escapes whose result the first token determines: on partial input with
+/// remaining tokens it returns the same as on every longer input.
 ///
-/// The error of a control cannot ask for more, so one that is cut off refuses, and the text would
-/// end there. A byte over bytes, a character over text, [`Any`], [`OneOf`] and [`NoneOf`] are never
-/// cut off, since a turn begins where something is left.
+/// The error of a control cannot be incomplete, so one that is cut off does not match, and the text
+/// would end there. A byte over bytes, a character over text, [`Any`], [`OneOf`] and [`NoneOf`] are
+/// never cut off, since a turn begins only if input remains.
 ///
 /// ```
 /// fn stands<C: SettledControl<&'static str, char>>(control: &mut C) -> bool {
@@ -26,7 +26,7 @@ use winnow_token::token::impls::{Any, NoneOf, OneOf};
 /// assert!(rt; stands(&mut '\\'));
 /// ```
 pub trait SettledControl<I: Stream, D>: Parser<I, D, ControlError> {
-    // Each run of a final answer on a cut input of which something is left is one on each longer
+    // Each call with a final result, on partial input with remaining tokens, is one on each longer
     // input.
     ghost settled: { IsSettled I.following (Self.meaning plain) };
 }

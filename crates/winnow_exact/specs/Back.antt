@@ -16,11 +16,11 @@ use Rattle.stream_errors.specs.declared.fault.ParseFault.{ParseFault}
 use Rattle.winnow_core.specs.Exact.Whole.{IsWant}
 use Rattle.winnow_exact.specs.Told.{IsTextOf, text_found}
 
--- Values of one text are alike.
+-- Values with the same encoding are equal.
 pub record IsUnambiguous {T O : Type 0} (text : Text T O) (alike : O → O → Type 0) : Type 0 where
   pub one : (o p : O) (tokens : List T) → text o tokens → text p tokens → alike o p
 
--- A text of a value is answered by a value alike to it, or by want of memory.
+-- The result for an encoding of `o`: an equal value, or out of memory.
 pub record ReadsBack {I O X : Type 0} (inner_kind : X → Kind) (alike : O → O → Type 0) (o : O)
     (result : Result O (ParseFault I X Needed)) : Type 0 where
   pub back : IfOk result (λ p. alike o p)
@@ -35,21 +35,21 @@ reads_back {tokens = tokens} {result = Ok p} one told o a =
 reads_back {result = Err fault} one told o a =
     record { back = tt; wants = text_found told o a }
 
--- values that are alike in one way may be so in another
+-- a weaker equality
 pub one_weaker : {T O : Type 0} {text : Text T O} {alike same : O → O → Type 0}
     → ((o p : O) → alike o p → same o p) → IsUnambiguous text alike → IsUnambiguous text same
 one_weaker weaker one = record {
   one = λ o p tokens a b. weaker o p (one.one o p tokens a b);
 }
 
--- ---- tokens and what is made of one text
+-- ---- tokens, and values computed from one encoding
 
 pub spelled_one : {T O : Type 0} (xs : List T) (output : O)
     → IsUnambiguous (Spelled xs output) (λ o p. o ≡ p)
 unfolding Spelled
 spelled_one xs output = record { one = λ o p tokens (is, e) (are, d). is ∙ sym are }
 
--- texts of the one are none of the other
+-- no tokens encode a value by both
 pub among_one : {T O : Type 0} {first second : Text T O} {alike : O → O → Type 0}
     → IsUnambiguous first alike → IsUnambiguous second alike
     → ((o p : O) (tokens : List T) → first o tokens → second p tokens → ⊥)
@@ -64,7 +64,7 @@ among_one {T} {O} {first} {second} {alike} one two never = record { one = both }
     both o p tokens (inr a) (inl b) = absurd (never p o tokens b a)
     both o p tokens (inr a) (inr b) = two.one o p tokens a b
 
--- so it is where the one begins in a set and the other outside of it
+-- this holds if one starts with a token of a set and the other does not
 pub never_both : {T O : Type 0} {first second : Text T O} {these : T → Type 0}
     → BeginsIn these first → InFront second AtEnd (NotFirst these) → (o p : O) (tokens : List T)
     → first o tokens → second p tokens → ⊥
@@ -72,7 +72,7 @@ never_both {these = these} begins outside o p tokens a b =
     begins_never these (tokens ++ []) (begins.makes o tokens [] a tt)
     (outside.makes p tokens [] b refl)
 
--- lists are alike, where their items are
+-- stored lists are equal if their items are
 pub in_list_one : {T O A : Type 0} {text : Text T (List O)} {alike : List O → List O → Type 0}
     → IsUnambiguous text alike
     → IsUnambiguous (InList {A = A} text) (λ list more. alike list.items more.items)
@@ -81,7 +81,7 @@ in_list_one one = record {
   one = λ list more tokens a b. one.one list.items more.items tokens a b;
 }
 
--- what accumulators hold is alike, where what they hold is
+-- accumulators are equal if their contents are
 pub holding_one : {T O C : Type 0} (holds : C → List O → Type 0) {text : Text T (List O)}
     {alike : List O → List O → Type 0} {same : C → C → Type 0}
     → ((all more : C) (os ps : List O) → holds all os → holds more ps → alike os ps
@@ -92,7 +92,7 @@ holding_one holds makes one = record {
       makes all more os ps held holding (one.one os ps tokens a b);
 }
 
--- what is made is alike, where what it is made of is
+-- computed values are equal if their arguments are
 pub of_one : {F T O U : Type 0} (makes : F → O → U → Type 0) (part : F) {text : Text T O}
     {alike : O → O → Type 0} {same : U → U → Type 0}
     → ((u v : U) (o p : O) → makes part o u → makes part p v → alike o p → same u v)
@@ -102,7 +102,7 @@ of_one makes part keeps one = record {
   one = λ u v tokens (o, a, is) (p, b, are). keeps u v o p is are (one.one o p tokens a b);
 }
 
--- ---- one after the other
+-- ---- sequences
 
 -- where a text ends its grammar tells
 module _ {T O : Type 0} {g : Grammar T O} {text : Text T O} {follow : List T → Type 0}
@@ -166,7 +166,7 @@ module _ {T O : Type 0} {g : Grammar T O} {text : Text T O} {follow : List T →
     pub row_one : IsUnambiguous (EachText text) (AllZip alike)
     row_one = record { one = both_rows }
 
--- one text or more, with texts of a separator between them that are not empty
+-- one encoding or more, with nonempty encodings of a separator between them
 module _ {T O D : Type 0} {g : Grammar T O} {h : Grammar T D} {text : Text T O}
     {separator : Text T D} {follow between : List T → Type 0} {alike : O → O → Type 0}
     {same : D → D → Type 0} (is : IsGrammarOf g text follow) (unique : IsUnique g)

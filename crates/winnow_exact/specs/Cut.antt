@@ -1,4 +1,4 @@
--- What a call on a cut input tells by a grammar.
+-- The result of a call on partial input, in terms of a grammar.
 use Rattle.std.specs.Prelude.{◌≡◌, ◌⊎◌, ◌++◌, ℕ, false, true, List, Option, Result, Ok, Err, IfOk}
 use Rattle.std.specs.Prelude.{IfErr}
 use Rattle.std.proofs.Common.{refl, sym, subst, inl, inr}
@@ -15,13 +15,14 @@ use Rattle.winnow_core.specs.Exact.Same.{reads_as}
 use Rattle.winnow_core.specs.Runs.{Meaning, Runs}
 use Rattle.winnow_core.specs.Stable.{IsStable}
 
--- The kind of an error that asks for more input.
+-- The kind is `Incomplete`.
 abbrev pub Asks : Kind → Type 0
 Asks k = (need : Option ℕ) × (k ≡ incomplete need)
 
--- What a call on a cut input tells by a grammar. Whatever the input is followed by until it is
--- complete, an output stands in all of it, with what is left and what followed; and an error
--- backtracks and says that none does, or else asks for more, or is out of memory.
+-- The result of a call on partial input, in terms of a grammar. For every continuation that
+-- completes the input, an output matches the whole, with the rest and the continuation remaining.
+-- An error is `Incomplete`, out of memory, or a backtrack; a backtrack means that no completed
+-- input starts with a match.
 pub record ReadsCut {T O E : Type 0} (following : Following T) (kind : E → Kind)
     (grammar : Grammar T O) (i : Input T) (result : Result O E) (j : Input T) : Type 0 where
   pub stands : IfOk result (λ o. (more : List T) → Follows following i.left more
@@ -30,8 +31,8 @@ pub record ReadsCut {T O E : Type 0} (following : Following T) (kind : E → Kin
       ⊎ ((more : List T) → Follows following i.left more
       → (kind e ≡ backtrack) × NoneStands grammar (i.left.tokens ++ more))))
 
--- What a call tells by a grammar where more input may come: what it reads on a whole input, and
--- what it tells of every longer one on a cut input.
+-- The result of a call if more input may follow: on complete input, and on every continuation of
+-- partial input.
 pub record ReadsOrAsks {T L O E : Type 0} (reading : Reading T L) (following : Following T)
     (kind : E → Kind) (grammar : Grammar T O) (i : Input T) (result : Result O E)
     (j : Input T) : Type 0 where
@@ -46,7 +47,7 @@ cut_is_none (inr e) = absurd (cc)
 module _ {S T O : Type 0} {following : Following T} {s : S} {run : Runs S T O}
     {grammar : Grammar T O} (c : IsExact s run grammar) (f : IsSoft s run)
     (stable : IsStable following run) where
-  -- how a run on a cut input fails
+  -- the errors of a call on partial input
   cut_fails : (i : Input T) (k : Kind) (t : S) (j : Input T) → i.status.cut ≡ true
       → run s i (Err k) t j → (k ≡ memory) ⊎ (Asks k ⊎ ((more : List T)
       → Follows following i.left more
@@ -75,7 +76,7 @@ module _ {S T O : Type 0} {following : Following T} {s : S} {run : Runs S T O}
     none = cut_fails i (kind e) t j is r;
   }
 
--- what a call tells, on a whole input and on a cut one
+-- the result of a call, on complete and on partial input
 pub told_or_asked : {S T L O E : Type 0} {following : Following T} {s : S} {grammar : Grammar T O}
     (reading : Reading T L) (kind : E → Kind) (meaning : Meaning S T O) (form : ErrorForm)
     → form ≡ modal → IsExact s (meaning form) grammar → IsSoft s (meaning form)
@@ -90,7 +91,6 @@ told_or_asked {following = following} reading kind meaning form is c f stable i 
       cut = λ is_cut. cut_told c f (subst P (sym is) stable) kind i result t j is_cut ran;
     }
 
--- what a call on a cut input tells by one grammar it tells by one alike
 pub reads_cut_as : {T O E : Type 0} {following : Following T} {kind : E → Kind}
     {g h : Grammar T O} {i j : Input T} {result : Result O E} → Same g h
     → ReadsCut following kind g i result j → ReadsCut following kind h i result j
@@ -110,7 +110,7 @@ reads_cut_as {i = i} {result = Err e} same r = record {
   ];
 }
 
--- and so on both
+-- the same for complete and partial input
 pub reads_or_asks_as : {T L O E : Type 0} {reading : Reading T L} {following : Following T}
     {kind : E → Kind} {g h : Grammar T O} {i j : Input T} {result : Result O E} → Same g h
     → ReadsOrAsks reading following kind g i result j

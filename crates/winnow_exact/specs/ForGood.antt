@@ -1,4 +1,4 @@
--- What a piece of an input is answered for good.
+-- Final results on partial input.
 use Rattle.std.specs.Prelude.{◌≡◌, Bool, true, List}
 use Rattle.std.proofs.Common.{sym}
 use Rattle.streams.specs.Following.{Following, Follows}
@@ -10,9 +10,9 @@ use Rattle.winnow_core.specs.Decided.{AlikeAnswers, NotMemory}
 use Rattle.winnow_core.specs.Decided.Inputs.{widened}
 use Rattle.winnow_exact.specs.Longer.{NoOtherOnLonger}
 
--- Where an answer asks neither for more nor for memory, every longer input, still cut or complete,
--- is answered alike from the same state, want of memory aside; the state is kept, and the rest is
--- left with what was added.
+-- If the result is neither `Incomplete` nor out of memory, every longer input, partial or complete,
+-- has an equal result from the same state, unless out of memory. The state is kept, and the rest is
+-- followed by the added tokens.
 pub record IsForGood {S T O : Type 0} (following : Following T) (s : S) (run : Runs S T O)
     (alike : O → O → Type 0) (i : Input T) (answer : Answer O) (j : Input T) : Type 0 where
   pub same : IsFinal answer → (more : List T) (flag : Bool) (other : Answer O) (u : S) (k : Input T)
@@ -30,7 +30,7 @@ for_good {i = i} {answer = answer} {j = j} t no_other cut ran = record {
       (like, same, sym place);
 }
 
--- in a caller's own words for what is alike
+-- for a caller's weaker equality
 pub for_good_as : {S T O : Type 0} {following : Following T} {s : S} {run : Runs S T O}
     {alike also : O → O → Type 0} {i : Input T} {answer : Answer O} {j : Input T}
     → ((o p : O) → alike o p → also o p) → IsForGood following s run alike i answer j

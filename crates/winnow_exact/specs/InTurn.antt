@@ -1,4 +1,4 @@
--- What calls in turn tell: of a text that stands first, and of what stands after it.
+-- Results of successive calls: an encoding at the start of the input, and another after it.
 use Rattle.std.specs.Prelude.{◌≡◌, ◌⊎◌, Bool, false, true, List, [], ◌++◌}
 use Rattle.std.specs.Prelude.{Result, Ok, Err}
 use Rattle.std.specs.Result.{IsErrAnd}
@@ -14,29 +14,29 @@ use Rattle.grammars.specs.Grammar.{Grammar, IsUnique, NoneStands}
 use Rattle.grammars.specs.Texts.{Text}
 pub mod Rows
 
--- A text of the output is first.
+-- The tokens start with an encoding of the output.
 unfoldable pub First : {T O : Type 0} → Text T O → Grammar T O
 First {T} text tokens o rest = (front : List T) × text o front × (tokens ≡ front ++ rest)
 
--- A text of some value, and after it a text by that value.
+-- An encoding of some value, followed by an encoding that depends on the value.
 unfoldable pub Led : {T X O : Type 0} → Text T X → (X → Text T O) → Text T O
 Led {T} {X} first behind o tokens =
     (x : X) × (xs : List T) × (ys : List T) × first x xs × behind x o ys × (tokens ≡ xs ++ ys)
 
--- What an input may be followed by until it is complete.
+-- `more` completes the input: it is empty if the input is complete, and may follow it otherwise.
 abbrev pub Completes : {T : Type 0} → Following T → Input T → List T → Type 0
 Completes following i more =
     ((i.status.cut ≡ false) × (more ≡ []))
     ⊎ ((i.status.cut ≡ true) × Follows following i.left more)
 
--- Whatever completes the input, the output stands in all of it.
+-- For everything that completes the input, the output matches the whole.
 pub record Stood {T L O : Type 0} (reading : Reading T L) (following : Following T)
     (grammar : Grammar T O) (i : Input T) (o : O) (j : Input T) : Type 0 where
   pub ends : IsEndOf reading j i
   pub stands : (more : List T) → Completes following i more
       → grammar (i.left.tokens ++ more) o (j.left.tokens ++ more)
 
--- It wants memory, or asks for more, or nothing stands in what completes the input.
+-- The error is out of memory or `Incomplete`, or nothing that completes the input matches.
 pub record Failed {T L O : Type 0} (reading : Reading T L) (following : Following T)
     (grammar : Grammar T O) (i : Input T) (k : Kind) (j : Input T) : Type 0 where
   pub ends : IsEndOf reading j i
@@ -140,7 +140,6 @@ module _ {T L O E : Type 0} {reading : Reading T L} {following : Following T} {k
     };
   }
 
--- what is told by a grammar is told by one that it is
 pub told_by : {T L O E : Type 0} {reading : Reading T L} {following : Following T} {kind : E → Kind}
     {g h : Grammar T O} {i j : Input T} {result : Result O E}
     → ReadsOrAsks reading following kind g i result j → g ≡ h
@@ -189,12 +188,11 @@ module _ {T L : Type 0} {reading : Reading T L} {following : Following T} where
       ];
     }
 
-  -- what wants memory
   pub wanting : {O : Type 0} {g : Grammar T O} {i j : Input T} {k : Kind} → IsEndOf reading j i
       → k ≡ memory → Failed reading following g i k j
   wanting end m = record { ends = end; none = inl m }
 
-  -- and where nothing ever stands
+  -- a grammar that matches no input
   pub refused : {O : Type 0} {g : Grammar T O} {i : Input T} {k : Kind} → k ≡ backtrack
       → ((tokens : List T) → NoneStands g tokens) → Failed reading following g i k i
   refused {i = i} b none = record {
@@ -202,13 +200,13 @@ module _ {T L : Type 0} {reading : Reading T L} {following : Following T} where
     none = inr (inr (λ more c. (b, none (i.left.tokens ++ more))));
   }
 
--- Texts that stand first in the same tokens are of one value, and leave the same.
+-- Encodings at the start of the same tokens encode the same value and leave the same rest.
 pub record Splits {T X : Type 0} (text : Text T X) : Type 0 where
   pub one : (x y : X) (tokens rest other : List T) → First text tokens x rest
       → First text tokens y other → (x ≡ y) × (rest ≡ other)
 
 module _ {T X O : Type 0} (first : Text T X) (behind : X → Text T O) where
-  -- a text that leads, and what is after it
+  -- an encoding, and the one after it
   led_first : (tokens : List T) (o : O) (rest : List T) → First (Led first behind) tokens o rest
       → (x : X) × (mid : List T) × First first tokens x mid × First (behind x) mid o rest
   unfolding First Led
@@ -282,7 +280,7 @@ module _ {T X O : Type 0} (first : Text T X) (behind : X → Text T O) where
       ];
     }
 
-    -- a call after a text tells of both
+    -- a call after an encoding gives the result for both
     pub led_told : {E : Type 0} {kind : E → Kind} {x : X} {result : Result O E} {j : Input T}
         → Splits first → Stood reading following (First first) i x m
         → ReadsOrAsks reading following kind (First (behind x)) m result j

@@ -1,4 +1,4 @@
--- What a longer input is answered, where runs are decided.
+-- The result on longer input, if the result is a function of state and input.
 use Rattle.std.specs.Prelude.{◌≡◌, Bool, true, List}
 use Rattle.std.proofs.Common.{sym, subst}
 use Rattle.streams.specs.Following.{Following, Follows}
@@ -8,9 +8,9 @@ use Rattle.winnow_core.specs.Decided.{AlikeAnswers, IsDecided, NotMemory}
 use Rattle.winnow_core.specs.Runs.{Meaning, Runs}
 use Rattle.winnow_core.specs.Stable.{IsFinal, IsStable}
 
--- Whatever a longer input is answered from a state, want of memory aside, is what the cut input was
--- answered: an output that is alike or the same kind; the state is kept by both; and the rest is
--- that with what was added.
+-- Every result on longer input from a state, unless out of memory, is that on partial input: an
+-- equal output or the same kind of error. Both keep the state, and the rest is followed by the
+-- added tokens.
 pub record NoOtherOnLonger {S T O : Type 0} (following : Following T) (s : S) (run : Runs S T O)
     (alike : O → O → Type 0) : Type 0 where
   pub same : (more : List T) (flag : Bool) (i : Input T) (answer other : Answer O) (t u : S)
@@ -18,7 +18,7 @@ pub record NoOtherOnLonger {S T O : Type 0} (following : Following T) (s : S) (r
       → NotMemory other → run s i answer t j → run s (with_more i more flag) other u k
       → AlikeAnswers alike answer other × (t ≡ s) × (u ≡ s) × (with_more j more flag ≡ k)
 
--- what settles is no want of memory
+-- a final result is not out of memory
 final_is_kept : {O : Type 0} (answer : Answer O) → IsFinal answer → NotMemory answer
 final_is_kept answer final e = subst IsFinal e final
 

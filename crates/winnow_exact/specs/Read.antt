@@ -1,4 +1,5 @@
--- What is told of what a call read: by another grammar, by what it means, by a choice.
+-- Lemmas about the result of a call in terms of another grammar, of what outputs denote, and of a
+-- choice.
 use Rattle.std.specs.Prelude.{◌≡◌, List, Result, Ok, Err}
 use Rattle.std.proofs.Common.{inl, inr}
 use Rattle.streams.specs.Input.{Input, IsEndOf}
@@ -14,7 +15,7 @@ pub reads_by : {T L O E : Type 0} {reading : Reading T L} {kind : E → Kind} {g
     → Reads reading kind h i result j
 reads_by {T} {L} {O} {E} {reading} {kind} {g} {h} {i} {j} {result} r e = rw e at r
 
--- a call that is out of memory says nothing else
+-- an error that is out of memory satisfies every grammar
 pub reads_wanting : {T L O E : Type 0} {reading : Reading T L} {kind : E → Kind}
     {g : Grammar T O} {i j : Input T} {e : E} → kind e ≡ memory → IsEndOf reading j i
     → Reads reading kind g i (Err e) j
@@ -29,7 +30,7 @@ none_as g h tokens back none u rest y = let (o, x) = back u rest y in none o res
 
 module _ {T L O U E : Type 0} {reading : Reading T L} {kind : E → Kind} {g : Grammar T O}
     {h : Grammar T U} {i j : Input T} where
-  -- it stands where the output that was read does
+  -- if `h` matches wherever `g` does, an output for `g` gives one for `h`
   pub ok_as : {o : O} {u : U} → Reads reading kind g i (Ok o) j
       → ((tokens rest : List T) → g tokens o rest → h tokens u rest)
       → Reads reading kind h i (Ok u) j
@@ -39,7 +40,7 @@ module _ {T L O U E : Type 0} {reading : Reading T L} {kind : E → Kind} {g : G
     none = λ whole. tt;
   }
 
-  -- and none does, where each would need one that was not read
+  -- if every match of `h` requires one of `g`, an error for `g` is one for `h`
   pub err_as : {e : E} → Reads reading kind g i (Err e) j
       → ((tokens : List T) (u : U) (rest : List T) → h tokens u rest → (o : O) × g tokens o rest)
       → Reads reading kind h i (Err e) j
@@ -60,15 +61,14 @@ module _ {T L O U E : Type 0} {reading : Reading T L} (means : O → U → Type 
   unfolding Made
   reads_meaning {o} r is = ok_as r (λ tokens rest x. (o, x, is))
 
-  -- and where nothing stands, nothing is
+  -- an error for `g` is an error for the values that its outputs denote
   pub reads_no_meaning : {e : E} → Reads reading kind g i (Err e) j
       → Reads reading kind (Meaning means g) i (Err e) j
   unfolding Made
   reads_no_meaning r = err_as r (λ tokens u rest (o, x, is). (o, x))
 
--- ---- where one of two does not stand, the other is read
+-- ---- if one of two does not match, the result is that of the other
 
--- where neither does, no choice among them does
 pub neither_stands : {T O : Type 0} (g h : Grammar T O) (tokens : List T) → NoneStands g tokens
     → NoneStands h tokens → NoneStands (Either g h) tokens
 unfolding Either

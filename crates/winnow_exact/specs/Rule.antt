@@ -1,4 +1,4 @@
--- Rules: functions as parsers, by what they read.
+-- Rules: functions as parsers, specified by a grammar.
 use Rattle.std.specs.Prelude.{◌≡◌, ◌⊎◌, false, Result, Ok, Err}
 use Rattle.std.proofs.Common.{refl, sym, ap, subst, inl, inr, ◌∙◌}
 use Rattle.streams.specs.Input.{Input}
@@ -30,13 +30,13 @@ pub record CallsRead {F I T L O E : Type 0} (reading : Reading T L) (view : I �
   pub reads : (x : I) (r : Result O E) (g : F) (y : I) → called f x r g y
       → Reads reading kind grammar (view x) r (view y)
 
--- No call of the function on a whole input wants memory.
+-- No call of the function on complete input is out of memory.
 abbrev pub CallsSpared : {F I T O E : Type 0} → (I → Input T) → (E → Kind)
     → (F → I → Result O E → F → I → Type 0) → F → Type 0
 CallsSpared {F} {I} {T} {O} {E} view kind called f =
     (x : I) (r : Result O E) (g : F) (y : I) → called f x r g y → IsSpared kind (view x) r
 
--- so calls of what a call leaves read too
+-- the same for the function after a call
 pub read_again : {F I T L O E : Type 0} (reading : Reading T L) (view : I → Input T)
     (kind : E → Kind) (called : F → I → Result O E → F → I → Type 0) (grammar : Grammar T O)
     (f : F) (x : I) (r : Result O E) (g : F) (y : I)
@@ -52,7 +52,7 @@ abbrev pub ByRuns : {N F I T S O E : Type 0} → Reading T S → (I → Input T)
 ByRuns reading view kind called s i answer t j =
     FuncRuns reading view kind called s.1 i answer t.1 j × (t.0 ≡ s.0)
 
--- what a call on a whole input answers
+-- the result of a call on complete input
 call_stands : {T L O E : Type 0} {reading : Reading T L} {kind : E → Kind} {g : Grammar T O}
     (i j : Input T) (o : O) (r : Result O E) → i.status.cut ≡ false → Reads reading kind g i r j
     → answer_by kind r ≡ Ok o → g i.left.tokens o j.left.tokens
@@ -61,7 +61,7 @@ call_stands {O = O} {g = g} i j o (Ok p) is reads told =
     subst P (same_output told) (reads.stands is)
 call_stands i j o (Err e) is reads told = ok_is_err told refl
 
--- and how it fails
+-- and its errors
 call_fails : {T L O E : Type 0} {reading : Reading T L} {kind : E → Kind} {g : Grammar T O}
     (i j : Input T) (k : Kind) (r : Result O E) → i.status.cut ≡ false
     → Reads reading kind g i r j → answer_by kind r ≡ Err k
@@ -71,7 +71,7 @@ call_fails {g = g} i j k (Err e) is reads told =
     let P : Kind → Type 0 = λ l. (l ≡ memory) ⊎ ((l ≡ backtrack) × NoneStands g i.left.tokens) in
     subst P (same_kind told) (reads.none is)
 
--- one that asks for no memory wants none
+-- a call of a function that does not allocate is not out of memory
 call_spared : {T O E : Type 0} (kind : E → Kind) (i : Input T) (k : Kind) (r : Result O E)
     → i.status.cut ≡ false → IsSpared kind i r → answer_by kind r ≡ Err k → k ≡ memory → ⊥
 call_spared kind i k (Ok p) is spared told wanted = ok_is_err refl told
@@ -81,7 +81,7 @@ call_spared kind i k (Err e) is spared told wanted =
 module _ {N F I T L O E : Type 0} {reading : Reading T L} {view : I → Input T} {kind : E → Kind}
     {called : F → I → Result O E → F → I → Type 0} {g : Grammar T O} (s : N × F)
     (reads : CallsRead reading view kind called g s.1) where
-  -- what a run tells is what its call does
+  -- a call of the parser is a call of the function
   moved : (i j : Input T) (x : I) (r : Result O E) (h : F) (y : I) → called s.1 x r h y
       → view x ≡ i → view y ≡ j → Reads reading kind g i r j
   moved i j x r h y call seen left =
@@ -117,12 +117,12 @@ module _ {N F I T L O E : Type 0} {reading : Reading T L} {view : I → Input T}
 
 -- ---- a parser that is a rule and its function
 
--- what holds of the function holds of the parser that runs it
+-- a property of the function is a property of the parser that calls it
 pub run_as : {N F : Type 0} {p q : By N F} {f : F} (P : F → Type 0) → p ≡ q → by_run q ≡ f → P f
     → P (by_run p)
 run_as P same run is = subst P (sym (ap (λ x. by_run x) same ∙ run)) is
 
--- and its calls read by the grammar of the parser's name
+-- and its calls satisfy the grammar of the parser's rule
 pub reads_as_rule : {N F I T L O E : Type 0} {reading : Reading T L} {view : I → Input T}
     {kind : E → Kind} {called : F → I → Result O E → F → I → Type 0} (grammar : N → Grammar T O)
     {p q : By N F} {n : N} {f : F} → p ≡ q → by_rule q ≡ n → by_run q ≡ f

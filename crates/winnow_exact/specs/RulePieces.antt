@@ -1,5 +1,5 @@
--- Rules whose functions read an input in pieces: as a parser such a function runs as its grammar
--- allows, on the input and on each longer one.
+-- Rules with functions that parse incremental input. As a parser, such a function has the results
+-- that its grammar allows, on the input and on every longer one.
 use Rattle.std.specs.Prelude.{◌≡◌, ◌⊎◌, ⊤, Bool, true, false, List, [], ◌∷◌, ◌++◌}
 use Rattle.std.specs.Prelude.{Result, Ok, Err}
 use Rattle.std.specs.Prelude.{◌<◌, ◌≤◌, length}
@@ -29,8 +29,8 @@ pieces_rule p = p.rule
 abbrev pub pieces_run : {N F : Type 0} → ByPieces N F → F
 pieces_run p = p.run
 
--- Each call of the function tells what it reads by the grammar, on a whole input and on a cut one,
--- and leaves the function as it was.
+-- Every call of the function has a result in terms of the grammar, on complete and on partial
+-- input, and does not change the function.
 pub record CallsReadOrAsk {F I T L O E : Type 0} (reading : Reading T L) (following : Following T)
     (view : I → Input T) (kind : E → Kind) (called : F → I → Result O E → F → I → Type 0)
     (grammar : Grammar T O) (f : F) : Type 0 where
@@ -38,7 +38,7 @@ pub record CallsReadOrAsk {F I T L O E : Type 0} (reading : Reading T L) (follow
   pub reads : (x : I) (r : Result O E) (g : F) (y : I) → called f x r g y
       → ReadsOrAsks reading following kind grammar (view x) r (view y)
 
--- so calls of what a call leaves do too
+-- the same for the function after a call
 pub asks_again : {F I T L O E : Type 0} (reading : Reading T L) (following : Following T)
     (view : I → Input T) (kind : E → Kind) (called : F → I → Result O E → F → I → Type 0)
     (grammar : Grammar T O) (f : F) (x : I) (r : Result O E) (g : F) (y : I)
@@ -50,12 +50,12 @@ asks_again reading following view kind called grammar f x r g y reads call =
 
 -- ---- what may come in several pieces
 
--- What may come after a list in two pieces may come in one.
+-- If two chunks may follow a list in sequence, so may their concatenation.
 pub record Joins {T : Type 0} (following : Following T) : Type 0 where
   pub join : (left more behind : List T) → following.can_follow left more
       → following.can_follow (left ++ more) behind → following.can_follow left (more ++ behind)
 
--- so it is of bytes
+-- this holds for bytes
 pub bytes_join : Joins bytes_follow
 bytes_join = record {
   join = λ left more behind f g. record {
@@ -70,7 +70,7 @@ text_joins = record {
   join = λ left more behind f g. All-append IsScalar more behind f g;
 }
 
--- These lists may come after, one after the other.
+-- These lists may follow in sequence.
 pub AllFollow : {T : Type 0} → Following T → List T → List (List T) → Type 0
 AllFollow following left [] = ⊤
 AllFollow following left (more ∷ others) =
@@ -81,7 +81,7 @@ pub joined : {T : Type 0} → List (List T) → List T
 joined [] = []
 joined (more ∷ others) = more ++ joined others
 
--- so what may come in pieces may come at once
+-- chunks that may follow in sequence may follow as one
 all_follow : {T : Type 0} {following : Following T} → Joins following → (left more : List T)
     (others : List (List T)) → following.can_follow left more
     → AllFollow following (left ++ more) others
@@ -99,21 +99,21 @@ all_follow {following = following} joins left more (next ∷ others) first (seco
 
 -- ---- the runs that a grammar allows
 
--- An answer for good by the grammar: the output stands in the tokens, with this rest; or the error
--- backtracks, and none stands.
+-- A final result in terms of the grammar: the output matches and leaves this rest; or the error is
+-- a backtrack, and the tokens do not start with a match.
 abbrev pub Tells : {T O : Type 0} → Grammar T O → List T → Answer O → List T → Type 0
 Tells grammar tokens (Ok o) rest = grammar tokens o rest
 Tells grammar tokens (Err k) rest = (k ≡ backtrack) × NoneStands grammar tokens
 
--- One on a whole input: so, or memory is wanted.
+-- A result on complete input: such a result, or out of memory.
 abbrev pub TellsWhole : {T O : Type 0} → Grammar T O → List T → Answer O → List T → Type 0
 TellsWhole grammar tokens (Ok o) rest = grammar tokens o rest
 TellsWhole grammar tokens (Err k) rest =
     (k ≡ memory) ⊎ ((k ≡ backtrack) × NoneStands grammar tokens)
 
--- A run that the grammar allows: it leaves an end of its input. On a whole one it answers by the
--- grammar. On a cut one it asks for more, or is out of memory, or answers by the grammar whatever
--- comes after until the input is complete, in however many pieces.
+-- A call that the grammar allows. It leaves a suffix of its input. On complete input its result
+-- agrees with the grammar. On partial input it is incomplete, out of memory, or agrees with the
+-- grammar for every continuation that completes the input, in any number of chunks.
 pub record RunsInPieces {T L O : Type 0} (reading : Reading T L) (following : Following T)
     (grammar : Grammar T O) (i : Input T) (answer : Answer O) (j : Input T) : Type 0 where
   pub ends : IsEndOf reading j i
@@ -131,7 +131,7 @@ PiecesRuns reading following grammar s i answer t j =
 
 -- ---- a call is such a run
 
--- what a call on a whole input answers
+-- the result of a call on complete input
 whole_told : {T L O E : Type 0} {reading : Reading T L} {following : Following T}
     {kind : E → Kind} {grammar : Grammar T O} (i : Input T) (r : Result O E) (j : Input T)
     → ReadsOrAsks reading following kind grammar i r j → i.status.cut ≡ false
@@ -139,7 +139,6 @@ whole_told : {T L O E : Type 0} {reading : Reading T L} {following : Following T
 whole_told i (Ok o) j told is = told.whole.stands is
 whole_told i (Err e) j told is = told.whole.none is
 
--- a final kind neither asks nor wants memory
 final_none : (P : Type 0) {Q : Type 0} (k : Kind) → IsFinal {O = P} (Err k)
     → (k ≡ memory) ⊎ (((need : _) × (k ≡ incomplete need)) ⊎ Q) → Q
 final_none P k final (inl is) =
@@ -148,7 +147,7 @@ final_none P k final (inr (inl (need, is))) =
     let R : Kind → Type 0 = λ l. IsFinal {O = P} (Err l) in absurd (subst R is final)
 final_none P k final (inr (inr q)) = q
 
--- and on a cut one
+-- and on partial input
 cut_told : {T O E : Type 0} {following : Following T} {kind : E → Kind} {grammar : Grammar T O}
     (i : Input T) (r : Result O E) (j : Input T) → ReadsCut following kind grammar i r j
     → IsFinal (answer_by kind r) → (more : List T) → Follows following i.left more
@@ -175,7 +174,7 @@ call_runs joins i r j told = record {
 
 module _ {N T L O : Type 0} (reading : Reading T L) (following : Following T)
     (grammar : N → Grammar T O) where
-  -- an answer by other lists of tokens that are the same
+  -- a result for equal lists of tokens
   moved : (s : N) (answer : Answer O) {tokens these rest others : List T} → tokens ≡ these
       → rest ≡ others → Tells (grammar s) tokens answer rest
       → Tells (grammar s) these answer others
@@ -184,13 +183,13 @@ module _ {N T L O : Type 0} (reading : Reading T L) (following : Following T)
       let Q : List T → Type 0 = λ l. Tells (grammar s) these answer l in
       subst Q d (subst P e told)
 
-  -- for good is on a whole input too
+  -- a final result is also a result on complete input
   wholly : (s : N) (answer : Answer O) (tokens rest : List T)
       → Tells (grammar s) tokens answer rest → TellsWhole (grammar s) tokens answer rest
   wholly s (Ok o) tokens rest told = told
   wholly s (Err k) tokens rest told = inr told
 
-  -- an end of an input is one where both go on
+  -- a suffix of an input is a suffix if the same tokens are added to both
   ends_more : (more : List T) (flag : Bool) (i j : Input T) → IsEndOf reading j i
       → IsEndOf reading (with_more j more flag) (with_more i more flag)
   ends_more more flag i j e = record {
@@ -244,12 +243,12 @@ module _ {N T L O : Type 0} (reading : Reading T L) (following : Following T)
 
 -- ---- a parser that is a rule and its function
 
--- what holds of the function holds of the parser that runs it
+-- a property of the function is a property of the parser that calls it
 pub pieces_run_as : {N F : Type 0} {p q : ByPieces N F} {f : F} (P : F → Type 0) → p ≡ q
     → pieces_run q ≡ f → P f → P (pieces_run p)
 pieces_run_as P same run is = subst P (sym (ap (λ x. pieces_run x) same ∙ run)) is
 
--- and its calls read by the grammar of the parser's name
+-- and its calls satisfy the grammar of the parser's rule
 pub asked_as_rule : {N F I T L O E : Type 0} {reading : Reading T L} {following : Following T}
     {view : I → Input T} {kind : E → Kind} {called : F → I → Result O E → F → I → Type 0}
     (grammar : N → Grammar T O) {p q : ByPieces N F} {n : N} {f : F} → p ≡ q

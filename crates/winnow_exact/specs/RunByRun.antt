@@ -1,4 +1,4 @@
--- Runs: as many tokens of a set as stand. And readers that go from run to run.
+-- Runs, which are maximal sequences of tokens of a set, and functions that read consecutive runs.
 use Rattle.std.specs.Prelude.{◌≡◌, ◌⊎◌, ◌<◌, ℕ, Bool, true, false, List, [], ◌∷◌, ◌++◌, length}
 use Rattle.std.specs.Prelude.{None, Some, Ok, Err}
 use Rattle.std.specs.List.{All}
@@ -16,8 +16,8 @@ use Rattle.grammars.specs.Texts.{Divides, MayBegin, Members}
 use Rattle.grammars.specs.Texts.Tokens.{longest_of}
 use Rattle.winnow_core.specs.Exact.{Reads}
 
--- Tokens of these, as many as stand, and a slice that shows them: after them is none, or one of
--- those.
+-- As many tokens of `these` as there are, shown by a slice. The rest is empty or starts with a
+-- token of `those`.
 abbrev pub RunOf : {T L : Type 0} → Reading T L → (these those : T → Type 0) → Grammar T L
 RunOf {T} reading these those tokens slice rest =
     (front : List T) × All these front × (tokens ≡ front ++ rest) × reading.shows slice front
@@ -36,7 +36,7 @@ module _ {X K T L : Type 0} (reading : Reading T L) (seen : K → T)
     | inr full ↦ none_is_some full
   ]
 
-  -- the longest beginning of members is a run
+  -- the longest prefix of members is a run
   pub run_same : Same (Longest reading seen tells set (from_to 0 None))
       (RunOf reading these those)
   unfolding Longest Members
@@ -56,12 +56,12 @@ module _ {X K T L : Type 0} (reading : Reading T L) (seen : K → T)
         divides).back slice front rest (all, omega arith, shown) ends);
   }
 
--- ---- runs fail for want of memory alone
+-- ---- parsers of runs only fail with out of memory
 
 module _ {T L : Type 0} (reading : Reading T L) (these those : T → Type 0)
     (shown_by : (xs : List T) → (slice : L) × reading.shows slice xs)
     (or_not : (t : T) → these t ⊎ those t) where
-  -- a run stands first in any tokens
+  -- any tokens start with a run
   pub run_stands : (tokens : List T) → (slice : L) × (rest : List T)
       × RunOf reading these those tokens slice rest
   run_stands tokens =
@@ -82,7 +82,7 @@ module _ {T L : Type 0} (reading : Reading T L) (these those : T → Type 0)
       by [] = ([], [], All-nil these, refl, tt)
       by (t ∷ tokens) = more t tokens (by tokens) (or_not t)
 
-  -- so a parser of runs fails for want of memory alone
+  -- so a parser of runs only fails with out of memory
   pub run_wants : {E : Type 0} {kind : E → Kind} {e : E} (i j : Input T)
       → i.status.cut ≡ false → Reads reading kind (RunOf reading these those) i (Err e) j
       → kind e ≡ memory
@@ -92,9 +92,9 @@ module _ {T L : Type 0} (reading : Reading T L) (these those : T → Type 0)
         let (slice, rest, x) = run_stands i.left.tokens in absurd (none slice rest x)
   ]
 
--- ---- items one after the other
+-- ---- consecutive items
 
--- after items that stand, more of them
+-- items followed by more items
 pub each_more : {T O : Type 0} (g : Grammar T O) (os ps : List O) (start mid rest : List T)
     → Each g start os mid → Each g mid ps rest → Each g start (os ++ ps) rest
 each_more {T} g [] ps start mid rest e more =
@@ -102,7 +102,7 @@ each_more {T} g [] ps start mid rest e more =
 each_more g (o ∷ os) ps start mid rest (next, x, each) more =
     (next, x, each_more g os ps next mid rest each more)
 
--- after items that stand, one more
+-- items followed by one more
 pub each_one : {T O : Type 0} (g : Grammar T O) (os : List O) (o : O) (start mid rest : List T)
     → Each g start os mid → g mid o rest → Each g start (os ++ o ∷ []) rest
 each_one g os o start mid rest each x =
@@ -119,21 +119,22 @@ module _ {T : Type 0} (g : Grammar T T) (these : T → Type 0)
     each_run ts rest (All-tail these t ts all),
   )
 
-  -- and stand after items
+  -- and follow items
   pub each_behind : (os front start mid rest : List T) → Each g start os mid → All these front
       → mid ≡ front ++ rest → Each g start (os ++ front) rest
   each_behind os front start mid rest each all split =
       let P : List T → Type 0 = λ l. Each g l front rest in
       each_more g os front start mid rest each (subst P (sym split) (each_run front rest all))
 
--- what takes tokens after a run leaves fewer than stood before it
+-- a match after a run that consumes tokens leaves fewer than there were before the run
 pub run_takes : {T L : Type 0} (reading : Reading T L) (these those : T → Type 0)
     (start mid rest : List T) (slice : L) → RunOf reading these those start slice mid
     → length rest < length mid → length rest < length start
 run_takes reading these those start mid rest slice (front, all, split, shown, ends) fewer =
     omega (arith, ap (λ l. length l) split, length-append front mid, fewer)
 
--- Where none stands of what is read after runs, and so no item, those that were read are all.
+-- If the parser after the runs fails because the rest does not match, and thus no item follows,
+-- then the items so far are all items.
 pub all_read : {T L O U C E : Type 0} {reading : Reading T L} {kind : E → Kind} {e : E}
     (holds : C → List O → Type 0) (g : Grammar T O) (h : Grammar T U) (i j now : Input T)
     (all : C) (os : List O) → IsEndOf reading j i → j.status.cut ≡ false

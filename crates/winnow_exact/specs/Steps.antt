@@ -1,4 +1,4 @@
--- What a function tells that calls one reader after another by `?`.
+-- Results of a function that calls one parser after another with `?`.
 use Rattle.std.specs.Prelude.{List, Ok, Err}
 use Rattle.std.proofs.Common.{refl, subst, inl, inr, ◌∙◌}
 use Rattle.streams.specs.Input.{Input, is_end_of_trans}
@@ -7,11 +7,11 @@ use Rattle.streams.specs.Reading.{Reading}
 use Rattle.grammars.specs.Grammar.{Both, Grammar, IsUnique}
 use Rattle.winnow_core.specs.Exact.{Reads}
 
--- both outputs, one after the other
+-- both outputs, in sequence
 abbrev pub Steps : {T O1 O2 : Type 0} → Grammar T O1 → Grammar T O2 → Grammar T (O1 × O2)
 Steps = Both (λ o1 o2. (o1, o2))
 
--- the first does not stand
+-- the first does not match
 pub first_err : {T L O1 O2 E : Type 0} {reading : Reading T L} {kind : E → Kind}
     {g1 : Grammar T O1} {i j : Input T} {e : E} (g2 : Grammar T O2)
     → Reads reading kind g1 i (Err e) j → Reads reading kind (Steps g1 g2) i (Err e) j
@@ -27,7 +27,7 @@ first_err g2 r = record {
 
 module _ {T L O1 O2 E : Type 0} {reading : Reading T L} {kind : E → Kind} {g1 : Grammar T O1}
     {g2 : Grammar T O2} {i m j : Input T} where
-  -- both stand
+  -- both match
   pub steps_ok : {o1 : O1} {o2 : O2} → Reads reading kind g1 i (Ok o1) m
       → Reads reading kind g2 m (Ok o2) j → Reads reading kind (Steps g1 g2) i (Ok (o1, o2)) j
   unfolding Both
@@ -38,7 +38,7 @@ module _ {T L O1 O2 E : Type 0} {reading : Reading T L} {kind : E → Kind} {g1 
     none = λ whole. tt;
   }
 
-  -- the second does not stand after the first
+  -- the second does not match after the first
   pub second_err : {o1 : O1} {e : E} → IsUnique g1 → Reads reading kind g1 i (Ok o1) m
       → Reads reading kind g2 m (Err e) j → Reads reading kind (Steps g1 g2) i (Err e) j
   unfolding Both

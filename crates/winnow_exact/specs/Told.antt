@@ -1,4 +1,4 @@
--- What a call tells, in the words of texts.
+-- Results of calls, in terms of encodings.
 use Rattle.std.specs.Prelude.{◌≡◌, ◌⊎◌, false, List, [], ◌++◌, Result, Ok, Err, IfOk, IfErr}
 use Rattle.std.proofs.Common.{sym, subst, inl, inr, ◌∙◌}
 use Rattle.std.proofs.lemmas.List.{append-nil}
@@ -12,15 +12,15 @@ use Rattle.stream_errors.specs.declared.fault.ParseFault.{ParseFault}
 use Rattle.winnow_core.specs.Exact.{Reads}
 use Rattle.winnow_core.specs.Exact.Whole.{IsRefused, IsWant, ReadsAll}
 
--- What all tokens are: a text of the output; a fault says that they are no text, or is out of
--- memory, and asks for no more tokens.
+-- The result of parsing all tokens: an output whose encoding they are. An error is out of memory,
+-- or the tokens are not an encoding; it is never `Incomplete`.
 pub record IsTextOf {I T O X : Type 0} (inner_kind : X → Kind) (text : Text T O) (tokens : List T)
     (result : Result O (ParseFault I X Needed)) : Type 0 where
   pub stands : IfOk result (λ o. text o tokens)
   pub none : IfErr result (λ fault. IsWant inner_kind fault ⊎ ((o : O) → text o tokens → ⊥))
   pub whole : IfErr result (λ fault. IsRefused fault)
 
--- so it is where the parser's grammar is that of the text
+-- this holds if the parser's grammar is that of the encoding
 pub texts_told : {I T O X : Type 0} {inner_kind : X → Kind} {g : Grammar T O} {text : Text T O}
     {follow : List T → Type 0} {tokens : List T} {result : Result O (ParseFault I X Needed)}
     → IsGrammarOf g text follow → follow [] → ReadsAll inner_kind g tokens result
@@ -41,7 +41,7 @@ texts_told {T = T} {O = O} {g = g} {text} {tokens = tokens} {result = Err fault}
       whole = r.whole;
     }
 
--- where they are a text of some value the fault, if there is one, wants memory
+-- if the tokens encode some value, an error is out of memory
 pub text_found : {I T O X : Type 0} {inner_kind : X → Kind} {text : Text T O} {tokens : List T}
     {result : Result O (ParseFault I X Needed)} → IsTextOf inner_kind text tokens result → (o : O)
     → text o tokens → IfErr result (λ fault. IsWant inner_kind fault)
@@ -51,9 +51,10 @@ text_found {result = Err fault} told o a = elim told.none [
   | inr nothing ↦ absurd (nothing o a)
 ]
 
--- What a call tells by a text. It leaves an end of its input. On a whole one a text of the output
--- stands first, and what is left is after it; an error backtracks and says that no text stands
--- first, with what may stand after it, or is out of memory.
+-- The result of a call, in terms of an encoding. It leaves a suffix of its input. On complete
+-- input, an output means that the input starts with its encoding, followed by the rest. An error is
+-- out of memory or a backtrack; a backtrack means that the input does not start with an encoding
+-- that is followed by tokens in `follow`.
 pub record ReadsText {T L O E : Type 0} (reading : Reading T L) (kind : E → Kind) (text : Text T O)
     (follow : List T → Type 0) (i : Input T) (result : Result O E) (j : Input T) : Type 0 where
   pub ends : IsEndOf reading j i
@@ -63,7 +64,7 @@ pub record ReadsText {T L O E : Type 0} (reading : Reading T L) (kind : E → Ki
       ⊎ ((kind e ≡ backtrack) × ((o : O) (front rest : List T) → text o front → follow rest
       → i.left.tokens ≡ front ++ rest → ⊥)))
 
--- so it is where the parser's grammar is that of the text
+-- this holds if the parser's grammar is that of the encoding
 pub text_told : {T L O E : Type 0} {reading : Reading T L} {kind : E → Kind} {g : Grammar T O}
     {text : Text T O} {follow : List T → Type 0} {i j : Input T} {result : Result O E}
     → IsGrammarOf g text follow → Reads reading kind g i result j

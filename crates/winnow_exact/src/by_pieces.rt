@@ -1,4 +1,4 @@
-//! The parser of a rule whose function reads an input in pieces.
+//! The parser of a rule with a function that parses incremental input.
 ghost use Rattle.std.specs.Fn.{CalledAtMut};
 ghost use Rattle.std.specs.Prelude.{◌≡◌, ⊤};
 ghost use Rattle.winnow_exact.specs.RulePieces.{CallsReadOrAsk, Joins, PiecesRuns};

@@ -1,4 +1,4 @@
-//! Parsers of input that comes in pieces: what is answered to a piece is answered for good.
+//! Parsers of incremental input whose results on a chunk are final.
 ghost use Rattle.std.specs.Prelude.{◌≡◌, true};
 ghost use Rattle.stream_errors.specs.Form.{answer_by, modal};
 ghost use Rattle.winnow_exact.specs.ForGood.{IsForGood};
@@ -9,9 +9,12 @@ use streams::stream::Stream;
 use winnow_core::parser::Parser;
 use winnow_core::stable::Stable;
 
-/// As `parse_next` on a cut input, by a stable parser of which one state and one input decide what
-/// it answers: where it asks neither for more nor for memory, each longer input is answered alike,
-/// and leaves the rest with what was added. The caller owes errors with a mode, and a cut input.
+/// Like `parse_next` on partial input, for a stable parser whose result is a function of state and
+/// input.
+///
+/// If the result is neither `Incomplete` nor out of memory, every longer input has an equal result,
+/// and leaves the rest followed by the added tokens. Requires errors with a mode, and partial
+/// input.
 #[inline(always)]
 pub fn parse_for_good<P: Stable<I, O, E>, I: Stream, O, E: ParserError<I>>(
     parser: &mut P,

@@ -7,10 +7,10 @@ use stream_errors::parser_error::ParserError;
 use streams::stream::Stream;
 use winnow_core::stable::Stable;
 
-/// Where one state and one input decide how a stable parser ends, a longer input gets no other
-/// answer than the cut one, want of memory aside: an output that is alike or an error of the same
-/// kind, the same state, and the rest with what was added. So the answer does not depend on how the
-/// input is cut.
+/// If the result of a stable parser is a function of state and input, longer input gives no other
+/// result than partial input, unless out of memory: an equal output or an error of the same kind,
+/// the same state, and the rest followed by the added tokens. So the result does not depend on how
+/// the input is divided into chunks.
 pub fn a_decided_answer_stays_on_longer_inputs<
     P: Stable<I, O, E>,
     I: Stream,

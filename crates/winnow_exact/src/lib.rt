@@ -1,5 +1,5 @@
-//! What readers by grammars stand on: functions as parsers by what they read, input in pieces, and
-//! what calls in turn tell.
+//! The basis of parsers that are specified by grammars: functions as parsers, incremental input,
+//! and results of successive calls.
 #![tactic(auto)]
 
 pub mod by_pieces;

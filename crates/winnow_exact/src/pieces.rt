@@ -1,4 +1,4 @@
-//! The trait of parsers that read an input in pieces by a grammar.
+//! The trait of parsers of incremental input that are specified by a grammar.
 ghost use Rattle.std.specs.Prelude.{◌≡◌};
 ghost use Rattle.stream_errors.specs.Form.{answer_by, modal};
 ghost use Rattle.winnow_core.specs.Outcome.{outcome_of};
@@ -9,8 +9,8 @@ use stream_errors::parser_error::ParserError;
 use streams::stream::Stream;
 use winnow_core::stable::Stable;
 
-/// A parser that reads by a grammar, and is stable: what it answers on a cut input it answers on
-/// each longer one. Each that is both is one.
+/// A stable parser that is specified by a grammar: its result on partial input is its result on
+/// every longer input. Every parser that is both implements it.
 ///
 /// ```
 /// use stream_errors::empty::EmptyError;
@@ -28,11 +28,12 @@ use winnow_core::stable::Stable;
 /// assert_eq!(rt; answer, Ok(b"ab".as_slice()));
 /// ```
 pub trait ReadsPieces<I: Stream, O, E: ParserError<I>>: Stable<I, O, E> {
-    /// As [`read`](winnow_core::parser::Parser::read), and its grammar says what it answers on a
-    /// cut
-    /// input too: whatever follows until the input is complete, an output stands first in all of
-    /// it, with what is left and what followed; an error that backtracks says that none does. Else
-    /// it asks for more, or is out of memory. The caller owes errors with a mode.
+    /// Like [`read`](winnow_core::parser::Parser::read), with a contract for partial input too.
+    ///
+    /// On partial input, an output is a match of the completed input, for every continuation, with
+    /// the rest and the continuation remaining. A backtrack means that no completed input starts
+    /// with a match. Otherwise it returns `Incomplete`, or is out of memory. Requires errors with a
+    /// mode.
     #[inline(always)]
     final fn read_cut(&mut self, input: &mut I) -> Result<O, E>
         requires callable { Self.can_parse self.old }

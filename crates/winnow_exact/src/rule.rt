@@ -1,4 +1,4 @@
-//! Rules: functions as parsers, by what they read.
+//! Rules: functions as parsers, specified by a grammar.
 ghost use Rattle.std.specs.Fn.{CalledAtMut};
 ghost use Rattle.std.specs.Prelude.{◌≡◌, ⊤};
 ghost use Rattle.grammars.specs.Grammar.{Grammar, IsUnique, TakesTokens};
@@ -12,9 +12,9 @@ use stream_errors::parser_error::ParserError;
 use streams::stream::Stream;
 use winnow_core::parser::Parser;
 
-/// The name of what is read: a value that has a grammar.
+/// The name of a grammar: a value that has one.
 pub trait Rule<I: Stream, O>: Sized {
-    // What is read under the name.
+    // The grammar of the rule.
     ghost grammar: { Self → Grammar I.Seen O };
 
     // When what is read takes tokens.
@@ -24,13 +24,13 @@ pub trait Rule<I: Stream, O>: Sized {
     #[inline(always)]
     fn name() {}
 
-    // What is left after what stands is an end of the tokens, and one alone.
+    // The rest after a match is a suffix of the tokens, and the tokens determine it.
     ghost unique: { (r : Self) → IsUnique (grammar r) };
 
-    // What is read takes tokens.
+    // Every match consumes tokens.
     ghost takes: { (r : Self) → consumes r → TakesTokens (grammar r) };
 
-    /// A parser that runs a function whose clause says that it reads so.
+    /// Returns a parser that calls a function whose contract has this grammar.
     #[inline(always)]
     final fn by<F>(self, run: F) -> By<Self, F>
         ensures rule { by_rule result ≡ self }
@@ -39,10 +39,12 @@ pub trait Rule<I: Stream, O>: Sized {
         By { rule: self, run }
     }
 
-    /// As [`by`](Rule::by), of a function whose clause says what it answers on a cut input too: the
-    /// parser is stable, so [`read_cut`](crate::pieces::ReadsPieces::read_cut) runs it, and what is
-    /// made of it. Whoever runs it owes that what may come in two pieces may come in one (`Joins`),
-    /// as of bytes and of text.
+    /// Like [`by`](Rule::by), for a function whose contract also covers partial input. The parser
+    /// is stable, so [`read_cut`](crate::pieces::ReadsPieces::read_cut) accepts it, and its
+    /// combinations.
+    ///
+    /// To call it, chunks that may follow in sequence must be allowed to follow as one (`Joins`).
+    /// This holds for bytes and for text.
     #[inline(always)]
     final fn by_pieces<F>(self, run: F) -> ByPieces<Self, F>
         ensures rule { pieces_rule result ≡ self }

@@ -1,4 +1,4 @@
-//! The trait of parsers that answer by a grammar, with the places between which they read.
+//! The trait of parsers that are specified by a grammar and return spans.
 ghost use Rattle.std.specs.Prelude.{◌≡◌, false};
 ghost use Rattle.stream_errors.specs.Form.{answer_by};
 ghost use Rattle.winnow_core.specs.Exact.{IsSpared, Reads};
@@ -9,11 +9,11 @@ use stream_errors::parser_error::ParserError;
 use streams::stream::Location;
 use winnow_core::parser::Parser;
 
-/// A parser of a stream that knows its place: it reads by its grammar, and it is told between which
-/// places. Each parser of such a stream is one.
+/// A parser over a stream with offsets that is specified by a grammar and returns spans. Every
+/// parser over such a stream implements it.
 ///
-/// A grammar knows tokens and no places, so by the grammar of `p.with_span()` any places may stand
-/// beside an output. The places are told by a clause of the call here.
+/// A grammar knows tokens and no offsets, so the grammar of `p.with_span()` allows any span with an
+/// output. Here a clause of the call specifies the span.
 ///
 /// ```
 /// use stream_errors::empty::EmptyError;
@@ -25,9 +25,9 @@ use winnow_core::parser::Parser;
 /// assert_eq!(rt; b'b'.read_spanned(&mut input), Ok::<_, EmptyError>((b'b', 1..2)));
 /// ```
 pub trait ReadsSpanned<I: Location, O, E: ParserError<I>>: Parser<I, O, E> {
-    /// As [`read`](winnow_core::parser::Parser::read), with the range from the place where the
-    /// input was to the place where it is left, in units from the start of the stream: bytes of
-    /// bytes and of text, tokens of others. The caller owes what `read` asks.
+    /// Like [`read`](winnow_core::parser::Parser::read), and also returns the span: the offsets of
+    /// the input before and after the call, from the start of the stream, in bytes for bytes and
+    /// text and in tokens otherwise. The requirements are those of `read`.
     #[inline(always)]
     final fn read_spanned(&mut self, input: &mut I) -> Result<(O, Range<usize>), E>
         requires callable { Self.can_parse self.old }

@@ -15,7 +15,6 @@ pub popped : {A : Type 0} (xs ys : List A) (x : A) → xs ≡ ys ++ (x ∷ [])
     → reverse xs ≡ x ∷ reverse ys
 popped xs ys x e = ap reverse e ∙ reverse-append ys (x ∷ [])
 
--- the same of what the machine keeps of open operators
 pub opens_last : {V F H : Type 0} (xs ys : List (KeptOpen V F H)) (x : KeptOpen V F H)
     → xs ≡ ys ++ (x ∷ []) → opens_of xs ≡ opens_of ys ++ (open_of x ∷ [])
 opens_last xs ys x e = ap opens_of e ∙ map-append open_of ys (x ∷ [])

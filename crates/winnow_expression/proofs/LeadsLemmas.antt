@@ -16,7 +16,6 @@ use Rattle.winnow_expression.specs.Machine.{AllEnd}
 use Rattle.winnow_expression.specs.Loop.{Leads, Resumed}
 use Rattle.winnow_expression.specs.declared.combinator.places.First.TheVariants.{Operand}
 
--- a failure is handed on by every open operator
 resumed_failure : {S W T V F G H : Type 0} (g : Grammar S W T V F G H) (xs : List (Open V F H))
     (kind : Kind) (s : S × W) (i : Input T) → Resumed g xs (Err kind) s i (Err kind) s i
 resumed_failure g [] kind s i = (refl, refl, refl)
@@ -94,7 +93,6 @@ leads_postfix g whole call z o left v xs s t i j known read = record {
       (turn_postfix call left v s u (s.0, t) i m j b read refl runs) resumed;
 }
 
--- the call ends, and the one above goes on
 pub leads_close : {S W T V F G H : Type 0} (g : Grammar S W T V F G H) (whole call : Call)
     (z : S × W) (o : Input T) (left v w : V) (x : Open V F H) (xs : List (Open V F H))
     (s : S × W) (t : W) (i m j : Input T) → Leads g whole z o call (Some left) (x ∷ xs) s i
@@ -108,7 +106,6 @@ leads_close g whole call z o left v w x xs s t i m j known ends closes = record 
       (b, u, k, resume_goes x (Ok (v, false)) b (s.0, t) u m k j w (v, refl, closes) runs, resumed);
 }
 
--- the whole fails at the place of an operand
 pub call_fails : {S W T V F G H : Type 0} (g : Grammar S W T V F G H) (whole call : Call)
     (z : S × W) (o : Input T) (xs : List (Open V F H)) (kind : Kind) (s : S × W) (t : S)
     (i j : Input T) → Leads g whole z o call None xs s i

@@ -1,4 +1,4 @@
--- What the loop keeps is kept by each of its steps.
+-- A proof that each step of the loop preserves its invariant.
 use Rattle.std.proofs.Common.{◌≡◌, ◌∙◌, ◌≤◌, ◌<◌, ◌⊎◌, ℕ, ℤ, Option, Some, None, Ok, Err, Bool}
 use Rattle.std.proofs.Common.{true, false, List, [], ◌∷◌, ◌++◌, reverse, length, ap, subst, sym}
 use Rattle.std.proofs.Common.{inl, inr, refl, arith}
@@ -184,7 +184,6 @@ postfix_kept g whole z o calls after left v s t i j stands step ends =
           (omega (arith, ends, moved)) (omega arith),
     )
 
--- a folded operator's turn began before the place, or something is consumed
 behind_turn : {T V F H : Type 0} (g : Folding T V F H) (x : Operator V F H) (turn began u : ℕ)
     (v w : V) (m j : Input T) → Falls x began turn → u ≤ began → units_left g.units j ≤ u
     → Closes g x turn m v (Ok w) j → (u < turn) ⊎ (units_left g.units j < u)

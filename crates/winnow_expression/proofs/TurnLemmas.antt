@@ -1,4 +1,4 @@
--- The steps at the place of an operator, as the loop sees them.
+-- The steps where an operator is expected, as the loop sees them.
 use Rattle.std.proofs.Common.{◌≡◌, ◌∙◌, ℕ, ℤ, ◌≤ℤ◌, ◌<ℤ◌, Ok, Err, OnOk, true, false, List, ap}
 use Rattle.std.proofs.Common.{subst, sym, inl, inr, refl}
 use Rattle.stream_errors.specs.Form.{Answer}

@@ -1,4 +1,4 @@
--- Where the loop begins, and what the whole answers where it ends.
+-- The start of the loop, and the result of the whole at its end.
 use Rattle.std.proofs.Common.{◌≡◌, ◌∙◌, ◌≤◌, ◌<◌, ◌⊎◌, ℕ, ℤ, Option, Some, None, Ok, Err, Bool}
 use Rattle.std.proofs.Common.{true, false, List, [], ◌∷◌, ◌++◌, reverse, length, ap, subst, sym}
 use Rattle.std.proofs.Common.{inl, inr, refl, arith}
@@ -34,7 +34,6 @@ use Rattle.winnow_expression.specs.declared.combinator.machine.Turn.TheVariants.
 use Rattle.winnow_expression.proofs.StepLemmas.{all_of, ends_of, failure_of}
 use Rattle.winnow_expression.proofs.StandsLemmas.{above_last}
 
--- What the whole answers, where the loop ends.
 at_level : {S W T V F G H : Type 0} (g : Grammar S W T V F G H) (level given : ℤ) (z : S × W)
     (o : Input T) (a : Answer (V × Bool)) (t : S × W) (j : Input T) → given ≡ level
     → CallRuns g (call_at given (units_left g.folding.units o)) z o a t j
@@ -148,7 +147,6 @@ all_ends_whole g level given z o calls after left v answer s t i m j is stands s
     (reverse calls.opened) s
     t i m j answer stands.0 ends (subst P (ap (λ c. reverse c.opened) same) ended_)))
 
--- at the place of an operator, where its left operand is there
 pub stands_at : {S W T V F G H : Type 0} (g : Grammar S W T V F G H) (whole : Call)
     (z : S × W) (o : Input T) (calls : Calls V F H) (left : Option V) (v : V) (s : S × W)
     (i : Input T) → Stands g whole z o calls left s i → left ≡ Some v

@@ -12,7 +12,7 @@ use Rattle.winnow_expression.specs.declared.combinator.calls.Refuses.TheVariants
 pub record Call : Type 0 where
   -- the least power of its operators
   pub least : ℤ
-  -- how many units were left where it began
+  -- the number of units that remained where it began
   pub began : ℕ
   -- how many units were left where its present turn began
   pub turn : ℕ
@@ -33,12 +33,12 @@ pub record Calls (V F H : Type 0) : Type 0 where
 abbrev pub greatest : ℤ
 greatest = pos 9223372036854775807
 
--- the least power that is asked for: one above the greatest where there is none
+-- the least power that is required: one above the greatest for `None`
 abbrev pub asked : Option ℤ → ℤ
 asked (Some power) = power
 asked None = greatest +ℤ pos 1
 
--- What the machine keeps of a call, of an open operator and of all of them, as what it stands for.
+-- The calls and the open operators that the machine stores, as those of the specification.
 abbrev pub least_of : ℤ → Refuses → ℤ
 least_of least Nothing = least
 least_of least (Neither power) = least
@@ -66,11 +66,11 @@ opens_of xs = map open_of xs
 abbrev pub calls_of : {V F H A : Type 0} → KeptCalls V F H A → Calls V F H
 calls_of calls = record { present = call_of calls.present; opened = opens_of calls.open.items }
 
--- a call that begins where that many units are left
+-- a call that begins where `units` units remain
 abbrev pub call_at : ℤ → ℕ → Call
 call_at least units = record { least = least; began = units; turn = units; neither = None }
 
--- a call after an infix whose turn began where that many units were left
+-- a call after an infix whose turn began where `units` units remained
 abbrev pub with_infix : Call → ℕ → Option ℤ → Call
 with_infix call units neither = record call { turn = units; neither = neither }
 

@@ -34,7 +34,7 @@ abbrev pub level_of : {I O P Pre Post Pix F G H E A : Type 0}
 level_of s = s.level
 
 mutual
-  -- What a call does from its beginning.
+  -- The results of a call from its start.
   pub data CallRuns {S W T V F G H : Type 0} (g : Grammar S W T V F G H) : Call → S × W → Input T
       → Answer (V × Bool) → S × W → Input T → Type 0 where
     call_ends : (call : Call) (s t : S × W) (i j : Input T) (kind : Kind) (a : Answer (V × Bool))
@@ -51,7 +51,7 @@ mutual
         → ResumeRuns g x b w n a t j
         → CallRuns g call s i a t j
 
-  -- What it does after a value.
+  -- The results of a call after a value.
   pub data TurnRuns {S W T V F G H : Type 0} (g : Grammar S W T V F G H) : Call → V → S × W
       → Input T → Answer (V × Bool) → S × W → Input T → Type 0 where
     turn_ends : (call : Call) (left : V) (s t : S × W) (i j : Input T) (a : Answer (V × Bool))
@@ -70,7 +70,7 @@ mutual
         → ResumeRuns g x b w n a t j
         → TurnRuns g call left s i a t j
 
-  -- What the call that an open operator interrupts does, by what the right operand answered.
+  -- The results of the call that an open operator interrupts, by the result of the right operand.
   pub data ResumeRuns {S W T V F G H : Type 0} (g : Grammar S W T V F G H) : Open V F H
       → Answer (V × Bool) → S × W → Input T → Answer (V × Bool) → S × W → Input T → Type 0 where
     resume_ends : (x : Open V F H) (b a : Answer (V × Bool)) (s t : S × W) (i j : Input T)

@@ -1,10 +1,10 @@
--- What folds answer.
+-- The results of folds.
 use Rattle.std.specs.Prelude.{◌≡◌, Err}
 use Rattle.streams.specs.Input.{Input}
 use Rattle.stream_errors.specs.Form.{Answer, ErrorForm, assert_kind}
 use std.Equiv.{Iso, iso_to_equiv}
 
--- What a fold of one operand answers and leaves, by the form of the errors.
+-- The result of a fold of one operand, and the input that it leaves, by the form of the errors.
 abbrev pub DoesUnary : Type 0 → Type 0 → Type 0 → Type 1
 DoesUnary F T V = ErrorForm → F → Input T → V → Answer V → Input T → Type 0
 
@@ -12,7 +12,7 @@ DoesUnary F T V = ErrorForm → F → Input T → V → Answer V → Input T →
 abbrev pub DoesBinary : Type 0 → Type 0 → Type 0 → Type 1
 DoesBinary F T V = ErrorForm → F → Input T → V → V → Answer V → Input T → Type 0
 
--- A fold of one operand that refuses, as for a parser that was made wrongly.
+-- A fold of one operand that fails, as for a parser that was constructed wrongly.
 abbrev pub RefusesUnary : {T V : Type 0} → ErrorForm → Input T → V → Answer V → Input T → Type 0
 RefusesUnary form i v answer j = (answer ≡ Err (assert_kind form)) × (j ≡ i)
 

@@ -1,4 +1,4 @@
--- What an expression is made of, and the steps of a call.
+-- The parts of an expression, and the steps of a call.
 use Rattle.std.specs.Prelude.{◌≡◌, ◌<◌, ℕ, ℤ, ◌≤ℤ◌, ◌<ℤ◌, Some, Ok, Err, ◌⊎◌, Bool, true, false}
 use Rattle.std.specs.Prelude.{List}
 use Rattle.stream_errors.specs.Form.{Answer}
@@ -25,16 +25,15 @@ use Rattle.winnow_expression.specs.declared.combinator.calls.Operator.TheVariant
   Infix as infix_open,
 }
 
--- What the folds of prefixes and infixes do, how many units tokens take, and the kind of the error
--- where nothing is consumed.
+-- The effects of the folds of prefixes and infixes, the number of units of tokens, and the kind of
+-- the error if nothing is consumed.
 pub record Folding (T V F H : Type 0) : Type 1 where
   pub before : F → Input T → V → Answer V → Input T → Type 0
   pub between : H → Input T → V → V → Answer V → Input T → Type 0
   pub units : List T → ℕ
   pub refusal : Kind
 
--- What an expression is made of: what is read at the places of operands and of operators, and what
--- the folds do.
+-- The parts of an expression: parsers of operands and of operators, and the effects of the folds.
 pub record Grammar (S W T V F G H : Type 0) : Type 1 where
   pub first : Runs S T (First V F)
   pub next : Runs W T (Next G H)
@@ -117,7 +116,7 @@ TurnEnds {T = T} {V = V} {G = G} {H = H} F units next behind refusal call left s
     -- a postfix is below the least power: put back
     ⊎ (((power : ℤ) × (fold : G) × (m : Input T) × next s i (Ok (Postfix power fold)) t m
     × (power <ℤ call.least) × (j ≡ back_at i.left m) × (answer ≡ Ok (left, false)))
-    -- its fold refuses
+    -- its fold fails
     ⊎ (((power : ℤ) × (fold : G) × (m : Input T) × (kind : Kind)
     × next s i (Ok (Postfix power fold)) t m × (call.least ≤ℤ power)
     × behind fold m left (Err kind) j × (answer ≡ Err kind))
@@ -152,20 +151,20 @@ Closes {V = V} g (infix_open left fold) turn i right answer j =
     ⊎ ((value : V) × g.between fold i left right (Ok value) j × (units_left g.units j ≡ turn → ⊥)
     × (answer ≡ Ok value)))
 
--- The call that an open operator interrupts ends, by what its right operand answered.
+-- The call that an open operator interrupts ends, by the result of its right operand.
 abbrev pub ResumeEnds : {S W T V F G H : Type 0} → Grammar S W T V F G H → Open V F H
     → Answer (V × Bool) → Input T → Answer (V × Bool) → Input T → Type 0
 ResumeEnds {V = V} g x inner i answer j =
     -- the right operand fails
     ((kind : Kind) × (inner ≡ Err kind) × (answer ≡ Err kind) × (j ≡ i))
-    -- the fold refuses, or the turn has consumed nothing
+    -- the fold fails, or the turn has consumed nothing
     ⊎ (((right : V) × (all : Bool) × (kind : Kind) × (inner ≡ Ok (right, all))
     × Closes g.folding x.operator x.call.turn i right (Err kind) j × (answer ≡ Err kind))
     -- every open call ends
     ⊎ ((right : V) × (value : V) × (inner ≡ Ok (right, true))
     × Closes g.folding x.operator x.call.turn i right (Ok value) j × (answer ≡ Ok (value, true))))
 
--- ... or goes on, with the folded value.
+-- ... or continues, with the folded value.
 abbrev pub ResumeGoes : {S W T V F G H : Type 0} → Grammar S W T V F G H → Open V F H
     → Answer (V × Bool) → Input T → V → Input T → Type 0
 ResumeGoes {V = V} g x inner i value j =

@@ -1,4 +1,4 @@
--- What the loop keeps.
+-- The invariant of the loop.
 use Rattle.std.specs.Prelude.{◌≡◌, ◌+◌, ◌-◌, ◌*◌, ◌≤◌, ◌<◌, ℕ, min, Option, Some, None, Bool, List}
 use Rattle.std.specs.Prelude.{[], ◌∷◌, length, reverse}
 use Rattle.stream_errors.specs.Form.{Answer}
@@ -10,8 +10,8 @@ use Rattle.winnow_expression.specs.Calls.{Call, Calls, Open}
 use Rattle.winnow_expression.specs.declared.combinator.calls.Operator.{Operator}
 use Rattle.winnow_expression.specs.declared.combinator.calls.Operator.TheVariants.{Prefix, Infix}
 
--- What the outermost call does, by what the call below the open operators answered, the first of
--- them the last that was opened.
+-- The result of the outermost call, by the result of the call below the open operators. The last
+-- operator that was opened comes first.
 abbrev pub Resumed : {S W T V F G H : Type 0} → Grammar S W T V F G H → List (Open V F H)
     → Answer (V × Bool) → S × W → Input T → Answer (V × Bool) → S × W → Input T → Type 0
 Resumed g [] b s i a t j = (a ≡ b) × (t ≡ s) × (j ≡ i)
@@ -19,7 +19,7 @@ Resumed {S} {W} {T} {V} {F} {G} {H} g (x ∷ xs) b s i a t j =
     (c : Answer (V × Bool)) × (u : S × W) × (m : Input T) × ResumeRuns g x b s i c u m
     × Resumed g xs c u m a t j
 
--- What the present call does: from its beginning, or after a value.
+-- The result of the current call: from its start, or after a value.
 abbrev pub PresentRuns : {S W T V F G H : Type 0} → Grammar S W T V F G H → Call → Option V
     → S × W → Input T → Answer (V × Bool) → S × W → Input T → Type 0
 PresentRuns g call None s i a t j = CallRuns g call s i a t j
@@ -37,7 +37,7 @@ abbrev pub Falls : {V F H : Type 0} → Operator V F H → ℕ → ℕ → Type 
 Falls (Prefix fold) began turn = began < turn
 Falls (Infix left fold) began turn = began ≤ turn
 
--- Calls begin and take their turns one after another, the first of these operators the last.
+-- Calls begin and take their turns in sequence. The list has the last operator first.
 abbrev pub Nested : {V F H : Type 0} → List (Open V F H) → ℕ → Type 0
 Nested [] began = Unit {0}
 Nested (x ∷ xs) began =
@@ -48,7 +48,7 @@ abbrev pub Begun : {V : Type 0} → Option V → Call → Type 0
 Begun None call = call.turn ≡ call.began
 Begun (Some v) call = Unit {0}
 
--- What the loop keeps.
+-- The invariant of the loop.
 abbrev pub Stands : {S W T V F G H : Type 0} → Grammar S W T V F G H → Call → S × W → Input T
     → Calls V F H → Option V → S × W → Input T → Type 0
 Stands g whole s i calls left t j =

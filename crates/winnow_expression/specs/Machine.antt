@@ -1,4 +1,4 @@
--- What one step of the loop does.
+-- One step of the loop.
 use Rattle.std.specs.Prelude.{◌≡◌, ◌≤ℤ◌, ◌<ℤ◌, OnOk, ℕ, ℤ, Option, Some, None, Ok, Err, ◌⊎◌, Bool}
 use Rattle.std.specs.Prelude.{true, false, List, [], ◌∷◌}
 use Rattle.stream_errors.specs.Form.{Answer}
@@ -22,8 +22,8 @@ use Rattle.winnow_expression.specs.declared.combinator.machine.Turn.{Turn}
 use Rattle.winnow_expression.specs.declared.combinator.machine.Turn.TheVariants.{Ends, EndsAll}
 use Rattle.winnow_expression.specs.declared.combinator.machine.Turn.TheVariants.{Goes, Interrupted}
 
--- At the place of an operand: the answer is the value of an operand, or none where a prefix is
--- open.
+-- A step where an operand is expected. The result is the value of an operand, or `None` if a prefix
+-- is open.
 abbrev pub OperandStep : {S T V F H : Type 0} → (List T → ℕ) → Runs S T (First V F) → Kind
     → Calls V F H → S
     → Input T → Answer (Option V) → Calls V F H → S → Input T → Type 0
@@ -41,12 +41,13 @@ ended (Err kind) = Err kind
 ended (Ok (v, true)) = Ok (EndsAll v)
 ended (Ok (v, false)) = Ok (Ends v)
 
--- What is an end of all that the earlier is an end of, or is back where that began.
+-- `EndsToo reading x earlier later`: for each input that begins at `x` and has `earlier` as a
+-- suffix, `later` is a suffix too.
 abbrev pub EndsToo : {T L : Type 0} → Reading T L → Remaining T → Input T → Input T → Type 0
 EndsToo {T} {L} reading x earlier later =
     (i : Input T) → x ≡ i.left → IsEndOf reading earlier i → IsEndOf reading later i
 
--- A postfix is read after what was left at x.
+-- The step after a postfix was read from the remaining input `x`.
 abbrev pub PostfixTurn : {T V G : Type 0} → (List T → ℕ)
     → (G → Input T → V → Answer V → Input T → Type 0) → Kind
     → ℤ → ℤ → G → Remaining T → ℕ → V → Input T → Answer (Turn V) → Input T → Type 0
@@ -59,7 +60,7 @@ PostfixTurn {V = V} units behind refusal least power fold x here left m answer j
     ⊎ ((value : V) × (least ≤ℤ power) × behind fold m left (Ok value) j
     × (units_left units j ≡ here → ⊥) × (answer ≡ Ok (Goes value)))))
 
--- An infix is read after what was left at x.
+-- The step after an infix was read from the remaining input `x`.
 abbrev pub InfixTurn : {T V F H : Type 0} → (List T → ℕ) → Kind → Infix H → Remaining T → ℕ
     → Calls V F H → V
     → Input T → Answer (Turn V) → Calls V F H → Input T → Type 0
@@ -78,7 +79,7 @@ InfixTurn {V = V} {F = F} {H = H} units refusal infix_ x here calls left m answe
       call = record calls.present { turn = here; neither = neither_power infix_ };
     }) (right_power infix_) (units_left units j) after))))))
 
--- At the place of an operator, after a value.
+-- A step where an operator is expected, after a value.
 abbrev pub TurnStep : {W T V F G H : Type 0} → (List T → ℕ) → Runs W T (Next G H)
     → (G → Input T → V → Answer V → Input T → Type 0) → Kind → Calls V F H → V
     → W → Input T → Answer (Turn V) → Calls V F H → W → Input T → Type 0

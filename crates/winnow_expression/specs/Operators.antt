@@ -50,8 +50,8 @@ IsPostfixClone IsClone p q = (q.0 ≡ p.0) × IsClone p.1 q.1
 abbrev pub IsInfixClone : {F : Type 0} → (F → F → Type 0) → Infix F → Infix F → Type 0
 IsInfixClone IsClone o q = (q ≡ with_fold o (fold_of q)) × IsClone (fold_of o) (fold_of q)
 
--- A run of an operator as a parser: it consumes nothing, and answers a clone of itself, or want of
--- memory where that was refused it.
+-- A call of an operator as a parser: it consumes nothing, and returns a clone of itself, or out of
+-- memory if cloning fails to allocate.
 abbrev pub OperatorRuns : {T O : Type 0} → (O → O → Type 0) → (O → Type 0) → O → Input T
     → Answer O → Input T → Type 0
 OperatorRuns {T} {O} IsClone ClonesAlways s i answer j =

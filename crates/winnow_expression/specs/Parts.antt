@@ -10,9 +10,9 @@ use Rattle.winnow_expression.specs.declared.combinator.operators.Infix.{Infix}
 use Rattle.winnow_expression.specs.declared.combinator.operators.Postfix.{Postfix}
 use Rattle.winnow_expression.specs.declared.combinator.operators.Prefix.{Prefix}
 
--- Operands, prefixes, postfixes and infixes, and what the folds of prefixes, postfixes and infixes
--- do. Of a list of tokens `units` says how many units they take, and `refusal` is the kind of the
--- error where nothing is consumed.
+-- Operands, prefixes, postfixes and infixes, and the effects of the folds of prefixes, postfixes
+-- and infixes. `units` gives the number of units of a list of tokens, and `refusal` is the kind of
+-- the error if nothing is consumed.
 abbrev pub parts_grammar : {S1 S2 S3 S4 T V F G H : Type 0} → (List T → ℕ) → Kind → Runs S1 T V
     → Runs S2 T (Prefix F) → Runs S3 T (Postfix G) → Runs S4 T (Infix H)
     → (F → Input T → V → Answer V → Input T → Type 0)

@@ -1,4 +1,4 @@
--- What is read at the places of operands and of operators, of four parsers.
+-- Parsing where operands and operators are expected, by four parsers.
 use Rattle.std.specs.Prelude.{◌≡◌, ◌<◌, ◌⊎◌, Ok, Err, List, ℕ}
 use Rattle.streams.specs.Input.{Input, back_at}
 use Rattle.streams.specs.Kind.{Kind, backtrack}
@@ -32,8 +32,8 @@ FirstRuns {S} {W} {T} {V} {F} operand prefix s i answer t j =
     ⊎ ((m : Input T) × (kind : Kind) × operand s.0 i (Err backtrack) t.0 m
     × prefix s.1 (back_at i.left m) (Err kind) t.1 j × (answer ≡ Err kind))))
 
--- Nothing where no unit is left; else a postfix, and where that backtracks, back at its beginning,
--- an infix; nothing where both backtrack.
+-- No operator if no unit remains. Otherwise a postfix, or, if that backtracks, an infix from the
+-- same offset. No operator if both backtrack.
 abbrev pub NextRuns : {S W T G H : Type 0} → (List T → ℕ) → Runs S T (Postfix G)
     → Runs W T (Infix H) → Runs (S × W) T (Next G H)
 NextRuns {S} {W} {T} {G} {H} units postfix infix_ s i answer t j =

@@ -1,10 +1,10 @@
--- How many units are left.
+-- The number of remaining units.
 use Rattle.std.specs.Prelude.{◌≡◌, ◌≤◌, ◌<◌, ℕ, List}
 use Rattle.std.proofs.Common.{ap, arith}
 use Rattle.streams.specs.Input.{Input, IsEndOf}
 use Rattle.streams.specs.Reading.{Reading}
 
--- how many units are left of an input, by how many a list of tokens takes
+-- the number of remaining units of an input, where `units` gives that of a list of tokens
 abbrev pub units_left : {T : Type 0} → (List T → ℕ) → Input T → ℕ
 units_left units i = units i.left.tokens
 

@@ -1,4 +1,4 @@
--- Runs in which no fold refuses: those that fail exclude each tree.
+-- Calls in which no fold fails: those that fail exclude each tree.
 use Rattle.std.specs.Prelude.{◌≡◌, ◌⊎◌, ℤ, Bool, Ok, Err, IsOk}
 use Rattle.std.proofs.Common.{inl, inr}
 use Rattle.stream_errors.specs.Form.{Answer}
@@ -32,7 +32,6 @@ abbrev GivesBoth : {T V H : Type 0} → (H → Input T → V → V → Answer V 
     → Input T → V → V → Answer V → Input T → Type 0
 GivesBoth folds f i v w a j = folds f i v w a j × IsOk a
 
--- folds that are alike are so where they give outputs
 fold_gives : {T V F : Type 0} (alike : V → V → Type 0)
     (folds : F → Input T → V → Answer V → Input T → Type 0) (f h : F) → FoldAlike alike folds f h
     → FoldAlike alike (Gives folds) f h
@@ -147,7 +146,6 @@ module _ {S W T V F G H : Type 0} (g : Grammar S W T V F G H) (alike : V → V �
       ))) =
       no_error V k folds.1
 
-  -- a failure with no refusal of a fold excludes each tree
   pub failure_excludes : (level : ℤ) (i : Input T) (k : Kind) (t : S × W) (j : Input T)
       → ExpressionRuns (accepting g) level s0 i (Err k) t j → (k ≡ memory → ⊥) → (r : Tree V F G H)
       (n : Input T) (all : Bool) → KeepsOver g s0 level i r n all → ⊥

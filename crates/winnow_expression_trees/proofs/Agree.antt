@@ -1,4 +1,4 @@
--- A run agrees with each tree that keeps the powers and has a value.
+-- A call agrees with each tree that respects precedence and has a value.
 use Rattle.std.specs.Prelude.{◌≡◌, ◌<ℤ◌, ℤ, Bool, true, false}
 use Rattle.std.specs.Prelude.{None, Ok, Err}
 use Rattle.std.proofs.Common.{refl, sym, ◌∙◌, ap, subst, inl, inr, arith}
@@ -48,7 +48,7 @@ module _ {S W T V F G H : Type 0} (g : Grammar S W T V F G H) (alike : V → V �
   abbrev Kept : S × W → Type 0
   Kept s = (s.0 ≡ s0.0) × (s.1 ≡ s0.1)
 
-  -- an output, with the tree's flag and end, alike to each value of the tree
+  -- an output with the tree's flag and end, equivalent to each value of the tree
   abbrev pub Agrees : Answer (V × Bool) → S × W → Input T → Tree V F G H → Input T → Bool → Type 0
   Agrees a t j r n b =
       Kept t × (v : V) × (a ≡ Ok (v, b)) × (j ≡ n) × ((y : V) → Value g r y → alike v y)

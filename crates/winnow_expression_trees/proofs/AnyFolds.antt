@@ -1,4 +1,4 @@
--- Folds that refuse nothing: over the same parts, each tree has a value.
+-- Folds that never fail: over the same parts, each tree has a value.
 use Rattle.std.specs.Prelude.{◌≡◌, Ok, Err}
 use Rattle.std.proofs.Common.{refl, sym, subst}
 use Rattle.stream_errors.specs.Form.{Answer}
@@ -31,7 +31,7 @@ abbrev pub unrefusing : {S W T V F G H : Type 0} → Grammar S W T V F G H → G
 unrefusing g = grammar g.first g.next any_value
     (folding any_value any_value_of_both g.folding.units g.folding.refusal)
 
--- all outputs count as alike
+-- all outputs count as equivalent
 abbrev pub any_alike : {V : Type 0} → V → V → Type 0
 any_alike v w = Unit {0}
 

@@ -1,4 +1,4 @@
--- Where neither a part nor a fold fails, a failure is an assert rule's, or want of memory.
+-- If neither a part nor a fold fails, an error is that of an assert rule, or out of memory.
 use Rattle.std.specs.Prelude.{◌≡◌, ◌⊎◌, ℕ, ℤ, Bool, Err, IsOk}
 use Rattle.std.proofs.Common.{refl, sym, ◌∙◌, subst, inl, inr}
 use Rattle.stream_errors.specs.Form.{Answer}

@@ -1,4 +1,4 @@
--- What closing an operator makes of its operands, and answers.
+-- Closing an operator: the tree of its operands, and the result.
 use Rattle.std.specs.Prelude.{◌≡◌, ℕ, ℤ, Bool, Option, Some}
 use Rattle.std.specs.Prelude.{None, Ok, Err}
 use Rattle.std.proofs.Common.{refl, sym, ◌∙◌, ap, subst, inl, inr}
@@ -61,7 +61,7 @@ resume_not g _ _ _ _ _ _ _ (resume_goes x b a s t i j m w (right, e, closes) tur
     let P : Answer _ → Type 0 = λ z. NotMemory z in subst P (sym e) tt
 
 module _ {S W T V F G H : Type 0} (g : Grammar S W T V F G H) (alike : V → V → Type 0) where
-  -- what closing an operator makes of the value of the right operand
+  -- the result of closing an operator, for the value of the right operand
   abbrev pub ClosesTo : Open V F H → Input T → V → Tree V F G H → Type 0
   ClosesTo x i right l =
       (c : Answer V) (m : Input T) → Closes g.folding x.operator x.call.turn i right c m

@@ -1,4 +1,4 @@
--- Parts whose answers the input decides: at one place one thing is read.
+-- Parts whose results the input determines: at one offset one item is read.
 use Rattle.std.specs.Prelude.{◌≡◌, Bool, List, ℕ, ℤ, Ok, Err}
 use Rattle.std.proofs.Common.{sym, ◌∙◌, ap, subst, inl, inr, arith}
 use Rattle.stream_errors.specs.Form.{Answer}
@@ -142,7 +142,7 @@ decided_parts av af ag ah units refusal operand prefix postfix infix_ before beh
       nexts = λ i j k x y r q. nexts_one ag ah postfix infix_ units s.1.0 s.1.1 pq pi i j k x y r q;
     }
 
--- so at most one tree over a beginning of what is read keeps the powers
+-- so at most one tree over a prefix of the input respects precedence
 pub at_most_one : {S1 S2 S3 S4 T V F G H : Type 0} (av : V → V → Type 0) (af : F → F → Type 0)
     (ag : G → G → Type 0) (ah : H → H → Type 0) (units : List T → ℕ) (refusal : Kind)
     (operand : Runs S1 T V) (prefix : Runs S2 T (Prefix F)) (postfix : Runs S3 T (Postfix G))

@@ -1,4 +1,4 @@
--- One answer at most ends the reading, want of memory aside.
+-- At most one result ends the reading, unless memory runs out.
 use Rattle.std.specs.Prelude.{◌≡◌, ◌⊎◌, ℤ, Bool, true, false, Err}
 use Rattle.std.proofs.Common.{refl, sym, subst, inl, inr}
 use Rattle.streams.specs.Input.{Input}
@@ -26,14 +26,15 @@ true_false e = absurd (cc)
 module _ {V F G H P : Type 0} (av : V → V → Type 0) (af : F → F → Type 0) (ag : G → G → Type 0)
     (ah : H → H → Type 0) (first : P → First V F → P → Type 0)
     (next : P → Next G H → P → Type 0) (dec : Decided av af ag ah first next) where
-  -- One item is read: from the place of an operand (true) or of an operator (false), to the next.
+  -- One item is read: from an offset where an operand (true) or an operator (false) is expected, to
+  -- the next one.
   abbrev Step : Bool → P → Bool → P → Type 0
   Step true j true k = (p : ℤ) × (f : F) × first j (prefix_read p f) k
   Step true j false k = (v : V) × first j (Operand v) k
   Step false j true k = (o : Infix H) × next j (infix_read o) k
   Step false j false k = (p : ℤ) × (f : G) × next j (Postfix p f) k
 
-  -- Items are read, one after another.
+  -- Items are read in sequence.
   data Goes : Bool → P → Bool → P → Type 0 where
     goes_none : (b c : Bool) (j k : P) → b ≡ c → j ≡ k → Goes b j c k
     goes_on : (b c d : Bool) (j k m : P) → Step b j c k → Goes c k d m → Goes b j d m
@@ -138,7 +139,6 @@ module _ {S W T V F G H : Type 0} (g : Grammar S W T V F G H) (alike : V → V �
             (sym same.0, sym same.1)
       ]
 
-  -- so one answer ends the reading
   pub ends_once : (i : Input T) (k l : Kind) (j n : Input T) → EndedBy g s0 i k j
       → EndedBy g s0 i l n → (k ≡ memory → ⊥) → (l ≡ memory → ⊥) → (k ≡ l) × (j ≡ n)
   ends_once i k l j n (inl (z, t, comes, run)) (inl (y, u, goes, ran)) other more =

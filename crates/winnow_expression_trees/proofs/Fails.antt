@@ -1,4 +1,4 @@
--- What failures come from, with folds that may refuse anything.
+-- The causes of failures, with folds that may fail.
 use Rattle.std.specs.Prelude.{◌≡◌, ◌≤◌, ◌⊎◌, ℕ, ℤ, Bool, true, false}
 use Rattle.std.specs.Prelude.{Ok, Err}
 use Rattle.std.proofs.Common.{refl, sym, ◌∙◌, ap, subst, inl, inr, arith}
@@ -38,7 +38,7 @@ use Rattle.winnow_expression_trees.specs.Failure.{Comes, EndedBy, Unmoved}
 use Rattle.winnow_expression_trees.specs.Failure.{comes_infix, comes_operand, comes_postfix}
 use Rattle.winnow_expression_trees.specs.Failure.{comes_prefix}
 
--- The fold of an operator that is read refuses, on some values.
+-- The fold of an operator that is read fails, for some values.
 abbrev pub Refuses : {S W T V F G H : Type 0} → Grammar S W T V F G H → S × W → Input T → Kind
     → Input T
     → Type 0

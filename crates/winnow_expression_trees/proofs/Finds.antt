@@ -1,4 +1,4 @@
--- A run that succeeds answers the value of a tree that it read.
+-- A call that succeeds returns the value of a tree that it read.
 use Rattle.std.specs.Prelude.{◌≡◌, ◌<ℤ◌, ℕ, ℤ, Bool, true, false, Some}
 use Rattle.std.specs.Prelude.{None, Ok}
 use Rattle.std.proofs.Common.{refl, sym, ◌∙◌, ap, subst, inl, inr}
@@ -46,7 +46,7 @@ between_closes g left right v fold turn i m (inr (inl (value, folded, same, e)))
 between_closes g left right v fold turn i m (inr (inr (value, folded, moved, e))) =
     let is : v ≡ value = cc in subst (λ x. g.between fold i left right (Ok x) m) (sym is) folded
 
--- what an operator makes of the tree of its right operand
+-- the tree that an operator builds from the tree of its right operand
 pub record Builds {S W T V F G H : Type 0} (g : Grammar S W T V F G H) (x : Open V F H)
     (i : Input T)
     (build : Tree V F G H → Tree V F G H) : Type 0 where
@@ -100,7 +100,6 @@ module _ {S W T V F G H : Type 0} (g : Grammar S W T V F G H) (alike : V → V �
   abbrev Kept : S × W → Type 0
   Kept s = (s.0 ≡ s0.0) × (s.1 ≡ s0.1)
 
-  -- where a call ends with a value: nothing goes on, or a neither is met
   turn_ends_tree : (call : Call) (left : V) (s t : W) (i j : Input T) (a : Answer (V × Bool))
       (l : Tree V F G H)
       → TurnEnds F g.folding.units g.next g.behind g.folding.refusal call left s i a t j → s ≡ s0.1

@@ -35,7 +35,6 @@ pair_same : {A B : Type 0} (p q : A × B) → p.0 ≡ q.0 → p.1 ≡ q.1 → p 
 pair_same {A} {B} p q e f =
     let P : A → A × B = λ z. (z, p.1) in let Q : B → A × B = λ z. (q.0, z) in ap P e ∙ ap Q f
 
--- where as many units are left, and only the place may have changed, nothing has
 pub at_rest : {T L : Type 0} (reading : Reading T L) (i j : Input T) → IsEndOf reading j i
     → j.status ≡ i.status → units_left reading.units j ≡ units_left reading.units i → j ≡ i
 at_rest reading i j p status same =

@@ -21,7 +21,7 @@ use Rattle.winnow_expression_trees.proofs.Parts.{back_is, not_back}
 use Rattle.winnow_expression_trees.specs.Premises.{IsStateless}
 use Rattle.winnow_expression_trees.specs.Premises.{AlikePostfix}
 
--- what the infix's answer makes of the place
+-- the result where an operator is expected, by that of the infix
 abbrev pub InfixSeen : {T G H : Type 0} → Input T → Answer (Infix H) → Input T
     → Answer (Next G H) → Input T → Type 0
 InfixSeen i (Ok o) n answer j = (answer ≡ Ok (infix_read o)) × (j ≡ n)
@@ -192,7 +192,6 @@ module _ {S W T G H : Type 0} (ag : G → G → Type 0) (ah : H → H → Type 0
         ]
       ]
 
-  -- and it changes only the place
   pub next_status : (units : List T → ℕ) (i j : Input T) (a : Answer (Next G H)) (t : S × W)
       → NextRuns units postfix infix_ (s, w) i a t j → NotMemory a → j.status ≡ i.status
   next_status units i j a t r n =

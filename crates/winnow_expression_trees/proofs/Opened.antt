@@ -1,4 +1,4 @@
--- What an open operator, and the end of a call, do with folds that refuse nothing.
+-- Open operators, and the ends of calls, with folds that never fail.
 use Rattle.std.specs.Prelude.{◌≡◌, ◌⊎◌, ◌≤ℤ◌, ◌<ℤ◌, ℕ, ℤ, Bool, false, Some, None, Ok}
 use Rattle.std.specs.Prelude.{Err}
 use Rattle.std.proofs.Common.{refl, sym, ◌∙◌, ap, subst, inl, inr}
@@ -37,13 +37,13 @@ use Rattle.winnow_expression_trees.proofs.Finds.{between_closes}
 use Rattle.winnow_expression_trees.proofs.Plain.{Plain, decided, own_next}
 use Rattle.winnow_expression_trees.proofs.AnyFolds.{any_value, unrefusing}
 
--- The fold of an operator refuses, and this is the answer.
+-- The fold of an operator fails, and this is the result.
 abbrev pub Refused : {S W T V F G H O : Type 0} → Grammar S W T V F G H → S × W → ℤ → Input T
     → Answer O → Input T → Type 0
 Refused g s0 level start a j = (k : Kind) × (a ≡ Err k) × RefusedBy g s0 level start k j
 
--- A left operand that a call has read: it keeps the powers as far as it goes, no operator that
--- may be read next binds within its right edge, and it has a value.
+-- A left operand that a call has read. It respects precedence so far, no operator that may be read
+-- next binds within its right edge, and it has a value.
 pub record IsLeft {S W T V F G H : Type 0} (g : Grammar S W T V F G H) (s0 : S × W) (level : ℤ)
     (start : Input T) (call : Call) (left : V) (i : Input T) : Type 0 where
   pub at : Input T
@@ -56,8 +56,8 @@ pub record IsLeft {S W T V F G H : Type 0} (g : Grammar S W T V F G H) (s0 : S �
   pub top : call.neither ≡ top_neither tree
   pub value : Value g tree left
 
--- What folding an open operator gives, after a right operand: a left operand of the call that it
--- interrupted, where that goes on. With folds that refuse nothing it is folded too.
+-- The result of folding an open operator after a right operand: a left operand of the call that it
+-- interrupted, if that continues. With folds that never fail it is folded too.
 pub record Opened {S W T V F G H : Type 0} (g : Grammar S W T V F G H) (s0 : S × W) (level : ℤ)
     (start : Input T) (x : Open V F H) (i : Input T) (right : V) (all : Bool) : Type 0 where
   pub left : (v : V) (m : Input T) → all ≡ false

@@ -22,8 +22,8 @@ use Rattle.winnow_expression_trees.specs.OneTree.TreeCalls.{grows_postfix, grows
 use Rattle.winnow_expression_trees.specs.OneTree.Alike.{Decided, alike_power}
 use Rattle.winnow_expression_trees.specs.OneTree.Unique.{clash_flag}
 
--- What is read goes towards the end, stays only where nothing is consumed, and prefixes and
--- neithers consume.
+-- Reading moves towards the end, and stays only if nothing is consumed. Prefixes and neithers
+-- consume input.
 pub record Moves {V F G H P : Type 0} (units : P → ℕ) (first : P → First V F → P → Type 0)
     (next : P → Next G H → P → Type 0) : Type 0 where
   pub firsts_fall : (i j : P) (x : First V F) → first i x j → units j ≤ units i
@@ -82,7 +82,7 @@ module _ {V F G H P : Type 0} (units : P → ℕ) (av : V → V → Type 0) (af 
       let last = over_first r o.1 j o.4 (omega (arith, a, b, c, e)) in
       (last.0 ∙ middle ∙ same.0, same.1, same.2)
 
-  -- a postfix over nothing is read for good
+  -- a postfix over nothing is read forever
   pub postfix_forever : (x : P) (p : ℤ) (g : G) → next x (Postfix p g) x
       → (m : ℤ) (l : Tree V F G H)
       (i : P) (t : Tree V F G H) (n : P) (b : Bool) → Grows first next m l i t n b → i ≡ x
@@ -107,7 +107,7 @@ module _ {V F G H P : Type 0} (units : P → ℕ) (av : V → V → Type 0) (af 
       absurd (d.nexts x j x (infix_read o) (Postfix p g)
       (subst (λ z. next z (infix_read o) j) e other) read).0
 
-  -- an operand and an infix over nothing are read for good
+  -- an operand and an infix over nothing are read forever
   mutual
     reads_stays : (x : P) (v : V) (o : Infix H) → first x (Operand v) x → next x (infix_read o) x
         → neither_power o ≡ None → (m : ℤ) (i : P) (t : Tree V F G H) (n : P) (b : Bool)

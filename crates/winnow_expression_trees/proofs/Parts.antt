@@ -131,7 +131,6 @@ module _ {S W T V F : Type 0} (av : V → V → Type 0) (af : F → F → Type 0
       seen_decided i j k a b t.0 u.0 t.1 u.1 (first_seen operand prefix av (s, w) t po i j a r)
       (first_seen operand prefix av (s, w) u po i k b q) n n'
 
-  -- and it changes only the place
   pub first_status : (i j : Input T) (a : Answer (First V F)) (t : S × W)
       → FirstRuns operand prefix (s, w) i a t j → NotMemory a → j.status ≡ i.status
   first_status i j a t r n = seen_status (first_seen operand prefix av (s, w) t po i j a r)

@@ -1,4 +1,4 @@
--- What parts that are functions of the input alone read.
+-- Parts that are functions of the input only.
 use Rattle.std.specs.Prelude.{◌≡◌, ℤ, ◌≤◌, ◌<◌, Some, Ok, Err}
 use Rattle.std.proofs.Common.{sym, subst}
 use Rattle.stream_errors.specs.Form.{Answer}
@@ -22,8 +22,8 @@ use Rattle.winnow_expression_trees.proofs.Over.{Moves}
 use Rattle.winnow_expression_trees.specs.Premises.{AnswersAlike, FoldAlike, FoldsAlike, NotMemory}
 use Rattle.winnow_expression_trees.specs.Reading.{FirstStep, NextStep}
 
--- Want of memory aside: parts in states s keep them and change only the place; the input decides
--- their answers, as far as outputs are alike, and what they leave; and a neither consumes.
+-- Unless memory runs out, parts in the states `s` keep them and change only the position. The input
+-- determines their results, up to equivalent outputs, and the rest. A neither consumes input.
 pub record Plain {S W T V F G H : Type 0} (g : Grammar S W T V F G H) (alike : V → V → Type 0)
     (s : S × W) : Type 0 where
   pub first_keeps : (i j : Input T) (a : Answer (First V F)) (t : S) → g.first s.0 i a t j

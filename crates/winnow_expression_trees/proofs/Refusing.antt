@@ -1,4 +1,4 @@
--- In a run no fold refuses, or its answer is that of a fold that refuses.
+-- In a call no fold fails, or its result is that of a fold that fails.
 use Rattle.std.specs.Prelude.{◌≡◌, ◌⊎◌, ℕ, ℤ, Bool, Ok, Err}
 use Rattle.std.proofs.Common.{refl, sym, ap, subst, inl, inr}
 use Rattle.stream_errors.specs.Form.{Answer}
@@ -24,7 +24,6 @@ use Rattle.winnow_expression_trees.proofs.Closing.{clash}
 use Rattle.winnow_expression_trees.proofs.Fails.{err_ok, err_same}
 
 module _ {S W T V F G H : Type 0} (g : Grammar S W T V F G H) where
-  -- an answer with the same error is that fold's too
   handed_on : {O Q : Type 0} (a : Answer O) (b : Answer Q) (kind : Kind) (i j : Input T)
       → FoldAnswers g b i → b ≡ Err kind → a ≡ Err kind → j ≡ i → FoldAnswers g a j
   handed_on a b kind i j (k, is, folds) e f place =

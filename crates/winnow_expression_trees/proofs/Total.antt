@@ -1,5 +1,5 @@
--- A run is one with folds that refuse nothing, or the fold of an operator that is read refuses. So
--- where a tree keeps the powers, a failure is a fold's.
+-- A call is one with folds that never fail, or the fold of an operator that is read fails. So if a
+-- tree respects precedence, a failure is that of a fold.
 use Rattle.std.specs.Prelude.{◌≡◌, ◌⊎◌, ℤ, Bool, true, false, None, Ok, Err}
 use Rattle.std.proofs.Common.{refl, sym, ◌∙◌, subst, inl, inr, arith}
 use Rattle.stream_errors.specs.Form.{Answer}
@@ -217,7 +217,6 @@ module _ {S W T V F G H : Type 0} (g : Grammar S W T V F G H) (alike : V → V �
   err_ok_pair : {k : Kind} {v : V × Bool} → ◌≡◌ {A = Answer (V × Bool)} (Err k) (Ok v) → ⊥
   err_ok_pair e = cc
 
-  -- where a tree keeps the powers, a failure is a fold's
   pub tree_refuses : (level : ℤ) (i : Input T) (k : Kind) (t : S × W) (j : Input T)
       → ExpressionRuns g level s0 i (Err k) t j → (k ≡ memory → ⊥) → (r : Tree V F G H)
       (n : Input T) (all : Bool) → KeepsOver g s0 level i r n all → RefusedBy g s0 level i k j

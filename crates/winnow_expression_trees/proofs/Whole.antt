@@ -1,4 +1,4 @@
--- What an expression's run says of the trees over its reading.
+-- Lemmas about an expression's call and the trees over its reading.
 use Rattle.std.specs.Prelude.{◌≡◌, ℤ, Bool, Ok, Err}
 use Rattle.std.proofs.Common.{refl, sym, subst, inl, inr}
 use Rattle.stream_errors.specs.Form.{Answer}
@@ -96,8 +96,8 @@ module _ {S W T V F G H : Type 0} (g : Grammar S W T V F G H) (alike : V → V �
         (tree_refuses g alike s0 pr level i k t j runs other u n b keeps);
   }
 
--- Where no fold of an operator that is read refuses, and every operator that is read consumes, a
--- failure has the kind and the rest of the answer that ended the reading.
+-- If no fold of an operator that is read fails, and every such operator consumes input, a failure
+-- has the kind and the rest of the result that ended the reading.
 pub expression_fails : {S W T V F G H : Type 0} (g : Grammar S W T V F G H) (alike : V → V → Type 0)
     (s : S × W) (level : ℤ) (i : Input T) (k : Kind) (t : S × W) (j : Input T)
     → IsTheOneTree g alike s level i (Err k) t j → (k ≡ memory → ⊥)

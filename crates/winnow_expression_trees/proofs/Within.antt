@@ -189,7 +189,6 @@ module _ {S W T V F G H : Type 0} (less more : Runs S T (First V F))
   leveled_up s i (Err k) t j (runs, kept) =
       (call_up (call_at s.2 (units_left units i)) (s.0, s.1) i _ (t.0, t.1) j runs, kept)
 
--- in a run in which neither a part nor a fold fails, no fold refuses
 pub asserting_accepts : {S W T V F G H : Type 0} (g : Grammar S W T V F G H) (s : S × W × ℤ)
     (i : Input T) (answer : Answer V) (t : S × W × ℤ) (j : Input T)
     → LeveledRuns (asserting g) s i answer t j → LeveledRuns (accepting g) s i answer t j
@@ -200,7 +199,6 @@ asserting_accepts g s i answer t j runs =
     (λ s i a t j r. r.0) (λ s i a t j r. r.0) (λ f i v a j r. r) (λ f i v a j r. r)
     (λ f i v w a j r. r) s i answer t j runs
 
--- a run in which no fold refuses is one of the expression
 pub accepting_runs : {S W T V F G H : Type 0} (g : Grammar S W T V F G H) (s : S × W × ℤ)
     (i : Input T) (answer : Answer V) (t : S × W × ℤ) (j : Input T)
     → LeveledRuns (accepting g) s i answer t j → LeveledRuns g s i answer t j

@@ -1,25 +1,24 @@
--- Runs in which no fold refuses.
+-- Calls in which no fold fails.
 use Rattle.std.specs.Prelude.{◌≡◌, ◌⊎◌, Err, IsOk}
 use Rattle.stream_errors.specs.Form.{Answer}
 use Rattle.streams.specs.Input.{Input}
 use Rattle.streams.specs.Kind.{Kind}
 use Rattle.winnow_expression.specs.Grammar.{Grammar, folding, grammar}
 
--- The same parts, and of what the folds do that which gives an output. A run of these is one in
--- which no fold refuses: where it fails, a part has failed, or an assert rule refuses, or memory is
--- wanted.
+-- The same parts, with the results of folds restricted to outputs. A call of these is one in which
+-- no fold fails. If it fails, a part has failed, or an assert rule, or memory allocation.
 abbrev pub accepting : {S W T V F G H : Type 0} → Grammar S W T V F G H → Grammar S W T V F G H
 accepting g = grammar g.first g.next (λ f i v a j. g.behind f i v a j × IsOk a)
     (folding (λ f i v a j. g.folding.before f i v a j × IsOk a)
     (λ f i v w a j. g.folding.between f i v w a j × IsOk a) g.folding.units g.folding.refusal)
 
--- Of what the parts do too that which gives an output: neither a part nor a fold fails. A run of
--- these that fails ends by an assert rule, or for want of memory.
+-- The results of parts are restricted to outputs too: neither a part nor a fold fails. A call of
+-- these that fails ends by an assert rule, or with out of memory.
 abbrev pub asserting : {S W T V F G H : Type 0} → Grammar S W T V F G H → Grammar S W T V F G H
 asserting g = accepting (grammar (λ s i a t j. g.first s i a t j × IsOk a)
     (λ s i a t j. g.next s i a t j × IsOk a) g.behind g.folding)
 
--- The answer is that of a fold that refuses, and leaves j.
+-- The result is that of a fold that fails, and leaves `j`.
 abbrev pub FoldAnswers : {S W T V F G H O : Type 0} → Grammar S W T V F G H → Answer O → Input T
     → Type 0
 FoldAnswers {T = T} {V = V} {F = F} {G = G} {H = H} g answer j =

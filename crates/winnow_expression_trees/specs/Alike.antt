@@ -1,4 +1,4 @@
--- What is alike: operators, and trees of them, as far as outputs and folds are.
+-- Equivalence of operators, and of trees of them, up to outputs and folds.
 use Rattle.std.specs.Prelude.{◌≡◌}
 use Rattle.winnow_expression.specs.Operators.{fold_of, left_power, neither_power, right_power}
 use Rattle.winnow_expression_trees.specs.Tree.{Tree, leaf, before, behind, between}
@@ -37,7 +37,7 @@ AlikeNext ag ah (infix_read o) Nothing = ⊥
 AlikeNext ag ah (infix_read o) (Postfix q g) = ⊥
 AlikeNext ag ah (infix_read o) (infix_read q) = AlikeInfix ah o q
 
--- The same tree, but for outputs and folds, which are alike.
+-- The same tree, except for outputs and folds, which are equivalent.
 abbrev pub AlikeTree : {V F G H : Type 0} → (V → V → Type 0) → (F → F → Type 0) → (G → G → Type 0)
     → (H → H → Type 0) → Tree V F G H → Tree V F G H → Type 0
 AlikeTree av af ag ah (leaf v) (leaf w) = av v w

@@ -45,19 +45,20 @@ EndedBy {S} {W} {T} {V} {F} {G} {H} g s0 start kind j =
     ⊎ ((k : Input T) × (t : W) × Comes (FirstStep g s0) (NextStep g s0) start false k
     × g.next s0.1 k (Err kind) t j)
 
--- In an operand of the least power m, an operator of the left power p takes this left operand: that
--- keeps the powers, its left edge reaches m, and p reaches m and no right power on its right edge.
+-- `TakesLeft m l p`: in an operand of the least power `m`, an operator of the left power `p` takes
+-- the left operand `l`. That respects precedence, its left edge reaches `m`, and `p` reaches `m`
+-- and no right power on its right edge.
 abbrev pub TakesLeft : {V F G H : Type 0} → ℤ → Tree V F G H → ℤ → Type 0
 TakesLeft m l p = Binds l × Reaches m l × (m ≤ℤ p) × EdgeAbove l p
 
--- An infix takes it: it is no neither of that power.
+-- An infix takes the left operand, which is not a neither of the infix's power.
 abbrev pub InfixTakes : {V F G H : Type 0} → ℤ → Tree V F G H → Infix H → Type 0
 InfixTakes m l o =
     TakesLeft m l (left_power o) × (top_neither l ≡ Some (left_power o) → ⊥)
 
--- An operand of a least power begins at a place: all of the expression, whose least power is its
--- level; the right operand of a prefix that begins an operand; or that of an infix, after a left
--- operand that it takes and that has a value.
+-- An operand of a least power begins at an offset. It is all of the expression, whose least power
+-- is its level; or the right operand of a prefix that begins an operand; or that of an infix, after
+-- a left operand that it takes and that has a value.
 pub data Begins {S W T V F G H : Type 0} (g : Grammar S W T V F G H) (s : S × W) (level : ℤ)
     (start : Input T) : ℤ → Input T → Type 0 where
   begins_whole : Begins g s level start level start
@@ -68,9 +69,9 @@ pub data Begins {S W T V F G H : Type 0} (g : Grammar S W T V F G H) (s : S × W
       → InfixTakes m l o → NextStep g s j (infix_read o) k → p ≡ right_power o
       → Begins g s level start p k
 
--- The fold of an operator refuses, on the values of its operands. It is one of the tree that keeps
--- the powers, as far as that is read: it stands in an operand that begins there, takes its left
--- operand, and its right operand keeps the powers at its right power.
+-- The fold of an operator fails, for the values of its operands. The operator is one of the tree
+-- that respects precedence, as far as that is read. It is in an operand that begins there, it takes
+-- its left operand, and its right operand respects precedence at its right power.
 abbrev pub RefusedBy : {S W T V F G H : Type 0} → Grammar S W T V F G H → S × W → ℤ → Input T → Kind
     → Input T → Type 0
 RefusedBy {S} {W} {T} {V} {F} {G} {H} g s0 level start kind j =

@@ -1,5 +1,5 @@
--- Expressions whose parts read items: each part tells by the tokens left whether they begin with
--- an item of its own, which, and what is after it; and folds give values.
+-- Expressions whose parts read items. For each part, the remaining tokens determine whether they
+-- start with an item of its own, which item, and the rest after it. Folds give values.
 use Rattle.std.specs.Prelude.{◌≡◌, ◌<◌, ◌⊎◌, ℕ, ℤ, Bool, List, Ok, Err}
 use Rattle.streams.specs.Input.{Input}
 use Rattle.streams.specs.Kind.{backtrack}
@@ -27,7 +27,7 @@ pub mod Grammar
 pub mod Laws
 pub mod Premises
 
--- Items of a part: the tokens begin with an item that is this, and these are after it.
+-- The items of a part: the tokens start with this item, followed by the rest.
 abbrev pub Items : Type 0 → Type 0 → Type 1
 Items T O = List T → O → List T → Type 0
 
@@ -39,33 +39,33 @@ NoItem {T} {O} item tokens = (o : O) (rest : List T) → item tokens o rest → 
 abbrev pub left_at : {T : Type 0} → Input T → List T → Input T
 left_at i rest = record i { left = record i.left { tokens = rest } }
 
--- A run of a part that reads its item, or backtracks where none begins.
+-- A call of a part that reads its item, or backtracks if the tokens do not start with one.
 abbrev pub ItemRuns : {T O : Type 0} → Items T O → Input T → Answer O → Input T → Type 0
 ItemRuns {T} {O} item i answer j =
     ((o : O) × (rest : List T) × item i.left.tokens o rest × (answer ≡ Ok o)
     × (j ≡ left_at i rest))
     ⊎ (NoItem item i.left.tokens × (answer ≡ Err backtrack) × (j ≡ i))
 
--- One item at most begins at a place, and it takes some units.
+-- At most one item begins at an offset, and it has some units.
 pub record AreItems {T O : Type 0} (units : List T → ℕ) (item : Items T O) : Type 0 where
   pub one : (tokens : List T) (o p : O) (r q : List T) → item tokens o r → item tokens p q
       → (o ≡ p) × (r ≡ q)
   pub some : (tokens : List T) (o : O) (r : List T) → item tokens o r → units r < units tokens
 
--- What is read at the place of an operand: an operand, and where none is there a prefix.
+-- The reading where an operand is expected: an operand, or, without an operand, a prefix.
 abbrev pub FirstItems : {T V F : Type 0} → Items T V → Items T (Prefix F) → List T → First V F
     → List T → Type 0
 FirstItems operand prefix i (Operand v) j = operand i v j
 FirstItems operand prefix i (prefix_read p f) j = NoItem operand i × prefix i (p, f) j
 
--- What is read at the place of an operator: a postfix, and where none is there an infix.
+-- The reading where an operator is expected: a postfix, or, without a postfix, an infix.
 abbrev pub NextItems : {T G H : Type 0} → Items T (Postfix G) → Items T (Infix H) → List T
     → Next G H → List T → Type 0
 NextItems postfix infix_ i Nothing j = NoItem postfix i × NoItem infix_ i × (j ≡ i)
 NextItems postfix infix_ i (postfix_read p g) j = postfix i (p, g) j
 NextItems postfix infix_ i (infix_read o) j = NoItem postfix i × infix_ i o j
 
--- A tree over the items that the tokens begin with, of which these are left, keeps the powers at a
+-- A tree over the items that the tokens start with, up to this rest, respects precedence at a
 -- level.
 abbrev pub ItemsTree : {T V F G H : Type 0} → Items T V → Items T (Prefix F)
     → Items T (Postfix G) → Items T (Infix H) → ℤ → List T → Tree V F G H → List T → Bool
@@ -74,7 +74,7 @@ ItemsTree operand prefix postfix infix_ level i tree j all =
     Over (FirstItems operand prefix) (NextItems postfix infix_) tree i j
     × Keeps (NextItems postfix infix_) level tree j all
 
--- What a fold gives: a value, or a refusal where there is none. It leaves the input.
+-- The result of a fold: a value, or an error without one. It leaves the input unchanged.
 abbrev pub Gives : {T V : Type 0} → (V → Type 0) → Input T → Answer V → Input T → Type 0
 Gives {T} {V} given i answer j =
     ((v : V) × given v × (answer ≡ Ok v) × (j ≡ i))
@@ -84,7 +84,7 @@ Gives {T} {V} given i answer j =
 abbrev pub GivesOne : {V : Type 0} → (V → Type 0) → Type 0
 GivesOne {V} given = (v w : V) → given v → given w → v ≡ w
 
--- The value of a tree, by what the folds give: none where one refuses.
+-- The value of a tree, by the values of the folds. There is no value if a fold fails.
 abbrev pub HasValue : {V F G H : Type 0} → (F → V → V → Type 0) → (G → V → V → Type 0)
     → (H → V → V → V → Type 0) → Tree V F G H → V → Type 0
 HasValue one other two (leaf w) v = v ≡ w
@@ -94,8 +94,9 @@ HasValue {V = V} one other two (between o l r) v =
     (w : V) × (x : V) × HasValue one other two l w × HasValue one other two r x
     × two (fold_of o) w x v
 
--- A run succeeds exactly where a tree over the items keeps the powers and has a value: with that
--- value, and what is after the tree left. There is at most one such tree. Want of memory aside.
+-- A call succeeds if and only if a tree over the items respects precedence and has a value. It
+-- returns that value and leaves the rest after the tree. There is at most one such tree. Out of
+-- memory is excepted.
 pub record ReadsItems {T V F G H : Type 0} (operand : Items T V) (prefix : Items T (Prefix F))
     (postfix : Items T (Postfix G)) (infix_ : Items T (Infix H)) (one : F → V → V → Type 0)
     (other : G → V → V → Type 0) (two : H → V → V → V → Type 0) (level : ℤ) (i : Input T)

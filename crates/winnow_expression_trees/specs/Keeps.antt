@@ -1,4 +1,4 @@
--- The trees that keep the powers, as corrected.
+-- The trees that respect precedence, as corrected.
 use Rattle.std.specs.Prelude.{◌≡◌, ◌≤ℤ◌, ◌<ℤ◌, ◌⊎◌, ℤ, Bool, true, false, Some}
 use Rattle.winnow_expression.specs.Operators.{left_power, right_power}
 use Rattle.winnow_expression_trees.specs.Tree.{Tree, leaf, before, behind, between, top_neither}
@@ -46,7 +46,7 @@ Meets (before q f r) p = Meets r p ⊎ MeetsHere q r p
 Meets (behind q g l) p = ⊥
 Meets (between o l r) p = Meets r p ⊎ MeetsHere (right_power o) r p
 
--- What is read next reaches no right power on the right edge.
+-- The next item reaches no right power on the right edge.
 abbrev pub Above : {V F G H : Type 0} → Tree V F G H → Next G H → Type 0
 Above t x = (p : ℤ) → power_of x ≡ Some p → EdgeAbove t p
 
@@ -64,7 +64,8 @@ abbrev pub Outcome : {V F G H : Type 0} → Bool → ℤ → Tree V F G H → Ne
 Outcome false m t x = Ends m t x
 Outcome true m t x = EndsAll m t x
 
--- The tree keeps the powers at level m, where it ends at j; the flag says which way.
+-- The tree respects precedence at level `m`, if it ends at `j`. The flag distinguishes the two
+-- ways.
 pub record Keeps {V F G H P : Type 0} (next : P → Next G H → P → Type 0) (m : ℤ)
     (t : Tree V F G H) (j : P) (all : Bool) : Type 0 where
   pub binds : Binds t

@@ -1,4 +1,4 @@
--- What a run of an expression says of the trees over its reading.
+-- The relation of an expression's call to the trees over its reading.
 use Rattle.std.specs.Prelude.{◌≡◌, ℤ, Bool, Ok, Err}
 use Rattle.streams.specs.Input.{Input}
 use Rattle.streams.specs.Kind.{Kind}
@@ -17,7 +17,7 @@ pub mod TreeCalls
 pub mod Unique
 pub mod Views
 
--- A tree over a beginning of what the parts read keeps the powers at a level, and ends at j.
+-- A tree over a prefix of the parts' reading respects precedence at a level, and ends at `j`.
 abbrev pub KeepsOver : {S W T V F G H : Type 0} → Grammar S W T V F G H → S × W → ℤ → Input T
     → Tree V F G H → Input T → Bool → Type 0
 KeepsOver g s level i r j all =
@@ -30,9 +30,9 @@ Alike g alike r u =
     AlikeTree alike (FoldAlike alike g.folding.before) (FoldAlike alike g.behind)
     (FoldsAlike alike g.folding.between) r u
 
--- At most one tree keeps the powers; an output is the value of one, which ends where the input is
--- left; where one has a value, the answer is alike; and where a failure is no fold's, there is
--- none. Want of memory aside.
+-- At most one tree respects precedence. An output is the value of one, which ends at the rest of
+-- the input. If one has a value, the result is equivalent to it. After a failure that is not that
+-- of a fold, there is no such tree. Out of memory is excepted.
 pub record IsTheOneTree {S W T V F G H : Type 0} (g : Grammar S W T V F G H)
     (alike : V → V → Type 0)
     (s : S × W) (level : ℤ) (i : Input T) (answer : Answer V) (t : S × W)

@@ -1,4 +1,4 @@
--- What is asked of the parts and the folds of an expression.
+-- Requirements on the parts and the folds of an expression.
 use Rattle.std.specs.Prelude.{◌≡◌, ◌<◌, ◌≡◌, ℤ, Some, Ok, Err}
 use Rattle.streams.specs.Input.{Input}
 use Rattle.streams.specs.Kind.{memory}
@@ -14,20 +14,20 @@ use Rattle.winnow_expression_trees.specs.Alike.{AlikeInfix}
 pub mod Decided
 pub mod Laws
 
--- The answer is no want of memory.
+-- The result is not out of memory.
 abbrev pub NotMemory : {O : Type 0} → Answer O → Type 0
 NotMemory (Ok v) = Unit {0}
 NotMemory (Err k) = k ≡ memory → ⊥
 
--- Both are outputs that are alike, or errors of one kind.
+-- Both results are equivalent outputs, or errors of one kind.
 abbrev pub AnswersAlike : {O : Type 0} → (O → O → Type 0) → Answer O → Answer O → Type 0
 AnswersAlike alike (Ok v) (Ok w) = alike v w
 AnswersAlike alike (Ok v) (Err l) = ⊥
 AnswersAlike alike (Err k) (Ok w) = ⊥
 AnswersAlike alike (Err k) (Err l) = k ≡ l
 
--- Want of memory aside: two folds answer the same on operands that are alike, and the first
--- leaves its input.
+-- Unless memory runs out, two folds give the same result for equivalent operands, and the first
+-- leaves its input unchanged.
 pub record FoldAlike {F T V : Type 0} (alike : V → V → Type 0)
     (folds : F → Input T → V → Answer V → Input T → Type 0) (f g : F) : Type 0 where
   pub same : (v w : V) (i j k n : Input T) (a b : Answer V) → alike v w → folds f i v a j
@@ -40,15 +40,15 @@ pub record FoldsAlike {H T V : Type 0} (alike : V → V → Type 0)
       → folds f i v x a j → folds g k w y b n → NotMemory a → NotMemory b → AnswersAlike alike a b
   pub leaves : (v x : V) (i j : Input T) (a : Answer V) → folds f i v x a j → NotMemory a → j ≡ i
 
--- Want of memory aside: the input decides what a part in state s answers, as far as outputs are
--- alike, and what it leaves.
+-- Unless memory runs out, the input determines the result of a part in the state `s`, up to
+-- equivalent outputs, and the rest.
 abbrev pub Decides : {S T O : Type 0} → (O → O → Type 0) → Runs S T O → S → Type 0
 Decides {S} {T} {O} alike run s =
     (i j k : Input T) (a b : Answer O) (t u : S) → run s i a t j → run s i b u k → NotMemory a
     → NotMemory b → AnswersAlike alike a b × (j ≡ k)
 
--- Want of memory aside: a part in state s keeps it and changes only the place, and the input
--- decides its answer, as far as outputs are alike, and what it leaves.
+-- Unless memory runs out, a part in the state `s` keeps it and changes only the position. The input
+-- determines its result, up to equivalent outputs, and the rest.
 pub record IsStateless {S T O : Type 0} (alike : O → O → Type 0) (run : Runs S T O) (s : S)
     : Type 0 where
   pub keeps : (i j : Input T) (a : Answer O) (t : S) → run s i a t j → NotMemory a
@@ -56,18 +56,17 @@ pub record IsStateless {S T O : Type 0} (alike : O → O → Type 0) (run : Runs
   pub decided : (i j k : Input T) (a b : Answer O) (t u : S) → run s i a t j → run s i b u k
       → NotMemory a → NotMemory b → AnswersAlike alike a b × (j ≡ k)
 
--- prefixes of one power whose folds are alike
+-- prefixes of one power with equivalent folds
 abbrev pub AlikePrefix : {F : Type 0} → (F → F → Type 0) → Prefix F → Prefix F → Type 0
 AlikePrefix af p q = (p.0 ≡ q.0) × af p.1 q.1
 
--- postfixes of one power whose folds are alike
+-- postfixes of one power with equivalent folds
 abbrev pub AlikePostfix : {G : Type 0} → (G → G → Type 0) → Postfix G → Postfix G → Type 0
 AlikePostfix ag p q = (p.0 ≡ q.0) × ag p.1 q.1
 
--- What is asked of the parts in their states, and of the folds: the operand, the prefix, the
--- postfix
--- and the infix are functions of the input alone, and an operator that is answered as a neither
--- consumes.
+-- Requirements on the parts in their states, and on the folds. The operand, the prefix, the postfix
+-- and the infix are functions of the input only, and an operator that is read as a neither consumes
+-- input.
 pub record Premises {S1 S2 S3 S4 T V F G H : Type 0} (alike : V → V → Type 0)
     (operand : Runs S1 T V) (prefix : Runs S2 T (Prefix F)) (postfix : Runs S3 T (Postfix G))
     (infix_ : Runs S4 T (Infix H)) (behind : G → Input T → V → Answer V → Input T → Type 0)

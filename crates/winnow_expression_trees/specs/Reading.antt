@@ -1,4 +1,4 @@
--- What is read from place to place.
+-- The steps of reading, from one position to the next.
 use Rattle.std.specs.Prelude.{◌≡◌, ◌<◌, ◌<ℤ◌, ℤ, Option, Some, None, Ok}
 use Rattle.streams.specs.Input.{Input}
 use Rattle.winnow_expression.specs.Grammar.{Grammar}
@@ -14,7 +14,7 @@ use Rattle.winnow_expression.specs.declared.combinator.places.Next.{Next}
 use Rattle.winnow_expression.specs.declared.combinator.places.Next.TheVariants.{Nothing, Postfix}
 use Rattle.winnow_expression.specs.declared.combinator.places.Next.TheVariants.{Infix as infix_read}
 
--- What the parts in their states read: a prefix consumes.
+-- The readings of the parts in their states. A prefix consumes input.
 abbrev pub FirstStep : {S W T V F G H : Type 0} → Grammar S W T V F G H → S × W → Input T
     → First V F
     → Input T → Type 0

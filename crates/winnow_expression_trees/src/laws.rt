@@ -33,21 +33,26 @@ use winnow_expression::combinator::{FoldBinary, FoldUnary, Infix, Postfix, Prefi
 /// }
 /// ```
 pub trait Likeness<O> {
-    // the outputs that are alike
+    // the equivalence of outputs
     ghost alike: { O → O → Type 0 };
 }
 
-/// Where the input decides what each part reads, up to outputs that are alike, and folds answer
-/// alike on operands that are alike and leave the input: at most one tree over a beginning of what
-/// is read keeps the powers, and an expression succeeds exactly where there is one whose folds
-/// succeed, with its value, and leaves the input where it ends.
+/// States that an expression parses the only tree that respects precedence. The input must
+/// determine the reading of each part, up to equivalent outputs. Folds must give equivalent results
+/// for equivalent operands, and leave the input unchanged.
 ///
-/// The parts are those of an [`Expression`](winnow_expression::combinator::impls::Expression): the
-/// clause `exact` is about the runs that it means. It says too that where a tree keeps the powers,
-/// a failure is the refusal of a fold, on values of trees that are read; so there is no tree where
-/// it is not, as where nothing was consumed. Clause `fails` adds that where no fold refuses, and
-/// each operator that is read consumes, a failure has the kind and the rest of the answer that
-/// ended the reading, and clause `ended` that this answer is one. Want of memory is left aside.
+/// Then at most one tree over a prefix of the reading respects precedence. The expression succeeds
+/// if and only if there is one whose folds succeed. It returns the value of that tree, and leaves
+/// the input where the tree ends.
+///
+/// The parts are those of an [`Expression`](winnow_expression::combinator::impls::Expression):
+/// clause `exact` is about its calls. It also states that if a tree respects precedence, a failure
+/// is that of a fold, for values of trees that are read. So there is no tree after another failure,
+/// as if nothing was consumed.
+///
+/// Clause `fails` adds: if no fold fails, and each operator that is read consumes input, a failure
+/// has the kind and the rest of the result that ended the reading. Clause `ended` adds that this
+/// result is unique. Out of memory is excepted.
 ///
 /// ```
 /// use winnow_expression_trees::laws::{Likeness, expression_reads_the_one_tree};
@@ -133,10 +138,10 @@ pub fn expression_reads_the_one_tree<
         → (k ≡ memory → ⊥) → (l ≡ memory → ⊥) → (k ≡ l) × (j ≡ n) }
 {}
 
-/// At most one tree over a beginning of what the parts read keeps the powers at a level: where the
-/// input decides what each part answers, up to outputs and folds that are alike. Nothing is asked
-/// of the folds, of what parts consume or of their states, and nothing need be run. Two such trees
-/// have the same shape, powers and end, and end in the same way.
+/// States that at most one tree over a prefix of the parts' reading respects precedence at a level.
+/// The input must determine the result of each part, up to equivalent outputs and folds. There are
+/// no requirements on the folds, on the input that parts consume or on their states, and nothing
+/// need be run. Two such trees have the same shape, powers and end, and end in the same way.
 ///
 /// ```
 /// use winnow_expression_trees::laws::{Likeness, at_most_one_tree_keeps_the_powers};
@@ -196,16 +201,18 @@ pub fn at_most_one_tree_keeps_the_powers<
         → AlikeTree A.alike B.alike C.alike D.alike r u × (m ≡ n) × (b ≡ c) }
 {}
 
-/// Where an assert rule refuses there is no tree that keeps the powers, and so where any run fails
-/// in which no fold refuses, whatever its kind; want of memory aside.
+/// States that no tree respects precedence after an assert rule fails. The same holds after any
+/// call that fails although no fold fails, for every kind except out of memory.
 ///
-/// Clause `asserts` is about the runs in which neither a part nor a fold fails (`asserting`): they
-/// fail by an assert rule alone, with its kind, as clause `kind` says. Clause `failures` is about
-/// those in which no fold refuses (`accepting`): a part may fail there too. Clause `ends` says of
-/// these that they fail with the kind and the rest of the answer that ended the reading, or that an
-/// operator was read that consumes nothing. Clause `within` says that the first are among the
-/// second, `run` that these are runs of the expression, and `either` that each other run of it ends
-/// with the answer of a fold that refuses.
+/// Clause `asserts` is about the calls in which neither a part nor a fold fails (`asserting`): they
+/// fail only by an assert rule, with its kind, as clause `kind` states. Clause `failures` is about
+/// those in which no fold fails (`accepting`): a part may fail there too. Clause `ends` states that
+/// these fail with the kind and the rest of the result that ended the reading, or that an operator
+/// was read that consumes nothing.
+///
+/// Clause `within` states that the first calls are among the second ones, `run` that these are
+/// calls of the expression, and `either` that each other call of it ends with the result of a fold
+/// that fails.
 ///
 /// ```
 /// use winnow_expression_trees::laws::{Likeness, no_tree_where_an_assert_rule_refuses};

@@ -1,8 +1,7 @@
-//! The trees of operator expressions: a run gives the value of the one tree over what it reads that
-//! keeps the powers of the operators.
+//! The trees of operator expressions: a call gives the value of the only tree over its reading that
+//! respects precedence.
 //!
-//! A tree, the powers that it keeps and its value are defined without a word of calls and of their
-//! least powers.
+//! A tree, its precedence and its value are defined without calls and their least powers.
 #![tactic(auto)]
 
 pub mod laws;

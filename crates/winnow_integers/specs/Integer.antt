@@ -33,7 +33,7 @@ signed_of (b ∷ bytes) =
     if nat_lt b 128 then pos (value_of (b ∷ bytes))
     else pos (value_of (b ∷ bytes)) -ℤ pos (256 ^ suc (length bytes))
 
--- bytes that stand in an order, the highest of them first
+-- bytes of an order, as most significant byte first
 abbrev pub highest_first : Endianness → List ℕ → List ℕ
 highest_first Big bytes = bytes
 highest_first Little bytes = reverse bytes
@@ -50,11 +50,11 @@ signed_value order bytes = signed_of (highest_first order bytes)
 abbrev pub AreBytes : List ℕ → Type 0
 AreBytes bytes = All (λ b. b < 256) bytes
 
--- A run of the parser of an integer of that many bytes, each list of which has a value.
+-- A call of the parser of an integer of `width` bytes, with the value that `value` gives for them.
 abbrev pub IntegerRuns : {S O : Type 0} → ℕ → (List ℕ → O) → Reading ℕ S → ErrorForm → Input ℕ
     → Answer O → Input ℕ → Type 0
 IntegerRuns width value reading form i answer j =
-    -- that many bytes are passed, and their value is answered
+    -- `width` bytes are passed, and their value is returned
     ((bytes : List ℕ) × (length bytes ≡ width) × AreBytes bytes × Passes reading bytes i j
     × (answer ≡ Ok (value bytes)))
     -- there are too few

@@ -1,4 +1,4 @@
--- What the laws of integers say.
+-- The statements of the laws of integers.
 use Rattle.std.specs.Prelude.{◌≡◌, ◌↔◌, ⊤, ℕ, List, ◌++◌, length, reverse, Ok}
 use Rattle.std.proofs.Common.{refl, sym, ap, ◌∙◌, arith, inl, inr, length-append}
 use Rattle.std.proofs.lemmas.List.{length-reverse, reverse-reverse}
@@ -11,12 +11,12 @@ use Rattle.winnow_integers.specs.Integer.{IntegerRuns}
 use Rattle.winnow_integers.specs.Integer.Reads.{same_fronts}
 use Rattle.winnow_integers.specs.Integer.Values.{reverse_are_bytes}
 
--- an input at the same place, of which other tokens are left
+-- an input at the same position, with other remaining tokens
 abbrev pub with_tokens : {T : Type 0} → List T → Input T → Input T
 with_tokens tokens i = record i { left = record i.left { tokens = tokens } }
 
--- Where that many bytes are left, the one parser has the runs that the other has where these are
--- left in the other order: with the same answer and rest.
+-- `ReadsReversed width one other`: on an input that starts with `width` bytes, `one` has the calls
+-- that `other` has for these bytes in reverse order, with the same result and rest.
 abbrev pub ReadsReversed : {O : Type 0} → ℕ → Runs ⊤ ℕ O → Runs ⊤ ℕ O → Type 0
 ReadsReversed {O} width one other =
     (i : Input ℕ) (bytes rest : List ℕ) (answer : Answer O) (j : Input ℕ)

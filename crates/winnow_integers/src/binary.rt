@@ -1,5 +1,4 @@
-//! Parsers of binary data, as winnow's documentation has them: integers whose bytes stand in one
-//! order.
+//! Parsers of binary data, as in winnow's documentation: integers whose bytes are in one order.
 
 mod big_endian;
 mod bytes;

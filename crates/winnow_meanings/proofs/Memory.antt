@@ -1,4 +1,4 @@
--- What a combinator makes of runs that do not want memory.
+-- Lemmas: calls of combinators that are not out of memory.
 use Rattle.std.specs.Prelude.{◌≡◌, ℕ, Option, None, List, [], ◌∷◌, Ok, Err}
 use Rattle.std.specs.List.{FoldsTo}
 use Rattle.std.proofs.Common.{refl, ap, inl, inr, ◌∙◌}
@@ -32,7 +32,7 @@ back_given e = cc
 kind_is : {O : Type 0} {k l : Kind} → ◌≡◌ {A = Answer O} (Err k) (Err l) → k ≡ l
 kind_is e = cc
 
--- a child's error that is handed on
+-- a child's error that is returned unchanged
 handed : {O Q : Type 0} {k : Kind} {answer : Answer Q} → answer ≡ Err k → IsGivenMemory answer
     → IsGivenMemory {O = O} (Err k)
 handed e other w = other (e ∙ ap (λ z. Err z) (kind_is w))

@@ -10,11 +10,11 @@ use Rattle.winnow_core.specs.Literal.{LiteralRuns}
 use Rattle.winnow_core.specs.Runs.{Keeps, Runs}
 use Rattle.winnow_core.specs.Sequence.{SequenceRuns2}
 
--- a byte, which stands for what it spells and is the output
+-- a byte, which is its own output
 abbrev pub ByteRuns : {T L : Type 0} → Reading T L → ErrorForm → (ℕ → List T → Type 0) → Runs ℕ T ℕ
 ByteRuns reading form spells = Keeps (λ s. LiteralRuns reading form (spells s) (λ _. s))
 
--- the longest beginning of decimal digits, at least one
+-- one or more decimal digits
 abbrev pub DigitsRuns : {K T L : Type 0} → (K → ℕ) → (K → T) → Reading T L → ErrorForm → Runs ⊤ T L
 DigitsRuns code seen reading form = Keeps (λ _. ClassRuns IsDecDigit 1 code seen reading form)
 

@@ -1,4 +1,4 @@
--- What it is for two parsers to mean the same runs.
+-- Equality of the semantics of two parsers.
 use Rattle.std.specs.Prelude.{◌↔◌}
 use Rattle.streams.specs.Input.{Input}
 use Rattle.stream_errors.specs.Form.{Answer}

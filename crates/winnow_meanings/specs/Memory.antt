@@ -1,11 +1,11 @@
--- What it is that want of memory is never hidden.
+-- Out of memory is never hidden.
 use Rattle.std.specs.Prelude.{◌≡◌, Err}
 use Rattle.streams.specs.Input.{Input}
 use Rattle.streams.specs.Kind.{memory}
 use Rattle.stream_errors.specs.Form.{Answer}
 use Rattle.winnow_core.specs.Runs.{Runs}
 
--- The answer is anything but want of memory.
+-- The result is not out of memory.
 abbrev pub IsGivenMemory : {O : Type 0} → Answer O → Type 0
 IsGivenMemory answer = answer ≡ Err memory → ⊥
 

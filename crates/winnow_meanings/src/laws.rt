@@ -11,10 +11,10 @@ use winnow_core::parser::Parser;
 
 /// Runs a parser once: `parser.parse_next(input)`.
 ///
-/// Whatever it is made of, the answer, what is left and the kind of an error are those of one run
-/// that its meaning has from its state and this input. The meaning is the parser's definition, and
-/// that of a composition is made of its children's, as the laws of [`compositions`] have it: its
-/// derivation by ordered choice. Whatever the answer, the input is left at an end of what it was.
+/// For every parser, the result, the rest and the kind of an error are those of one call in its
+/// semantics, from its state and this input. The semantics of a composition is defined by those of
+/// its children, as the laws of [`compositions`] show: it is the derivation by ordered choice.
+/// Whatever the result, the call leaves a suffix of the input.
 #[inline]
 pub fn each_call_ends_as_its_derivation<P: Parser<I, O, E>, I: Stream, O, E: ParserError<I>>(
     parser: &mut P,

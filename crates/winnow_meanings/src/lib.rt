@@ -1,7 +1,7 @@
-//! What a parser means, whatever it is made of: the law of each call, and what compositions mean.
+//! The semantics of parsers: the law of each call, and the semantics of compositions.
 //!
-//! The definitions stand in the `specs/` of the crates below, one of each parser. Here is how they
-//! go together.
+//! The definitions are in the `specs/` of the crates that this one depends on, one for each parser.
+//! This crate shows how they combine.
 #![tactic(auto)]
 
 pub mod laws;

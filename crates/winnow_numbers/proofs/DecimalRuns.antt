@@ -201,7 +201,6 @@ module _ {K T S : Type 0} (seen : K → T) (code : K → ℕ) (reading : Reading
     is.1 ∙ ap (λ v. if c == 45 then neg_ℤ (pos v) else pos v) same,
   )
 
-  -- ... as an answer, if there is one
   pub signed_some : (i a j : Input T) (sign : Option ℕ) (m : ℕ) (answer : Option ℤ)
       → SignRuns seen code reading true i (sign_of sign) a
       → ((digits : List ℕ) × DigitsRuns seen code reading true a digits j

@@ -104,7 +104,6 @@ module _ {K T S : Type 0} (seen : K → T) (code : K → ℕ) (reading : Reading
         begun.value ∙ value_is 10 all,
       )
 
-  -- since a whole input ends
   pub begun_ended : (i j k : Input T) (n : ℕ) (cut : Bool) → Begun seen code reading i j n
       → j.left.tokens ≡ [] → k ≡ j → cut ≡ k.status.cut → cut ≡ false → Passed i k n
   begun_ended i j k n cut begun none same status whole =
@@ -112,7 +111,6 @@ module _ {K T S : Type 0} (seen : K → T) (code : K → ℕ) (reading : Reading
       subst P (sym same) (begun_all i j n begun (inl none)
       (λ e. ap (λ x. x.status.cut) (sym same) ∙ sym status ∙ whole))
 
-  -- or another character follows, before which the input stands again
   pub begun_stopped : (i j k m : Input T) (n : ℕ) (x : K) (c : ℕ) (p : Remaining T)
       → Begun seen code reading i j n → Passes reading (seen x ∷ []) j k → c ≡ code x
       → (IsDecDigit c → ⊥) → p ≡ j.left → m ≡ back_at p k → Passed i m n
@@ -131,7 +129,6 @@ module _ {K T S : Type 0} (seen : K → T) (code : K → ℕ) (reading : Reading
       some_left : {t : T} {ts : List T} → t ∷ ts ≡ [] → ⊥
       some_left e = cc
 
-  -- where a token was passed, fewer units are left
   pub passes_fewer : (i j : Input T) (t : T) → Passes reading (t ∷ []) i j
       → reading.units j.left.tokens < reading.units i.left.tokens
   passes_fewer i j t p = omega (

@@ -1,4 +1,4 @@
--- The numeral that stands first among the bytes of one load.
+-- The numeral at the start of the bytes of one load.
 use Rattle.std.proofs.Common.{◌≡◌, ◌∙◌, ◌+◌, ◌*◌, ◌-◌, ◌%◌, ◌<◌, ◌≤◌, ◌++◌, ◌∷◌, ◌⊎◌, ℕ, List, []}
 use Rattle.std.proofs.Common.{Fits, ap, ap₂, arith, cond, drop, inl, inr, length, ltb, map, not}
 use Rattle.std.proofs.Common.{append_assoc, refl, replicate, slice_index_or, subst, sym, take, w8}
@@ -30,7 +30,6 @@ others_are xs long =
     (tops_compared w8 ltb (replicate 16 9) xs ∙ zip2_splat_left ltb 9 16 xs long)
     ∙ mask_l-mod (map (ltb 9) xs) 64 (omega (arith, length-map xs (ltb 9), long))
 
--- one digit more stands first
 one_more : (x : ℕ) (xs : List ℕ) (count : ℕ) → x ≤ 9 → EndsDigits xs count
     → EndsDigits (x ∷ xs) (1 + count)
 one_more x xs count most (front, other, rest, e, long, all, above) = (
@@ -43,7 +42,6 @@ one_more x xs count most (front, other, rest, e, long, all, above) = (
   above,
 )
 
--- where one is set, digits stand before the first of those
 ends_at : (xs : List ℕ) → 0 < mask_l (map (ltb 9) xs)
     → EndsDigits xs (prefix_len (λ x. not (ltb 9 x)) xs)
 ends_at [] some = absurd (omega (arith, some))
@@ -74,7 +72,6 @@ ends_digits xs others long are some =
 
 -- ---- the first digits
 
--- that many lanes are there, and they are digits
 pub front_of : (xs : List ℕ) (count : ℕ) → EndsDigits xs count
     → AreAtMost 9 (take count xs) × (count < length xs)
 front_of xs count (front, other, rest, e, long, all, above) =
@@ -142,7 +139,6 @@ number_of n (d ∷ digits) all =
     ap (λ v. in_base 10 (n * 10 + v) (map less digits)) (value_of d all.0)
     ∙ number_of (n * 10 + digit_value d) digits all.1
 
--- A numeral stands first, where no '0' does.
 begins : (bytes digits : List ℕ) (last : ℕ) (more : List ℕ)
     → take 16 bytes ≡ digits ++ last ∷ more → AllByRecursion IsDecDigit digits
     → (IsDecDigit last → ⊥) → (slice_index_or bytes 0 0 ≡ 48 → ⊥) → (length digits ≡ 0 → ⊥)

@@ -80,7 +80,6 @@ module _ {K T S : Type 0} (seen : K → T) (code : K → ℕ) (reading : Reading
       one_more t tokens d digits rest f.token f.same is byte (spelled digits rest tokens all.1
       (ap (λ l. l ++ bytes_of tokens) (sym no_others) ∙ same_others whole))
 
-  -- where the bytes go on with another than a digit, no digit stands first
   stops : (behind : List T) (last : ℕ) (more : List ℕ) → bytes_of behind ≡ last ∷ more
       → (IsDecDigit last → ⊥) → NoneFirst seen code IsDecDigit behind × (behind ≡ [] → ⊥)
   stops [] last more e ends = absurd (let f = sym no_bytes ∙ e in cc)

@@ -136,7 +136,7 @@ module _ {K T S : Type 0} (seen : K → T) (code : K → ℕ) (reading : Reading
       let same : most ≡ length front = cc in inr (sym same)
   ended_at front rest cut (inr e) none = inl e
 
-  -- what is taken: as many digits as stand first, at most as many as the type holds
+  -- the longest prefix of digits, with at most as many as the type holds, is taken
   pub record TakesHex (i : Input T) (slice : S) (j : Input T) : Type 0 where
     pub front : List T
     pub digits : List ℕ
@@ -244,7 +244,6 @@ module _ {K T S : Type 0} (seen : K → T) (code : K → ℕ) (reading : Reading
         same,
       )))
 
-  -- all that is left of a cut input are as many digits as the type holds
   pub hex_open : {N : Type 0} (number : N → ℕ) (form : ErrorForm) (i : Input T) (slice : S)
       (j : Input T) (k : Kind) (m : Input T) (taken : TakesHex i slice j)
       → length taken.digits ≡ most → j.left.tokens ≡ [] → j.status.cut ≡ true
@@ -307,7 +306,6 @@ module _ {K T S : Type 0} (seen : K → T) (code : K → ℕ) (reading : Reading
       ∙ spelled seen code reading bytes_of add one taken.front taken.digits taken.chars
       (all_ascii taken.digits taken.are)
 
-  -- the bytes of what is taken are digits that fit
   pub bytes_are : (bytes : List ℕ) (i : Input T) (slice : S) (j : Input T)
       → (taken : TakesHex i slice j) → bytes ≡ taken.digits
       → AllByRecursion IsHexDigit bytes × (length bytes ≤ most)

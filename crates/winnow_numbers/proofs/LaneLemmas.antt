@@ -40,7 +40,6 @@ bytes_of (suc n) x below =
     let more = bytes_of n (x / 256) (omega (arith, below, power)) in
     omega (arith, ap (λ y. 256 * y) more)
 
--- lanes of this width are parts of a number of that many digits
 below_power : (size most : ℕ)
     → ((x n power : ℕ) → x ≤ most → n < power → x + size * n < power * size)
     → (xs : List ℕ) → AreAtMost most xs → number_l size xs < size ^ length xs
@@ -206,8 +205,8 @@ zeros_most (suc k) xs all = (omega arith, zeros_most k xs all)
 
 -- ---- lanes that are moved after zeros
 
--- the places that the lanes are taken from, where that many zeros come first: 240 and more before
--- them, where a lane is zero
+-- the indices that the lanes are taken from, with `zeros` zeros first: 240 and more before them,
+-- where a lane is zero
 abbrev places : ℕ → List ℕ
 places zeros = map (λ p. (p + (256 - zeros % 256)) % 256) (range_with_len 0 16)
 

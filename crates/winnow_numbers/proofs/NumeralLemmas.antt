@@ -1,4 +1,4 @@
--- Numerals: what is passed in turn, and what a slice of it shows.
+-- Numerals: the tokens that are passed in sequence, and their slice.
 use Rattle.std.proofs.Common.{◌≡◌, ◌⊎◌, inl, inr, ◌+◌, ◌++◌, ℕ, Bool, true, false, List, [], ◌∷◌}
 use Rattle.std.proofs.Common.{Option, Some, None, Ok, Err, refl, sym, ap, subst, ◌∙◌}
 use Rattle.std.proofs.Common.{arith}
@@ -47,14 +47,12 @@ module _ {K T S : Type 0} (seen : K → T) (code : K → ℕ) (reading : Reading
       (All-tail (λ y. AnswersSeen seen (λ x b. IsTrue b ↔ class (code x)) y true) t ts all) in
       (code head.0 ∷ more.0, ((head.0, head.1, refl), more.1), (head.2.0 refl, more.2))
 
-  -- a token that is no member is a character outside the class
   stranger : (class : ℕ → Type 0) (t : T) (more : List T) (n : ℕ)
       → (AnswersSeen seen (λ x b. IsTrue b ↔ class (code x)) t false
       ⊎ (◌≡◌ {A = Option ℕ} None (Some n))) → IsIn seen code (λ c. class c → ⊥) t
   stranger class t more n (inl (x, is, told)) = (x, is, λ c. absurd (let f = told.1 c in cc))
   stranger class t more n (inr e) = absurd cc
 
-  -- what stands after all members is none
   none_first : (class : ℕ → Type 0) (front rest tokens : List T)
       → IsLongest (AnswersSeen seen (λ x b. IsTrue b ↔ class (code x))) None tokens front rest
       → NoneFirst seen code class rest
@@ -62,7 +60,6 @@ module _ {K T S : Type 0} (seen : K → T) (code : K → ℕ) (reading : Reading
   none_first class front (t ∷ more) tokens longest =
       inr (t, more, refl, stranger class t more _ (longest.stops t more refl))
 
-  -- all members were taken, and nothing is left of a whole input
   ended_whole : (class : ℕ → Type 0) (front rest : List T) (cut : Bool)
       → (IsEnded (AnswersSeen seen (λ x b. IsTrue b ↔ class (code x))) None front rest
       ⊎ (cut ≡ false)) → rest ≡ [] → cut ≡ false
@@ -99,7 +96,7 @@ module _ {K T S : Type 0} (seen : K → T) (code : K → ℕ) (reading : Reading
   more_digits form a slice j
       (inr (inr (inr (front, rest, within, longest, ended, few, e, same)))) = absurd cc
 
-  -- only digits are left of a cut input
+  -- the input is partial, and has only digits
   abbrev pub OnlyDigits : ErrorForm → Input T → Kind → Input T → Type 0
   OnlyDigits form a k j =
       All (IsIn seen code IsDecDigit) a.left.tokens × (a.status.cut ≡ true)
@@ -169,7 +166,6 @@ module _ {K T S : Type 0} (seen : K → T) (code : K → ℕ) (reading : Reading
         kind,
       )
 
-  -- a slice that is taken of the start, as long as what was passed, ends where that did
   pub taken_again : (i j k : Input T) (slice : S) (front : List T) (length : ℕ)
       → Passes reading front i j
       → length + reading.units j.left.tokens ≡ reading.units i.left.tokens
@@ -250,7 +246,7 @@ module _ {K T S : Type 0} (seen : K → T) (code : K → ℕ) (reading : Reading
       let q = digits_front seen code reading zero a digits j r in
       (p.0 ++ q.0, passes_two p.1 q.1)
 
-  -- the input stands at the start where the error backtracks, and else where it stood
+  -- the input is reset to the start if the error backtracks, and left at `b` otherwise
   abbrev pub GoesBack : Input T → Kind → Input T → Input T → Type 0
   GoesBack i k b n = (k ≡ backtrack → n ≡ i) × ((k ≡ backtrack → ⊥) → n ≡ b)
 

@@ -1,4 +1,4 @@
--- What a parser with no parts does with tokens, by its runs on an input that is these tokens.
+-- The outcomes of a parser without parts, by its calls on an input of these tokens.
 use Rattle.std.specs.Prelude.{◌≡◌, false, List, [], ◌++◌, ℕ, Option, Ok, Err}
 use Rattle.std.proofs.Common.{refl, sym, ap, subst, ◌∙◌}
 use Rattle.streams.specs.Input.{Input, IsEndOf, Passes, with_more}
@@ -42,7 +42,6 @@ pub plain_passes : {T L : Type 0} (reading : Reading T L) (at : Setting) {front 
     → Passes (no_places reading) front (plain_at at tokens) (plain_at at rest)
 plain_passes reading at e = record { tokens = e; place = refl; possible = refl; status = refl }
 
--- what is asked for is said by the answer
 asked : {T O : Type 0} (answer : Answer O) (need : Option ℕ) (place rest : List T)
     → ◌≡◌ {A = Outcome T O} (asks need place) (outcome_of answer rest)
     → answer ≡ Err (incomplete need)
@@ -88,8 +87,8 @@ like_answers {T} alike (Err k) (Err l) rest end like e =
     let Q : List T → Type 0 = λ t. Alike alike (outcome_of (Err k) rest) (outcome_of (Err k) t) in
     subst P like (subst Q e (same_kind alike k rest))
 
--- What is done with tokens is a run on them, and each run does so. Then what is known of runs
--- suffices.
+-- Each outcome for tokens is a call on them, and each call has such an outcome. So lemmas about
+-- calls suffice.
 pub record ByRuns {T L O : Type 0} (reading : Reading T L) (says : Says T O)
     (runs : ErrorForm → Reading T L → Input T → Answer O → Input T → Type 0) : Type 1 where
   pub to : (at : Setting) (tokens : List T) (y : Outcome T O) → says.does at tokens y

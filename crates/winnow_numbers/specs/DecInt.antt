@@ -16,13 +16,13 @@ abbrev pub DecIntRuns : {N K T S : Type 0} → (N → ℤ) → (ℤ → Type 0) 
     → Reading T S
     → ErrorForm → Input T → Answer N → Input T → Type 0
 DecIntRuns {N} {K} {T} {S} number fits seen code reading form i answer j =
-    -- a numeral stands first, and its number fits
+    -- the input starts with a numeral, and its number fits
     ((sign : List ℕ) × (digits : List ℕ) × (n : N)
     × NumeralRuns seen code reading true i sign digits j × fits (signed_value sign digits)
     × (number n ≡ signed_value sign digits) × (answer ≡ Ok n))
-    -- its number does not fit: the input stands at the start
+    -- its number does not fit: the input is reset to the start
     ⊎ (((sign : List ℕ) × (digits : List ℕ) × (a : Input T)
     × NumeralRuns seen code reading true i sign digits a × (fits (signed_value sign digits) → ⊥)
     × (answer ≡ Err backtrack) × (j ≡ i))
-    -- no numeral stands first
+    -- the input does not start with a numeral
     ⊎ ((k : Kind) × NoNumeral seen code reading form true i k j × (answer ≡ Err k)))

@@ -15,13 +15,13 @@ pub mod Says
 abbrev pub DecUintRuns : {N K T S : Type 0} → (N → ℕ) → ℕ → (K → T) → (K → ℕ) → Reading T S
     → ErrorForm → Input T → Answer N → Input T → Type 0
 DecUintRuns {N} {K} {T} {S} number bound seen code reading form i answer j =
-    -- a numeral stands first, and its number fits
+    -- the input starts with a numeral, and its number fits
     ((digits : List ℕ) × (n : N)
     × NumeralRuns seen code reading false i [] digits j × (value_in 10 digits < bound)
     × (number n ≡ value_in 10 digits) × (answer ≡ Ok n))
-    -- its number does not fit: the input stands at the start
+    -- its number does not fit: the input is reset to the start
     ⊎ (((digits : List ℕ) × (a : Input T)
     × NumeralRuns seen code reading false i [] digits a × (bound ≤ value_in 10 digits)
     × (answer ≡ Err backtrack) × (j ≡ i))
-    -- no numeral stands first
+    -- the input does not start with a numeral
     ⊎ ((k : Kind) × NoNumeral seen code reading form false i k j × (answer ≡ Err k)))

@@ -10,8 +10,8 @@ pub record IsDecimalOf (digits : List ℕ) (n : ℕ) : Type 0 where
   pub lone_zero : (others : List ℕ) → digits ≡ 48 ∷ others → others ≡ []
   pub value : value_in 10 digits ≡ n
 
--- The digits are those of the number without its sign: '-' stands before them where it is negative,
--- and '+' may where it is positive.
+-- The digits are those of the number without its sign: '-' precedes them if it is negative, and '+'
+-- may precede them if it is positive.
 abbrev pub IsSignedDecimalOf : List ℕ → List ℕ → ℤ → Type 0
 IsSignedDecimalOf sign digits z =
     (n : ℕ) × IsDecimalOf digits n

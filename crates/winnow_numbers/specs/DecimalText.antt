@@ -14,8 +14,8 @@ AreDigits digits = (0 < length digits) × AllByRecursion IsDecDigit digits
 abbrev pub IsUnsignedText : List ℕ → List ℕ → Type 0
 IsUnsignedText text digits = AreDigits digits × ((text ≡ digits) ⊎ (text ≡ 43 ∷ digits))
 
--- The number of a type, below `bound`, that a text is read as: none exactly where it is no digits,
--- or their number does not fit.
+-- The number of a type, below `bound`, that a text is parsed as. It is `None` if and only if the
+-- text is not digits, or their number does not fit.
 pub record ReadsUnsigned {N : Type 0} (number : N → ℕ) (bound : ℕ) (text : List ℕ)
     (answer : Option N) : Type 0 where
   pub reads : (digits : List ℕ) → IsUnsignedText text digits
@@ -35,8 +35,8 @@ signed_value [] digits = pos (value_in 10 digits)
 signed_value (c ∷ cs) digits =
     if c == 45 then neg_ℤ (pos (value_in 10 digits)) else pos (value_in 10 digits)
 
--- The number of a type, of those that fit it, that a text is read as: none exactly where it is no
--- digits after a sign, or their number does not fit.
+-- The number of a type, of those that fit it, that a text is parsed as. It is `None` if and only if
+-- the text is not digits after a sign, or their number does not fit.
 pub record ReadsSigned {N : Type 0} (number : N → ℤ) (fits : ℤ → Type 0) (text : List ℕ)
     (answer : Option N) : Type 0 where
   pub reads : (sign digits : List ℕ) → IsSignedText text sign digits

@@ -3,7 +3,7 @@ use Rattle.std.specs.Prelude.{◌≡◌, ◌+◌, ◌*◌, ◌^◌, ⊤, ℕ, Li
 use Rattle.std.specs.Char.{digit_value}
 pub mod Known
 
--- Tokens that are seen alike are one character.
+-- Tokens with the same view are one character.
 abbrev pub SeenOnce : {K T : Type 0} → (K → T) → (K → ℕ) → Type 0
 SeenOnce {K} seen code = (x y : K) → seen x ≡ seen y → code x ≡ code y
 
@@ -12,15 +12,16 @@ SeenOnce {K} seen code = (x y : K) → seen x ≡ seen y → code x ≡ code y
 abbrev pub IsIn : {K T : Type 0} → (K → T) → (K → ℕ) → (ℕ → Type 0) → T → Type 0
 IsIn {K} seen code class t = (x : K) × (seen x ≡ t) × class (code x)
 
--- No character of the class stands first: nothing does, or another character.
+-- The tokens do not start with a character of the class: they are empty, or start with another
+-- character.
 abbrev pub NoneFirst : {K T : Type 0} → (K → T) → (K → ℕ) → (ℕ → Type 0) → List T → Type 0
 NoneFirst {K} {T} seen code class tokens =
-    -- nothing is left
+    -- no tokens remain
     (tokens ≡ [])
-    -- another character stands first
+    -- they start with another character
     ⊎ ((t : T) × (rest : List T) × (tokens ≡ t ∷ rest) × IsIn seen code (λ c. class c → ⊥) t)
 
--- A character of the class stands first.
+-- The tokens start with a character of the class.
 abbrev pub SomeFirst : {K T : Type 0} → (K → T) → (K → ℕ) → (ℕ → Type 0) → List T → Type 0
 SomeFirst {K} {T} seen code class tokens =
     (t : T) × (rest : List T) × (tokens ≡ t ∷ rest) × IsIn seen code class t

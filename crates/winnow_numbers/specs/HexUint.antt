@@ -17,21 +17,21 @@ pub mod Says
 abbrev pub HexUintRuns : {N K T S : Type 0} → (N → ℕ) → ℕ → (K → T) → (K → ℕ) → Reading T S
     → ErrorForm → Input T → Answer N → Input T → Type 0
 HexUintRuns {N} {K} {T} {S} number most seen code reading form i answer j =
-    -- all hexadecimal digits that stand first are taken, at least one and at most those that the
-    -- type holds; on a cut input another token follows
+    -- the longest prefix of hexadecimal digits is taken, at least one and at most those that the
+    -- type holds; on partial input another token follows
     ((front : List T) × (digits : List ℕ) × (n : N) × Passes reading front i j
     × AreCharacters seen code front digits × AllByRecursion IsHexDigit digits
     × (0 < length digits) × (length digits ≤ most)
     × NoneFirst seen code IsHexDigit j.left.tokens
     × (j.left.tokens ≡ [] → j.status.cut ≡ false)
     × (number n ≡ value_in 16 digits) × (answer ≡ Ok n))
-    -- nothing but such digits is left of a cut input, and the type holds all of them
+    -- the input is partial and has only such digits, and the type holds all of them
     ⊎ ((All (IsIn seen code IsHexDigit) i.left.tokens × (length i.left.tokens ≤ most)
     × (i.status.cut ≡ true) × (answer ≡ Err (incomplete_kind form (Some 1))) × (j ≡ i))
-    -- no such digit stands first
+    -- the input does not start with such a digit
     ⊎ ((NoneFirst seen code IsHexDigit i.left.tokens
     × (i.left.tokens ≡ [] → i.status.cut ≡ false) × (answer ≡ Err backtrack) × (j ≡ i))
-    -- more of them stand first than the type holds
+    -- the input starts with more of them than the type holds
     ⊎ ((front : List T) × (t : T) × (rest : List T) × (i.left.tokens ≡ front ++ t ∷ rest)
     × All (IsIn seen code IsHexDigit) front × (length front ≡ most)
     × IsIn seen code IsHexDigit t × (answer ≡ Err backtrack) × (j ≡ i))))

@@ -4,8 +4,9 @@ use Rattle.std.specs.List.{AllByRecursion}
 use Rattle.stream_sets.specs.AsChar.{IsDecDigit}
 use Rattle.winnow_numbers.specs.Numeral.{IsLeadingDigit}
 
--- The bytes begin with the digits of a numeral, and the rest stands after them: a lone '0', or a
--- digit from 1 to 9 and all digits after it, and then another byte.
+-- `BeginsNumeral bytes digits rest`: `bytes` starts with the digits of a numeral, followed by
+-- `rest`. They are a single '0', or a digit from 1 to 9 and all digits after it, and then another
+-- byte comes.
 abbrev pub BeginsNumeral : List ℕ → List ℕ → List ℕ → Type 0
 BeginsNumeral bytes digits rest =
     (bytes ≡ digits ++ rest)
@@ -21,7 +22,7 @@ abbrev pub AreAtMost : ℕ → List ℕ → Type 0
 AreAtMost most [] = ⊤
 AreAtMost most (x ∷ xs) = (x ≤ most) × AreAtMost most xs
 
--- The first lanes, that many, are at most 9, and the next one is above.
+-- `EndsDigits lanes count`: the first `count` lanes are at most 9, and the next one is above.
 abbrev pub EndsDigits : List ℕ → ℕ → Type 0
 EndsDigits lanes count =
     (front : List ℕ) × (other : ℕ) × (rest : List ℕ) × (lanes ≡ front ++ other ∷ rest)

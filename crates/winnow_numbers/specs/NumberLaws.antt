@@ -4,7 +4,7 @@ use Rattle.std.proofs.Common.{sym, subst}
 use Rattle.streams.specs.Kind.{Kind}
 use Rattle.stream_errors.specs.Form.{Answer}
 
--- Both answers are outputs of one number, or errors of one kind.
+-- Both results are outputs of one number, or errors of one kind.
 abbrev pub AnswersSame : {N V : Type 0} → (N → V) → Answer N → Answer N → Type 0
 AnswersSame number (Ok m) (Ok n) = number m ≡ number n
 AnswersSame number (Ok m) (Err l) = ⊥

@@ -23,47 +23,47 @@ IsSign c = (c ≡ 43) ⊎ (c ≡ 45)
 abbrev pub IsLeadingDigit : ℕ → Type 0
 IsLeadingDigit c = (49 ≤ c) × (c ≤ 57)
 
--- Where a sign may stand, the one that stands first is passed; else none is.
+-- If a sign is allowed, one at the start is passed. Otherwise nothing is passed.
 abbrev pub SignRuns : {K T S : Type 0} → (K → T) → (K → ℕ) → Reading T S → Bool → Input T
     → List ℕ → Input T → Type 0
 SignRuns {K} seen code reading signed i sign j =
-    -- a sign may stand, and one stands first
+    -- a sign is allowed, and the input starts with one
     ((x : K) × (signed ≡ true) × IsSign (code x) × Passes reading (seen x ∷ []) i j
     × (sign ≡ code x ∷ []))
     -- none does
     ⊎ ((signed ≡ true → NoneFirst seen code IsSign i.left.tokens) × (sign ≡ []) × (j ≡ i))
 
--- Digits are passed: a lone '0', where it may stand; or a digit from 1 to 9 and all digits after
--- it, and no more input adds one.
+-- Digits are passed: a single '0', if it is allowed; or a digit from 1 to 9 and all digits after
+-- it, and more input adds no digit.
 abbrev pub DigitsRuns : {K T S : Type 0} → (K → T) → (K → ℕ) → Reading T S → Bool → Input T
     → List ℕ → Input T → Type 0
 DigitsRuns {K} {T} seen code reading zero i digits j =
     -- a lone '0'
     ((x : K) × (zero ≡ true) × (code x ≡ 48) × Passes reading (seen x ∷ []) i j
     × (digits ≡ 48 ∷ []))
-    -- a digit from 1 to 9 and those after it: another character follows, or a whole input ends
+    -- a digit from 1 to 9 and those after it: another character follows, or complete input ends
     ⊎ ((front : List T) × (first : ℕ) × (others : List ℕ) × (digits ≡ first ∷ others)
     × IsLeadingDigit first × AllByRecursion IsDecDigit others × Passes reading front i j
     × AreCharacters seen code front digits × NoneFirst seen code IsDecDigit j.left.tokens
     × (j.left.tokens ≡ [] → j.status.cut ≡ false))
 
--- The input is too short for digits: nothing is left, or nothing but a digit from 1 to 9, which is
--- passed, and digits.
+-- The input is too short for digits: it is empty, or has only a digit from 1 to 9, which is passed,
+-- and further digits.
 abbrev pub LacksDigits : {K T S : Type 0} → (K → T) → (K → ℕ) → Reading T S → Input T → Input T
     → Type 0
 LacksDigits {K} seen code reading i j =
-    -- nothing is left
+    -- no tokens remain
     ((i.left.tokens ≡ []) × (j ≡ i))
-    -- the first digit is passed, and nothing but digits is left
+    -- the first digit is passed, and only digits remain
     ⊎ ((x : K) × IsLeadingDigit (code x) × Passes reading (seen x ∷ []) i j
     × All (IsIn seen code IsDecDigit) j.left.tokens)
 
--- No digits stand first: nothing does, or another character.
+-- The input does not start with digits: it is empty, or starts with another character.
 abbrev pub NoDigits : {K T : Type 0} → (K → T) → (K → ℕ) → Bool → Input T → Type 0
 NoDigits {K} {T} seen code zero i =
-    -- a whole input has nothing left
+    -- complete input is empty
     ((i.left.tokens ≡ []) × (i.status.cut ≡ false))
-    -- another character stands first, or a '0' that may not
+    -- the input starts with another character, or with a '0' that is not allowed
     ⊎ ((x : K) × (rest : List T) × (i.left.tokens ≡ seen x ∷ rest)
     × (IsLeadingDigit (code x) → ⊥) × (zero ≡ true → code x ≡ 48 → ⊥))
 
@@ -82,15 +82,15 @@ abbrev pub SignedBy : Option ℕ → ℕ → ℤ → Type 0
 SignedBy None n z = z ≡ pos n
 SignedBy (Some c) n z = (0 < n) × (z ≡ (if c == 45 then neg_ℤ (pos n) else pos n))
 
--- A numeral is passed: a sign, where one may stand, and digits. A '0' has no sign.
+-- A numeral is passed: a sign, if one is allowed, and digits. A '0' has no sign.
 abbrev pub NumeralRuns : {K T S : Type 0} → (K → T) → (K → ℕ) → Reading T S → Bool → Input T
     → List ℕ → List ℕ → Input T → Type 0
 NumeralRuns {K} {T} seen code reading signed i sign digits j =
     (a : Input T) × SignRuns seen code reading signed i sign a
     × DigitsRuns seen code reading (is_none sign) a digits j
 
--- where an input stands that is too short: under errors with a mode after what was passed, under
--- plain errors at the start
+-- the position in an input that is too short: after the tokens that were passed for errors with a
+-- mode, and at the start for plain errors
 abbrev pub left_by : {T : Type 0} → ErrorForm → Input T → Input T → Input T
 left_by plain i passed = i
 left_by modal i passed = passed
@@ -100,8 +100,8 @@ abbrev pub NoNumeral : {K T S : Type 0} → (K → T) → (K → ℕ) → Readin
     → Input T → Kind → Input T → Type 0
 NoNumeral {K} {T} seen code reading form signed i k j =
     (sign : List ℕ) × (a : Input T) × SignRuns seen code reading signed i sign a
-    -- a cut input is too short: it stands after the sign and the first digit that are there
+    -- partial input is too short: it is left after the sign and the first digit that are there
     × (((b : Input T) × LacksDigits seen code reading a b × (i.status.cut ≡ true)
     × (k ≡ incomplete_kind form (Some 1)) × (j ≡ left_by form i b))
-    -- no digits stand after the sign: the input stands at the start
+    -- no digits follow the sign: the input is reset to the start
     ⊎ (NoDigits seen code (is_none sign) a × (k ≡ backtrack) × (j ≡ i)))

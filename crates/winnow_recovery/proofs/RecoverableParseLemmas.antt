@@ -1,4 +1,4 @@
--- What a whole parse that records errors comes to, by how its run ended.
+-- The result of a whole parse that records errors, by the end of its call.
 use Rattle.std.specs.Prelude.{◌≡◌, ◌⊎◌, [], List, Option, Some, None, Ok, Err, Result}
 use Rattle.std.specs.Prelude.{IsSome, IsTrue, MatchResult, false, true}
 use Rattle.std.specs.declared.vec.Vec.{Vec}
@@ -31,7 +31,6 @@ wants_or_not P backtrack p = inr (p, λ e. absurd (cc))
 wants_or_not P cut p = inr (p, λ e. absurd (cc))
 wants_or_not P (incomplete need) p = inr (p, λ e. absurd (cc))
 
--- back at the place that was kept is back at the start
 is_back : {I T L : Type 0} (reading : Reading T L) (view : I → Input T) (begin start j : Input T)
     (seen : Remaining T) (back : I) → begin ≡ start → seen ≡ start.left → IsEndOf reading j begin
     → IsBack view (back_at seen j) back → IsBack view start back
@@ -43,7 +42,6 @@ from_start : {S T O : Type 0} (run : Runs S T O) (s t : S) (begin start j : Inpu
     (answer : Answer O) → begin ≡ start → run s begin answer t j → run s start answer t j
 from_start run s t begin start j answer same ran = subst (λ i. run s i answer t j) same ran
 
--- where some units are left, some tokens are
 left_there : {T L : Type 0} (reading : Reading T L) (tokens : List T)
     → (reading.units tokens ≡ 0 → ⊥) → tokens ≡ [] → ⊥
 left_there reading tokens some none = some (ap reading.units none ∙ units-nil reading)
@@ -66,14 +64,13 @@ module _ {S I T O R A L : Type 0} (reading : Reading T L) (run : Runs S T O) (vi
     (is_back reading view begin start j seen back same at ends is, recorded),
   )
 
-  -- What comes back with an error after the others, or where there is no memory for it.
+  -- The result for an error after the others, or without memory for it.
   abbrev Ended : Option O → Kind → Result (I × Option O × Vec R A) (NoMemory I) → Type 0
   Ended output k result = MatchResult result
       (λ all. (all.1 ≡ output) × (k ≡ memory → ⊥)
       × ComesBackWith view kind (back_at seen j) j k all.0 all.2.items)
       (λ refused. IsBack view (back_at seen j) (no_memory_input refused))
 
-  -- something was left
   pub some_left : (o : O) (k : Kind) (result : Result (I × Option O × Vec R A) (NoMemory I))
       → run s begin (Ok o) t j → (reading.units j.left.tokens ≡ 0 → ⊥) → k ≡ backtrack
       → Ended (Some o) k result

@@ -1,4 +1,4 @@
--- What is known while a parser is tried again.
+-- Invariants of the loop that retries a parser.
 use Rattle.std.specs.Prelude.{◌<◌, List, [], ◌∷◌, ◌++◌, Err, length, true}
 use Rattle.std.specs.List.{FoldsTo}
 use Rattle.std.proofs.Common.{ap, arith, refl}

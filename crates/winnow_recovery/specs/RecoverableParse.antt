@@ -9,7 +9,7 @@ use Rattle.winnow_core.specs.CompleteErr.{complete_kind}
 use Rattle.winnow_recovery.specs.declared.parser.NoMemory.{NoMemory}
 pub mod Known
 
--- the stream that comes back where memory was refused
+-- the stream that is returned if memory allocation failed
 abbrev pub no_memory_input : {I : Type 0} → NoMemory I → I
 no_memory_input refused = refused.0
 
@@ -18,23 +18,22 @@ abbrev pub IsBack : {I T : Type 0} → (I → Input T) → Input T → I → Typ
 IsBack view start back =
     ((view back).left ≡ start.left) × ((view back).status.cut ≡ start.status.cut)
 
--- A stream is back at its start, and the errors are those that were recorded, in order, when the
--- input stood at j.
+-- A stream is back at its start, and the errors are those that were recorded at `j`, in order.
 abbrev pub ComesBack : {I T R : Type 0} → (I → Input T) → (R → Kind) → Input T → Input T → I
     → List R → Type 0
 ComesBack view kind start j back errors =
     IsBack view start back × ((view back).status.recorded ++ map kind errors ≡ j.status.recorded)
 
--- So, and after them stands the error that ended the parse, of kind k.
+-- Likewise, followed by the error of kind `k` that ended the parse.
 abbrev pub ComesBackWith : {I T R : Type 0} → (I → Input T) → (R → Kind) → Input T → Input T
     → Kind → I → List R → Type 0
 ComesBackWith {R = R} view kind start j k back errors =
     (earlier : List R) × (last : R) × (errors ≡ earlier ++ last ∷ []) × (kind last ≡ k)
     × ComesBack view kind start j back earlier
 
--- What is answered, where `ran` are the answers and the inputs that the parser's run on all of the
--- input may end with: the stream, the output, and the errors; or that memory was refused, and the
--- stream.
+-- The result, where `ran` gives the results and the inputs with which the parser's call on all of
+-- the input may end. It is the stream, the output, and the errors; or an allocation failure with
+-- the stream.
 abbrev pub RecoverableParses : {I T O R A : Type 0} → (I → Input T) → (R → Kind) → Input T
     → (Answer O → Input T → Type 0) → Result (I × Option O × Vec R A) (NoMemory I) → Type 0
 RecoverableParses {I} {T} {O} view kind start ran result = MatchResult result
@@ -45,7 +44,7 @@ RecoverableParses {I} {T} {O} view kind start ran result = MatchResult result
     -- it succeeds and leaves something: an error that backtracks is the last
     ⊎ (((o : O) × (j : Input T) × ran (Ok o) j × (j.left.tokens ≡ [] → ⊥) × (all.1 ≡ Some o)
     × ComesBackWith view kind start j backtrack all.0 all.2.items)
-    -- it fails: its error is the last, and backtracks where it wants more of a whole input
+    -- it fails: its error is the last, and backtracks if it needs more than the complete input
     ⊎ ((k : Kind) × (j : Input T) × ran (Err k) j × (k ≡ memory → ⊥) × (all.1 ≡ None)
     × ComesBackWith view kind start j (complete_kind k) all.0 all.2.items)))
     (λ refused. IsBack view start (no_memory_input refused) × (

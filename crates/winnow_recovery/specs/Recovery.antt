@@ -7,8 +7,8 @@ use Rattle.stream_errors.specs.Recover.{with_recorded}
 use Rattle.winnow_core.specs.Runs.{Runs}
 pub mod Laws
 
--- What the stream and the errors say of recovery: whether errors are recorded, and whether the
--- error that is answered where a parser did not recover may want memory.
+-- The properties of the stream and the errors that recovery depends on: whether errors are
+-- recorded, and whether the error after a failed recovery may be out of memory.
 pub record Recovery : Type 0 where
   pub recovers : Bool
   pub grows : Bool
@@ -24,7 +24,7 @@ CanRecover cut = ⊤
 CanRecover (incomplete need) = ⊥
 CanRecover memory = ⊥
 
--- Fewer tokens are left.
+-- Fewer tokens remain.
 abbrev pub Consumes : {T : Type 0} → Input T → Input T → Type 0
 Consumes i j = length j.left.tokens < length i.left.tokens
 
@@ -36,18 +36,18 @@ IsRecovered {W} {T} must_consume recover k w x v j =
     (m : Input T) × recover w x (Ok tt) v m × (must_consume ≡ true → Consumes x m)
     × (j ≡ with_recorded m k)
 
--- It is not: an error of kind l is answered, and the input is back where the error arose, with
--- whatever the parser that recovers has recorded.
+-- The error is not recovered: an error of kind `l` is returned, and the input is back where the
+-- error arose, with everything that the recovering parser has recorded.
 abbrev pub IsNotRecovered : {W T : Type 0} → Bool → Bool → Runs W T (Unit {0}) → Kind → W
     → Input T → Kind → W → Input T → Type 0
 IsNotRecovered {W} {T} must_consume grows recover k w x l v j =
     (m : Input T) × (j ≡ back_at x.left m) × (
-    -- the parser that recovers fails: the error is answered
+    -- the recovering parser fails: the error is returned
     ((f : Kind) × recover w x (Err f) v m × (f ≡ memory → ⊥)
     × IsOrMemory k (IsTrue grows) l)
     -- it is out of memory
     ⊎ ((recover w x (Err memory) v m × (l ≡ memory))
-    -- it consumes nothing where it must: the error is answered
+    -- it consumes nothing although it must: the error is returned
     ⊎ (((must_consume ≡ true) × recover w x (Ok tt) v m × (m.left.tokens ≡ x.left.tokens)
     × IsOrMemory k (IsTrue grows) l)
     -- there is no memory to record the error

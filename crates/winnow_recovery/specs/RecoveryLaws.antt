@@ -6,7 +6,7 @@ use Rattle.streams.specs.Kind.{Kind}
 use Rattle.winnow_core.specs.Runs.{Runs}
 use Rattle.winnow_recovery.specs.RecoverableParse.{RecoverableParses}
 
--- Where a whole parse answers no error, it answers an output, and its run left nothing.
+-- If a whole parse returns no error, it returns an output, and its call consumed all input.
 abbrev pub NoErrorIsAWholeParse : {S I T O R : Type 0} → (A : Type 0) → (I → Input T)
     → (R → Kind) → Runs S T O → Type 0
 NoErrorIsAWholeParse {S} {I} {T} {O} {R} A view kind run =

@@ -1,4 +1,4 @@
--- A parser after which one goes on where it could not parse.
+-- A parser that resumes after an error.
 use Rattle.std.specs.Prelude.{◌≡◌, ◌⊎◌, Bool, true, false, Option, Some, None, Ok, Err}
 use Rattle.streams.specs.Input.{Input}
 use Rattle.streams.specs.Kind.{Kind}
@@ -31,7 +31,7 @@ abbrev pub ResumeRuns : {S W T O : Type 0} → Bool → Runs S T O → Runs W T 
 ResumeRuns {S} {W} {T} {O} grows run recover s i answer t j =
     -- the parser succeeds
     ((o : O) × run s.0 i (Ok o) t.0 j × (t.1 ≡ s.1) × (answer ≡ Ok (Some o)))
-    -- it fails by a kind from which it may not recover: that is handed on
+    -- it fails with a kind from which it cannot recover, which is returned unchanged
     ⊎ (((k : Kind) × (CanRecover k → ⊥) × run s.0 i (Err k) t.0 j × (t.1 ≡ s.1)
     × (answer ≡ Err k))
     -- it fails, and recovers: there is no output

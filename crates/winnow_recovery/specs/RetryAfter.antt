@@ -32,7 +32,7 @@ abbrev pub LastTry : {S W T O : Type 0} → Bool → Runs S T O → Runs W T (Un
 LastTry {S} {W} {T} {O} grows run recover s i answer t j =
     -- the parser succeeds
     ((o : O) × run s.0 i (Ok o) t.0 j × (t.1 ≡ s.1) × (answer ≡ Ok o))
-    -- it fails by a kind from which it may not recover: that is handed on
+    -- it fails with a kind from which it cannot recover, which is returned unchanged
     ⊎ (((k : Kind) × (CanRecover k → ⊥) × run s.0 i (Err k) t.0 j × (t.1 ≡ s.1)
     × (answer ≡ Err k))
     -- it fails, and does not recover

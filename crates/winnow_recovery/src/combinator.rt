@@ -1,4 +1,4 @@
-//! What both adapters run.
+//! The common part of both adapters.
 #![tactic(auto, using(streams::specs::Ends::ends_follow))]
 
 ghost use Rattle.std.specs.Prelude.{◌≡◌, MatchBool, MatchResult, true};
@@ -21,9 +21,9 @@ pub(crate) fn can_recover<I: Stream, E: ParserError<I>>(error: &E) -> bool
     !error.is_incomplete() && !error.is_memory()
 }
 
-/// Recovers from an error of a parser that began at `token_start` and failed where `input` stands:
-/// `recover` is run, and the error is recorded. Else the input goes back there, and an error says
-/// why.
+/// Recovers from an error of a parser that began at `token_start` and failed at the current
+/// position of `input`: runs `recover`, and records the error. Otherwise resets the input to that
+/// position, and returns an error with the reason.
 pub(crate) fn recover_from<
     R: Parser<I, (), E>,
     I: Recover<E>,

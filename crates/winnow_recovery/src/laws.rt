@@ -13,8 +13,8 @@ use stream_recovery::recoverable::Recoverable;
 use streams::stream::StreamIsPartial;
 use winnow_core::parser::Parser;
 
-/// Where [`recoverable_parse`](crate::parser::RecoverableParser::recoverable_parse) answers no
-/// error, it answers an output, and all of the input was consumed.
+/// States that if [`recoverable_parse`](crate::parser::RecoverableParser::recoverable_parse)
+/// returns no error, it returns an output, and all of the input was consumed.
 pub fn no_error_is_a_whole_parse<
     P: Parser<Recoverable<I, R, A>, O, E>,
     I: StreamIsPartial,
@@ -26,8 +26,8 @@ pub fn no_error_is_a_whole_parse<
     ensures { NoErrorIsAWholeParse A I.view R.kind (P.meaning E.form) }
 {}
 
-/// After a run of [`retry_after`](crate::parser::RecoveringParser::retry_after) the input is an end
-/// of the input before, whatever it answers.
+/// States that [`retry_after`](crate::parser::RecoveringParser::retry_after) leaves a suffix of the
+/// original input in every case.
 pub fn retry_after_leaves_an_end<
     P: Parser<I, O, E>,
     R: Parser<I, (), E>,
@@ -39,8 +39,8 @@ pub fn retry_after_leaves_an_end<
         (⟦<RetryAfter<P, R, I, O, E> as Parser<I, O, E>>⟧.meaning E.form) }
 {}
 
-/// After a run of [`resume_after`](crate::parser::RecoveringParser::resume_after) the input is an
-/// end of the input before, whatever it answers.
+/// States that [`resume_after`](crate::parser::RecoveringParser::resume_after) leaves a suffix of
+/// the original input in every case.
 pub fn resume_after_leaves_an_end<
     P: Parser<I, O, E>,
     R: Parser<I, (), E>,

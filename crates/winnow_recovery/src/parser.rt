@@ -18,11 +18,11 @@ use stream_recovery::recoverable::Recoverable;
 use streams::stream::{Stream, StreamIsPartial};
 use winnow_core::parser::Parser;
 
-/// A parser that can be told how to recover from its errors: each [`Parser`] over a stream that
-/// says whether it records errors is one.
+/// A parser to which recovery from its errors can be added: each [`Parser`] over a stream that
+/// declares whether it records errors is one.
 ///
-/// In the crate winnow these are methods of `Parser`. Here that trait stands below the streams that
-/// record errors, and it can name neither them nor the structs of this crate.
+/// In the crate winnow these are methods of `Parser`. Here that trait is in a crate below the
+/// streams that record errors, and it can name neither them nor the structs of this crate.
 ///
 /// ```
 /// let mut input: Recoverable<&str, EmptyError> = Recoverable::new(alloc, "a,b,12");
@@ -37,10 +37,12 @@ pub trait RecoveringParser<
     O,
     E: ParserError<I> + FromRecoverableError<I, E>,
 >: Parser<I, O, E> {
-    /// The output of the first try that succeeds. After a try that backtracks or cuts, `recover`
-    /// is run: where it succeeds and consumes, the error is recorded and the parser tried again;
-    /// where it fails, or consumes nothing, the error is answered, and the input goes back to where
-    /// it arose. Over a stream that records no errors only the parser is run.
+    /// Tries the parser until it succeeds, and returns the output of that try.
+    ///
+    /// After a try that backtracks or cuts, `recover` is run. If it succeeds and consumes input,
+    /// the error is recorded and the parser is tried again. If it fails, or consumes nothing, the
+    /// error is returned, and the input is reset to where it arose. Over a stream that records no
+    /// errors only the parser is run.
     #[inline(always)]
     final fn retry_after<R: Parser<I, (), E>>(self, recover: R) -> RetryAfter<Self, R, I, O, E>
         ensures parser { retry_after_parser result ≡ self }
@@ -49,12 +51,14 @@ pub trait RecoveringParser<
         RetryAfter::new(self, recover)
     }
 
-    /// The output in `Some`. Where the parser backtracks or cuts, `recover` is run: where it
-    /// succeeds, the error is recorded, and `None` answered; where it fails, the error is answered,
-    /// and the input goes back to where it arose. Over a stream that records no errors only the
-    /// parser is run.
+    /// Returns the output in `Some`, or `None` after recovering from an error.
     ///
-    /// An output is answered, so no other branch of a choice around it is tried.
+    /// If the parser backtracks or cuts, `recover` is run. If it succeeds, the error is recorded,
+    /// and the output is `None`. If it fails, the error is returned, and the input is reset to
+    /// where it arose. Over a stream that records no errors only the parser is run.
+    ///
+    /// After a recovery there is an output, so no other branch of a choice around the parser is
+    /// tried.
     #[inline(always)]
     final fn resume_after<R: Parser<I, (), E>>(self, recover: R) -> ResumeAfter<Self, R, I, O, E>
         ensures parser { resume_after_parser result ≡ self }
@@ -75,7 +79,7 @@ impl<
 #[derive(Clone, Copy, Debug, PartialEq, Eq, Drop)]
 pub struct NoMemory<I>(pub I);
 
-/// A parser with which a whole input is parsed and all errors are answered: each [`Parser`] over
+/// A parser that can parse all of an input and return all errors: each [`Parser`] over
 /// [`Recoverable`](stream_recovery::recoverable::Recoverable) is one.
 ///
 /// ```
@@ -100,14 +104,15 @@ pub trait RecoverableParser<
     E: ParserError<Recoverable<I, R, A>>,
     A: Allocator,
 >: Parser<Recoverable<I, R, A>, O, E> {
-    /// Parses all of `input`: the parser is run, and then nothing may be left. It answers the
-    /// input, back at its start, the output if there is one, and all errors that were recorded, in
-    /// order. The last is the one that ended the parse, if one did: that of the parser, or one that
-    /// backtracks where something was left. An error that asks for more of an input that is whole
-    /// backtracks instead.
+    /// Parses all of `input`: runs the parser, after which no input may remain.
     ///
-    /// Where memory is refused to the parser, or to the list of errors, the input alone comes
-    /// back. The caller owes a stream type that is not partial.
+    /// Returns the input, back at its start, the output if there is one, and all errors that were
+    /// recorded, in order. The last is the one that ended the parse, if one did: that of the
+    /// parser, or one that backtracks if input remained. If the parser needs more input, which is
+    /// complete, its error backtracks instead.
+    ///
+    /// If an allocation of the parser or of the list of errors fails, only the input is returned.
+    /// The stream type must not be partial.
     final fn recoverable_parse(
         &mut self,
         alloc: A,
@@ -168,7 +173,7 @@ fn parts_at_start<I: Stream, R: ParserError<Recoverable<I, R, A>>, A: Allocator>
     (back, errors)
 }
 
-/// What comes back where an error ended the parse: it stands after those that were recorded.
+/// Returns the result for an error that ended the parse, which follows the recorded ones.
 fn ended_by<
     I: Stream,
     O: Drop,

@@ -1,4 +1,4 @@
--- What is known while a buffer is filled.
+-- Invariants of the loop that fills a buffer.
 use Rattle.std.proofs.Common.{◌≡◌, ◌<◌, ◌+◌, ◌∙◌, ℕ, List, [], ◌∷◌, ◌++◌, length, Ok, Err, refl}
 use Rattle.std.proofs.Common.{sym, ap, inr, arith, get_or, append_assoc, length-append}
 use Rattle.std.specs.Prelude.{slice_set}

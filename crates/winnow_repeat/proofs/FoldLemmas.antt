@@ -1,4 +1,4 @@
--- What is known while items are folded into a value.
+-- Invariants of the loop that folds items into a value.
 use Rattle.std.specs.Prelude.{◌≡◌, ◌<◌, ◌≤◌, List, [], ◌∷◌, ◌++◌, length, Some, Ok, Err}
 use Rattle.std.specs.List.{FoldsTo}
 use Rattle.std.proofs.Common.{refl, ap, inl, inr}
@@ -132,7 +132,7 @@ module _ {S Q R T O : Type 0} (folds : Q → R → O → Answer R → Q → Type
         refl,
       ))
 
-  -- an item is refused
+  -- an item is rejected
   pub fold_refused : (o : O) (k : Kind) (t : S) (p : Q) (x j : Input T)
       → IsBelow bounds.greatest (length outputs) → run u m (Ok o) t x
       → length x.left.tokens < length m.left.tokens → folds q value o (Err k) p

@@ -1,4 +1,4 @@
--- What is known while items are repeated.
+-- Invariants of the loop that repeats items.
 use Rattle.std.proofs.Common.{◌≡◌, ◌≤◌, ◌<◌, ◌+◌, ◌-◌, ◌∙◌, ℕ, List, [], ◌∷◌, ◌++◌, length, Option}
 use Rattle.std.proofs.Common.{Some, None, Ok, refl, sym, ap, subst, inr, arith, length-append}
 use Rattle.std.specs.Prelude.{MatchOption}

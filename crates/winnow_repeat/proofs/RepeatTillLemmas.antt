@@ -1,4 +1,4 @@
--- What is known while items are repeated until a terminator.
+-- Invariants of the loop that repeats items up to a terminator.
 use Rattle.winnow_repeat.specs.Room.{RoomBehind}
 use Rattle.std.proofs.Common.{◌≡◌, ◌-◌, ◌∙◌, ℕ, Option}
 use Rattle.std.proofs.Common.{Some, None, Ok, Err, ap, subst, inr}
@@ -32,7 +32,7 @@ turn run till s z i x at seen k answer t w j failed is back start ran = (
   subst (λ a. run s a answer t j) (back ∙ ap (λ r. back_at r x) start) ran,
 )
 
--- and an end is left
+-- and it leaves a suffix
 pub turn_end : {T L : Type 0} (reading : Reading T L) (i x at j : Input T) (seen : Remaining T)
     → IsEndOf reading x i → at ≡ back_at seen x → seen ≡ i.left → IsEndOf reading j at
     → IsEndOf reading j i

@@ -21,7 +21,7 @@ pub record Buffer (O : Type 0) : Type 0 where
 abbrev pub fill_buffer : {P I O E : Type 0} → Fill P I O E → Buffer O
 fill_buffer s = record { elements = s.buffer.now; name = s.buffer.ghost_name }
 
--- What ends the filling of a buffer of which `rest` is left.
+-- The end of `fill` with the elements `rest` not yet overwritten.
 abbrev pub FillEnds : {S T O : Type 0} → Runs S T O → List O → S → Input T → Answer ⊤ → S
     → Input T → Type 0
 FillEnds {S} {T} {O} run rest u m answer t j =

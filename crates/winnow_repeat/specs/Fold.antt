@@ -48,13 +48,13 @@ FoldedRuns {S} {Q} {R} {T} {O} folds run s i answer t j =
 abbrev pub FoldItemsRun : {S Q R T O : Type 0} → (Q → R → O → Answer R → Q → Type 0)
     → Runs S T O → Kind → Bounds → S × (Q × R) → Input T → Answer R → S × Q → Input T → Type 0
 FoldItemsRun {S} {Q} {R} {T} {O} folds run assert_kind bounds s i answer t j =
-    -- their repetition succeeds: the answer is the value after them
+    -- the repetition succeeds: the result is the value after all items
     ((value : R) × ItemsRun (FoldedRuns folds run) nothing_kept assert_kind bounds tt s i (Ok tt)
     (t.0, (t.1, value)) j × (answer ≡ Ok value))
     -- it fails
     ⊎ (((k : Kind) × (value : R) × ItemsRun (FoldedRuns folds run) nothing_kept assert_kind bounds
     tt s i (Err k) (t.0, (t.1, value)) j × (answer ≡ Err k))
-    -- after some items, one is not folded in, but refused: back before it
+    -- an item after some others is rejected, and the input is reset to its start
     ⊎ ((outputs : List O) × (u : S × (Q × R)) × (m : Input T) × (o : O) × (k : Kind)
     × (x : Input T) × Chain (FoldedRuns folds run) s i outputs u m
     × IsBelow bounds.greatest (length outputs) × run u.0 m (Ok o) t.0 x

@@ -13,14 +13,14 @@ use Rattle.winnow_repeat.specs.declared.combinator.impls.iterator.Progress.TheVa
 }
 pub mod Known
 
--- Whether an iterator gives more items: it goes on, its parser backtracked, or an error of this
--- kind stopped it.
+-- The status of an iterator: it is running, its parser backtracked, or an error of this kind
+-- stopped it.
 pub data Standing : Type 0 where
   running : Standing
   done : Standing
   stopped : Kind → Standing
 
--- What an iterator is: the state of its parser, what its parser sees, and whether it goes on.
+-- The state of an iterator: the state of its parser, its input, and its status.
 pub record IteratorState (S T : Type 0) : Type 0 where
   pub parser : S
   pub input : Input T
@@ -57,7 +57,7 @@ iterator_input s = s.input.now
 abbrev pub iterator_input_name : {P I O E : Type 0} → ParserIterator P I O E → ℕ
 iterator_input_name s = s.input.ghost_name
 
--- What stops an iterator that went on.
+-- A call that stops a running iterator.
 abbrev pub IteratorStops : {S T O : Type 0} → Runs S T O → Kind → IteratorState S T
     → IteratorState S T → Type 0
 IteratorStops {S} {T} {O} run assert_kind s t =
@@ -84,7 +84,7 @@ IteratorNext {S} {T} {O} run assert_kind s item t =
     -- it had been stopped: nothing is run
     ⊎ ((s.standing ≡ running → ⊥) × (item ≡ None) × (t ≡ s)))
 
--- What an iterator answers at last: the error that stopped it, if one did.
+-- The result of `finish`: the error that stopped the iterator, if there is one.
 abbrev pub finish_answer : Standing → Answer ⊤
 finish_answer running = Ok tt
 finish_answer done = Ok tt

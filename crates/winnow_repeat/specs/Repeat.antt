@@ -23,7 +23,7 @@ repeat_occurrences s = s.occurrences
 abbrev pub repeat_parser : {P I O C E A : Type 0} → Repeat P I O C E A → P
 repeat_parser s = s.parser
 
--- What ends a repetition of a number of items within the bounds, after the items of a chain.
+-- The end of a repetition within the bounds, after consecutive items.
 abbrev pub RepeatEnds : {S T O C : Type 0} → Runs S T O → Accumulator C O → Kind → Bounds → C
     → List O → S → Input T → Answer C → S → Input T → Type 0
 RepeatEnds {S} {T} {O} {C} run into assert_kind bounds before outputs u m answer t j =

@@ -10,9 +10,9 @@ use Rattle.winnow_core.specs.Runs.{Runs}
 use Rattle.winnow_repeat.specs.Chain.{Chain}
 use Rattle.winnow_repeat.specs.Repeat.{RepeatEnds}
 
--- The items that were read, in a chain, and what ended them, which gave the answer: as there is no
--- greatest number, one run more. These runs are at most one more than units were left. Or there was
--- no memory to begin with, and nothing was run.
+-- Consecutive items, and the call that ended them and gave the result: there is no greatest number,
+-- so there is one call more. The number of calls is at most one more than the number of units in
+-- the input. Or the first allocation failed, and nothing was run.
 abbrev pub EndsOnceAUnit : {S T O C : Type 0} → (List T → ℕ) → Runs S T O → Accumulator C O
     → Kind → S → Input T → Answer C → S → Input T → Type 0
 EndsOnceAUnit {S} {T} {O} {C} units run into assert_kind s i answer t j =

@@ -55,7 +55,8 @@ abbrev pub TurnRuns : {S W T O D : Type 0} → Runs S T O → Runs W T D → Run
 TurnRuns {S} {W} {T} {O} {D} run till s i answer t j =
     (x : Input T) × till s.1 i (Err backtrack) t.1 x × run s.0 (back_at i.left x) answer t.0 j
 
--- What ends the turns, after those of a chain, of which there is room for that many.
+-- The end of the turns, after consecutive ones. `room` is the number of turns that are still
+-- allowed.
 abbrev pub TurnsEnd : {S W T O D C : Type 0} → Runs S T O → Runs W T D → Accumulator C O → Kind
     → Option ℕ → List O → C → S × W → Input T → Answer (C × D) → S × W → Input T → Type 0
 TurnsEnd {S} {W} {T} {O} {D} {C} run till into assert_kind room outputs some u m answer t j =

@@ -5,7 +5,8 @@ use Rattle.std.specs.Prelude.{MatchOption}
 use Rattle.stream_sets.specs.Range.{IsBelow}
 use Rattle.streams.specs.Equal.{same_some, none_is_some}
 
--- What is still missing and what room is left, after that many of the items.
+-- After `count` items, `missing` is the number that is still missing, and `room` the number that is
+-- still allowed.
 pub record RoomBehind (least : ℕ) (greatest : Option ℕ) (missing : ℕ) (room : Option ℕ)
     (count : ℕ) : Type 0 where
   pub still_missing : missing ≡ least - count
@@ -18,7 +19,7 @@ room_behind_none least None = record { still_missing = omega arith; room_left = 
 room_behind_none least (Some most) =
     record { still_missing = omega arith; room_left = (ap Some (omega arith), omega arith) }
 
--- no room is left: the greatest number is reached
+-- no more items are allowed: the greatest number is reached
 pub no_room : (least : ℕ) (greatest : Option ℕ) (missing : ℕ) (room : Option ℕ) (count : ℕ)
     → RoomBehind least greatest missing room count → room ≡ Some 0 → greatest ≡ Some count
 no_room least None missing room count b e = none_is_some (sym b.room_left ∙ e)
@@ -27,7 +28,7 @@ no_room least (Some most) missing room count b e =
     let zero : most - count ≡ 0 = same_some (sym left.0 ∙ e) in
     ap Some (omega (arith, zero, left.1))
 
--- room is left: the greatest number is not reached
+-- more items are allowed: the greatest number is not reached
 pub some_room : (least : ℕ) (greatest : Option ℕ) (missing : ℕ) (room : Option ℕ) (count : ℕ)
     → RoomBehind least greatest missing room count → (room ≡ Some 0 → ⊥) → IsBelow greatest count
 some_room least None missing room count b h = tt

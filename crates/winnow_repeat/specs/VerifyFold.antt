@@ -22,11 +22,11 @@ verify_fold_parser s = s.parser
 abbrev pub verify_fold_init : {P G H I O R E : Type 0} → RepeatVerifyFold P G H I O R E → G
 verify_fold_init s = s.init
 
--- the closure that folds an output into the value, or refuses it
+-- the closure that folds an output into the value, or rejects it
 abbrev pub verify_fold_closure : {P G H I O R E : Type 0} → RepeatVerifyFold P G H I O R E → H
 verify_fold_closure s = s.op.closure
 
--- One call of the closure takes an output into the value, or refuses it: it backtracks.
+-- One call of the closure folds an output into the value, or rejects it with a backtrack.
 abbrev pub VerifyFoldTakes : {Q R O : Type 0} → (Q → R → O → Option R → Q → Type 0) → Q → R → O
     → Answer R → Q → Type 0
 VerifyFoldTakes {Q} {R} step q value o answer p =

@@ -11,8 +11,9 @@ use stream_sets::accumulate::Accumulate;
 use streams::stream::Stream;
 use winnow_core::parser::Parser;
 
-/// What [`repeat`](crate::combinator::repeat) of any number answers and leaves is by a chain of
-/// items and the run that ended them, and these runs are at most one more than units were left.
+/// The result and the rest of an unbounded [`repeat`](crate::combinator::repeat) are given by
+/// consecutive items and the call that ended them. The number of these calls is at most one more
+/// than the number of units in the input.
 pub fn repeat_runs_at_most_once_a_unit<
     P: Parser<I, O, E>,
     I: Stream,

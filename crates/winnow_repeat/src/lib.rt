@@ -1,8 +1,8 @@
-//! Repetition: a parser that is run again and again, into an accumulator or a value, until another
-//! parser succeeds, as an iterator, or over a buffer.
+//! Repetition of a parser: into an accumulator or a value, until another parser succeeds, as an
+//! iterator, or into a buffer.
 //!
-//! Each is proved to be its definition, which stands in `specs/` under its name: a chain of runs of
-//! the parser that is repeated, and what ended it.
+//! Each combinator is proved to satisfy the definition of its name in `specs/`: consecutive calls
+//! of the repeated parser, and the call that ended them.
 #![tactic(auto)]
 
 pub mod combinator;

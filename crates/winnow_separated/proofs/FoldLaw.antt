@@ -90,7 +90,7 @@ module _ {S W T O D : Type 0} (run : Runs S T O) (separator : Runs W T D) where
         (decides s.0 m (Ok link.1) (Err backtrack) u.0 t.0 n j (λ e. cc) (λ e. cc) q
         (subst P (sym left) g)).0
 
-    -- two turns that backtrack end alike
+    -- two turns that backtrack have the same end
     same_fails : (s t u : S × W) (i j k : Input T) → LinkFails run separator s i backtrack t j
         → LinkFails run separator s i backtrack u k → (t.0 ≡ u.0) × (t.1 ≡ u.1) × (j ≡ k)
     same_fails s t u i j k (inl (f, same)) (inl (g, kept)) =

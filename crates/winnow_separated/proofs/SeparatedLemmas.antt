@@ -1,4 +1,4 @@
--- What is known while elements with separators are read.
+-- Invariants of the loop that parses elements with separators.
 use Rattle.std.proofs.Common.{◌≡◌, ◌<◌, ◌-◌, ℕ, List, [], ◌∷◌, ◌++◌, length, Option, Some, None, Ok}
 use Rattle.std.proofs.Common.{refl, subst}
 use Rattle.std.specs.Prelude.{MatchOption}

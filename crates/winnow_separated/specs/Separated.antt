@@ -56,7 +56,7 @@ LinksRun {S} {W} {T} {O} {D} {C} run separator into assert_kind bounds before s 
 abbrev pub ElementsRun : {S W T O D C : Type 0} → Runs S T O → Runs W T D → Accumulator C O
     → Kind → Bounds → C → S × W → Input T → Answer C → S × W → Input T → Type 0
 ElementsRun {S} {W} {T} {O} {D} {C} run separator into assert_kind bounds empty s i answer t j =
-    -- none is wanted
+    -- the greatest number is zero
     ((bounds.greatest ≡ Some 0) × (answer ≡ Ok empty) × (t ≡ s) × (j ≡ i))
     -- the first backtracks, and none is needed: back at the start
     ⊎ (((x : Input T) × IsBelow bounds.greatest 0 × (bounds.least ≡ 0)

@@ -33,7 +33,7 @@ FoldsLeft {Q} {O} step q first (link ∷ links) value p =
     (more : O) × (c : Q) × step q first link.0 link.1 more c
     × FoldsLeft step c more links value p
 
--- What ends links of any number, after a chain of them.
+-- The end of an unbounded sequence of links.
 abbrev pub LinksEnd : {S W T O D : Type 0} → Runs S T O → Runs W T D → Kind → O → S × W → Input T
     → Answer O → S × W → Input T → Type 0
 LinksEnd {S} {W} {T} {O} {D} run separator assert_kind value u m answer t j =

@@ -23,12 +23,12 @@ foldr1_parser s = s.pair.1
 abbrev pub foldr1_separator : {P S H I O D E A : Type 0} → SeparatedFoldr1 P S H I O D E A → S
 foldr1_separator s = s.pair.0
 
--- the closure that joins an element, a separator and the value of what is after that
+-- the closure that joins an element, a separator and the value of the elements after it
 abbrev pub foldr1_closure : {P S H I O D E A : Type 0} → SeparatedFoldr1 P S H I O D E A → H
 foldr1_closure s = s.op
 
 -- The value of a first element and the links after it, from the right: the closure joins the
--- element, the first separator and the value of what is after that. It is called for the last
+-- element, the first separator and the value of the elements after it. It is called for the last
 -- separator first.
 abbrev pub FoldsRight : {Q O D : Type 0} → (Q → O → D → O → O → Q → Type 0) → Q → O → List (D × O)
     → O → Q → Type 0

@@ -6,10 +6,11 @@ use Rattle.stream_sets.specs.declared.range.Range.{Range}
 use Rattle.winnow_core.specs.Runs.{Runs}
 use Rattle.winnow_separated.specs.Separated.Known.{NoElement, SomeElements}
 
--- Elements of any number, or of one and more, that are answered: none, where none is needed, since
--- the first backtracked, and the input is back before it. Or the first, and the elements of links
--- after it, in a chain, as the accumulator took them; and after the last of these a separator
--- backtracked, or an element after one that consumed, and the input is back before that separator.
+-- The elements that are returned for the ranges `0..` and `1..`. Either there are no elements and
+-- none is required: the first backtracked, and the input is reset to its start. Or they are the
+-- first and the elements of consecutive links after it, as the accumulator took them. After the
+-- last link a separator backtracked, or an element after a separator that consumed input, and the
+-- input is reset to the start of that separator.
 abbrev pub LeavesTheSeparator : {S W T O D C : Type 0} → Runs S T O → Runs W T D
     → Accumulator C O → Runs (S × W × Range) T C → Type 0
 LeavesTheSeparator {S} {W} {T} {O} {D} {C} run separator into elements =

@@ -12,10 +12,10 @@ use stream_sets::accumulate::Accumulate;
 use streams::stream::Stream;
 use winnow_core::parser::Parser;
 
-/// Where [`separated`](crate::combinator::separated) reads any number of elements, or one and more,
-/// and succeeds, it answers the first element and those of the links after it, which are a chain,
-/// and leaves the input before the link after these, which backtracked: so it leaves a separator
-/// unread whose element backtracks. Where it reads none, the first element backtracked.
+/// If [`separated`](crate::combinator::separated) with the range `0..` or `1..` succeeds, it
+/// returns the first element and those of the consecutive links after it. It leaves the input
+/// before the next link, which backtracked: a separator whose element backtracks is not consumed.
+/// If there are no elements, the first element backtracked.
 pub fn separated_leaves_a_separator_without_an_element<
     P: Parser<I, O, E>,
     S: Parser<I, D, E>,
@@ -30,11 +30,11 @@ pub fn separated_leaves_a_separator_without_an_element<
         (⟦<Separated<P, S, I, O, D, C, E, A> as Parser<I, C, E>>⟧.meaning E.form) }
 {}
 
-/// Where each separator consumes, and one state and one input decide how elements and separators
-/// end, [`separated_foldl1`](crate::combinator::separated_foldl1) and
-/// [`separated_foldr1`](crate::combinator::separated_foldr1) fold the same elements: from one state
-/// and input, where both succeed, these are the outputs of one list of runs, and both leave the
-/// same.
+/// If each separator consumes input, and state and input determine how elements and separators end,
+/// then [`separated_foldl1`](crate::combinator::separated_foldl1) and
+/// [`separated_foldr1`](crate::combinator::separated_foldr1) fold the same elements. From one state
+/// and input, if both succeed, these are the outputs of one list of calls, and both leave the same
+/// rest.
 pub fn separated_folds_fold_the_same<
     P: Parser<I, O, E>,
     S: Parser<I, D, E>,

@@ -1,7 +1,8 @@
-//! Elements with separators between them, into an accumulator, or joined to the left or the right.
+//! Elements with separators between them, collected in an accumulator or joined to the left or the
+//! right.
 //!
-//! Each is proved to be its definition, which stands in `specs/` under its name: a first element,
-//! and a repetition of links, each of which is a separator that consumes and an element.
+//! Each combinator is proved to satisfy the definition of its name in `specs/`: a first element,
+//! and repeated links, each of which is a separator that consumes input and an element.
 #![tactic(auto)]
 
 pub mod combinator;

@@ -1,4 +1,4 @@
--- What is known while members are counted, and what is answered for it.
+-- Invariants of the loop that counts members, and the result for the count.
 use Rattle.std.proofs.Common.{◌≡◌, ◌≤◌, ◌<◌, ◌+◌, ◌∙◌, ℕ, Bool, true, false, not, List, [], ◌∷◌}
 use Rattle.std.proofs.Common.{◌++◌, length, Option, Some, None, refl, sym, ap, subst, arith, inl}
 use Rattle.std.proofs.Common.{inr, ◌⊎◌, append_assoc, length-append}
@@ -18,7 +18,7 @@ use Rattle.stream_sets.specs.Longest.{IsLongest}
 use Rattle.winnow_token.specs.TakeWhile.{IsEnded, TakeWhileRuns}
 use Rattle.winnow_token.specs.Members.{CountsMembers, FoundRuns}
 
--- `count` members stand first, and `left` are the tokens after them, each with its offset.
+-- The tokens start with `count` members, followed by the tokens in `left`, each with its offset.
 pub record Counted {T : Type 0} (member : T → Bool → Type 0) (units : List T → ℕ)
     (tokens : List T) (greatest count : ℕ) (left : List (ℕ × T)) : Type 0 where
   pub front : List T
@@ -78,7 +78,8 @@ counted_more member units tokens greatest count offset x left after add e is_mem
       offsets = first.3 ∙ ap (λ n. with_offsets units n first.0) (sym (add c.front (x ∷ [])));
     }
 
--- the first token left ends them: it is no member, or they are as many as may be
+-- the first token after the members ends them: it is not a member, or the greatest number is
+-- reached
 ends_before : {T : Type 0} (member : T → Bool → Type 0) (units : List T → ℕ) (tokens : List T)
     (greatest count offset : ℕ) (x : T) (left after : List (ℕ × T)) → left ≡ (offset, x) ∷ after
     → member x false ⊎ (greatest ≡ count) → Counted member units tokens greatest count left
@@ -122,7 +123,6 @@ pub ends_full : {T : Type 0} (member : T → Bool → Type 0) (units : List T �
 ends_full member units tokens greatest count offset x left after e full c =
     ends_before member units tokens greatest count offset x left after e (inr (sym full)) c
 
--- no offset is left: no token is
 no_rest : {T : Type 0} (units : List T → ℕ) (start : ℕ) (rest : List T)
     → [] ≡ with_offsets units start rest → rest ≡ []
 no_rest units start [] e = refl
@@ -188,7 +188,7 @@ below_within : (greatest : Option ℕ) (n : ℕ) → IsBelow greatest n → IsWi
 below_within None n h = tt
 below_within (Some most) n h = omega arith
 
--- the answer for the members that were found
+-- the result for the members that were counted
 pub found_runs : {T S : Type 0} (reading : Reading T S) (form : ErrorForm)
     (member : T → Bool → Type 0) (least : ℕ) (greatest : Option ℕ) (i : Input T)
     (answer : Answer S) (j : Input T) (count : ℕ) (end : Option ℕ) (is_enough : Bool)
@@ -282,7 +282,6 @@ unbounded seen tells units none positive tokens (Some offset)
       (λ h. both.1 (omega (arith, h, at))),
     )
 
--- none are enough where none are asked for
 pub enough_of_none : (least count : ℕ) (b : Bool) → least ≡ 0 → b ≡ eqb least 0
     → (b ≡ true → least ≤ count) × (b ≡ false → count < least)
 enough_of_none least count b none e = (
@@ -290,7 +289,6 @@ enough_of_none least count b none e = (
   (λ false_too. absurd (true_is_false (sym (eq-eqb least 0 none) ∙ sym e ∙ false_too))),
 )
 
--- one is enough where one is asked for
 pub enough_of_one : (least count n : ℕ) (b : Bool) → least ≤ 1 → (least ≡ 0 → ⊥) → b ≡ ltb 0 n
     → (0 < count → 0 < n) → (0 < n → 0 < count)
     → (b ≡ true → least ≤ count) × (b ≡ false → count < least)

@@ -1,4 +1,4 @@
--- Offsets of beginnings of the same tokens.
+-- Offsets of prefixes of the same tokens.
 use Rattle.std.proofs.Common.{◌≡◌, ◌≤◌, ◌<◌, ◌+◌, ◌-◌, ℕ, false, List, [], ◌∷◌, ◌++◌, length, take}
 use Rattle.std.proofs.Common.{drop, sym, ap, ◌∙◌, arith, inl, inr, length-append}
 use Rattle.std.proofs.lemmas.Bool.{cases_lt, false≢true, leb-true, le-leb}
@@ -74,7 +74,7 @@ same_take_same reading front rest n le ge = elim (cases_lt (length front) n) [
       omega (arith, ap reading.units taken, reading.units_add front (take 0 rest)))
 ]
 
--- The offset after n tokens says whether at least n stand before another offset.
+-- The offset after `n` tokens decides whether at least `n` tokens precede another offset.
 pub says_at_least : {T S : Type 0} (reading : Reading T S) (tokens : List T) (n end offset : ℕ)
     → n ≤ length tokens → end ≡ reading.units (take n tokens)
     → SaysAtLeast reading.units tokens n offset (leb end offset)
@@ -102,7 +102,7 @@ says_fewer reading tokens n offset lt front rest split at = (
       (arith, lt, few, ap (λ l. length l) split, length-append front rest))),
 )
 
--- The offset after n tokens says whether at most n stand before another offset.
+-- The offset after `n` tokens decides whether at most `n` tokens precede another offset.
 pub says_at_most : {T S : Type 0} (reading : Reading T S) (tokens : List T) (n end offset : ℕ)
     → n ≤ length tokens → end ≡ reading.units (take n tokens)
     → SaysAtMost reading.units tokens n offset (leb offset end)
@@ -121,13 +121,11 @@ says_at_most reading tokens n end offset le e front rest split at =
           in omega (arith, more, there, at)),
     )
 
--- no tokens stand before the start
 pub none_before : {T S : Type 0} (reading : Reading T S) (front : List T) (start : ℕ)
     → start ≡ reading.units front → start ≡ 0 → length front ≡ 0
 none_before reading front start at zero =
     ap (λ l. length l) (units-zero reading front (sym at ∙ zero))
 
--- some tokens stand before another place
 pub some_before : {T S : Type 0} (reading : Reading T S) (front : List T) (start : ℕ)
     → start ≡ reading.units front → (start ≡ 0 → ⊥) → 0 < length front
 some_before reading [] start at other = absurd (other (at ∙ units-nil reading))

@@ -9,7 +9,7 @@ pub mod Known
 pub mod Laws
 pub mod Says
 
--- A run where no token is left: a cut input lacks one unit.
+-- A call on empty input: an error, or `Incomplete` with a need of 1 unit on partial input.
 abbrev pub NoTokenRuns : {T O : Type 0} → ErrorForm → Input T → Answer O → Input T → Type 0
 NoTokenRuns form i answer j =
     (k : Kind) × (i.left.tokens ≡ []) × ShortKind form (Some 1) i k × (answer ≡ Err k) × (j ≡ i)
@@ -20,5 +20,5 @@ abbrev pub AnyRuns : {K T S : Type 0} → (K → T) → Reading T S → ErrorFor
 AnyRuns {K} {T} {S} seen reading form i answer j =
     -- the first token is taken
     ((x : K) × Passes reading (seen x ∷ []) i j × (answer ≡ Ok x))
-    -- none is left
+    -- nothing remains
     ⊎ NoTokenRuns form i answer j

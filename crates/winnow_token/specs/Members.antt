@@ -1,4 +1,4 @@
--- Members counted, before it is known what is answered.
+-- Counted members, before the result is determined.
 use Rattle.std.specs.Prelude.{◌≡◌, ℕ, Bool, true, false, List, length, Option, Some, Ok, Err, ◌⊎◌}
 use Rattle.std.specs.Prelude.{MatchOption}
 use Rattle.streams.specs.Input.{Input, Takes}
@@ -9,8 +9,8 @@ use Rattle.stream_errors.specs.Form.{ErrorForm, Answer, incomplete_kind}
 use Rattle.stream_sets.specs.Longest.{IsLongest}
 use Rattle.winnow_token.specs.TakeWhile.{IsEnded, IsOpen, missing_of}
 
--- That many members stand first, and end at the offset; or all tokens are members, and more could
--- be taken.
+-- The tokens start with `count` members, which end at the offset; or all tokens are members, and
+-- more are allowed.
 abbrev pub CountsMembers : {T : Type 0} → (T → Bool → Type 0) → Option ℕ → (List T → ℕ) → List T
     → ℕ → Option ℕ → Type 0
 CountsMembers {T} member greatest units tokens count end = MatchOption end
@@ -19,7 +19,7 @@ CountsMembers {T} member greatest units tokens count end = MatchOption end
     × IsEnded member greatest front rest × (offset ≡ units front)
     × (count ≡ length front))
 
--- What is answered once it is known where the members end, and whether they are enough.
+-- The result, given the end of the members and whether there are enough.
 abbrev pub FoundRuns : {T S : Type 0} → Reading T S → ErrorForm → Option ℕ → Bool → ℕ → Input T
     → Answer S → Input T → Type 0
 FoundRuns {T} {S} reading form end is_enough least i answer j = MatchOption end

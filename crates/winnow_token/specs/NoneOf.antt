@@ -1,6 +1,6 @@
 -- One token outside a set: its runs are those of one token of the set of the others.
 use Rattle.winnow_token.specs.declared.token.impls.none_of.NoneOf.{NoneOf}
 
--- the set of which the token is not to be
+-- the set that the token must not belong to
 abbrev pub none_of_set : {S I E : Type 0} → NoneOf S I E → S
 none_of_set s = s.set

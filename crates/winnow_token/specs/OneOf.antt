@@ -6,11 +6,10 @@ use Rattle.streams.specs.Reading.{Reading}
 use Rattle.stream_errors.specs.Form.{ErrorForm, Answer}
 use Rattle.winnow_token.specs.Any.{NoTokenRuns}
 use Rattle.winnow_token.specs.declared.token.impls.one_of.OneOf.{OneOf}
-pub mod Known
 pub mod Laws
 pub mod Says
 
--- the set of which the token is to be
+-- the set that the token must belong to
 abbrev pub one_of_set : {S I E : Type 0} → OneOf S I E → S
 one_of_set s = s.set
 
@@ -23,5 +22,5 @@ OneOfRuns {K} {T} {S} seen reading form member i answer j =
     -- it is none
     ⊎ (((x : K) × (rest : List T) × (i.left.tokens ≡ seen x ∷ rest) × member x false
     × (answer ≡ Err backtrack) × (j ≡ i))
-    -- none is left
+    -- nothing remains
     ⊎ NoTokenRuns form i answer j)

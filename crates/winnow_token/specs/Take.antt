@@ -15,7 +15,8 @@ pub mod Says
 abbrev pub take_count : {I E : Type 0} → Take I E → ℕ
 take_count s = s.count
 
--- A run of a take of n tokens. Where `counts` holds, a cut input says how many units are missing.
+-- A call of `take` of `n` tokens. If `counts` is true, the need on partial input is the number of
+-- missing units.
 abbrev pub TakeRuns : {T S : Type 0} → Reading T S → ErrorForm → Bool → ℕ → Input T → Answer S
     → Input T → Type 0
 TakeRuns {T} {S} reading form counts n i answer j =

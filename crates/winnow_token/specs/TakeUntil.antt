@@ -13,7 +13,7 @@ pub mod Known
 pub mod Laws
 pub mod Says
 
--- how many tokens may stand before the literal
+-- how many tokens may precede the literal
 abbrev pub take_until_occurrences : {T I E : Type 0} → TakeUntil T I E → Range
 take_until_occurrences s = s.occurrences
 
@@ -21,8 +21,8 @@ take_until_occurrences s = s.occurrences
 abbrev pub take_until_literal : {T I E : Type 0} → TakeUntil T I E → T
 take_until_literal s = s.literal
 
--- A run of a take of what stands before the first match, of a number of tokens within the bounds.
--- The forms `0..` and `1..` have no greatest number.
+-- A call of `take_until`: takes the tokens up to the first match, whose number must be within the
+-- bounds. The forms `0..` and `1..` have no greatest number.
 abbrev pub TakeUntilRuns : {T S : Type 0} → Reading T S → ErrorForm → (List T → Type 0)
     → Bounds → Input T → Answer S → Input T → Type 0
 TakeUntilRuns {T} {S} reading form sought bounds i answer j =
@@ -30,17 +30,18 @@ TakeUntilRuns {T} {S} reading form sought bounds i answer j =
     ((most : ℕ) × (bounds.greatest ≡ Some most) × (most < bounds.least)
     × (answer ≡ Err (assert_kind form))
     × (j ≡ i))
-    -- nothing that is sought stands anywhere
+    -- no match occurs
     ⊎ (((k : Kind) × IsWithin bounds.greatest bounds.least
     × ((front hit rest : List T) → Stands sought i.left.tokens front hit rest → ⊥)
     × ShortKind form None i k × (answer ≡ Err k) × (j ≡ i))
-    -- what stands before the first match is taken
+    -- takes the tokens up to the first match
     ⊎ (((start : ℕ) × (end : ℕ)
     × (m : IsFirstMatch reading.units sought i.left.tokens start end) × (slice : S)
     × (bounds.least ≤ length m.front) × IsWithin bounds.greatest (length m.front)
     × Takes reading m.front i slice j × (answer ≡ Ok slice))
-    -- it has too few tokens, and no later match is looked for: with no greatest number it fails,
-    -- else it is short, and on a cut input asks for more whatever is added
+    -- too few tokens precede it, and no later match is searched for: it fails if there is no
+    -- greatest number, and otherwise tokens are missing, so that on partial input it returns
+    -- `Incomplete` whatever is added
     ⊎ (((start : ℕ) × (end : ℕ)
     × (m : IsFirstMatch reading.units sought i.left.tokens start end) × (k : Kind)
     × IsWithin bounds.greatest bounds.least × (length m.front < bounds.least)

@@ -23,8 +23,8 @@ take_while_occurrences s = s.occurrences
 abbrev pub take_while_set : {S I E : Type 0} → TakeWhile S I E → S
 take_while_set s = s.set
 
--- Whatever more input comes, that beginning ends there: before a token that is no member, or at the
--- greatest number.
+-- More input cannot extend the prefix `front`: it ends before a token that is not a member, or at
+-- the greatest number.
 abbrev pub IsEnded : {T : Type 0} → (T → Bool → Type 0) → Option ℕ → List T → List T → Type 0
 IsEnded {T} member greatest front rest =
     ((x : T) × (more : List T) × (rest ≡ x ∷ more) × member x false)
@@ -46,7 +46,7 @@ TakeWhileRuns {T} {S} reading form member bounds i answer j =
     ((most : ℕ) × (bounds.greatest ≡ Some most) × (most < bounds.least)
     × (answer ≡ Err (assert_kind form))
     × (j ≡ i))
-    -- a cut input is open
+    -- partial input whose prefix can be extended
     ⊎ ((IsWithin bounds.greatest bounds.least × IsOpen member bounds.greatest i.left.tokens
     × (i.status.cut ≡ true)
     × (answer ≡ Err (incomplete_kind form

@@ -31,10 +31,10 @@ use streams::needed::Needed;
 use streams::stream::{Stream, StreamIsPartial};
 use winnow_core::short::short;
 
-/// A parser of `literal`; the output is the slice of the input.
+/// Matches `literal` and returns its slice.
 ///
-/// It fails, and consumes nothing, where the literal does not stand first. Where a cut input is a
-/// proper beginning of it, it is incomplete with an unknown need.
+/// Fails without consuming input if the input does not start with the literal. On partial input
+/// that is a proper prefix of it, returns `Incomplete` with an unknown need.
 ///
 /// Known as `tag` in nom and in older winnow.
 ///
@@ -56,12 +56,13 @@ where
     }
 }
 
-/// A parser of the longest beginning of tokens that are in `set`, of as many tokens as
-/// `occurrences` says; the output is the slice of the input.
+/// Takes the longest prefix of tokens in `set`, of as many tokens as `occurrences` allows, and
+/// returns its slice.
 ///
-/// It fails, and consumes nothing, where there are too few. On a cut input it is incomplete where
-/// all that is left are members and more could be taken: the need is what is missing to the least
-/// count, and at least 1, in units. A greatest count below the least is an assert error.
+/// Fails without consuming input if there are too few tokens. On partial input it returns
+/// `Incomplete` if all remaining tokens are members and more are allowed; its need is the number
+/// missing to the least count, and at least 1, in units. It returns an assert error if the greatest
+/// count is below the least.
 ///
 /// Known as `take_while`, `take_while1`, `take_while_m_n` and `is_a` in nom.
 ///
@@ -86,11 +87,11 @@ where
     }
 }
 
-/// A parser of the longest beginning of tokens that are not in `set`, of as many tokens as
-/// `occurrences` says; the output is the slice of the input.
+/// Takes the longest prefix of tokens that are not in `set`, of as many tokens as `occurrences`
+/// allows, and returns its slice.
 ///
-/// It is [`take_while`](crate::token::take_while) over the tokens outside the set, and fails and is
-/// incomplete as that is.
+/// It is [`take_while`](crate::token::take_while) over the tokens outside the set, with the same
+/// errors.
 ///
 /// Known as `take_till`, `take_till1` and `is_not` in nom.
 ///
@@ -115,9 +116,9 @@ where
     }
 }
 
-/// One token.
+/// Takes one token and returns it.
 ///
-/// Where none is left it fails, and on a cut input it is incomplete with a need of 1 unit.
+/// Fails if no token remains. On empty partial input it returns `Incomplete` with a need of 1 unit.
 ///
 /// Known as `anychar` in nom.
 ///
@@ -140,10 +141,10 @@ pub fn any<Input: StreamIsPartial, Error: ParserError<Input>>(
     }
 }
 
-/// A parser of one token that is in `set`.
+/// Takes one token that is in `set` and returns it.
 ///
-/// It fails, and consumes nothing, on another token and where none is left; on a cut input with
-/// nothing left it is incomplete with a need of 1 unit.
+/// Fails without consuming input on another token and on empty input. On empty partial input it
+/// returns `Incomplete` with a need of 1 unit.
 ///
 /// Known as `satisfy`, `one_of` and `char` in nom.
 ///
@@ -166,10 +167,10 @@ where
     }
 }
 
-/// A parser of one token that is not in `set`.
+/// Takes one token that is not in `set` and returns it.
 ///
-/// It fails, and consumes nothing, on a token of the set and where none is left; on a cut input
-/// with nothing left it is incomplete with a need of 1 unit.
+/// Fails without consuming input on a token of the set and on empty input. On empty partial input
+/// it returns `Incomplete` with a need of 1 unit.
 ///
 /// ```
 /// assert_eq!(rt; none_of(';').parse_peek("a;"), Ok::<_, EmptyError>((";", 'a')));
@@ -190,10 +191,11 @@ where
     }
 }
 
-/// A parser of `token_count` tokens; the output is the slice of the input.
+/// Takes `token_count` tokens and returns their slice.
 ///
-/// Where there are fewer it fails, and consumes nothing; on a cut input it is incomplete: the need
-/// is how many units are missing, and unknown over text, where a character takes one to four.
+/// Fails without consuming input if there are fewer. On partial input it returns `Incomplete`
+/// instead; its need is the number of missing units. Over text, where a character takes one to four
+/// units, the need is unknown.
 ///
 /// ```
 /// assert_eq!(rt; take(2u8).parse_peek("abc"), Ok::<_, EmptyError>(("c", "ab")));
@@ -213,18 +215,20 @@ where
     }
 }
 
-/// A parser of what stands before the first match of `literal`, which stays unread, of as many
-/// tokens as `occurrences` says; the output is the slice of the input.
+/// Takes the input up to the first match of `literal`, of as many tokens as `occurrences` allows,
+/// and returns its slice. The match is not consumed.
 ///
-/// A tuple of one to three bytes or characters is matched by each of them. Where nothing matches
-/// it fails, and on a cut input it is incomplete with an unknown need. The forms `0..` and `1..`
-/// have no greatest count, and in `1..` a match at the start fails; of `n..` with another `n` it is
-/// the greatest `usize`. With a greatest count, a first match after fewer tokens than the least is
-/// as no match is, and one after more than the greatest fails. Nothing is then consumed. A
-/// greatest count below the least is an assert error.
+/// A tuple of one to three bytes or characters matches each of them.
 ///
-/// No match after the first is looked for, as in winnow. So on the cut input `ax` the range `2..`
-/// and the literal `x` ask for more, and ask again whatever is added; a whole input fails.
+/// If there is no match it fails; on partial input it returns `Incomplete` with an unknown need.
+/// The forms `0..` and `1..` have no greatest count, and in `1..` a match at the start fails. For
+/// `n..` with another `n` the greatest count is the greatest `usize`. With a greatest count, a
+/// first match after fewer tokens than the least counts as no match, and one after more tokens than
+/// the greatest fails. It returns an assert error if the greatest count is below the least. After
+/// any of these errors no input is consumed.
+///
+/// As in winnow, only the first match is considered. So on the partial input `ax`, the range `2..`
+/// and the literal `x` return `Incomplete`, whatever is added; complete input fails.
 ///
 /// Known as `take_until` and `take_until1` in nom.
 ///
@@ -252,7 +256,8 @@ where
     }
 }
 
-/// All that is left, also of a cut input: it never asks whether more may come, and never fails.
+/// Takes all remaining input, partial or complete, and returns its slice. It never fails, and never
+/// returns `Incomplete`.
 ///
 /// ```
 /// let mut input = "ab";
@@ -270,7 +275,8 @@ pub fn rest<Input: Stream, Error: ParserError<Input>>(
     Ok(input.finish())
 }
 
-/// How many units are left, also of a cut input: nothing is consumed, and it never fails.
+/// Returns the number of remaining units, also of partial input, without consuming input. It never
+/// fails.
 ///
 /// ```
 /// let mut input = "ab";

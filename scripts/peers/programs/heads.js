@@ -1,4 +1,4 @@
-// Says of each line on standard input, a text in JSON, which head llhttp reads of it.
+// Prints the head that llhttp finds in each line of standard input, a text in JSON.
 const { HTTPParser, methods } = process.binding('http_parser');
 const lines = require('fs').readFileSync(0, 'latin1').split('\n').filter((line) => line);
 function read(text, kind, more) {

@@ -1,4 +1,4 @@
-//! Says of each text on standard input, which stands behind its length, which head httparse reads.
+//! Prints the head that httparse finds in each text of standard input, which follows its length.
 use std::io::Read;
 fn main() {
     let mut bytes = Vec::new();

@@ -1,4 +1,4 @@
-//! What repetitions and separations put their outputs into.
+//! The accumulators of repetitions and separated lists.
 use crate::common::letter;
 use std::alloc::{Allocator, Global};
 use std::collections::BTreeMap;
@@ -78,7 +78,7 @@ fn separated_into_a_number(rt: HostRuntime) {
     }
 }
 
-/// What was put into a text is this text.
+/// Checks the text that outputs were accumulated into.
 fn same_text(
     rt: &impl Abort,
     name: &str,
@@ -214,7 +214,7 @@ fn paired<E: ParserError<&'static str>, A: Allocator + Copy>(
     }
 }
 
-/// Pairs by their keys: the last value of a key stands.
+/// Pairs by their keys: the last value of a key is kept.
 #[test]
 fn repeat_into_a_map(rt: HostRuntime) {
     for (text, want, left) in [
@@ -234,7 +234,7 @@ fn repeat_into_a_map(rt: HostRuntime) {
     }
 }
 
-/// The length of what was put into a text, in place of it.
+/// Replaces the accumulated text with its length.
 fn length<A: Allocator>((answer, left): Held<String<A>>) -> Held<usize> {
     match answer {
         Ok(text) => (Ok(text.len()), left),
@@ -277,7 +277,7 @@ fn repeat_into_a_map_without_memory(rt: HostRuntime) {
         |heap| paired::<EmptyError, _>(heap, text),
         (Ok((Some('1'), Some('2'), 26)), 0),
     );
-    // The values of a key that is there ask for no memory.
+    // Further values of an existing key do not allocate.
     let heap = Refusing::always_from(rt.alloc(), 1);
     let got = paired::<EmptyError, _>(&heap, "a1a2a3a4");
     same(

@@ -48,8 +48,8 @@ fn fold(rt: HostRuntime) {
     }
 }
 
-/// The digits of a text, folded into a number below 256: an output that is refused leaves the input
-/// before its item.
+/// The digits of a text, folded into a number below 256: if the closure rejects an output, the
+/// input is left before that item.
 #[test]
 fn verify_fold(rt: HostRuntime) {
     for (name, range, text, want, rest) in [
@@ -91,8 +91,8 @@ fn verify_fold(rt: HostRuntime) {
 #[derive(Clone, Copy)]
 struct TooGreat(u32);
 
-/// The sum of the digits of a text, of which none is 9: an output at which the closure fails leaves
-/// the input before its item.
+/// The sum of the digits of a text, up to 8: if the closure fails, the input is left before that
+/// item.
 #[test]
 fn try_fold(rt: HostRuntime) {
     for (name, range, text, want, rest) in [
@@ -124,9 +124,9 @@ fn try_fold(rt: HostRuntime) {
     }
 }
 
-/// How many calls of its first closure a fold's second run has seen, the first one being on text
-/// without an item: the value to begin with is made behind the first item in the form `1..`, else
-/// first.
+/// How often the initial closure of a fold was called by the end of the fold's second call, if the
+/// first call is on text without an item. The range `1..` calls it after the first item; other
+/// ranges call it before.
 #[test]
 fn fold_by_its_calls(rt: HostRuntime) {
     for (name, range, want) in [
@@ -149,7 +149,7 @@ fn fold_by_its_calls(rt: HostRuntime) {
     }
 }
 
-/// The same of `verify_fold`, which makes it first also in its form `1..`.
+/// `verify_fold` calls its initial closure before the first item also with the range `1..`.
 #[test]
 fn verify_fold_by_its_calls(rt: HostRuntime) {
     let mut calls = 0u8;
@@ -175,7 +175,7 @@ fn fold_of_nothing(rt: HostRuntime) {
     }
 }
 
-/// On cut input an item that is not there is a want of more.
+/// On partial input a missing item is `Incomplete`.
 #[test]
 fn fold_on_cut_input(rt: HostRuntime) {
     let mut parser = repeat(rt.alloc(), Range::from(0..), Any).fold(|| 0u8, |n: u8, _: char| n);
@@ -206,8 +206,8 @@ fn separated_foldl1_of_differences(rt: HostRuntime) {
     }
 }
 
-/// Texts of differences under plain errors, what they come to nested to the left and to the right,
-/// and what is left: the last separator where no element stands behind it.
+/// Differences under plain errors: the results of the left fold and of the right fold, and the
+/// rest, which starts with the last separator if no element follows it.
 const PLAIN_DIFFERENCES: [(&str, Result<u32, Kind>, Result<u32, Kind>, &str); 5] = [
     ("9-5-", Ok(4), Ok(4), "-"),
     ("90-50-20", Ok(20), Ok(60), ""),
@@ -243,7 +243,7 @@ fn separated_foldl1_by_nothing(rt: HostRuntime) {
     let mut parser = separated_foldl1(Any, Empty, |left: char, _: (), _: char| left);
     let got = outcome_at::<&str, char, Modal, _>(&mut parser, "ab");
     same(&rt, "separated_foldl1 by Empty", "ab", got, (Err(Cut), "b"));
-    // Under plain errors the assert error is a backtrack, and handed on.
+    // Under plain errors the assert error is a backtrack, and is returned unchanged.
     let mut parser = separated_foldl1(Any, Empty, |left: char, _: (), _: char| left);
     for (text, want, rest) in [
         ("a", Err(Backtrack), ""),
@@ -373,7 +373,8 @@ fn separated_foldr1_of_numbers(rt: HostRuntime) {
     same(&rt, "separated_foldr1, by Empty", "1", got, (Ok(1), ""));
 }
 
-/// The error finds no memory for that of the closure: the input stands before the item all the same.
+/// The conversion of the closure's error fails to allocate: the input is still left before the
+/// item.
 #[test]
 fn try_fold_without_memory(rt: HostRuntime) {
     for (text, want, rest) in [

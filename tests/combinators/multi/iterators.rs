@@ -19,7 +19,8 @@ use winnow_repeat::combinator::ParserIterator;
 use winnow_repeat::combinator::impls::Fill;
 use winnow_token::token::impls::Any;
 
-/// An iterator gives these items, then none for good; it ends so, and leaves so many units.
+/// Checks that an iterator returns `items`, then `None` from then on, and the result and the
+/// remaining units of `end`.
 fn gives<I, O, E, P>(
     rt: &impl Abort,
     name: &str,
@@ -75,7 +76,7 @@ fn iterator_of_text<I: OfText + Stream<Token = char>, E: ParserError<I>>(rt: &im
     });
     let name = "iterator that stays ended";
     gives::<I, char, E, _>(rt, name, all_but_second, whole("abc"), &['a'], (Ok(()), 2));
-    // What gives more items ends well too.
+    // Finishing succeeds also if more items could follow.
     let mut input: I = whole("ab");
     let mut all: ParserIterator<'_, Any, I, char, E> = winnow_repeat::combinator::iterator(
         &mut input, Any,
@@ -103,13 +104,14 @@ fn iterator(rt: HostRuntime) {
     let cuts = combinator::cut_err(b'a');
     gives::<Bytes, u8, AtBytes, _>(&rt, "iterator of cuts", cuts, b"aab", b"aa", (Err(Cut), 1));
     at_text!(rt; iterator_of_text);
-    // On cut input an item that is not there is a want of more.
+    // On partial input a missing item is `Incomplete`.
     let cut = Partial::new("ab");
     let end = (Err(Incomplete(Needed::new(1))), 0);
     gives::<_, char, Modal, _>(&rt, "iterator, cut", Any, cut, &['a', 'b'], end);
 }
 
-/// A run on the input makes the new elements of the old ones, answers so, and leaves so many units.
+/// Checks that a call replaces the old elements with `new`, and the result and the remaining units
+/// of `want`.
 fn fills<const N: usize, I, O, E, P>(
     rt: &impl Abort,
     name: &str,
@@ -148,7 +150,7 @@ fn fill_of_text<I: OfText + Stream<Token = char>, E: ParserError<I>>(rt: &impl A
 #[test]
 fn fill(rt: HostRuntime) {
     at_text!(rt; fill_of_text);
-    // Other errors are handed on too; an item need not consume.
+    // Other errors are returned unchanged too. An item may consume no input.
     for kind in HARD {
         let (failing, elements) = (Failing(kind), (*b"x", *b"x"));
         let name = "fill of a failure";

@@ -121,7 +121,7 @@ fn repeat_without_memory(rt: HostRuntime) {
     );
 }
 
-/// Letters by ranges, on whole and on cut inputs; nothing is kept.
+/// Letters by ranges, on complete and on partial input, accumulated into `()`.
 fn letters<I: OfText + Stream<Token = char>, E: ParserError<I>>(rt: &impl Abort, alloc: Global) {
     let two = Takes(2);
     for (name, range, row) in [

@@ -52,7 +52,7 @@ fn counted<O: Drop, D: Drop, A: Allocator>(run: Listed<O, D, A>) -> (Result<usiz
     }
 }
 
-/// The run answers these bytes and what ended them, and leaves so many.
+/// Checks the list of bytes, the output of the terminator, and the remaining bytes.
 fn same_list<D: PartialEq + std::fmt::Debug + Drop>(
     rt: &impl Abort,
     name: &str,
@@ -262,7 +262,7 @@ fn repeat_till_plainly(rt: HostRuntime) {
     );
 }
 
-/// The list cannot grow, among the least items and behind them.
+/// The list fails to grow, within the least number of items and after it.
 #[test]
 fn repeat_till_without_memory(rt: HostRuntime) {
     let text = "aaaaaaaaaaaaaaaa;b";
@@ -281,7 +281,7 @@ fn repeat_till_without_memory(rt: HostRuntime) {
     }
 }
 
-/// Letters by ranges, on whole and on cut inputs; nothing is kept.
+/// Letters by ranges, on complete and on partial input, accumulated into `()`.
 fn letters<I: OfText + Stream<Token = char>, E: ParserError<I>>(rt: &impl Abort, alloc: Global) {
     let back = backtracks_behind;
     for (name, range, row) in [

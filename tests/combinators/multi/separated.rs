@@ -84,7 +84,7 @@ fn separated(rt: HostRuntime) {
     );
 }
 
-/// Under plain errors, where the assert error is a backtrack: it is no end of the elements.
+/// Under plain errors the assert error is a backtrack, but it does not end the list.
 #[test]
 fn separated_under_plain_errors(rt: HostRuntime) {
     let alloc = rt.alloc();
@@ -132,7 +132,7 @@ fn separated_without_memory(rt: HostRuntime) {
     );
 }
 
-/// Letters by ranges, on whole and on cut inputs; nothing is kept.
+/// Letters by ranges, on complete and on partial input, accumulated into `()`.
 fn letters<I: OfText + Stream<Token = char>, E: ParserError<I>>(rt: &impl Abort, alloc: Global) {
     for (name, range, row) in [
         (
@@ -224,7 +224,7 @@ fn separated_into_a_list(rt: HostRuntime) {
     }
 }
 
-/// Elements that are none.
+/// Elements that are `None`.
 #[test]
 fn separated_of_options(rt: HostRuntime) {
     type Optional = Opt<Digit1, &'static str, &'static str, Modal>;
@@ -243,7 +243,7 @@ fn separated_of_options(rt: HostRuntime) {
     same(&rt, "separated(0.., opt)", ",,", left, "");
 }
 
-/// Sums of numbers: behind the last one a plus may stand without a number, and is left.
+/// Sums of numbers: a plus without a number after the last one is left in the input.
 #[test]
 fn separated_foldl1_of_sums(rt: HostRuntime) {
     let number: ParseTo<Digit1, &str, &str, u32, Modal> = Digit1.parse_to();

@@ -1,4 +1,4 @@
-//! Text with escapes, and what it stands for.
+//! Text with escapes, and its unescaped value.
 use super::{Bytes, Plain, REFUSALS, lacks_behind};
 use std::alloc::{Allocator, Global};
 use std::process::Abort;
@@ -44,8 +44,8 @@ where
     ascii::escaped(alloc, normal, control, escape)
 }
 
-/// One run of letters, and a line feed or a backslash as `n` or a backslash behind a backslash,
-/// into a text; and the units left.
+/// Parses letters with the escapes `\n` and `\\` into a text, and returns it with the number of
+/// remaining units.
 fn unescaped<A: Allocator + Copy>(
     alloc: A,
     text: &'static str,
@@ -81,7 +81,6 @@ fn escaped(rt: HostRuntime) {
     }
 }
 
-/// Each request for memory is refused in turn.
 #[test]
 fn escaped_without_memory(rt: HostRuntime) {
     let text = "aaaaaaaa\\nbbbbbbbbbbbbbbbbbbbbbbbb\\\\c\\ndddddddddddddddddddddddddddddddd;";
@@ -132,7 +131,7 @@ fn escaped_into_accumulators(rt: HostRuntime) {
     assert!(rt; matches!(answer, Ok(all) if all.as_slice() == b"ab;c".as_slice()));
 }
 
-/// Nothing is kept: how runs end, on whole and on cut inputs.
+/// How calls end on complete and on partial input, accumulated into `()`.
 fn endings<I: OfText + Compare<char> + Stream<Token = char>>(rt: &impl Abort, alloc: Global) {
     let text = make::<_, _, _, I, _, char, _, (), Modal, _>(alloc, Alpha1, '\\', Any);
     let as_whole = [
@@ -196,7 +195,7 @@ fn escaped_on_cut_input(rt: HostRuntime) {
     endings::<Partial<LocatingSlice<&str>>>(&rt, rt.alloc());
 }
 
-/// The plain stream and the one that is marked complete are answered alike.
+/// The plain stream and the partial stream that is marked complete give the same results.
 #[test]
 fn escaped_on_like_streams(rt: HostRuntime) {
     for (text, want) in [

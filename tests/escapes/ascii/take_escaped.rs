@@ -42,7 +42,7 @@ where
     ascii::take_escaped(normal, control, escapable)
 }
 
-/// Digits, and a quotation mark or an `n` behind a backslash.
+/// Digits, with a backslash before a quotation mark or an `n`.
 fn digits<I: OfText + Compare<char>, E: ParserError<I>>(rt: &impl Abort)
 where
     I::Token: AsChar + Copy,
@@ -81,7 +81,7 @@ where
     );
 }
 
-/// Each beginning of a text, whole and cut.
+/// Every prefix of a text, as complete and as partial input.
 fn beginnings<I: OfText + Compare<char>, E: ParserError<I>>(rt: &impl Abort)
 where
     I::Token: AsChar + Copy,
@@ -128,7 +128,7 @@ where
     sweep::<I, _, E, _>(rt, "take_escaped", text, "a\\\\b;", &as_whole, &as_cut);
 }
 
-/// The control is tried from where the turn began, and what is no turn is left.
+/// The control is tried at the start of the turn; input that is not the start of a turn remains.
 fn controls<I: OfText + Compare<char>, E: ParserError<I>>(rt: &impl Abort)
 where
     I::Token: AsChar + Copy,
@@ -175,7 +175,7 @@ fn take_escaped(rt: HostRuntime) {
     at_located!(rt; beginnings);
 }
 
-/// What a refused control consumed stays consumed, also where it was only cut.
+/// If the control fails, the input that it consumed stays consumed, also if it was only incomplete.
 #[test]
 fn take_escaped_up_to_a_refused_control(rt: HostRuntime) {
     let pair = make::<_, _, _, &str, _, (char, char), _, Modal>(Alpha1, ('\\', '\\'), Any);
@@ -218,7 +218,7 @@ fn take_escaped_of_nothing(rt: HostRuntime) {
     ends_each::<_, _, Plain, _>(&rt, "take_escaped(alpha1, empty, empty)", text, &rows);
 }
 
-/// Under an error that is plain the end of a cut input backtracks.
+/// Under plain errors the end of partial input is a backtrack.
 #[test]
 fn take_escaped_plainly(rt: HostRuntime) {
     type CutText = Partial<&'static str>;
@@ -232,7 +232,7 @@ fn take_escaped_plainly(rt: HostRuntime) {
     ends_each::<CutText, _, _, _>(&rt, "take_escaped('a', backslash, any)", text, &rows);
 }
 
-/// The plain stream and the one that is marked complete are answered alike.
+/// The plain stream and the partial stream that is marked complete give the same results.
 #[test]
 fn take_escaped_on_like_streams(rt: HostRuntime) {
     for (text, want) in [

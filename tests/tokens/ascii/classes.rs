@@ -21,8 +21,8 @@ use winnow_ascii::ascii::impls::{
 };
 use winnow_core::parser::{Func, Parser};
 
-/// How many letters, digits, hexadecimal and octal ones, letters and digits, spaces, and spaces and
-/// line ends stand first in a text.
+/// A text, and the lengths of its longest prefixes of letters, digits, hexadecimal digits, octal
+/// digits, letters and digits, spaces, and spaces and line endings.
 const COUNTS: [(&'static str, [usize; 7]); 12] = [
     ("ab1;", [2, 0, 3, 0, 3, 0, 0]),
     ("179z", [0, 3, 3, 2, 4, 0, 0]),
@@ -38,7 +38,7 @@ const COUNTS: [(&'static str, [usize; 7]); 12] = [
     ("123def", [0, 3, 6, 3, 6, 0, 0]),
 ];
 
-/// A parser of so many members or more ends as its column of the counts says.
+/// Checks that a parser of at least `least` members ends as its column of the counts requires.
 fn counted<I: OfText, O: Drop, E: ParserError<I>, P: Parser<I, O, E> + Copy>(
     rt: &impl Abort,
     name: &str,

@@ -1,4 +1,4 @@
-//! Line ends, and what stands before one.
+//! Line endings, and the text before one.
 use std::fmt::Debug;
 use std::process::Abort;
 use stream_errors::empty::EmptyError;
@@ -34,8 +34,8 @@ macro_rules! ends_plainly {
     }};
 }
 
-/// How a parser ends on a carriage return alone, and the same parser on the partial stream of it
-/// that is marked complete.
+/// Checks how a parser ends on a lone carriage return, and the same parser on the partial stream of
+/// it that is marked complete.
 macro_rules! like_ends_at_a_return {
     ($rt:expr; $name:literal, $parser:expr) => {{
         let both = || ($parser, $parser);
@@ -202,7 +202,7 @@ fn line_ending(rt: HostRuntime) {
     like_ends_at_a_return!(rt; "line_ending", LineEnding);
 }
 
-/// The end of a run that lacks more behind so many units; it is not known how much.
+/// The ending of a call that needs an unknown number of units after `taken` units.
 fn lacks_behind(taken: usize) -> Ending {
     Fails(Incomplete(Needed::Unknown), taken)
 }

@@ -35,7 +35,8 @@ macro_rules! ends_plainly {
     }};
 }
 
-/// What a parser of such a number answers and leaves on cut text and on cut bytes.
+/// Checks the result of a parser of such a number on partial text and on partial bytes, and the
+/// rest.
 macro_rules! answers_on_cut {
     ($rt:expr; $name:literal, $output:ty, $parser:expr, $rows:expr) => {{
         for row in $rows {

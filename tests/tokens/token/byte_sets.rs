@@ -1,4 +1,4 @@
-//! Sets of bytes as tables, beside the same set as a list.
+//! Sets of bytes as tables, compared with the same set as a list.
 use byte_sets::byte_set::ByteSet;
 use stream_errors::empty::EmptyError;
 use stream_sets::range::Range;

@@ -32,7 +32,7 @@ where
     slices_each::<I, E, _>(rt, "literal('-')", token::literal('-'), &[row]);
 }
 
-/// The beginnings of a text, and letters of either case.
+/// The prefixes of a text, and letters of either case.
 fn literal_on_beginnings<I, E>(rt: &impl Abort)
 where
     I: OfText + Compare<&'static str> + Compare<Caseless<&'static str>>,

@@ -1,4 +1,4 @@
-//! The longest beginning of others than the members of a set.
+//! The longest prefix of tokens that are not members of a set.
 use std::process::Abort;
 use stream_errors::parser_error::ParserError;
 use stream_sets::as_char::AsChar;

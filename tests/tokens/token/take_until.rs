@@ -72,7 +72,7 @@ where
     );
 }
 
-/// The beginnings of texts with two dashes, by ranges.
+/// The prefixes of texts with two dashes, by ranges.
 fn take_until_on_beginnings<I: OfText + FindSlice<&'static str>, E: ParserError<I>>(
     rt: &impl Abort,
 ) {

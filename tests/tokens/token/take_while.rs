@@ -1,4 +1,4 @@
-//! The longest beginning of members of a set.
+//! The longest prefix of members of a set.
 use std::fmt::Debug;
 use std::process::Abort;
 use stream_errors::empty::EmptyError;
@@ -81,8 +81,8 @@ where
     }
 }
 
-/// The beginnings of digits and others, by ranges that count further than to 1. A descending range
-/// is an assert error, of this kind.
+/// The prefixes of digits and others, by ranges that count further than to 1. A descending range is
+/// an assert error, of kind `asserted`.
 fn take_while_on_beginnings<I: OfText, E: ParserError<I>>(rt: &impl Abort, asserted: Kind)
 where
     I::Token: AsChar + Copy,

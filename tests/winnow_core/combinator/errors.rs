@@ -27,7 +27,7 @@ fn complete_err(rt: HostRuntime) {
     }
 }
 
-/// A plain error becomes one that cuts. The closure is called where its parser fails alone.
+/// A plain error becomes a cut. The closure is called only if its parser fails.
 #[test]
 fn map_err(rt: HostRuntime) {
     let cuts = Digit1.map_err(|error: EmptyError| ErrMode::Cut(error));
@@ -129,7 +129,7 @@ fn context_without_memory(rt: HostRuntime) {
     same(&rt, "context, with memory", "a", got, (Err(Backtrack), "a"));
 }
 
-/// The same of a closure's contexts.
+/// Likewise for the contexts of a closure.
 #[test]
 fn context_with_without_memory(rt: HostRuntime) {
     type Refused<'h> = ErrMode<ContextError<&'static str, &'h Refusing<Global>>>;
@@ -161,7 +161,8 @@ fn context_with_without_memory(rt: HostRuntime) {
 /// Contexts that are lists, under errors with a mode.
 type Lists<'h> = ErrMode<ContextError<Vec<u8, &'h Refusing<Global>>, Global>>;
 
-/// The clone of a context is refused, and then it is not. A run that succeeds clones none.
+/// The first clone of a context fails to allocate, the next one succeeds. A successful call clones
+/// nothing.
 #[test]
 fn context_whose_clone_is_refused(rt: HostRuntime) {
     let name = "context, a list";
@@ -185,8 +186,8 @@ fn context_whose_clone_is_refused(rt: HostRuntime) {
     );
 }
 
-/// An incomplete error stays what it was; only where a clone was asked for, and refused, would it be
-/// want of memory.
+/// An incomplete error stays incomplete. It would be out of memory only if a clone were made and
+/// failed to allocate.
 #[test]
 fn context_of_an_incomplete_error(rt: HostRuntime) {
     let want = (Err(Incomplete(Needed::new(1))), Partial::new("12"));

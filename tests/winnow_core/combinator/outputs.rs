@@ -30,7 +30,8 @@ fn value(rt: HostRuntime) {
     at_text_also_plainly!(rt; value_at);
 }
 
-/// The clone of a list is refused, and then it is not. A run that fails clones nothing.
+/// The first clone of a list fails to allocate, the next one succeeds. A failing call clones
+/// nothing.
 #[test]
 fn value_without_memory(rt: HostRuntime) {
     type List<'h> = Vec<u8, &'h Refusing<Global>>;

@@ -14,7 +14,7 @@ use winnow_core::parser::Parser;
 use winnow_token::token;
 use winnow_token::token::impls::{Any, Rest, Take};
 
-/// The ends of the places that a parser answers on a whole text.
+/// Returns the start and the end of the span of a parser on complete text.
 fn places<I: OfText, E: ParserError<I>, P: Parser<I, Range<usize>, E> + Drop>(
     mut parser: P,
     text: &'static str,
@@ -52,7 +52,7 @@ fn span(rt: HostRuntime) {
     span_at::<Partial<LocatingSlice<&str>>, Modal>(&rt);
 }
 
-/// The rest of a stream is the text, and stands at these places.
+/// Checks the rest of a stream and its span.
 fn rest_at<I: OfText + Location, E: ParserError<I>>(
     rt: &impl Abort,
     row: &str,

@@ -1,4 +1,4 @@
-//! Adapters that may refuse an output: the input is then back at the start.
+//! Adapters that may reject an output: the input is then reset.
 use std::process::Abort;
 use stream_errors::external::FromExternalError;
 use stream_errors::mode::ErrMode;
@@ -17,8 +17,8 @@ use winnow_core::parser::Parser;
 use winnow_token::token;
 use winnow_token::token::impls::{Any, Rest, Take};
 
-/// What a parser answers whose closure takes its second call alone: the closure is called once
-/// where its parser succeeds, and not where it fails.
+/// The results of a parser whose closure accepts only its second call: the closure is called once
+/// if its parser succeeds, and not if it fails.
 const SECOND: [Answer<u8>; 4] = [
     ("ab", Err(Backtrack), "ab"),
     ("", Err(Backtrack), ""),
@@ -94,7 +94,7 @@ fn parse_to(rt: HostRuntime) {
     at_text_also_plainly!(rt; parse_to_at);
 }
 
-/// Bytes are read as text; those that are no text are refused.
+/// Bytes are parsed as text; bytes that are not UTF-8 are a backtrack.
 #[test]
 fn parse_to_of_bytes(rt: HostRuntime) {
     let number: ParseTo<Digit1, &[u8], &[u8], u8, Modal> = Digit1.parse_to();
@@ -191,7 +191,7 @@ fn and_then(rt: HostRuntime) {
     at_text_also_plainly!(rt; and_then_at);
 }
 
-/// A length, and as many characters behind it.
+/// A length, and as many characters after it.
 fn flat_map_at<I, E: ParserError<I>>(rt: &impl Abort)
 where
     I: OfText + Stream<Token = char, Slice = &'static str>,

@@ -1,21 +1,22 @@
 //! Where records end.
 use super::LineEnd;
-use crate::{exports, Error, Place, Wanted, NOTHING};
+use crate::{exports, Error, Position, RequiredSize, NOTHING};
 
 /// How much the record has that an [`Extent`] found.
 #[derive(Clone, Copy, Debug, PartialEq, Eq)]
 pub struct Size {
-    /// How many bytes the record has, its line end among them.
+    /// The length of the record in bytes, including its line ending.
     pub length: usize,
-    /// The room that [`record`](crate::csv::record) wants for its fields: so many places, and so many
+    /// The buffer sizes that [`record`](crate::csv::record) needs for the fields: entries and
     /// bytes.
-    pub wanted: Wanted,
+    pub required: RequiredSize,
 }
 
-/// How far bytes that come in pieces were searched for the end of the record that they begin with. What
-/// one call passed, no other looks at again: so all calls for a record take a time that is linear in its
-/// bytes, however many pieces there are, where [`record_in_pieces`](crate::csv::record_in_pieces) reads
-/// from the first byte each time.
+/// The state of a search for the end of a record in input that arrives in chunks.
+///
+/// No call looks again at bytes that an earlier call scanned. So all calls for a record take time
+/// linear in its length, for any number of chunks, whereas
+/// [`record_partial`](crate::csv::record_partial) parses from the first byte each time.
 ///
 /// ```
 /// use pergidau::csv::{self, Extent, LineEnd};
@@ -37,24 +38,29 @@ pub struct Size {
 /// ```
 #[derive(Clone, Debug, Default, PartialEq, Eq)]
 pub struct Extent {
-    state: exports::CsvRecordExtent,
+    state: exports::CsvRecordState,
     end: LineEnd,
 }
 
 impl Extent {
-    /// That of a record with these line ends of which nothing was passed.
+    /// Returns the initial state for a record with line endings `end`.
     pub fn new(end: LineEnd) -> Extent {
-        Extent { state: exports::CsvRecordExtent::default(), end }
+        Extent { state: exports::CsvRecordState::default(), end }
     }
 
-    /// The size of the record with which the bytes begin, whatever follows, if its line end is there.
-    /// They are all of those of the call before, and a piece more. `None` says that no record with its
-    /// line end is there, and that with three bytes more at most they can begin with one;
-    /// [`Error::Refused`], that they begin with none, whatever comes after them, and the first place at
-    /// which none goes on. A field in quotes that are not closed goes on for ever, so a caller bounds
-    /// how many bytes are held. Where no more bytes come, [`record`](crate::csv::record) reads a last
-    /// record that has no line end. What is told of other bytes than those of the call before may be
-    /// wrong.
+    /// Returns the size of the record at the start of `bytes`, if its line ending is there. The
+    /// result does not depend on what follows.
+    ///
+    /// `bytes` must be the bytes of the previous call, followed by a new chunk; otherwise the
+    /// result may be wrong. `None` means that `bytes` contains no record with its line ending, and
+    /// that at most three more bytes can complete one. A quoted field without a closing quote never
+    /// ends, so the caller must limit how many bytes are buffered. The last record may have no line
+    /// ending: at the end of the input, parse it with [`record`](crate::csv::record).
+    ///
+    /// # Errors
+    ///
+    /// [`Error::Invalid`] if `bytes` does not start with a record, regardless of what follows; it
+    /// holds the position of the first invalid byte.
     pub fn advance(&mut self, bytes: &[u8]) -> Result<Option<Size>, Error> {
         let mut out = exports::Record::default();
         let line_feeds = u32::from(self.end == LineEnd::Lf);
@@ -72,11 +78,11 @@ impl Extent {
         };
         match code {
             exports::DONE => {
-                let wanted = Wanted { entries: out.fields, bytes: out.text };
-                Ok(Some(Size { length: out.length, wanted }))
+                let required = RequiredSize { entries: out.fields, bytes: out.text };
+                Ok(Some(Size { length: out.length, required }))
             }
             exports::INCOMPLETE => Ok(None),
-            code => Err(Error::of(code, Some(Place::of(bytes, out.place)), NOTHING)),
+            code => Err(Error::of(code, Some(Position::of(bytes, out.error_offset)), NOTHING)),
         }
     }
 }

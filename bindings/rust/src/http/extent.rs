@@ -1,10 +1,11 @@
 //! Where heads of requests end.
-use crate::{exports, Error, Place, NOTHING};
+use crate::{exports, Error, Position, NOTHING};
 
-/// How far bytes that come in pieces were searched for the end of the head of a request that they
-/// begin with. What one call passed, no other looks at again: so all calls for a head take a time that
-/// is linear in its bytes, however many pieces there are, where
-/// [`head_in_pieces`](crate::http::head_in_pieces) reads from the first byte each time.
+/// The state of a search for the end of the head of a request in input that arrives in chunks.
+///
+/// No call looks again at bytes that an earlier call scanned. So all calls for a head take time
+/// linear in its length, for any number of chunks, whereas
+/// [`head_partial`](crate::http::head_partial) parses from the first byte each time.
 ///
 /// ```
 /// use pergidau::http::{self, Field, HeadExtent};
@@ -24,19 +25,24 @@ use crate::{exports, Error, Place, NOTHING};
 /// ```
 #[derive(Clone, Debug, Default, PartialEq, Eq)]
 pub struct HeadExtent {
-    state: exports::HttpHeadExtent,
+    state: exports::HttpHeadState,
 }
 
 impl HeadExtent {
-    /// That of a head of which nothing was passed.
+    /// Returns the initial state.
     pub fn new() -> HeadExtent {
         HeadExtent::default()
     }
 
-    /// How many bytes the head has with which the bytes begin, if it is there. They are all of those of
-    /// the call before, and a piece more. `None` says that with more bytes after them they can begin
-    /// with a head; [`Error::Refused`], that they cannot, and the first place at which none goes on.
-    /// What is told of other bytes than those of the call before may be wrong.
+    /// Returns the length in bytes of the head at the start of `bytes`, if it is complete.
+    ///
+    /// `bytes` must be the bytes of the previous call, followed by a new chunk; otherwise the
+    /// result may be wrong. `None` means that more bytes can complete a head.
+    ///
+    /// # Errors
+    ///
+    /// [`Error::Invalid`] if `bytes` does not start with a head, regardless of what follows; it
+    /// holds the position of the first invalid byte.
     pub fn advance(&mut self, bytes: &[u8]) -> Result<Option<usize>, Error> {
         let mut out = 0;
         // SAFETY: the pointers are those of live borrows, and the bytes are only read. The call takes up
@@ -47,7 +53,7 @@ impl HeadExtent {
         match code {
             exports::DONE => Ok(Some(out)),
             exports::INCOMPLETE => Ok(None),
-            code => Err(Error::of(code, Some(Place::of(bytes, out)), NOTHING)),
+            code => Err(Error::of(code, Some(Position::of(bytes, out)), NOTHING)),
         }
     }
 }

@@ -1,7 +1,7 @@
 //! Heads of responses.
 use super::Field;
 use crate::exports;
-use crate::{at, Error, Place, Wanted};
+use crate::{at, Error, Position, RequiredSize};
 
 /// The head of a response: its numbers, and its parts as slices of the bytes that were read.
 #[derive(Clone, Copy, Debug)]
@@ -17,8 +17,8 @@ impl<'i, 'f> ResponseHead<'i, 'f> {
         self.places.status
     }
 
-    /// The reason, as it stands after the status code and a space. It may have no bytes; a client
-    /// ignores it.
+    /// Returns the reason phrase: the text after the status code and a space. It may be empty;
+    /// clients ignore it.
     pub fn reason(&self) -> &'i [u8] {
         at(self.bytes, self.places.reason)
     }
@@ -28,7 +28,8 @@ impl<'i, 'f> ResponseHead<'i, 'f> {
         (self.places.major, self.places.minor)
     }
 
-    /// The names and the values of the fields, in order. White space round a value is no part of it.
+    /// Returns the names and values of the fields, in order. Values do not include the whitespace
+    /// around them.
     pub fn fields(&self) -> impl ExactSizeIterator<Item = (&'i [u8], &'i [u8])> + 'f
     where
         'i: 'f,
@@ -37,7 +38,7 @@ impl<'i, 'f> ResponseHead<'i, 'f> {
         self.fields.iter().map(move |it| (at(bytes, it.name), at(bytes, it.value)))
     }
 
-    /// What stands after the head.
+    /// Returns the input after the head.
     pub fn rest(&self) -> &'i [u8] {
         &self.bytes[self.places.length..]
     }
@@ -59,16 +60,24 @@ fn read<'i, 'f>(
     match code {
         exports::DONE => Ok(ResponseHead { bytes, places, fields: &fields[..places.fields] }),
         code => {
-            let wanted = Wanted { entries: places.fields, bytes: 0 };
-            Err(Error::of(code, Some(Place::of(bytes, places.place)), wanted))
+            let required = RequiredSize { entries: places.fields, bytes: 0 };
+            Err(Error::of(code, Some(Position::of(bytes, places.error_offset)), required))
         }
     }
 }
 
-/// The head of a response of HTTP/1.1 (RFC 9112) with which the bytes begin. The places of its fields
-/// are written into `fields`; where these are too few, the error says how many are wanted. Where the
-/// bytes begin with no head, the error says the first place at which none goes on. At an error any
-/// entry may be written. No memory is asked for.
+/// Parses the head of an HTTP/1.1 response (RFC 9112) at the start of `bytes`. Does not allocate.
+///
+/// The offsets of the fields are written into `fields`.
+///
+/// # Errors
+///
+/// - [`Error::BufferTooSmall`] if the head has more fields than `fields` has entries; it holds the
+///   number of fields.
+/// - [`Error::Invalid`] if `bytes` does not start with a head; it holds the position of the first
+///   invalid byte, or the end of the input.
+///
+/// After an error the contents of `fields` are unspecified.
 ///
 /// ```
 /// let mut fields = [pergidau::http::Field::default(); 16];
@@ -86,17 +95,21 @@ pub fn response_head<'i, 'f>(
     read(exports::exported_http_response_head, bytes, fields)
 }
 
-/// The same head where the bytes come in pieces: [`Error::Incomplete`] says that with more bytes
-/// after them they can begin with one, and [`Error::Refused`] that they cannot, and the first place
-/// at which none goes on.
+/// Like [`response_head`], for partial input.
+///
+/// # Errors
+///
+/// - [`Error::Incomplete`] if `bytes` does not start with a head, but more bytes can complete one.
+/// - [`Error::Invalid`] if `bytes` does not start with a head, regardless of what follows; it holds
+///   the position of the first invalid byte.
 ///
 /// ```
-/// let head = pergidau::http::response_head_in_pieces(b"HTTP/1.1 20", &mut []);
+/// let head = pergidau::http::response_head_partial(b"HTTP/1.1 20", &mut []);
 /// assert_eq!(head.unwrap_err(), pergidau::Error::Incomplete);
 /// ```
-pub fn response_head_in_pieces<'i, 'f>(
+pub fn response_head_partial<'i, 'f>(
     bytes: &'i [u8],
     fields: &'f mut [Field],
 ) -> Result<ResponseHead<'i, 'f>, Error> {
-    read(exports::exported_http_response_head_in_pieces, bytes, fields)
+    read(exports::exported_http_response_head_partial, bytes, fields)
 }

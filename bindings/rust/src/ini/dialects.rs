@@ -10,46 +10,46 @@
 //! assert_eq!(found.next(), Some(Ok(Entry::Pair { key: "hosts", value: Some("a") })));
 //! assert_eq!(found.next(), Some(Ok(Entry::More("b"))));
 //! assert_eq!(found.next(), None);
-//! let refused = entries("[server]\nport\n", Dialect::PYTHON).last().unwrap().unwrap_err();
-//! assert_eq!(refused.to_string(), "no delimiter after the key, at line 2, column 1");
+//! let error = entries("[server]\nport\n", Dialect::PYTHON).last().unwrap().unwrap_err();
+//! assert_eq!(error.to_string(), "missing delimiter after the key at line 2, column 1");
 //! ```
 use crate::exports::{self, IniEntry, IniState};
-use crate::{Place, Span};
+use crate::{Position, Span};
 use core::fmt;
 
-/// What ends a key: the first of these in a line.
+/// The delimiter that ends a key: the first one in its line.
 #[derive(Clone, Copy, Debug, PartialEq, Eq)]
 pub enum Delimiters {
-    /// `=` alone; a colon is part of a key.
+    /// Only `=`; a colon is part of a key.
     Equals,
-    /// `:` alone; an equals sign is part of a key.
+    /// Only `:`; an equals sign is part of a key.
     Colon,
     /// One or the other.
     Either,
 }
 
-/// What begins a comment.
+/// The character that starts a comment.
 #[derive(Clone, Copy, Debug, PartialEq, Eq)]
 pub enum Marks {
     /// Nothing: there are no such comments.
     Neither,
-    /// `#` alone.
+    /// Only `#`.
     NumberSign,
-    /// `;` alone.
+    /// Only `;`.
     Semicolon,
     /// One or the other.
     Either,
 }
 
-/// What a line means that is indented deeper than the pair before it.
+/// The meaning of a line that is indented deeper than the pair before it.
 #[derive(Clone, Copy, Debug, PartialEq, Eq)]
 pub enum Continued {
     /// It is a line of its own.
     Never,
-    /// It goes on the value of that pair, until an empty line or a comment.
+    /// It continues the value of that pair. An empty line or a comment ends the value.
     UntilEmpty,
-    /// It goes on the value of that pair, and empty lines within are part of the value. Comments
-    /// within are passed over.
+    /// It continues the value of that pair, and empty lines within are part of the value. Comments
+    /// within are skipped.
     PastEmpty,
 }
 
@@ -64,23 +64,23 @@ pub enum Continued {
 /// ```
 #[derive(Clone, Copy, Debug, PartialEq, Eq)]
 pub struct Dialect {
-    /// What ends a key.
+    /// The delimiters that end a key.
     pub delimiters: Delimiters,
-    /// What begins a comment where it is the first of a line, after white space.
+    /// The characters that start a comment if they are the first in a line, after whitespace.
     pub comments: Marks,
-    /// What begins a comment at the start of a line, or after white space in it.
+    /// The characters that start a comment at the start of a line, or after whitespace in it.
     pub inline_comments: Marks,
-    /// What a line means that is indented deeper than the pair before it.
+    /// The meaning of a line that is indented deeper than the pair before it.
     pub continued: Continued,
-    /// Whether a line without a delimiter is a key without a value; else it is refused.
+    /// Whether a line without a delimiter is a key without a value; otherwise it is an error.
     pub valueless: bool,
-    /// Whether pairs may stand before the first section; else they are refused.
+    /// Whether pairs may precede the first section; otherwise they are an error.
     pub before_sections: bool,
 }
 
 impl Dialect {
-    /// The dialect of Python's `configparser`, unless it is told another: `=` and `:`, `#` and `;`
-    /// at the start of lines, continued lines with empty lines within.
+    /// The default dialect of Python's `configparser`: `=` and `:`, `#` and `;` at the start of
+    /// lines, continued lines with empty lines within.
     pub const PYTHON: Dialect = Dialect {
         delimiters: Delimiters::Either,
         comments: Marks::Either,
@@ -154,16 +154,16 @@ const _: () = assert!(Dialect::PYTHON.flags() == exports::INI_DIALECT_PYTHON);
 const _: () = assert!(Dialect::DESKTOP.flags() == exports::INI_DIALECT_DESKTOP);
 const _: () = assert!(Dialect::LENIENT.flags() == exports::INI_DIALECT_LENIENT);
 
-/// What a line says.
+/// The content of a line.
 #[derive(Clone, Copy, Debug, PartialEq, Eq)]
 pub enum Entry<'i> {
     /// `[name]` begins a section.
     Section(&'i str),
-    /// A pair, with its value, or what stands of that on this line.
+    /// A pair, with its value, or the part of the value on this line.
     Pair {
         /// The key, without white space at either end.
         key: &'i str,
-        /// The value, without white space at either end; none where no delimiter stands.
+        /// The value, without whitespace at either end; `None` if there is no delimiter.
         value: Option<&'i str>,
     },
     /// One more line of the value of the pair before, without white space at either end. It is
@@ -174,48 +174,48 @@ pub enum Entry<'i> {
 /// Why a line is none of the dialect.
 #[derive(Clone, Copy, Debug, PartialEq, Eq)]
 #[non_exhaustive]
-pub enum Refusal {
-    /// No `]` stands after the `[` that begins the line.
-    OpenSection,
-    /// Nothing stands between `[` and `]`.
+pub enum Reason {
+    /// The line starts with `[` and has no `]`.
+    UnclosedSection,
+    /// There is nothing between `[` and `]`.
     EmptySection,
-    /// Something stands after the `]`.
-    TextBehindSection,
-    /// No section stands before the pair.
-    NoSection,
-    /// No key stands before the delimiter.
-    NoKey,
+    /// There is text after the `]`.
+    TrailingText,
+    /// There is no section before the pair.
+    MissingSection,
+    /// There is no key before the delimiter.
+    MissingKey,
     /// There is no delimiter.
-    NoDelimiter,
+    MissingDelimiter,
     /// The library said what this crate does not know: it is another one.
     Unknown(usize),
 }
 
-impl Refusal {
+impl Reason {
     /// The reason of this number.
-    fn of(number: usize) -> Refusal {
+    fn of(number: usize) -> Reason {
         match number {
-            exports::INI_FAULT_OPEN_SECTION => Refusal::OpenSection,
-            exports::INI_FAULT_EMPTY_SECTION => Refusal::EmptySection,
-            exports::INI_FAULT_TEXT_BEHIND_SECTION => Refusal::TextBehindSection,
-            exports::INI_FAULT_NO_SECTION => Refusal::NoSection,
-            exports::INI_FAULT_NO_KEY => Refusal::NoKey,
-            exports::INI_FAULT_NO_DELIMITER => Refusal::NoDelimiter,
-            number => Refusal::Unknown(number),
+            exports::INI_ERROR_UNCLOSED_SECTION => Reason::UnclosedSection,
+            exports::INI_ERROR_EMPTY_SECTION => Reason::EmptySection,
+            exports::INI_ERROR_TRAILING_TEXT => Reason::TrailingText,
+            exports::INI_ERROR_MISSING_SECTION => Reason::MissingSection,
+            exports::INI_ERROR_MISSING_KEY => Reason::MissingKey,
+            exports::INI_ERROR_MISSING_DELIMITER => Reason::MissingDelimiter,
+            number => Reason::Unknown(number),
         }
     }
 }
 
-impl fmt::Display for Refusal {
+impl fmt::Display for Reason {
     fn fmt(&self, f: &mut fmt::Formatter<'_>) -> fmt::Result {
         f.write_str(match self {
-            Refusal::OpenSection => "no `]` after `[`",
-            Refusal::EmptySection => "a section without a name",
-            Refusal::TextBehindSection => "text after a section",
-            Refusal::NoSection => "a pair before the first section",
-            Refusal::NoKey => "no key before the delimiter",
-            Refusal::NoDelimiter => "no delimiter after the key",
-            Refusal::Unknown(_) => "a line for a reason that is not known",
+            Reason::UnclosedSection => "unclosed section header",
+            Reason::EmptySection => "empty section name",
+            Reason::TrailingText => "unexpected text after a section header",
+            Reason::MissingSection => "pair before the first section header",
+            Reason::MissingKey => "missing key before the delimiter",
+            Reason::MissingDelimiter => "missing delimiter after the key",
+            Reason::Unknown(_) => "invalid line for an unknown reason",
         })
     }
 }
@@ -224,14 +224,14 @@ impl fmt::Display for Refusal {
 #[derive(Clone, Copy, Debug, PartialEq, Eq)]
 pub struct LineError {
     /// Where the line begins.
-    pub place: Place,
+    pub position: Position,
     /// Why it is none.
-    pub why: Refusal,
+    pub reason: Reason,
 }
 
 impl fmt::Display for LineError {
     fn fmt(&self, f: &mut fmt::Formatter<'_>) -> fmt::Result {
-        write!(f, "{}, at {}", self.why, self.place)
+        write!(f, "{} at {}", self.reason, self.position)
     }
 }
 
@@ -247,19 +247,20 @@ pub struct Entries<'i> {
     is_over: bool,
 }
 
-/// The entries of a document, one after the other; a byte order mark in front is passed over. The
-/// first line that is none of the dialect is an error, with its line, its column and why. Nothing
-/// is allocated, and all calls for a document take a time that is linear in its length.
+/// Returns an iterator over the entries of a document. A byte order mark at the start is skipped.
+///
+/// The first line that is invalid in the dialect gives an error with its line, its column and the
+/// reason. Nothing is allocated. All calls for a document take time linear in its length.
 ///
 /// ```
-/// use pergidau::ini::dialects::{entries, Dialect, Entry, Refusal};
+/// use pergidau::ini::dialects::{entries, Dialect, Entry, Reason};
 ///
 /// let text = "[Desktop Entry]\n# a comment\nExec=run --now\n=x\n";
 /// let mut found = entries(text, Dialect::DESKTOP);
 /// assert_eq!(found.next(), Some(Ok(Entry::Section("Desktop Entry"))));
 /// assert_eq!(found.next(), Some(Ok(Entry::Pair { key: "Exec", value: Some("run --now") })));
-/// let refused = found.next().unwrap().unwrap_err();
-/// assert_eq!((refused.place.line, refused.why), (4, Refusal::NoKey));
+/// let error = found.next().unwrap().unwrap_err();
+/// assert_eq!((error.position.line, error.reason), (4, Reason::MissingKey));
 /// assert_eq!(found.next(), None);
 /// ```
 pub fn entries(text: &str, dialect: Dialect) -> Entries<'_> {
@@ -293,10 +294,10 @@ impl<'i> Iterator for Entries<'i> {
                 Some(Ok(Entry::Pair { key: at(out.key), value: None }))
             }
             (exports::DONE, exports::INI_MORE) => Some(Ok(Entry::More(at(out.value)))),
-            (exports::REFUSED, _) => {
+            (exports::INVALID, _) => {
                 self.is_over = true;
-                let place = Place::of(bytes, out.place);
-                Some(Err(LineError { place, why: Refusal::of(out.fault) }))
+                let position = Position::of(bytes, out.error_offset);
+                Some(Err(LineError { position, reason: Reason::of(out.error) }))
             }
             (code, _) => {
                 debug_assert_eq!(code, exports::END);

@@ -1,11 +1,12 @@
-//! What numbers and strings of JSON say.
+//! Conversions of JSON numbers and strings.
 use super::{unknown, Kind, Value};
 use crate::exports::{self, JsonText};
-use crate::{Error, Wanted};
+use crate::{Error, RequiredSize};
 
 impl<'i> Value<'i> {
-    /// The integer that a number is written as. `None` where it has a point or an exponent, as `1.0`
-    /// and `1e2` have, where it does not fit, and where the value is no number. Of `-0` it is 0.
+    /// Returns the integer that a number is written as; `-0` gives 0. Returns `None` if the number
+    /// has a point or an exponent, like `1.0` and `1e2`, if it does not fit, or if the value is not
+    /// a number.
     ///
     /// ```
     /// use pergidau::json;
@@ -24,7 +25,8 @@ impl<'i> Value<'i> {
         fits(code).then_some(out)
     }
 
-    /// As [`as_i64`](Value::as_i64), without a sign: a number with a minus has none, `-0` too.
+    /// Like [`as_i64`](Value::as_i64), without a sign: returns `None` for a number with a minus
+    /// sign, even `-0`.
     ///
     /// ```
     /// let value = pergidau::json::parse("18446744073709551615", 0)?;
@@ -44,12 +46,12 @@ impl<'i> Value<'i> {
         (self.kind == Kind::Number).then(|| self.text.as_bytes())
     }
 
-    /// The text of a string, without its quotes and with its escapes undone; `None` where the value
-    /// is no string. Where it has no escape, it is a part of the text of JSON, and nothing is
-    /// written; else it is written into the buffer.
+    /// Returns a string without its quotes and with its escapes decoded; `None` if the value is not
+    /// a string. A string without escapes is returned as a slice of the JSON text, and nothing is
+    /// written; otherwise it is decoded into `buffer`.
     ///
-    /// A buffer of as many bytes as the string is never too small; another may be, and then
-    /// [`Error::TooSmall`] says how many bytes are wanted.
+    /// A buffer as long as the string is always large enough. If a shorter one is too small,
+    /// [`Error::BufferTooSmall`] holds the required number of bytes.
     ///
     /// ```
     /// let value = pergidau::json::parse("\"r\\u006fle\"", 0)?;
@@ -67,25 +69,29 @@ impl<'i> Value<'i> {
             return Ok(self.text.get(1..self.text.len() - 1));
         }
         let (text, _) = unescape(self.text.as_bytes(), buffer)?;
-        core::str::from_utf8(text).map(Some).map_err(|_| Error::NotText)
+        core::str::from_utf8(text).map(Some).map_err(|_| Error::InvalidUtf8)
     }
 }
 
-/// Whether the code says that an integer was written, where a number stands first.
+/// Returns whether `code` reports that an integer was written; the input starts with a number.
 fn fits(code: u32) -> bool {
     match code {
         exports::DONE => true,
-        exports::NO_INTEGER => false,
+        exports::NOT_AN_INTEGER => false,
         code => unknown(code as usize),
     }
 }
 
-/// The text of the string of JSON (RFC 8259) with which the bytes begin, written into the buffer
-/// without its quotes and with its escapes undone, and what stands after the string. Bytes of 128
-/// and above are not looked at: the text is UTF-8 where the bytes are.
+/// Decodes the JSON string (RFC 8259) at the start of `bytes` into `buffer`, without its quotes and
+/// with its escapes decoded. Returns the text, and the rest of the input. Bytes of 128 and above
+/// are not checked: the text is UTF-8 if the bytes are.
 ///
-/// A buffer that is too small, as [`Error::TooSmall`] says, and that of a refusal, may have been
-/// written to.
+/// # Errors
+///
+/// - [`Error::BufferTooSmall`] if the buffer is too small; it holds the required number of bytes.
+/// - [`Error::Invalid`] if `bytes` does not start with a string.
+///
+/// After an error the contents of `buffer` are unspecified.
 ///
 /// ```
 /// use pergidau::json;
@@ -98,9 +104,9 @@ pub fn unescape<'i, 'b>(
     buffer: &'b mut [u8],
 ) -> Result<(&'b [u8], &'i [u8]), Error> {
     let mut out = JsonText::default();
-    // SAFETY: the pointers are those of live borrows, of which the bytes are only read, and the two do
-    // not overlap. The call takes up to 1 KiB of stack (measured); where there is less, the thread's
-    // guard page ends the program.
+    // SAFETY: the pointers are those of live borrows that do not overlap, and the bytes are only
+    // read. The call takes up to 1 KiB of stack (measured); where there is less, the thread's guard
+    // page ends the program.
     let code = unsafe {
         exports::exported_json_string(
             bytes.as_ptr(),
@@ -112,6 +118,6 @@ pub fn unescape<'i, 'b>(
     };
     match code {
         exports::DONE => Ok((&buffer[..out.text], &bytes[out.length..])),
-        code => Err(Error::of(code, None, Wanted { entries: 0, bytes: out.text })),
+        code => Err(Error::of(code, None, RequiredSize { entries: 0, bytes: out.text })),
     }
 }

@@ -1,27 +1,27 @@
-//! A text of JSON from its start to its end.
+//! A walk through a JSON text from its start to its end.
 use super::{check, unknown, Kind, Value};
 use crate::exports::{self, JsonItem};
 use crate::Error;
 
-/// What stands next in a text of JSON.
+/// A step of a walk through a JSON text.
 #[derive(Clone, Copy, Debug, PartialEq, Eq)]
 pub enum Step<'i> {
     /// A value that has no others in it: a word, a number or a string.
     Value(Value<'i>),
     /// The name of a member, as a string.
     Name(Value<'i>),
-    /// The bracket before what an array has in it.
+    /// The opening bracket of an array.
     BeginArray,
     /// The bracket after it.
     EndArray,
-    /// The bracket before what an object has in it.
+    /// The opening bracket of an object.
     BeginObject,
     /// The bracket after it.
     EndObject,
 }
 
-/// The steps of a text of JSON, from its start to its end and through all levels: each byte is read
-/// once, however deep it stands. [`steps`] and [`Value::steps`] make it.
+/// An iterator over the steps of a JSON text, from its start to its end and through all levels. It
+/// scans each byte once, at any depth. Returned by [`steps`] and [`Value::steps`].
 #[derive(Clone, Copy, Debug)]
 pub struct Steps<'i> {
     left: &'i str,
@@ -48,9 +48,9 @@ impl<'i> Iterator for Steps<'i> {
             exports::END => return None,
             code => unknown(code as usize),
         }
-        let (front, left) = self.left.split_at(out.place.offset + out.place.length);
-        let text = &front[out.place.offset..];
-        let value = |kind| Value { kind, text, levels: 0 };
+        let (front, left) = self.left.split_at(out.span.offset + out.span.length);
+        let text = &front[out.span.offset..];
+        let value = |kind| Value { kind, text, max_depth: 0 };
         let step = match out.kind {
             exports::JSON_NULL => Step::Value(value(Kind::Null)),
             exports::JSON_FALSE => Step::Value(value(Kind::False)),
@@ -69,8 +69,8 @@ impl<'i> Iterator for Steps<'i> {
     }
 }
 
-/// The steps of a text of JSON (RFC 8259), in which no more than `levels` arrays and objects stand
-/// in one another; a text that is none is refused as a whole, as [`check`] does it.
+/// Returns the steps of a JSON text (RFC 8259) whose arrays and objects are nested at most
+/// `max_depth` deep. The whole text is checked first, as by [`check`].
 ///
 /// ```
 /// use pergidau::json::{self, Step};
@@ -80,7 +80,7 @@ impl<'i> Iterator for Steps<'i> {
 /// assert_eq!(numbers.count(), 2);
 /// # Ok::<(), pergidau::Error>(())
 /// ```
-pub fn steps(text: &str, levels: usize) -> Result<Steps<'_>, Error> {
-    check(text.as_bytes(), levels)?;
+pub fn steps(text: &str, max_depth: usize) -> Result<Steps<'_>, Error> {
+    check(text.as_bytes(), max_depth)?;
     Ok(Steps::of(text))
 }

@@ -1,4 +1,4 @@
--- What holds of bytes that are items.
+-- Properties of bytes that are items.
 use Rattle.std.specs.Prelude.{◌≡◌, ℕ, pos, Bool, true, false, if◌then◌else◌}
 use Rattle.std.specs.Prelude.{[], ◌∷◌, length, Option, Some}
 use Rattle.std.proofs.Common.{refl, sym, ◌∙◌, ap, subst, arith}
@@ -16,7 +16,7 @@ use Rattle.example_booleans.specs.declared.booleans.Logic.{Logic}
 use Rattle.example_booleans.specs.declared.booleans.Logic.TheVariants.{And, Or, Same}
 use Rattle.example_booleans.specs.declared.booleans.Not.{Not}
 
--- they leave an end
+-- every call leaves a suffix
 pub byte_ends : {O : Type 0} (meant : ℕ → Option O) (i j : Input ℕ) (a : Answer O)
     → ItemRuns (ByteItem meant) i a j → IsEndOf bytes_reading j i
 byte_ends meant i j a r =
@@ -26,7 +26,6 @@ byte_ends meant i j a r =
 same_some : {O : Type 0} {x : Option O} {o p : O} → x ≡ Some o → x ≡ Some p → o ≡ p
 same_some e f = cc
 
--- one begins at a place, and it takes a byte
 pub byte_items : {O : Type 0} (meant : ℕ → Option O) → AreItems length (ByteItem meant)
 byte_items meant = record {
   one = λ tokens o p r q (b, splits, is) (c, splits2, was).

@@ -1,4 +1,5 @@
-//! `map`, `verify`, `try_map`: the closure stays as it is, and refuses all outputs or none.
+//! `map`, `verify`, `try_map`: the closure is unchanged by calls, and rejects either all outputs of
+//! the same tokens or none of them.
 ghost use Rattle.example_callers.specs.Premises.{Dark, Digit, IsValue, One};
 ghost use Rattle.std.specs.Prelude.{◌≡◌, ◌<◌, ◌↔◌, ℕ, IsTrue, MatchResult};
 ghost use Rattle.winnow.specs.Bytes.{bytes_input, bytes_reading};
@@ -63,8 +64,8 @@ fn is_dark(byte: &u8) -> bool
     *byte > 32
 }
 
-/// The first byte, where `verify` finds it above the space. It fails, by a backtrack, where there
-/// is no byte or another one, which then is left.
+/// Parses a byte greater than the space, by `verify`. Backtracks, without consuming input, if there
+/// is no byte or another one.
 ///
 /// ```
 /// use example_callers::premises::closures::verified_byte;
@@ -80,15 +81,15 @@ pub fn verified_byte<'i>(input: &mut &'i [u8]) -> Result<u8, EmptyError>
     Any.verify(is_dark).read(input)
 }
 
-/// Whether a character is after the space.
+/// Returns whether a character is greater than the space.
 fn is_behind_space(character: &char) -> bool
     ensures { IsTrue result ↔ (32 < character.now) }
 {
     *character > ' '
 }
 
-/// The first character, where `verify` finds it after the space. It fails, by a backtrack, where
-/// there is no character or another one, which then is left.
+/// Parses a character greater than the space, by `verify`. Backtracks, without consuming input, if
+/// there is no character or another one.
 ///
 /// ```
 /// use example_callers::premises::closures::verified_character;
@@ -114,8 +115,8 @@ fn value_of(byte: u8) -> Result<u8, ()>
     }
 }
 
-/// The value of the decimal digit that the bytes begin with, by `try_map`. It fails, by a
-/// backtrack, where none does.
+/// Parses a decimal digit of bytes and returns its value, by `try_map`. Backtracks if the input
+/// does not start with a digit.
 ///
 /// ```
 /// use example_callers::premises::closures::digit_of_bytes;
@@ -141,8 +142,8 @@ fn value_of_character(character: char) -> Result<u8, ()>
     }
 }
 
-/// The value of the decimal digit that the text begins with, by `try_map`. It fails, by a
-/// backtrack, where none does.
+/// Parses a decimal digit of text and returns its value, by `try_map`. Backtracks if the input does
+/// not start with a digit.
 ///
 /// ```
 /// use example_callers::premises::closures::digit_of_text;

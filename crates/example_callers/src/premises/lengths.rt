@@ -1,4 +1,4 @@
-//! `length_and_then`, `length_repeat`: lengths that stand in the same tokens are one number.
+//! `length_and_then`, `length_repeat`: the same tokens give the same length.
 ghost use Rattle.example_callers.specs.Premises.{SizedBytes, SizedLetters};
 ghost use Rattle.winnow.specs.Bytes.{bytes_input, bytes_reading};
 ghost use Rattle.winnow.specs.Exact.{Reads};
@@ -11,9 +11,9 @@ use winnow::binary::{length_and_then, length_repeat};
 use winnow::error::{EmptyError, HasKind};
 use winnow::token::impls::Any;
 
-/// The letters that begin as many bytes as the first byte says, by `length_and_then`; what is
-/// after these letters in those bytes is dropped. It fails, by a backtrack, where there are fewer
-/// bytes, or the first of them is no letter.
+/// Parses a length `n` and `n` bytes, and returns the letters that these start with, by
+/// `length_and_then`. Discards the rest of the `n` bytes. Backtracks if there are fewer bytes, or
+/// if the first of them is not a letter.
 ///
 /// ```
 /// use example_callers::premises::lengths::letters_behind_length;
@@ -29,8 +29,8 @@ pub fn letters_behind_length<'i>(input: &mut &'i [u8]) -> Result<&'i [u8], Empty
     length_and_then(U8, Alpha1).read(input)
 }
 
-/// As many bytes as the first byte says, by `length_repeat`. It fails, by a backtrack, where there
-/// are fewer, or for want of memory.
+/// Parses a length `n` and returns the `n` bytes after it, by `length_repeat`. Backtracks if there
+/// are fewer bytes. Otherwise an error is out of memory.
 ///
 /// ```
 /// use example_callers::premises::lengths::bytes_behind_length;

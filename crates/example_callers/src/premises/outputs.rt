@@ -1,4 +1,4 @@
-//! `parse_to`, `and_then`, `flat_map`: what stands in an output, or after it.
+//! `parse_to`, `and_then`, `flat_map`: parsing of an output, or of the input after it.
 ghost use Rattle.example_callers.specs.Premises.{Character, LettersOfTwo, TextLettersOfTwo, Twice};
 ghost use Rattle.std.specs.Prelude.{◌≡◌, Some};
 ghost use Rattle.winnow.specs.Bytes.{bytes_input, bytes_reading};
@@ -16,8 +16,8 @@ use winnow::stream::ParseSlice;
 use winnow::token::impls::Any;
 use winnow::token::take;
 
-/// The number that the first three bytes are as `FromStr` reads them, by `parse_to`. It fails, by a
-/// backtrack, where there are fewer, or they are no number.
+/// Parses three bytes as a number by `FromStr`, with `parse_to`. Backtracks if there are fewer
+/// bytes, or if they are not a number.
 ///
 /// ```
 /// use example_callers::premises::outputs::number_of_three;
@@ -34,8 +34,8 @@ pub fn number_of_three<'i>(input: &mut &'i [u8]) -> Result<u16, EmptyError>
     take(3usize).parse_to::<u16>().read(input)
 }
 
-/// The number that the first three characters are as `FromStr` reads them, by `parse_to`. It fails,
-/// by a backtrack, where there are fewer, or they are no number.
+/// Parses three characters as a number by `FromStr`, with `parse_to`. Backtracks if there are fewer
+/// characters, or if they are not a number.
 ///
 /// ```
 /// use example_callers::premises::outputs::number_of_three_characters;
@@ -51,9 +51,8 @@ pub fn number_of_three_characters<'i>(input: &mut &'i str) -> Result<u16, EmptyE
     take(3usize).parse_to::<u16>().read(input)
 }
 
-/// The letters that the first two bytes begin with, by `and_then`; what is after these letters in
-/// the two bytes is dropped. It fails, by a backtrack, where there are fewer bytes, or the first is
-/// no letter.
+/// Parses two bytes and returns the letters that they start with, by `and_then`. Discards the rest
+/// of the two. Backtracks if there are fewer bytes, or if the first is not a letter.
 ///
 /// ```
 /// use example_callers::premises::outputs::letters_of_two;
@@ -69,9 +68,9 @@ pub fn letters_of_two<'i>(input: &mut &'i [u8]) -> Result<&'i [u8], EmptyError>
     take(2usize).and_then(Alpha1).read(input)
 }
 
-/// The letters that the first two characters begin with, by `and_then`; what is after these
-/// letters in the two is dropped. It fails, by a backtrack, where there are fewer characters, or
-/// the first is no letter of ASCII.
+/// Parses two characters and returns the letters that they start with, by `and_then`. Discards the
+/// rest of the two. Backtracks if there are fewer characters, or if the first is not an ASCII
+/// letter.
 ///
 /// ```
 /// use example_callers::premises::outputs::letters_of_two_characters;
@@ -94,8 +93,8 @@ fn itself(byte: u8) -> u8
     byte
 }
 
-/// A byte that stands twice, by `flat_map`: what is read after it is the parser that is made of
-/// it. It fails, by a backtrack, where the first byte does not stand twice.
+/// Parses a byte that occurs twice in a row, by `flat_map`: the parser of the second byte is made
+/// from the first one. Backtracks if the first byte does not occur twice.
 ///
 /// ```
 /// use example_callers::premises::outputs::byte_twice;
@@ -118,8 +117,8 @@ fn same_character(character: char) -> char
     character
 }
 
-/// A character that stands twice, by `flat_map`: what is read after it is the parser that is made
-/// of it. It fails, by a backtrack, where the first character does not stand twice.
+/// Parses a character that occurs twice in a row, by `flat_map`: the parser of the second character
+/// is made from the first one. Backtracks if the first character does not occur twice.
 ///
 /// ```
 /// use example_callers::premises::outputs::character_twice;

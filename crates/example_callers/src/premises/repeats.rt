@@ -83,8 +83,8 @@ pub fn greatest_code<'i, A: Allocator + Copy>(
         .read(input)
 }
 
-/// The bytes before the first semicolon, and that, by `repeat_till`. It fails, by a backtrack,
-/// where there is none, or for want of memory.
+/// Parses the bytes up to the first semicolon, and the semicolon, by `repeat_till`. Backtracks if
+/// there is no semicolon. Otherwise an error is out of memory.
 ///
 /// ```
 /// use example_callers::premises::repeats::bytes_up_to_mark;
@@ -103,8 +103,8 @@ pub fn bytes_up_to_mark<'i, A: Allocator + Copy>(
     repeat_till(alloc, Range::from(0..), Any, b';').read(input)
 }
 
-/// The characters before the first semicolon, and that, by `repeat_till`. It fails, by a backtrack,
-/// where there is none, or for want of memory.
+/// Parses the characters up to the first semicolon, and the semicolon, by `repeat_till`. Backtracks
+/// if there is no semicolon. Otherwise an error is out of memory.
 ///
 /// ```
 /// use example_callers::premises::repeats::characters_up_to_mark;

@@ -1,4 +1,4 @@
--- What runs of the parsers of a letter of a level and of a colon say of the bytes.
+-- Lemmas about calls of the parsers of a level's letter and of a colon.
 use Rattle.std.specs.Prelude.{◌≡◌, ◌⊎◌, ℕ, List, [], ◌∷◌, false, IsSome, Some, None, Ok, Err}
 use Rattle.std.proofs.Common.{◌∙◌, ap, sym, inl, inr}
 use Rattle.winnow.specs.Bytes.{bytes_reading}
@@ -39,7 +39,6 @@ pub letter_read : (i j : Input ℕ) (b : ℕ) (level : Level)
 letter_read i j b level any is =
     (b, (any_ok (λ x. x) bytes_reading modal i b j any).tokens, is)
 
--- one that was taken and put back, of no level
 pub letter_refused : (i a : Input ℕ) (b : ℕ) → AnyRuns (λ x. x) bytes_reading modal i (Ok b) a
     → level_at b ≡ None → NoLevelStands i.left.tokens
 letter_refused i a b any none level rest (c, splits, is) =

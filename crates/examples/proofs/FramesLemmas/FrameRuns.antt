@@ -39,7 +39,6 @@ length_reads =
     integer_reads 2 (λ _. value_of) counted_reading modal tt (bytes_high_first 2)
     (λ n bytes is as_many are. be_written 2 n bytes is as_many are)
 
--- what it answers is the payload of the frame that stood first
 pub frame_read : (s : ⊤) (i : Input ℕ) (o : Bor (List ℕ)) (t : ⊤) (j : Input ℕ)
     → FrameMeans s i (Ok o) t j
     → (i.left.tokens ≡ frame o.now ++ j.left.tokens) × IsPayload o.now
@@ -48,13 +47,13 @@ frame_read s i o t j ran =
     (λ n. n < 256 ^ 2) (λ n is. (refl, below n is)) length_reads in
     reads.reads s i o t j refl ran
 
--- a cut input that is too short is incomplete, with the need
 short_cut : (need : ℕ) (i : Input ℕ) (k : Kind) → i.status.cut ≡ true
     → ShortKind modal (Some need) i k → k ≡ incomplete (Some need)
 short_cut need i k cut (inl (_, is)) = is
 short_cut need i k cut (inr (whole, is)) = true_is_false (sym cut ∙ whole)
 
--- What is missing: that many bytes of the frame that the bytes begin.
+-- `IsMissing bytes k`: `k` is `Incomplete` with the number of bytes that the frame at the start of
+-- `bytes` lacks.
 pub record IsMissing (bytes : List ℕ) (k : Kind) : Type 0 where
   pub missing : ℕ
   pub kind : k ≡ incomplete (Some missing)
@@ -93,7 +92,6 @@ no_payload i a n k j cut counted (inr (l, few, kind, e, same)) =
       );
     }
 
--- where it fails on bytes to which more may be added, that many are missing
 pub frame_missing : (s : ⊤) (i : Input ℕ) (k : Kind) (t : ⊤) (j : Input ℕ) → i.status.cut ≡ true
     → FrameMeans s i (Err k) t j → IsMissing i.left.tokens k
 frame_missing s i k t j cut (inl (n, a, r, q)) = no_payload i a n k j cut r.0 q.0

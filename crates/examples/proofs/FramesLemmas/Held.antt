@@ -1,4 +1,4 @@
--- What is held after a read.
+-- Lemmas about the contents of the buffer after a read.
 use Rattle.std.proofs.Common.{◌≡◌, ◌∙◌, ◌≤◌, ◌+◌, ◌++◌, ℕ, List, [], length, take, drop, sym, ap}
 use Rattle.std.proofs.Common.{arith}
 use Rattle.std.proofs.Common.{length-append, length-take-le, append-nil, drop_at, take_at}

@@ -1,4 +1,4 @@
--- What lines come to, of parsers that record nothing themselves.
+-- Lemmas about the results of lines, for parsers that record nothing themselves.
 use Rattle.std.specs.Prelude.{◌≡◌, ◌+◌, ◌++◌, ℕ, List, [], ◌∷◌, length, Option, Some, None}
 use Rattle.std.specs.Prelude.{Ok, Err, Result, Bool, true, false, IfOk, IfSome, IsSome}
 use Rattle.std.specs.declared.vec.Vec.{Vec}
@@ -24,7 +24,8 @@ use Rattle.winnow.specs.RetryAfter.Known.{RecordNothing}
 use Rattle.winnow.specs.Runs.{Runs}
 use Rattle.examples.specs.Settings.Lines.{LinesAnswer, LinesRead, any_number, faults}
 
--- What some lines recorded: kinds, one for each without an output.
+-- `Recorded i outputs j`: from `i` to `j` the errors of some lines were recorded, one kind for each
+-- line without an output.
 abbrev pub Recorded : {T O : Type 0} → Input T → List (Option O) → Input T → Type 0
 Recorded i outputs j =
     (kinds : List Kind) × (j.status.recorded ≡ i.status.recorded ++ kinds)
@@ -115,7 +116,6 @@ fails_records run recover keeps skips s i k t j (kept, inr (not, inl (o, ran, e)
 fails_records run recover keeps skips s i k t j (kept, inr (not, inr (l, ran, e), same)) =
     keeps s.0 i (Err l) t.0 j ran
 
--- the run of a list of lines that answered one
 lines_read : {S W T O A : Type 0} (run : Runs S T O) (recover : Runs W T (Unit {0}))
     (assert_kind : Kind) → RecordNothing run → RecordNothing recover
     → (s t : (S × W × Recovery) × Range) (i : Input T) (all : Vec (Option O) A) (j : Input T)
@@ -157,7 +157,6 @@ module _ {S W I T O R A : Type 0} (view : I → Input T) (kind : R → Kind) (ru
   abbrev Ran : Result (Vec (Option O) A) Kind → Input T → Type 0
   Ran answer j = RangedRuns (ResumeAfterRuns run recover) list_kept assert_kind s start answer t j
 
-  -- a whole parse that answered lines
   lines_answer : RecordNothing run → RecordNothing recover → s.1 ≡ any_number → (back : I)
       (all : Vec (Option O) A) (errors : Vec R A)
       → RecoverableParses view kind start (λ answer j. Ran answer j)
@@ -294,7 +293,6 @@ lines_ran {A = A} view kind run recover assert_kind recovery p a q b r t start r
     (list_kept {A = A}) assert_kind ((a, b, recovery), any_number) start answer u j) t result
     (parses_from view kind run recover assert_kind recovery p a q b r t start result ran e f h)
 
--- and what it answers
 pub lines_answered : {S W I T O R A : Type 0} (view : I → Input T) (kind : R → Kind)
     (run : Runs S T O) (recover : Runs W T (Unit {0})) (assert_kind : Kind)
     (recovery : Recovery) (p a : S) (q b : W) (r : Range) (t : (S × W × Recovery) × Range)

@@ -8,11 +8,11 @@ use Rattle.winnow.specs.Grammar.{Class, Each, Grammar, NoneStands}
 use Rattle.winnow.specs.Kind.{Kind}
 use Rattle.winnow.specs.{Needed, ParseFault}
 
--- the longest beginning of letters, at least one
+-- A name: the longest prefix of letters, at least one.
 abbrev pub Name : Grammar ℕ (Bor (List ℕ))
 Name = Class IsAlpha 1 (λ b. b) (λ b. b) counted_reading
 
--- the longest beginning of digits, at least one
+-- The longest prefix of digits, at least one.
 abbrev pub Digits : Grammar ℕ (Bor (List ℕ))
 Digits = Class IsDecDigit 1 (λ b. b) (λ b. b) counted_reading
 
@@ -30,7 +30,7 @@ IsFlag tokens rest = (name : Bor (List ℕ)) × Name tokens name (10 ∷ rest)
 abbrev pub Line : Grammar ℕ (Unit {0})
 Line tokens u rest = IsSetting tokens rest ⊎ IsFlag tokens rest
 
--- lines, one after the other
+-- `AreLines tokens rest`: `tokens` starts with a sequence of lines, followed by `rest`.
 abbrev pub AreLines : List ℕ → List ℕ → Type 0
 AreLines tokens rest = (us : List (Unit {0})) × Each Line tokens us rest
 
@@ -42,15 +42,16 @@ NoValue tokens rest = (name : Bor (List ℕ)) × Name tokens name (61 ∷ rest) 
 abbrev pub LacksValue : List ℕ → List ℕ → Type 0
 LacksValue tokens rest = (mid : List ℕ) × AreLines tokens mid × NoValue mid rest
 
--- After lines is the rest, which is no line and no name with a value that lacks.
+-- `NoLine tokens rest`: `tokens` starts with lines, followed by `rest`. `rest` starts neither with
+-- a line nor with a name whose value is missing.
 abbrev pub NoLine : List ℕ → List ℕ → Type 0
 NoLine tokens rest =
     AreLines tokens rest × NoneStands Line rest × ((end : List ℕ) → NoValue rest end → ⊥)
     × (rest ≡ [] → ⊥)
 
--- What a text is told to be. It is lines, or a fault says at which byte a value lacks, or what is
--- no
--- line begins; lines have no fault, and where a value lacks there is that fault.
+-- `IsTold inner_kind text result`: `result` is that of checking `text`. It is `Ok` only for lines.
+-- An error is at the byte where a value is missing, or where the first invalid line begins. Lines
+-- have no error, and a missing value has that error.
 pub record IsTold {I X : Type 0} (inner_kind : X → Kind) (text : List ℕ)
     (result : Result (Unit {0}) (ParseFault I X Needed)) : Type 0 where
   pub lines : IfOk result (λ o. AreLines text [])

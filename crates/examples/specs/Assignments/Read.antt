@@ -1,4 +1,5 @@
--- What the parser of assignments reads and how it fails, and that these are lines and faults.
+-- The grammar and the errors of the parser of assignments, and a proof that these are those of
+-- lines.
 use Rattle.std.specs.Prelude.{◌⊎◌, ⊤, ℕ, List, [], ◌∷◌, length, None, Result, Ok, Err}
 use Rattle.std.specs.Borrow.{Bor}
 use Rattle.std.proofs.Common.{refl, sym, ap, subst, inl, inr, ◌∙◌, arith}
@@ -264,14 +265,12 @@ unfolding Gathered ManyUpTo
 read_there tokens (us, each) =
     (us, tt, (lines_there tokens us [] each, omega arith, inr (tt, ([], backs_at_end))))
 
--- what says where a rest begins wants no memory
 before_wants : {I X : Type 0} (inner_kind : X → Kind) (text rest : List ℕ)
     (fault : ParseFault I X Needed) → IsBefore length inner_kind text rest fault
     → IsWant inner_kind fault → ⊥
 before_wants inner_kind text rest (Refused e) (at, is) wants = back_is_memory (sym is ∙ wants)
 before_wants inner_kind text rest (Incomplete needed) never wants = never
 
--- what the faults of the parser say of lines
 pub lines_told : {I X : Type 0} (inner_kind : X → Kind) (text : List ℕ)
     (result : Result (Unit {0}) (ParseFault I X Needed)) {spares : Type 0} → spares
     → ReadsAll inner_kind (LinesRead LineGrammar Fails) text result

@@ -20,7 +20,7 @@ abbrev pub piece_input : Partial (Bor (List ℕ)) → Input ℕ
 piece_input s = with_flag (bytes_input s.input.now) s.partial
 
 module _ {A : Type 0} where
-  -- items in brackets, as many as stand
+  -- Zero or more items in brackets, as many as match.
   abbrev pub InBrackets : Grammar ℕ (Brackets A) → Grammar ℕ (Vec (Brackets A) A)
   InBrackets item = Three (λ _ list _. list) (Byte 91)
       (Gathered (λ (list : Vec (Brackets A) A) items. list.items ≡ items)
@@ -31,12 +31,12 @@ module _ {A : Type 0} where
   abbrev pub AreOf : Vec (Brackets A) A → Brackets A → Type 0
   AreOf inner brackets = brackets ≡ roll-Brackets A (record { inner = inner })
 
-  -- brackets, of which no more than that many stand in one another
+  -- `AreBrackets n`: brackets nested at most `n` deep.
   unfoldable pub AreBrackets : ℕ → Grammar ℕ (Brackets A)
   AreBrackets zero = Never
   AreBrackets (suc level) = Meaning AreOf (InBrackets (AreBrackets level))
 
-  -- ---- what is left after them
+  -- ---- the rest after them is unique
 
   between_unique : (item : Grammar ℕ (Brackets A)) → IsUnique item → IsUnique (InBrackets item)
   between_unique item unique = three_unique (λ _ list _. list) (byte_unique 91)

@@ -1,4 +1,4 @@
--- What a call at a level tells of one by what it tells of the level below.
+-- Lemmas that derive the specification of a call at one depth from that at the depth below.
 use Rattle.std.specs.Prelude.{◌≡◌, ℕ, zero, suc, Ok, Err}
 use Rattle.std.specs.declared.vec.Vec.{Vec}
 use Rattle.std.proofs.Common.{sym, subst}
@@ -38,7 +38,6 @@ module _ {A L E : Type 0} {reading : Reading ℕ L} {following : Following ℕ} 
       (told_err (failed_as (λ tokens none brackets rest (items, x, same). none items rest x)
       (failed r)))
 
-  -- none of no level
   pub no_level_told : {e : E} → level ≡ zero → kind e ≡ backtrack
       → ReadsOrAsks reading following kind (AreBrackets {A = A} level) i (Err e) i
   unfolding AreBrackets Never

@@ -1,4 +1,4 @@
--- What the parser of colors reads, and that these are colors.
+-- The grammar of the parser of colors, and a proof that it is that of colors.
 use Rattle.std.specs.Prelude.{ℕ, Some}
 use Rattle.std.proofs.Common.{refl}
 use Rattle.examples.specs.Color.Color.{Color, Pair, Slice}

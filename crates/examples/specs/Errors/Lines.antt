@@ -1,4 +1,4 @@
--- Why a line of a log is refused, and of which level it is.
+-- The level of a log line, and the reason why a line is rejected.
 use Rattle.std.specs.Prelude.{◌≡◌, ◌⊎◌, ℕ, List, ◌∷◌, Option, None, Some, nat_eq, if◌then◌else◌}
 use Rattle.std.proofs.Common.{refl, inl, inr}
 use Rattle.winnow.specs.Kind.{Kind, backtrack, memory}
@@ -16,35 +16,34 @@ level_at letter =
     else (if nat_eq letter 87 then Some Warning
     else (if nat_eq letter 73 then Some Info else None))
 
--- The letter of a level stands first, and then the rest.
+-- `StartsLevel bytes level rest`: `bytes` starts with the letter of `level`, followed by `rest`.
 abbrev pub StartsLevel : List ℕ → Level → List ℕ → Type 0
 StartsLevel bytes level rest =
     (letter : ℕ) × (bytes ≡ letter ∷ rest) × (level_at letter ≡ Some level)
 
--- No letter of a level stands first.
+-- `NoLevelStands bytes`: `bytes` does not start with the letter of a level.
 abbrev pub NoLevelStands : List ℕ → Type 0
 NoLevelStands bytes = (level : Level) (rest : List ℕ) → StartsLevel bytes level rest → ⊥
 
--- No colon stands first.
+-- `NoColonStands bytes`: `bytes` does not start with a colon.
 abbrev pub NoColonStands : List ℕ → Type 0
 NoColonStands bytes = (rest : List ℕ) → bytes ≡ 58 ∷ rest → ⊥
 
--- the kind of an error: only want of memory does not backtrack
+-- The kind of an error: out of memory, or a backtrack for all others.
 abbrev pub line_kind : LineError → Kind
 line_kind Other = backtrack
 line_kind (Expected part) = backtrack
 line_kind (UnknownLevel letter) = backtrack
 line_kind NoMemory = memory
 
--- what is known of an error where a part was being read: that it was expected, unless more is
--- known already
+-- The error after adding that a part was expected. More specific errors are unchanged.
 abbrev pub told : LineError → Part → LineError
 told Other part = Expected part
 told (Expected inner) part = Expected inner
 told (UnknownLevel letter) part = UnknownLevel letter
 told NoMemory part = NoMemory
 
--- which of the errors of two branches is kept: want of memory, else the second
+-- The error of two branches: out of memory if the first is, otherwise the second.
 abbrev pub chosen : LineError → LineError → LineError
 chosen NoMemory second = NoMemory
 chosen Other second = second

@@ -1,5 +1,4 @@
--- What a fault says of the bytes that are held, of the room for them, and of what the source has
--- left.
+-- The meaning of an error for the bytes in the buffer, its room, and the rest of the source.
 use Rattle.std.specs.Prelude.{◌⊎◌, ◌+◌, ◌≤◌, ◌<◌, ℕ, List, length, Option}
 use Rattle.std.specs.Io.KnownBytes.{IsAtEnd}
 use Rattle.examples.specs.Frames.Frame.{BeginsFrameOf, IsFrame}
@@ -15,11 +14,11 @@ Stops TooLong held room left = (least : ℕ) × (room < least) × BeginsFrameOf 
 -- they begin a frame that is not whole, and the source has ended
 Stops EndsWithin held room left =
     (0 < length held) × BeginsFrameOf held (length held + 1) × IsAtEnd left
--- they begin a frame of which bytes are missing that the room has a place for; a reader says no
--- more of its failures
+-- the buffer holds an incomplete frame that fits in its room; a reader does not specify its
+-- failures further
 Stops Unreadable held room left =
     (least : ℕ) × (length held < least) × (least ≤ room) × BeginsFrameOf held least
--- reading wants no memory
+-- reading does not allocate
 Stops NoMemory held room left = ⊥
 
 -- why no more frames are read and kept; IsFull is that the list of payloads has no room left of

@@ -4,7 +4,7 @@ use Rattle.std.specs.List.{All, flat_map}
 use Rattle.std.specs.Io.KnownBytes.{Consumes}
 use Rattle.std.specs.Int.{bytes_high_first}
 
--- What a frame can carry.
+-- The payloads that fit in a frame.
 abbrev pub IsPayload : List ℕ → Type 0
 IsPayload payload = length payload < 256 ^ 2
 
@@ -16,7 +16,8 @@ frame payload = bytes_high_first 2 (length payload) ++ payload
 abbrev pub IsFrame : List ℕ → Type 0
 IsFrame bytes = (payload : List ℕ) × IsPayload payload × (bytes ≡ frame payload)
 
--- However the bytes go on, the frame that they begin is of at least that many bytes.
+-- `BeginsFrameOf bytes least`: every frame at the start of an extension of `bytes` has at least
+-- `least` bytes.
 abbrev pub BeginsFrameOf : List ℕ → ℕ → Type 0
 BeginsFrameOf bytes least = (more payload rest : List ℕ) → IsPayload payload
     → bytes ++ more ≡ frame payload ++ rest → least ≤ length (frame payload)
@@ -30,7 +31,7 @@ Lacks bytes missing =
     × (bytes ≡ bytes_high_first 2 size ++ rest) × (length rest < size)
     × (missing + length rest ≡ size))
 
--- Nothing stands after the frame that the bytes begin.
+-- `IsOneAtMost bytes`: if `bytes` starts with a frame, nothing follows the frame.
 abbrev pub IsOneAtMost : List ℕ → Type 0
 IsOneAtMost bytes = (payload rest : List ℕ) → IsPayload payload → bytes ≡ frame payload ++ rest
     → rest ≡ []

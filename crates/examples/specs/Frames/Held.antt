@@ -1,4 +1,4 @@
--- What a buffer for frames holds.
+-- The contents of a buffer for frames.
 use Rattle.std.specs.Prelude.{◌≤◌, ℕ, List, length, take}
 use Rattle.examples.specs.Frames.Frame.{IsOneAtMost}
 use Rattle.examples.specs.declared.frames.frames.FrameBuffer.{FrameBuffer}

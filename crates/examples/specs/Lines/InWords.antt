@@ -50,7 +50,6 @@ line_begins = both_front (λ o1 o2. o1)
     (either_front (begins_wider (λ t e. inl e) (spelled_begins 121 [] 121))
     (begins_wider (λ t e. inr e) (spelled_begins 110 [] 110))) front_any
 
--- lines stand where no letter is after them
 pub lines_of : {A : Type 0} → IsGrammarOf (AreLines {A = A}) LetterLines (NotFirst IsLetter)
 unfolding AreLines LetterLines
 lines_of = listed_of line_of 0 front_any (λ rest behind. tt) (none_begins line_of line_begins)

@@ -84,7 +84,7 @@ pub line_takes : TakesTokens IsLine
 line_takes = takes_as same_line
     (both_take (λ o1 o2. o1) letter_unique (byte_unique 10) (inr (byte_takes 10)))
 
--- lines into a list: they stand one after the other, and no line stands after them
+-- A list of consecutive lines that no further line follows.
 unfoldable pub AreLines : {A : Type 0} → Grammar ℕ (Vec ℕ A)
 AreLines = Listed IsLine 0
 

@@ -56,7 +56,7 @@ module _ {A : Type 0} where
   IsNode element =
       Either IsLeaf (Meaning IsBranchOf (AreElements element (Byte 91) (Byte 44) (Byte 93)))
 
-  -- a tree in which no more than that many brackets stand in one another
+  -- `IsTree n`: a tree whose brackets are nested at most `n` deep.
   unfoldable pub IsTree : ℕ → Grammar ℕ (Tree A)
   IsTree zero = IsLeaf
   IsTree (suc level) = IsNode (IsTree level)

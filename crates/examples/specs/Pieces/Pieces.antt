@@ -1,4 +1,4 @@
--- Outputs that are alike.
+-- Equality of outputs.
 use Rattle.std.specs.Prelude.{◌≡◌, ℕ, List}
 use Rattle.std.specs.Borrow.{Bor}
 use Rattle.std.proofs.Common.{sym, ◌∙◌}

@@ -1,4 +1,4 @@
--- Lists of lines, of which each fault is recorded.
+-- Lists of lines whose errors are recorded.
 use Rattle.std.specs.Prelude.{◌≡◌, ◌⊎◌, ◌+◌, ◌++◌, ℕ, List, [], ◌∷◌, length, Option, Some, None}
 use Rattle.std.specs.Prelude.{Err}
 use Rattle.winnow.specs.{Range}
@@ -18,9 +18,9 @@ faults [] = 0
 faults (None ∷ lines) = 1 + faults lines
 faults (Some o ∷ lines) = faults lines
 
--- From i on lines are read, one after the other and each consuming: their outputs; the kinds of
--- the faults that were recorded, one for each line without an output; and what is left, where the
--- next line backtracks.
+-- `LinesRead line s i outputs kinds j`: consecutive lines are parsed from `i` to `j`, each
+-- consuming input, and at `j` the next line backtracks. `outputs` are their outputs. `kinds` are
+-- the kinds of the recorded errors, one for each line without an output.
 pub record LinesRead {Q T O : Type 0} (line : Runs Q T (Option O)) (s : Q) (i : Input T)
     (outputs : List (Option O)) (kinds : List Kind) (j : Input T) : Type 0 where
   pub state : Q
@@ -34,8 +34,8 @@ pub record LinesRead {Q T O : Type 0} (line : Runs Q T (Option O)) (s : Q) (i : 
   pub recorded : j.status.recorded ≡ i.status.recorded ++ kinds
   pub each : length kinds ≡ faults outputs
 
--- What comes back of them: the stream at its start, and as errors the faults that were recorded,
--- in order; and after them one that backtracks, where something is left.
+-- The result for these lines: the stream at its start, and the recorded errors in order. If input
+-- remains, an error that backtracks comes last.
 abbrev pub LinesAnswer : {Q I T O R : Type 0} → (I → Input T) → (R → Kind) → Runs Q T (Option O)
     → Q → Input T → I → List (Option O) → List R → Type 0
 LinesAnswer {Q} {I} {T} view kind line s start back outputs errors =

@@ -1,4 +1,4 @@
--- What the parser of settings reads, and that these are settings.
+-- The grammar of the parser of settings, and a proof that it is that of settings.
 use Rattle.std.specs.Prelude.{◌≡◌, ℕ, [], None}
 use Rattle.std.specs.declared.vec.Vec.{Vec}
 use Rattle.std.proofs.Common.{refl, arith}
@@ -48,12 +48,12 @@ value_of : IsGrammarOf (ValueRead counted_reading (λ b. b) Byte)
     (Members counted_reading InValue 0) (NotFirst InValue)
 value_of = class_of counted_reading InValue (λ b. b) 0
 
--- "=" is no byte of a key, so it may follow one
+-- `=` is not a byte of a key, so it may follow one
 setting_of : IsGrammarOf (SettingRead counted_reading (λ b. b) Byte) Setting (NotFirst InValue)
 setting_of = three_of (λ key value. (key, value)) (λ sign value. value) key_of (byte_of 61)
     value_of (front_begins (λ b is key. key.0 is) (spelled_begins 61 [] 61)) front_any
 
--- a line feed is no byte of a value
+-- a line feed is not a byte of a value
 line_of : IsGrammarOf (LineRead counted_reading (λ b. b) Byte) Line Anything
 line_of = both_of (λ setting feed. setting) setting_of (byte_of 10)
     (front_begins (λ b is value. value is) (spelled_begins 10 [] 10))

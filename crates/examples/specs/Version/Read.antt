@@ -1,4 +1,4 @@
--- What the parser of versions reads, and that these are versions.
+-- The grammar of the parser of versions, and a proof that it is that of versions.
 use Rattle.std.specs.Prelude.{◌≡◌, ◌⊎◌, ◌↔◌, ◌^◌, ◌++◌, ℕ, List, [], ◌∷◌, None, Bool, Option, Some}
 use Rattle.std.specs.Fmt.{decimal}
 use Rattle.std.specs.declared.vec.Vec.{Vec}
@@ -80,7 +80,6 @@ word_of : IsGrammarOf (WordRead counted_reading (λ b. b) Byte) (Members counted
     (NotFirst InWord)
 word_of = class_of counted_reading InWord (λ b. b) 1
 
--- a dot is no byte of a word
 dot_ends : (b : ℕ) → b ≡ 46 → InWord b → ⊥
 dot_ends b e (inl (inl (inl (low, high)))) = omega (arith, e, low)
 dot_ends b e (inl (inl (inr (low, high)))) = omega (arith, e, low)

@@ -1,4 +1,4 @@
-//! Why a line is refused.
+//! The error of a rejected line.
 ghost use Rattle.std.specs.Prelude.{◌≡◌, false};
 ghost use Rattle.winnow.specs.Form.{plain};
 ghost use Rattle.winnow.specs.Given.{always_kept};
@@ -23,13 +23,13 @@ use winnow::stream::Stream;
 /// ```
 #[derive(Clone, Copy, Debug, PartialEq, Eq)]
 pub enum Part {
-    /// The letter of its level.
+    /// The letter for the level.
     Level,
     /// The colon after the level.
     Colon,
 }
 
-/// That a letter stands for no level: the error of a conversion, which knows no parsers.
+/// The error of the conversion for a letter that is not a log level. It does not depend on parsers.
 ///
 /// ```
 /// use examples::errors::error::NoLevel;
@@ -43,7 +43,7 @@ pub struct NoLevel {
     pub letter: u8,
 }
 
-/// Why a line is refused.
+/// The reason why a line is rejected.
 ///
 /// ```
 /// use examples::errors::error::{LineError, Part};
@@ -54,13 +54,13 @@ pub struct NoLevel {
 /// ```
 #[derive(Clone, Copy, Debug, PartialEq, Eq)]
 pub enum LineError {
-    /// It is not said why.
+    /// No reason is given.
     Other,
     /// This part was expected.
     Expected(Part),
     /// This letter stands for no level.
     UnknownLevel(u8),
-    /// A request for memory was refused.
+    /// Memory allocation failed.
     NoMemory,
 }
 
@@ -183,10 +183,10 @@ impl Display for Part {
 impl Display for LineError {
     fn fmt<W: fmt::Write>(&self, f: &mut fmt::Formatter<W>) -> fmt::Result {
         match self {
-            LineError::Other => f.write_str("no line"),
+            LineError::Other => f.write_str("invalid line"),
             LineError::Expected(part) => write!(f, "expected {part}"),
             LineError::UnknownLevel(letter) => {
-                write!(f, "`{}` is no level", char::from(*letter))
+                write!(f, "`{}` is not a level", char::from(*letter))
             }
             LineError::NoMemory => f.write_str("out of memory"),
         }

@@ -15,6 +15,6 @@ pub enum FrameFault {
     EndsWithin,
     /// The source could not be read.
     Unreadable,
-    /// A request for memory was refused.
+    /// Memory allocation failed.
     NoMemory,
 }

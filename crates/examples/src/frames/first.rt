@@ -1,4 +1,4 @@
-//! The frame that stands first in the bytes that came so far.
+//! The frame at the start of the bytes that have arrived.
 #![tactic(auto)]
 
 ghost use Rattle.std.specs.Prelude.{◌≡◌, ◌<◌, ◌+◌, ◌++◌, List, ℕ, length, IfOk, IfErr, Some};
@@ -16,7 +16,7 @@ fn parser<I: StreamIsPartial + ByteStream, E: ParserError<I>>() -> LengthTake<Be
     length_take(BeU16)
 }
 
-/// How many bytes an error asks for: one where it does not say.
+/// Returns the number of bytes that `error` needs, or 1 if it does not give a number.
 fn missing(error: ErrMode<EmptyError>) -> usize
     ensures { (n : ℕ) → ⟦<ErrMode<EmptyError> as HasKind>⟧.kind error ≡ incomplete (Some n)
         → result ≡ n }
@@ -31,10 +31,10 @@ fn missing(error: ErrMode<EmptyError>) -> usize
     }
 }
 
-/// The length of the payload of the frame that the bytes begin with, or how many bytes it lacks.
+/// Returns the payload length of the frame at the start of `bytes`, or the number of missing bytes.
 ///
-/// After the frame more may stand. The bytes that are missing are those of the length, as long as
-/// it is not there, and then those of the payload.
+/// More bytes may follow the frame. The missing bytes are those of the length field until it is
+/// complete, and then those of the payload.
 ///
 /// ```
 /// use examples::frames::first::first_frame;

@@ -1,8 +1,8 @@
-//! Frames: a length of two bytes, the highest first, and that many bytes of payload.
+//! Frames: a length of two bytes, most significant byte first, and a payload of that length.
 //!
-//! They come from a reader in pieces, whatever pieces it gives, into a buffer of the caller's. The
-//! parser of a frame is run on the bytes that came so far; what it lacks decides how much is read,
-//! so nothing after a frame is read with it.
+//! A reader gives them in chunks of any size, into a buffer of the caller. The parser of a frame
+//! runs on the bytes that have arrived. The number of bytes it lacks decides how much is read, so
+//! no byte after a frame is read with it.
 //!
 //! ```
 //! use examples::frames::frames::FrameBuffer;
@@ -60,15 +60,18 @@ impl<'b> FrameBuffer<'b> {
         FrameBuffer { bytes, filled: 0 }
     }
 
-    /// Reads until a frame is there: `true`, also where one was there already. `false` where the
-    /// source ended, and nothing is held.
+    /// Reads until the buffer holds a frame, and returns `true`, also if it already held one.
+    /// Returns `false` if the source ended and the buffer is empty.
     ///
-    /// Each read asks for the bytes that the frame still lacks. What was read stays, also where a
-    /// fault is answered: [`TooLong`](FrameFault::TooLong) before any byte of a payload that does
-    /// not fit, [`EndsWithin`](FrameFault::EndsWithin) where the source ended within a frame,
-    /// [`Unreadable`](FrameFault::Unreadable) where it could not be read, though bytes are missing
-    /// that have room, after which another call goes on. A read that was interrupted is tried
-    /// again. It wants no memory.
+    /// Each read requests the bytes that the frame lacks. A read that was interrupted is retried.
+    /// Does not allocate.
+    ///
+    /// The bytes that were read stay in the buffer, also after an error:
+    ///
+    /// - [`TooLong`](FrameFault::TooLong) if a payload does not fit, before any byte of it is read;
+    /// - [`EndsWithin`](FrameFault::EndsWithin) if the source ended within a frame;
+    /// - [`Unreadable`](FrameFault::Unreadable) if the source could not be read, although the
+    ///   missing bytes have room. Another call then resumes.
     pub fn fill<R: Read>(&mut self, source: &mut R) -> Result<bool, FrameFault>
         requires { IsReady self.old }
         ensures ready { IsReady self.new }
@@ -116,8 +119,8 @@ impl<'b> FrameBuffer<'b> {
     }
 }
 
-/// Copies a payload after others. That wants memory for its bytes, where it has any, and for its
-/// place, where the list is full.
+/// Appends a copy of a payload. Allocates the payload's bytes, if it has any, and room in the list
+/// if that is full.
 fn keep<A: Allocator + Copy>(
     alloc: A,
     payload: &[u8],
@@ -141,12 +144,12 @@ fn keep<A: Allocator + Copy>(
     }
 }
 
-/// Reads frames to the end of a source, and puts their payloads after others.
+/// Reads frames to the end of a source, and appends their payloads.
 ///
-/// Where a fault is answered, the payloads before it are there, and the buffer holds what was read
-/// after them: at [`NoMemory`](FrameFault::NoMemory) the frame whose payload could not be kept. An
-/// empty payload wants memory only where the list has no more of the room that it had. The other
-/// faults are those of [`FrameBuffer::fill`].
+/// After an error, the list has the payloads before it, and the buffer has the bytes that were read
+/// after them. For [`NoMemory`](FrameFault::NoMemory) that is the frame whose payload could not be
+/// stored. An empty payload allocates only if the original room of the list is used up. The other
+/// errors are those of [`FrameBuffer::fill`].
 ///
 /// ```
 /// use examples::frames::frames::{FrameBuffer, read_frames};

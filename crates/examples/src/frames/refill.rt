@@ -11,8 +11,8 @@ use crate::frames::fault::FrameFault;
 use crate::frames::first::first_frame;
 use std::io::{ErrorKind, Read};
 
-/// Reads some of the bytes that are missing after the first `filled`, and answers how many: none
-/// at the end of the source alone.
+/// Reads some of the missing bytes after the first `filled`, and returns their number. It is 0 only
+/// at the end of the source.
 fn read_missing<R: Read>(
     source: &mut R,
     bytes: &mut [u8],

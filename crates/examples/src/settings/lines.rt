@@ -1,4 +1,4 @@
-//! Lines by a parser of one line and one of what is skipped where that fails.
+//! Lines by a parser of one line, and a parser that skips input if that fails.
 #![tactic(auto)]
 
 ghost use Rattle.std.specs.Prelude.{◌≡◌, ◌++◌, List, IfOk, IfSome, IsSome, [], false, true, Ok};
@@ -59,14 +59,14 @@ pub fn first_line<
     line.retry_after(skip).parse_next(input)
 }
 
-/// Reads all of `input` as lines by `line`: an output for each, and none where it failed, `skip`
-/// succeeded after that, and the fault was recorded.
+/// Reads all of `input` as lines by `line`, with an output for each. The output is `None` if `line`
+/// failed, `skip` succeeded after that, and the error was recorded.
 ///
-/// It answers the input, back at its start, the outputs, and the faults in order: as many as there
-/// are lines without an output, where neither parser records anything itself. Where something is
-/// left after the lines, an error that backtracks is the last. There are no outputs where the list
-/// itself fails: that error is the last. Where memory is refused, the input alone comes back. The
-/// stream is one that is never partial.
+/// Returns the input, back at its start, the outputs, and the errors in order. If neither parser
+/// records anything itself, there is one error for each line without an output. If input remains
+/// after the lines, an error that backtracks is the last. If the list itself fails, there are no
+/// outputs, and that error is the last. If an allocation fails, only the input is returned. The
+/// stream must not be partial.
 pub fn read_lines<
     P: Parser<Recoverable<I, R, A>, O, E> + Drop,
     S: Parser<Recoverable<I, R, A>, (), E> + Drop,

@@ -1,30 +1,31 @@
-//! Where a record of comma separated values ends whose bytes come in pieces.
+//! The end of a record of comma-separated values in partial input.
 
 ghost use Rattle.std.specs.Prelude.{◌≡◌, ◌⊎◌, ◌++◌, [], List, ℕ};
 ghost use Rattle.format_csv_records.specs.Extents.{IsOf};
-ghost use Rattle.exported.specs.Code.{done, incomplete, refused};
+ghost use Rattle.exported.specs.Code.{done, incomplete, invalid};
 ghost use Rattle.exported.specs.Csv.{dialect_of};
 ghost use Rattle.exported.specs.CsvExtent.{RecordCalls, TellsRecord, nothing, place_at};
 ghost use Rattle.exported.specs.CsvExtent.{record_extent_of};
 ghost use Rattle.exported.specs.Turns.{all_of};
-ghost use Rattle.exported.specs.declared.csv.extent.CsvRecordExtent.{CsvRecordExtent};
+ghost use Rattle.exported.specs.declared.csv.extent.CsvRecordState.{CsvRecordState};
 
-use crate::code::{DONE, INCOMPLETE, REFUSED};
+use crate::code::{DONE, INCOMPLETE, INVALID};
 use crate::csv::{Record, dialect, none_at};
 use format_csv_records::extent::{RecordExtent, RecordPlace};
 
-/// How far bytes were searched for the end of a record of comma separated values. The numbers are
-/// for the calls alone, and all zeros say that nothing was passed: so it is begun for each record.
+/// The state of a search for the end of a record of comma-separated values. Only the functions of
+/// this library may interpret its fields. All zeros is the initial state; start from it for each
+/// record.
 #[repr(C)]
 #[derive(Clone, Copy, Drop)]
-pub struct CsvRecordExtent {
+pub struct CsvRecordState {
     /// How many bytes were passed.
     pub passed: usize,
     /// How many bytes the fields have that were passed, as they are meant.
     pub text: usize,
     /// How many fields were passed with the comma after them.
     pub fields: usize,
-    /// Where in the record the next byte is due: 0 where a field begins.
+    /// The part of the record that is expected next; 0 at the start of a field.
     pub place: usize,
 }
 
@@ -42,7 +43,7 @@ fn place_of(number: usize) -> RecordPlace
     }
 }
 
-/// The number of a place in a record.
+/// Returns the number of a part of a record.
 fn number_of(place: RecordPlace) -> usize
     ensures { place_at result ≡ place }
 {
@@ -56,8 +57,8 @@ fn number_of(place: RecordPlace) -> usize
     }
 }
 
-/// What a state says.
-fn extent_at(state: CsvRecordExtent) -> RecordExtent
+/// Returns the extent that `state` represents.
+fn extent_at(state: CsvRecordState) -> RecordExtent
     ensures { result ≡ record_extent_of state }
 {
     RecordExtent {
@@ -68,11 +69,11 @@ fn extent_at(state: CsvRecordExtent) -> RecordExtent
     }
 }
 
-/// The state that says so.
-fn state_at(extent: RecordExtent) -> CsvRecordExtent
+/// Returns the corresponding state.
+fn state_at(extent: RecordExtent) -> CsvRecordState
     ensures { record_extent_of result ≡ extent }
 {
-    CsvRecordExtent {
+    CsvRecordState {
         passed: extent.passed,
         text: extent.text,
         fields: extent.fields,
@@ -80,41 +81,49 @@ fn state_at(extent: RecordExtent) -> CsvRecordExtent
     }
 }
 
-/// Where the record of comma separated values (RFC 4180) ends whose bytes come in pieces: what a
-/// call passed, no call looks at again, so all calls for a record take a time that is linear in its
-/// bytes, however many there are. Its fields are then written by one call for a whole one, with
-/// that many bytes and the same `line_feeds`.
+/// Finds the end of a record of comma-separated values (RFC 4180) in input that arrives in chunks.
 ///
-/// For the first call the numbers of `state` are zeros. Each further call for the same record has
-/// the state that the last one left, all of the bytes of the last one with more after them, and the
-/// same `line_feeds`.
+/// No call looks again at bytes that an earlier call scanned, so all calls for a record take time
+/// linear in its length. To obtain the fields, pass the bytes of the record and the same
+/// `line_feeds` to `exported_csv_record`.
 ///
-/// `DONE`: whatever follows, the bytes begin with a record, its line end among them; written is how
-/// many fields it has, how many bytes these have together, and how many bytes the record has. For
-/// the next one, zeros are put into the state. `INCOMPLETE`: no record with its line end is there,
-/// and with three bytes more at most they can begin with one. A field in quotes that are not closed
-/// goes on for ever, so the caller bounds how many bytes are held. The last record may have no line
-/// end: where no more bytes come, the call for whole ones reads it. `REFUSED`: whatever comes after
-/// the bytes, they begin with no record, and that is answered as soon as the byte is there at which
-/// none goes on, whose place is written.
+/// For the first call, `state` must be all zeros. Each further call for the same record must have
+/// the state that the previous call left, the bytes of the previous call followed by more bytes,
+/// and the same `line_feeds`.
 ///
-/// Of a state that calls left for other bytes, or that is changed, what is told may be wrong;
-/// nothing outside of the bytes is read then either.
+/// `DONE`: `bytes` starts with a record and its line ending, regardless of what follows. The number
+/// of its fields, their total length, and the length of the record are written. Reset the state to
+/// zeros for the next record.
 ///
-/// The caller owes a state at `state` that can be read and written, `bytes_length` bytes at `bytes`
-/// that can be read and that nothing changes while the call runs, room for one record at `out`,
-/// each apart from the others, and 16 KiB of stack.
+/// `INCOMPLETE`: `bytes` contains no record with its line ending, and at most three more bytes can
+/// complete one. A quoted field without a closing quote never ends, so the caller must limit how
+/// many bytes are buffered. The last record may have no line ending: at the end of the input, parse
+/// it with `exported_csv_record`.
+///
+/// If `state` belongs to other bytes or was modified, the result may be wrong, but nothing outside
+/// `bytes` is read.
+///
+/// # Errors
+///
+/// `INVALID`: `bytes` does not start with a record, regardless of what follows. This is returned as
+/// soon as the first invalid byte is there, and its offset is written.
+///
+/// # Safety
+///
+/// `state` must be valid for reads and writes of one state, and `out` for writes of one record.
+/// `bytes` must be valid for reads of `bytes_length` bytes, which must not change during the call.
+/// None of these may overlap. The call needs 16 KiB of stack.
 #[unsafe(no_mangle)]
 pub extern "C" fn exported_csv_record_extent(
-    state: &mut CsvRecordExtent,
+    state: &mut CsvRecordState,
     bytes: &[u8],
     line_feeds: u32,
     out: &mut Record,
 ) -> u32
     ensures told { IsOf (dialect_of line_feeds) (record_extent_of state.old) bytes.now
         → TellsRecord (dialect_of line_feeds) bytes.now result out.new state.new }
-    ensures nowhere { (result ≡ refused → ⊥) → out.new.place ≡ 0 }
-    ensures codes { (result ≡ done) ⊎ ((result ≡ incomplete) ⊎ (result ≡ refused)) }
+    ensures nowhere { (result ≡ invalid → ⊥) → out.new.error_offset ≡ 0 }
+    ensures codes { (result ≡ done) ⊎ ((result ≡ incomplete) ⊎ (result ≡ invalid)) }
 {
     let dialect = dialect(line_feeds);
     let mut extent = extent_at(*state);
@@ -126,7 +135,7 @@ pub extern "C" fn exported_csv_record_extent(
                 fields: size.fields,
                 text: size.text,
                 length: size.length,
-                place: 0,
+                error_offset: 0,
             };
             DONE
         }
@@ -136,18 +145,18 @@ pub extern "C" fn exported_csv_record_extent(
         }
         Err(fault) => {
             *out = none_at(fault.offset);
-            REFUSED
+            INVALID
         }
     }
 }
 
-/// Where calls of `exported_csv_record_extent` follow one another, the first with a state of zeros,
-/// each with the state that the last one left and with its bytes and a piece more, all with the
-/// same line ends, and all ask for more: then the state that is left is one of these bytes,
-/// whatever comes after them. So what the next call tells, it tells of all of its bytes, as one
-/// call with a state of zeros would.
+/// States that successive calls of `exported_csv_record_extent` give the result of one call. The
+/// first call starts with zeros, and each further call has the state that the previous one left,
+/// its bytes followed by another chunk, and the same line endings. If all calls return
+/// `INCOMPLETE`, the last state is a state of these bytes, regardless of what follows. So the next
+/// call returns the result that a call with zeros returns for all of its bytes.
 pub fn calls_in_turn_are_of_their_bytes()
-    ensures { (line_feeds : ℕ) (pieces : List (List ℕ)) (state : CsvRecordExtent)
+    ensures { (line_feeds : ℕ) (pieces : List (List ℕ)) (state : CsvRecordState)
         → RecordCalls (dialect_of line_feeds) nothing [] pieces state
         → (more : List ℕ)
         → IsOf (dialect_of line_feeds) (record_extent_of state) (all_of pieces ++ more) }

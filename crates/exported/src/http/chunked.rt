@@ -1,4 +1,4 @@
-//! Chunked bodies that come in pieces.
+//! Chunked bodies from partial input.
 
 ghost use Rattle.std.specs.Prelude.{◌≡◌, ◌+◌, ◌⊎◌, ◌++◌, List, length, ℕ};
 ghost use Rattle.format_http_chunked.specs.Decoded.{IsAt};
@@ -7,10 +7,10 @@ ghost use Rattle.format_http_chunked.specs.State.{decoder_of};
 ghost use Rattle.exported.specs.Chunked.{Call, CallsInTurn, IsFirst, TellsStep, Writes};
 ghost use Rattle.exported.specs.Chunked.{fault_number};
 ghost use Rattle.exported.specs.Span.{StandsAt};
-ghost use Rattle.exported.specs.Code.{done, end, incomplete, refused};
+ghost use Rattle.exported.specs.Code.{done, end, incomplete, invalid};
 ghost use Rattle.format_http_chunked.specs.declared.state.ChunkedState.{ChunkedState};
 
-use crate::code::{DONE, END, INCOMPLETE, REFUSED};
+use crate::code::{DONE, END, INCOMPLETE, INVALID};
 use crate::span::{NOWHERE, Span};
 use format_http_chunked::decoder::{Decoder, Fault, Step};
 pub use format_http_chunked::state::ChunkedState;
@@ -18,58 +18,58 @@ pub use format_http_chunked::state::ChunkedState;
 /// Data of a chunk, one byte or more.
 pub const CHUNKED_DATA: usize = 0;
 
-/// Bytes of the trailer section, one or more: after one another all of them are field lines, whole
-/// ones, each with its line end.
+/// Bytes of the trailer section, one or more. All of them together are complete field lines, each
+/// with its line ending.
 pub const CHUNKED_TRAILERS: usize = 1;
 
-/// A size line is due, and begins with no hexadecimal digit.
-pub const CHUNKED_FAULT_SIZE: usize = 0;
+/// A size line does not start with a hexadecimal digit.
+pub const CHUNKED_ERROR_SIZE: usize = 0;
 
-/// No size line goes on with the byte: it is in no extension, or in no line end.
-pub const CHUNKED_FAULT_SIZE_LINE: usize = 1;
+/// The byte is invalid in a size line: it can continue neither an extension nor a line ending.
+pub const CHUNKED_ERROR_SIZE_LINE: usize = 1;
 
 /// With this digit the size is 2^64 or more.
-pub const CHUNKED_FAULT_SIZE_TOO_LARGE: usize = 2;
+pub const CHUNKED_ERROR_SIZE_TOO_LARGE: usize = 2;
 
-/// More bytes than the limit lets would stand before the next data, or the end.
-pub const CHUNKED_FAULT_SIZE_LINE_TOO_LONG: usize = 3;
+/// There are more bytes than the limit allows before the next data, or before the end.
+pub const CHUNKED_ERROR_SIZE_LINE_TOO_LONG: usize = 3;
 
-/// A carriage return and a line feed are due after the data of a chunk.
-pub const CHUNKED_FAULT_DATA_END: usize = 4;
+/// The data of a chunk is not followed by a carriage return and a line feed.
+pub const CHUNKED_ERROR_DATA_END: usize = 4;
 
-/// No field line goes on with the byte, nor the line end after the trailer section.
-pub const CHUNKED_FAULT_TRAILERS: usize = 5;
+/// The byte can continue neither a field line nor the line ending after the trailer section.
+pub const CHUNKED_ERROR_TRAILERS: usize = 5;
 
 /// The trailer section would have more bytes than the limit lets.
-pub const CHUNKED_FAULT_TRAILERS_TOO_LONG: usize = 6;
+pub const CHUNKED_ERROR_TRAILERS_TOO_LONG: usize = 6;
 
-/// What a call took of a chunked body.
+/// The result of a call for a chunked body.
 #[repr(C)]
 #[derive(Clone, Copy, Drop)]
 pub struct ChunkedStep {
-    /// What is given out: `CHUNKED_DATA` or `CHUNKED_TRAILERS`.
+    /// The kind of the output: `CHUNKED_DATA` or `CHUNKED_TRAILERS`.
     pub kind: usize,
-    /// Where it stands. Else nothing.
-    pub place: Span,
+    /// The span of the output in the input; zeros if there is no output.
+    pub span: Span,
     /// How many bytes were taken. Those after them are the first of the next call.
     pub taken: usize,
-    /// Why the byte after those that were taken is refused: a number of those from
-    /// `CHUNKED_FAULT_SIZE` on. Else 0.
-    pub fault: usize,
+    /// The error of the byte after the consumed bytes: `CHUNKED_ERROR_SIZE` or one of the constants
+    /// after it; 0 otherwise.
+    pub error: usize,
 }
 
-/// The number of why a byte is refused.
+/// Returns the number of an error.
 fn number_of(fault: Fault) -> usize
     ensures { result ≡ fault_number fault }
 {
     match fault {
-        Fault::Size => CHUNKED_FAULT_SIZE,
-        Fault::SizeLine => CHUNKED_FAULT_SIZE_LINE,
-        Fault::SizeTooLarge => CHUNKED_FAULT_SIZE_TOO_LARGE,
-        Fault::SizeLineTooLong => CHUNKED_FAULT_SIZE_LINE_TOO_LONG,
-        Fault::DataEnd => CHUNKED_FAULT_DATA_END,
-        Fault::Trailers => CHUNKED_FAULT_TRAILERS,
-        Fault::TrailersTooLong => CHUNKED_FAULT_TRAILERS_TOO_LONG,
+        Fault::Size => CHUNKED_ERROR_SIZE,
+        Fault::SizeLine => CHUNKED_ERROR_SIZE_LINE,
+        Fault::SizeTooLarge => CHUNKED_ERROR_SIZE_TOO_LARGE,
+        Fault::SizeLineTooLong => CHUNKED_ERROR_SIZE_LINE_TOO_LONG,
+        Fault::DataEnd => CHUNKED_ERROR_DATA_END,
+        Fault::Trailers => CHUNKED_ERROR_TRAILERS,
+        Fault::TrailersTooLong => CHUNKED_ERROR_TRAILERS_TOO_LONG,
     }
 }
 
@@ -82,7 +82,7 @@ fn taken_of(bytes: &[u8], rest: &[u8]) -> usize
     bytes.len() - behind
 }
 
-/// The place of a text that stands right before the rest.
+/// Returns the span of `text`, which ends directly before `rest`.
 fn place_of(bytes: &[u8], text: &[u8], rest: &[u8]) -> Span
     requires { (before : List ℕ) × (bytes.now ≡ before ++ (text.now ++ rest.now)) }
     ensures { StandsAt bytes.now result text.now rest.now }
@@ -93,7 +93,7 @@ fn place_of(bytes: &[u8], text: &[u8], rest: &[u8]) -> Span
     }
 }
 
-/// What is written where the decoder says this of the bytes, and leaves the rest.
+/// Returns the code and the output for the decoder's result `said`, after which `rest` remains.
 fn step_of(bytes: &[u8], rest: &[u8], said: Result<Step<'_>, Fault>) -> (u32, ChunkedStep)
     requires { Stands bytes.now rest.now said }
     ensures writes { Writes bytes.now rest.now said.entry result.0 result.1 }
@@ -101,9 +101,9 @@ fn step_of(bytes: &[u8], rest: &[u8], said: Result<Step<'_>, Fault>) -> (u32, Ch
 {
     let nothing = ChunkedStep {
         kind: 0,
-        place: NOWHERE,
+        span: NOWHERE,
         taken: taken_of(bytes, rest),
-        fault: 0,
+        error: 0,
     };
     match said {
         Ok(Step::Data(data)) => {
@@ -112,7 +112,7 @@ fn step_of(bytes: &[u8], rest: &[u8], said: Result<Step<'_>, Fault>) -> (u32, Ch
                 DONE,
                 ChunkedStep {
                     kind: CHUNKED_DATA,
-                    place,
+                    span: place,
                     ..nothing
                 },
             )
@@ -123,7 +123,7 @@ fn step_of(bytes: &[u8], rest: &[u8], said: Result<Step<'_>, Fault>) -> (u32, Ch
                 DONE,
                 ChunkedStep {
                     kind: CHUNKED_TRAILERS,
-                    place,
+                    span: place,
                     ..nothing
                 },
             )
@@ -131,39 +131,49 @@ fn step_of(bytes: &[u8], rest: &[u8], said: Result<Step<'_>, Fault>) -> (u32, Ch
         Ok(Step::End) => (END, nothing),
         Ok(Step::More) => (INCOMPLETE, nothing),
         Err(fault) => (
-            REFUSED,
+            INVALID,
             ChunkedStep {
-                fault: number_of(fault),
+                error: number_of(fault),
                 ..nothing
             },
         ),
     }
 }
 
-/// What the first bytes are of a chunked body of HTTP/1.1 (RFC 9112, section 7.1) that comes in
-/// pieces: data, bytes of trailers, or its end. What a call took, no other looks at again, so all
-/// calls for a body take a time that is linear in its bytes, however many there are.
+/// Decodes the next part of a chunked body of HTTP/1.1 (RFC 9112, section 7.1) in input that
+/// arrives in chunks of any size: data, bytes of trailers, or the end.
 ///
-/// For the first call the numbers of `state` are zeros, or those of other limits. Each further
-/// call for the same body has the state that the last one left, and bytes that follow those that
-/// it took.
+/// No call looks again at bytes that an earlier call consumed, so all calls for a body take time
+/// linear in its length.
 ///
-/// `DONE`: what is given out and its place are written; after one another the data are the content
-/// of the body, and the bytes of trailers are its trailer section, without the line end after it.
-/// `END`: the body is whole, and what is after the bytes that were taken is after it; so it is told
-/// of the same state again. For the next body, the first numbers are put into the state.
-/// `INCOMPLETE`: all bytes are taken, they are no body as yet, and with more after them they can
-/// be. `REFUSED`: with the byte after those that were taken no body goes on, or one that has 2^64
-/// bytes or more; or the limits do not let it be taken. With these three no kind and no place are
-/// written.
+/// For the first call, `state` must be all zeros, or an initial state with other limits. Each
+/// further call for the same body must have the state that the previous call left, and bytes that
+/// follow the consumed ones.
 ///
-/// Extensions of size lines are passed over. Bytes of data are not looked at. Of a state that is
-/// changed, or with bytes that do not follow, what is told may be wrong; nothing outside of the
-/// bytes is read then either.
+/// `DONE`: the kind and the span of the output are written. The data of all calls together are the
+/// content of the body. The bytes of trailers together are its trailer section, without the line
+/// ending after it.
 ///
-/// The caller owes a state at `state` that can be read and written, `bytes_length` bytes at `bytes`
-/// that can be read and that nothing changes while the call runs, room for one step at `out`, each
-/// apart from the others, and 16 KiB of stack.
+/// `END`: the body is complete, and the bytes after the consumed ones follow it. A further call
+/// with the same state returns the same. Reset the state to its initial value for the next body.
+///
+/// `INCOMPLETE`: all bytes are consumed. They are not a complete body, but more bytes can complete
+/// one.
+///
+/// Only `DONE` writes a kind and a span. Extensions of size lines are skipped, and bytes of data
+/// are not checked. If the state was modified or the bytes do not follow, the result may be wrong,
+/// but nothing outside `bytes` is read.
+///
+/// # Errors
+///
+/// `INVALID`: no body can continue with the byte after the consumed ones, or only one of 2^64 bytes
+/// or more, or a limit is exceeded.
+///
+/// # Safety
+///
+/// `state` must be valid for reads and writes of one state, and `out` for writes of one step.
+/// `bytes` must be valid for reads of `bytes_length` bytes, which must not change during the call.
+/// None of these may overlap. The call needs 16 KiB of stack.
 #[unsafe(no_mangle)]
 pub extern "C" fn exported_http_chunked(
     state: &mut ChunkedState,
@@ -172,7 +182,7 @@ pub extern "C" fn exported_http_chunked(
 ) -> u32
     ensures told { TellsStep state.old state.new bytes.now result out.new }
     ensures codes { (result ≡ done) ⊎ ((result ≡ end) ⊎ ((result ≡ incomplete)
-        ⊎ (result ≡ refused))) }
+        ⊎ (result ≡ invalid))) }
 {
     let mut decoder = Decoder::of_state(*state);
     let mut rest = bytes;
@@ -183,10 +193,10 @@ pub extern "C" fn exported_http_chunked(
     code
 }
 
-/// Where calls of `exported_http_chunked` follow one another, the first with a state of which
-/// nothing was taken, such as that of zeros: what they gave out is of the body that the bytes begin
-/// which they took, one after the other. So what the next call tells, it tells of all of these
-/// bytes and its own.
+/// States that successive calls of `exported_http_chunked` decode one body. The first call starts
+/// with an initial state, such as zeros, and each further call has the state that the previous one
+/// left. Their output is that of the body that starts with all bytes that they consumed, in order.
+/// So the result of the next call holds for all of these bytes and its own.
 pub fn calls_in_turn_are_of_one_body()
     ensures { (first : ChunkedState) → IsFirst first
         → (calls : List Call) (state : ChunkedState) (taken content trailers : List ℕ)

@@ -1,24 +1,24 @@
-//! Where the head of a request ends whose bytes come in pieces.
+//! The end of the head of a request in partial input.
 
 ghost use Rattle.std.specs.Prelude.{◌≡◌, ◌⊎◌, ◌++◌, [], List, ℕ};
 ghost use Rattle.format_http_places.specs.Extents.{IsOf};
-ghost use Rattle.exported.specs.Code.{done, incomplete, refused};
+ghost use Rattle.exported.specs.Code.{done, incomplete, invalid};
 ghost use Rattle.exported.specs.HttpExtent.{HeadCalls, TellsHead, head_extent_of, nothing};
 ghost use Rattle.exported.specs.HttpExtent.{place_at};
 ghost use Rattle.exported.specs.Turns.{all_of};
-ghost use Rattle.exported.specs.declared.http.extent.HttpHeadExtent.{HttpHeadExtent};
+ghost use Rattle.exported.specs.declared.http.extent.HttpHeadState.{HttpHeadState};
 
-use crate::code::{DONE, INCOMPLETE, REFUSED};
+use crate::code::{DONE, INCOMPLETE, INVALID};
 use format_http_places::extent::{HeadExtent, HeadPlace};
 
-/// How far bytes were searched for the end of the head of a request. The numbers are for the calls
-/// alone, and all zeros say that nothing was passed: so it is begun for each head.
+/// The state of a search for the end of the head of a request. Only the functions of this library
+/// may interpret its fields. All zeros is the initial state; start from it for each head.
 #[repr(C)]
 #[derive(Clone, Copy, Drop)]
-pub struct HttpHeadExtent {
+pub struct HttpHeadState {
     /// How many bytes were passed.
     pub passed: usize,
-    /// Where in the head the next one is due: 0 where it begins.
+    /// The part of the head that is expected next; 0 at its start.
     pub place: usize,
 }
 
@@ -49,7 +49,7 @@ fn place_of(number: usize) -> HeadPlace
     }
 }
 
-/// The number of a place in a head.
+/// Returns the number of a part of a head.
 fn number_of(place: HeadPlace) -> usize
     ensures { place_at result ≡ place }
 {
@@ -76,8 +76,8 @@ fn number_of(place: HeadPlace) -> usize
     }
 }
 
-/// What a state says.
-fn extent_at(state: HttpHeadExtent) -> HeadExtent
+/// Returns the extent that `state` represents.
+fn extent_at(state: HttpHeadState) -> HeadExtent
     ensures { result ≡ head_extent_of state }
 {
     HeadExtent {
@@ -86,44 +86,52 @@ fn extent_at(state: HttpHeadExtent) -> HeadExtent
     }
 }
 
-/// The state that says so.
-fn state_at(extent: HeadExtent) -> HttpHeadExtent
+/// Returns the corresponding state.
+fn state_at(extent: HeadExtent) -> HttpHeadState
     ensures { head_extent_of result ≡ extent }
 {
-    HttpHeadExtent {
+    HttpHeadState {
         passed: extent.passed,
         place: number_of(extent.place),
     }
 }
 
-/// Where the head of a request of HTTP/1.1 (RFC 9112) ends whose bytes come in pieces: what a call
-/// passed, no call looks at again, so all calls for a head take a time that is linear in its bytes,
-/// however many there are. The parts of the head are then read by one call for a whole one.
+/// Finds the end of the head of an HTTP/1.1 request (RFC 9112) in input that arrives in chunks.
 ///
-/// For the first call the numbers of `state` are zeros. Each further call for the same head has the
-/// state that the last one left, and all of the bytes of the last one with more after them.
+/// No call looks again at bytes that an earlier call scanned, so all calls for a head take time
+/// linear in its length. To obtain the parts of the head, pass its bytes to `exported_http_head`.
 ///
-/// `DONE`: that many of the first bytes are a head; how many is written. For the next one, zeros
-/// are put into the state. `INCOMPLETE`: the bytes begin with no head, and with more after them
-/// they can; 0 is written. `REFUSED`: whatever comes after the bytes, they begin with no head;
-/// written is the first place at which none goes on.
+/// For the first call, `state` must be all zeros. Each further call for the same head must have the
+/// state that the previous call left, and the bytes of the previous call followed by more bytes.
 ///
-/// Of a state that calls left for other bytes, or that is changed, what is told may be wrong;
-/// nothing outside of the bytes is read then either.
+/// `DONE`: `bytes` starts with a head, whose length is written. Reset the state to zeros for the
+/// next head.
 ///
-/// The caller owes a state at `state` that can be read and written, `bytes_length` bytes at `bytes`
-/// that can be read and that nothing changes while the call runs, room for one length at `out`,
-/// each apart from the others, and 16 KiB of stack.
+/// `INCOMPLETE`: `bytes` does not start with a head, but more bytes can complete one. 0 is written.
+///
+/// If `state` belongs to other bytes or was modified, the result may be wrong, but nothing outside
+/// `bytes` is read.
+///
+/// # Errors
+///
+/// `INVALID`: `bytes` does not start with a head, regardless of what follows. The first offset at
+/// which no head can continue is written.
+///
+/// # Safety
+///
+/// `state` must be valid for reads and writes of one state, and `out` for writes of one length.
+/// `bytes` must be valid for reads of `bytes_length` bytes, which must not change during the call.
+/// None of these may overlap. The call needs 16 KiB of stack.
 #[unsafe(no_mangle)]
 pub extern "C" fn exported_http_head_extent(
-    state: &mut HttpHeadExtent,
+    state: &mut HttpHeadState,
     bytes: &[u8],
     out: &mut usize,
 ) -> u32
     ensures told { IsOf (head_extent_of state.old) bytes.now
         → TellsHead bytes.now result out.new state.new }
     ensures none { result ≡ incomplete → out.new ≡ 0 }
-    ensures codes { (result ≡ done) ⊎ ((result ≡ incomplete) ⊎ (result ≡ refused)) }
+    ensures codes { (result ≡ done) ⊎ ((result ≡ incomplete) ⊎ (result ≡ invalid)) }
 {
     let mut extent = extent_at(*state);
     let answer = extent.advance(bytes);
@@ -139,17 +147,18 @@ pub extern "C" fn exported_http_head_extent(
         }
         Err(refused) => {
             *out = refused.place;
-            REFUSED
+            INVALID
         }
     }
 }
 
-/// Where calls of `exported_http_head_extent` follow one another, the first with a state of zeros,
-/// each with the state that the last one left and with its bytes and a piece more, and all ask for
-/// more: then the state that is left is one of these bytes, whatever comes after them. So what the
-/// next call tells, it tells of all of its bytes, as one call with a state of zeros would.
+/// States that successive calls of `exported_http_head_extent` give the result of one call. The
+/// first call starts with zeros, and each further call has the state that the previous one left,
+/// and its bytes followed by another chunk. If all calls return `INCOMPLETE`, the last state is a
+/// state of these bytes, regardless of what follows. So the next call returns the result that a
+/// call with zeros returns for all of its bytes.
 pub fn calls_in_turn_are_of_their_bytes()
-    ensures { (pieces : List (List ℕ)) (state : HttpHeadExtent)
+    ensures { (pieces : List (List ℕ)) (state : HttpHeadState)
         → HeadCalls nothing [] pieces state
         → (more : List ℕ) → IsOf (head_extent_of state) (all_of pieces ++ more) }
 {}

@@ -4,10 +4,10 @@ ghost use Rattle.std.specs.Prelude.{◌≡◌, ◌⊎◌, ◌<◌, length, take}
 ghost use Rattle.format_http.specs.Responses.Head.{BeginsResponseHead, NoResponseHead};
 ghost use Rattle.format_http_places.specs.Responses.{IsResponseRefused, IsResponseWanted};
 ghost use Rattle.format_http_places.specs.Responses.{NoResponseRead, ShowsResponse};
-ghost use Rattle.exported.specs.Code.{done, incomplete, refused, too_small};
+ghost use Rattle.exported.specs.Code.{buffer_too_small, done, incomplete, invalid};
 ghost use Rattle.exported.specs.Http.{IsNoResponse, response_of};
 
-use crate::code::{DONE, INCOMPLETE, REFUSED, TOO_SMALL};
+use crate::code::{BUFFER_TOO_SMALL, DONE, INCOMPLETE, INVALID};
 use format_http_places::places;
 pub use format_http_places::places::{Field, Span};
 use format_http_places::read::HeadError;
@@ -17,14 +17,14 @@ use format_http_places::response::read_response_head_into;
 #[repr(C)]
 #[derive(Clone, Copy, Drop)]
 pub struct ResponseHead {
-    /// The reason. One without bytes stands at the end of its line.
+    /// The span of the reason phrase. If it is empty, the span is at the end of its line.
     pub reason: Span,
     /// How many fields there are.
     pub fields: usize,
-    /// How many bytes the head has, the empty line after the fields among them.
+    /// The length of the head in bytes, including the empty line after the fields.
     pub length: usize,
-    /// Where the bytes are refused: how many stand before the place. Else 0.
-    pub place: usize,
+    /// The offset of the error in bytes; 0 otherwise.
+    pub error_offset: usize,
     /// The status code, below 1000.
     pub status: u16,
     /// The number before the point of the version, below 10.
@@ -33,10 +33,10 @@ pub struct ResponseHead {
     pub minor: u8,
 }
 
-/// The head of nothing, with a number of fields and the place of a refusal.
+/// Returns an empty head with a number of fields and the offset of an error.
 fn none(fields: usize, place: usize) -> ResponseHead
     ensures fields { result.fields ≡ fields }
-    ensures place { result.place ≡ place }
+    ensures place { result.error_offset ≡ place }
 {
     let nowhere = Span {
         offset: 0,
@@ -46,7 +46,7 @@ fn none(fields: usize, place: usize) -> ResponseHead
         reason: nowhere,
         fields,
         length: 0,
-        place,
+        error_offset: place,
         status: 0,
         major: 0,
         minor: 0,
@@ -56,36 +56,45 @@ fn none(fields: usize, place: usize) -> ResponseHead
 /// A head that was found.
 fn head_of(found: places::ResponseHead) -> ResponseHead
     ensures places { response_of result ≡ found }
-    ensures place { result.place ≡ 0 }
+    ensures place { result.error_offset ≡ 0 }
 {
     ResponseHead {
         reason: found.reason,
         fields: found.fields,
         length: found.length,
-        place: 0,
+        error_offset: 0,
         status: found.status,
         major: found.major,
         minor: found.minor,
     }
 }
 
-/// The head of a response of HTTP/1.1 (RFC 9112) with which the bytes begin: a status line, field
-/// lines one after the other, and an empty line. What stands after it is not looked at.
+/// Parses the head of an HTTP/1.1 response (RFC 9112) at the start of `bytes`: a status line, field
+/// lines, and an empty line. The bytes after it are not read.
 ///
-/// `DONE`: the version, the status code and the place of the reason are written, and the places of
-/// that many fields, in order. The status code is three digits, of which the first may be any. The
-/// reason may have no bytes, and then the space before it may be wanting too. `REFUSED`: the bytes
-/// begin with no head; written is the first place at which none goes on, which is their end where
-/// they end within one. `TOO_SMALL`: they begin with one that has more fields than the buffer has
-/// entries; how many it has is written. Where it does not answer `DONE`, any entry of the buffer
-/// may be written: the fields are written as they are read.
+/// `DONE`: the version, the status code, the span of the reason phrase, and the offsets of the
+/// fields are written, in order. The status code has three digits, and the first may be any digit.
+/// The reason phrase may be empty; then the space before it may also be missing.
 ///
-/// Whether a body follows, and how long it is, the method of the request, the status code and the
-/// fields say (RFC 9112, section 6.3). The bytes are read once, and no memory is asked for.
+/// The method of the request, the status code and the fields determine whether a body follows, and
+/// its length (RFC 9112, section 6.3). The bytes are scanned once. The function does not allocate.
 ///
-/// The caller owes `bytes_length` bytes at `bytes` that can be read and that nothing changes while
-/// the call runs, `fields_length` entries at `fields` that can be written, room for one head at
-/// `out`, each apart from the others, and 16 KiB of stack.
+/// # Errors
+///
+/// `INVALID`: `bytes` does not start with a head. The first offset at which no head can continue is
+/// written; it is the end of `bytes` if they end within a head.
+///
+/// `BUFFER_TOO_SMALL`: the head has more fields than the buffer has entries. The number of fields
+/// is written.
+///
+/// After an error the contents of the buffer are unspecified, because the fields are written during
+/// parsing.
+///
+/// # Safety
+///
+/// `bytes` must be valid for reads of `bytes_length` bytes, which must not change during the call.
+/// `fields` must be valid for writes of `fields_length` entries, and `out` for writes of one head.
+/// None of these may overlap. The call needs 16 KiB of stack.
 #[unsafe(no_mangle)]
 pub extern "C" fn exported_http_response_head(
     bytes: &[u8],
@@ -94,12 +103,12 @@ pub extern "C" fn exported_http_response_head(
 ) -> u32
     ensures head { result ≡ done
         → ShowsResponse bytes.now (response_of out.new) (take out.new.fields fields.new) }
-    ensures small { result ≡ too_small → IsResponseWanted bytes.now out.new.fields
+    ensures small { result ≡ buffer_too_small → IsResponseWanted bytes.now out.new.fields
         × (length fields.old < out.new.fields) }
-    ensures refused { result ≡ refused → NoResponseRead bytes.now }
-    ensures place { result ≡ refused → IsNoResponse bytes.now out.new.place }
-    ensures nowhere { (result ≡ refused → ⊥) → out.new.place ≡ 0 }
-    ensures codes { (result ≡ done) ⊎ ((result ≡ too_small) ⊎ (result ≡ refused)) }
+    ensures refused { result ≡ invalid → NoResponseRead bytes.now }
+    ensures place { result ≡ invalid → IsNoResponse bytes.now out.new.error_offset }
+    ensures nowhere { (result ≡ invalid → ⊥) → out.new.error_offset ≡ 0 }
+    ensures codes { (result ≡ done) ⊎ ((result ≡ buffer_too_small) ⊎ (result ≡ invalid)) }
 {
     match read_response_head_into(bytes, fields) {
         Ok(found) => {
@@ -108,47 +117,56 @@ pub extern "C" fn exported_http_response_head(
         }
         Err(HeadError::TooManyFields(count)) => {
             *out = none(count, 0);
-            TOO_SMALL
+            BUFFER_TOO_SMALL
         }
         Err(HeadError::Incomplete) => {
             *out = none(0, bytes.len());
-            REFUSED
+            INVALID
         }
         Err(HeadError::Refused(place)) => {
             *out = none(0, place);
-            REFUSED
+            INVALID
         }
     }
 }
 
-/// The same head where the bytes come in pieces: it answers as soon as the empty line is there.
+/// Parses the same head from partial input. It succeeds as soon as the empty line is there.
 ///
-/// `DONE`, `TOO_SMALL`: as for a head that is whole. `INCOMPLETE`: the bytes begin with no head,
-/// and with more after them they can. `REFUSED`: whatever comes after the bytes, they begin with
-/// no head; written is the first place at which none goes on: with the bytes before it a head can
-/// begin, and with these and the byte there none does.
+/// `DONE`: as for complete input.
 ///
-/// Each call reads from the first byte on.
+/// `INCOMPLETE`: `bytes` does not start with a head, but more bytes can complete one.
 ///
-/// The caller owes `bytes_length` bytes at `bytes` that can be read and that nothing changes while
-/// the call runs, `fields_length` entries at `fields` that can be written, room for one head at
-/// `out`, each apart from the others, and 16 KiB of stack.
+/// Each call parses from the first byte.
+///
+/// # Errors
+///
+/// `INVALID`: `bytes` does not start with a head, regardless of what follows. The offset of the
+/// first invalid byte is written: the bytes before it are a prefix of a head, and together with the
+/// byte there they are not.
+///
+/// `BUFFER_TOO_SMALL`: as for complete input.
+///
+/// # Safety
+///
+/// `bytes` must be valid for reads of `bytes_length` bytes, which must not change during the call.
+/// `fields` must be valid for writes of `fields_length` entries, and `out` for writes of one head.
+/// None of these may overlap. The call needs 16 KiB of stack.
 #[unsafe(no_mangle)]
-pub extern "C" fn exported_http_response_head_in_pieces(
+pub extern "C" fn exported_http_response_head_partial(
     bytes: &[u8],
     fields: &mut [Field],
     out: &mut ResponseHead,
 ) -> u32
     ensures head { result ≡ done
         → ShowsResponse bytes.now (response_of out.new) (take out.new.fields fields.new) }
-    ensures small { result ≡ too_small → IsResponseWanted bytes.now out.new.fields
+    ensures small { result ≡ buffer_too_small → IsResponseWanted bytes.now out.new.fields
         × (length fields.old < out.new.fields) }
-    ensures refused { result ≡ refused → NoResponseHead bytes.now }
-    ensures place { result ≡ refused → IsResponseRefused bytes.now out.new.place }
-    ensures nowhere { (result ≡ refused → ⊥) → out.new.place ≡ 0 }
+    ensures refused { result ≡ invalid → NoResponseHead bytes.now }
+    ensures place { result ≡ invalid → IsResponseRefused bytes.now out.new.error_offset }
+    ensures nowhere { (result ≡ invalid → ⊥) → out.new.error_offset ≡ 0 }
     ensures incomplete { result ≡ incomplete
         → BeginsResponseHead bytes.now × NoResponseRead bytes.now }
-    ensures codes { (result ≡ done) ⊎ ((result ≡ too_small) ⊎ ((result ≡ refused)
+    ensures codes { (result ≡ done) ⊎ ((result ≡ buffer_too_small) ⊎ ((result ≡ invalid)
         ⊎ (result ≡ incomplete))) }
 {
     match read_response_head_into(bytes, fields) {
@@ -158,7 +176,7 @@ pub extern "C" fn exported_http_response_head_in_pieces(
         }
         Err(HeadError::TooManyFields(count)) => {
             *out = none(count, 0);
-            TOO_SMALL
+            BUFFER_TOO_SMALL
         }
         Err(HeadError::Incomplete) => {
             *out = none(0, 0);
@@ -166,7 +184,7 @@ pub extern "C" fn exported_http_response_head_in_pieces(
         }
         Err(HeadError::Refused(place)) => {
             *out = none(0, place);
-            REFUSED
+            INVALID
         }
     }
 }

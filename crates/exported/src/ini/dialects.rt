@@ -5,14 +5,14 @@ ghost use Rattle.std.specs.Str.{IsUtf8};
 ghost use Rattle.format_ini.specs.Documents.{IsDocument, IsRefused};
 ghost use Rattle.format_ini.specs.Lines.{Said};
 ghost use Rattle.format_ini.specs.declared.lines.Refusal.{Refusal};
-ghost use Rattle.exported.specs.Code.{done, end, no_text, refused};
+ghost use Rattle.exported.specs.Code.{done, end, invalid, invalid_utf8};
 ghost use Rattle.exported.specs.Dialects.{EntriesInTurn, IsFrom, ShowsEntry, TellsEntry, Writes};
 ghost use Rattle.exported.specs.Dialects.{continued_of, delimiters_of, dialect_of, fault_number};
 ghost use Rattle.exported.specs.Dialects.{has, is_set, marks_of, reading_at, zeros};
 ghost use Rattle.exported.specs.declared.ini.dialects.IniEntry.{IniEntry};
 ghost use Rattle.exported.specs.declared.ini.dialects.IniState.{IniState};
 
-use crate::code::{DONE, END, NO_TEXT, REFUSED};
+use crate::code::{DONE, END, INVALID, INVALID_UTF8};
 use crate::span::{NOWHERE, Span};
 use format_ini::dialect::{Continued, Delimiters, Dialect, Marks};
 use format_ini::lines::{Entry, Places, Refusal, State};
@@ -31,23 +31,23 @@ pub const INI_KEY: usize = 2;
 /// other line of the value follows.
 pub const INI_MORE: usize = 3;
 
-/// No `]` stands after the `[` that begins the line.
-pub const INI_FAULT_OPEN_SECTION: usize = 0;
+/// The line starts with `[` and has no `]`.
+pub const INI_ERROR_UNCLOSED_SECTION: usize = 0;
 
-/// Nothing stands between `[` and `]`.
-pub const INI_FAULT_EMPTY_SECTION: usize = 1;
+/// There is nothing between `[` and `]`.
+pub const INI_ERROR_EMPTY_SECTION: usize = 1;
 
-/// Something stands after the `]`.
-pub const INI_FAULT_TEXT_BEHIND_SECTION: usize = 2;
+/// There is text after the `]`.
+pub const INI_ERROR_TRAILING_TEXT: usize = 2;
 
-/// No section stands before the pair.
-pub const INI_FAULT_NO_SECTION: usize = 3;
+/// There is no section before the pair.
+pub const INI_ERROR_MISSING_SECTION: usize = 3;
 
-/// No key stands before the delimiter.
-pub const INI_FAULT_NO_KEY: usize = 4;
+/// There is no key before the delimiter.
+pub const INI_ERROR_MISSING_KEY: usize = 4;
 
 /// There is no delimiter.
-pub const INI_FAULT_NO_DELIMITER: usize = 5;
+pub const INI_ERROR_MISSING_DELIMITER: usize = 5;
 
 /// `=` ends a key. Where neither this is set nor the next, both end one.
 pub const INI_DIALECT_EQUALS: usize = 1;
@@ -67,22 +67,22 @@ pub const INI_DIALECT_INLINE_NUMBER_SIGN: usize = 16;
 /// `;` does.
 pub const INI_DIALECT_INLINE_SEMICOLON: usize = 32;
 
-/// A line that is indented deeper than the pair before it goes on the value of that pair, until an
-/// empty line or a comment.
+/// A line that is indented deeper than the pair before it continues the value of that pair. An
+/// empty line or a comment ends the value.
 pub const INI_DIALECT_UNTIL_EMPTY: usize = 64;
 
-/// Such a line goes on the value, and empty lines within are part of it; comments within are passed
-/// over. With this the flag before counts for nothing.
+/// Such a line continues the value, and empty lines within are part of it; comments within are
+/// skipped. If this flag is set, the previous one has no effect.
 pub const INI_DIALECT_PAST_EMPTY: usize = 128;
 
-/// A line without a delimiter is a key without a value; else it is refused.
+/// A line without a delimiter is a key without a value; otherwise it is an error.
 pub const INI_DIALECT_VALUELESS: usize = 256;
 
-/// Pairs may stand before the first section; else they are refused.
+/// Pairs may precede the first section; otherwise they are an error.
 pub const INI_DIALECT_BEFORE_SECTIONS: usize = 512;
 
-/// The dialect of Python's `configparser`, unless it is told another: `=` and `:`, `#` and `;` at
-/// the start of lines, continued lines with empty lines within.
+/// The default dialect of Python's `configparser`: `=` and `:`, `#` and `;` at the start of lines,
+/// continued lines with empty lines within.
 pub const INI_DIALECT_PYTHON: usize = 143;
 
 /// The dialect of desktop entries: `=`, `#` at the start of lines, a line for each pair.
@@ -98,28 +98,29 @@ pub const INI_DIALECT_LENIENT: usize = 831;
 pub struct IniState {
     /// How many bytes are read: the next line begins after them.
     pub offset: usize,
-    /// 1 where a section has begun. Else 0.
+    /// 1 after the head of a section; 0 otherwise.
     pub section: usize,
-    /// 1 where the next line may go on the value of a pair. Else 0.
+    /// 1 if the next line may continue the value of a pair; 0 otherwise.
     pub pair: usize,
-    /// How many blanks stand before that pair. Else 0.
+    /// The number of blanks before that pair; 0 otherwise.
     pub indent: usize,
 }
 
-/// What a line says.
+/// The content of a line.
 #[repr(C)]
 #[derive(Clone, Copy, Drop)]
 pub struct IniEntry {
-    /// What it is: a number of those from `INI_SECTION` to `INI_MORE`.
+    /// The kind of the entry: one of the constants from `INI_SECTION` to `INI_MORE`.
     pub kind: usize,
-    /// The name of a section, or the key of a pair. Else nothing.
+    /// The name of a section, or the key of a pair; zeros otherwise.
     pub key: Span,
-    /// The value of a pair, or one more line of it. Else nothing.
+    /// The value of a pair, or a further line of it; zeros otherwise.
     pub value: Span,
-    /// Where the line begins that is refused, or is no UTF-8. Else 0.
-    pub place: usize,
-    /// Why it is refused: a number of those from `INI_FAULT_OPEN_SECTION` on. Else 0.
-    pub fault: usize,
+    /// The offset of the line that is invalid or not UTF-8; 0 otherwise.
+    pub error_offset: usize,
+    /// The reason why the line is invalid: `INI_ERROR_UNCLOSED_SECTION` or one of the constants
+    /// after it; 0 otherwise.
+    pub error: usize,
 }
 
 /// Nothing.
@@ -127,8 +128,8 @@ const NO_ENTRY: IniEntry = IniEntry {
     kind: INI_SECTION,
     key: NOWHERE,
     value: NOWHERE,
-    place: 0,
-    fault: 0,
+    error_offset: 0,
+    error: 0,
 };
 
 /// Whether a flag is set.
@@ -205,7 +206,7 @@ fn is_set(number: usize) -> bool
     }
 }
 
-/// Where a state says that reading goes on.
+/// Returns the position at which parsing resumes in this state.
 fn reading_of(state: IniState, bytes: &[u8]) -> Reading
     ensures { IsFrom state bytes.now result }
 {
@@ -225,7 +226,7 @@ fn reading_of(state: IniState, bytes: &[u8]) -> Reading
     }
 }
 
-/// The state that says so.
+/// Returns the corresponding state.
 fn state_of(reading: Reading) -> IniState
     ensures { reading_at result ≡ reading }
 {
@@ -241,17 +242,17 @@ fn state_of(reading: Reading) -> IniState
     }
 }
 
-/// The number of why a line is refused.
+/// Returns the number of an error.
 fn fault_number(why: Refusal) -> usize
     ensures { result ≡ fault_number why }
 {
     match why {
-        Refusal::OpenSection => INI_FAULT_OPEN_SECTION,
-        Refusal::EmptySection => INI_FAULT_EMPTY_SECTION,
-        Refusal::TextBehindSection => INI_FAULT_TEXT_BEHIND_SECTION,
-        Refusal::NoSection => INI_FAULT_NO_SECTION,
-        Refusal::NoKey => INI_FAULT_NO_KEY,
-        Refusal::NoDelimiter => INI_FAULT_NO_DELIMITER,
+        Refusal::OpenSection => INI_ERROR_UNCLOSED_SECTION,
+        Refusal::EmptySection => INI_ERROR_EMPTY_SECTION,
+        Refusal::TextBehindSection => INI_ERROR_TRAILING_TEXT,
+        Refusal::NoSection => INI_ERROR_MISSING_SECTION,
+        Refusal::NoKey => INI_ERROR_MISSING_KEY,
+        Refusal::NoDelimiter => INI_ERROR_MISSING_DELIMITER,
     }
 }
 
@@ -265,7 +266,7 @@ fn place_of(offset: usize, text: &str) -> Span
     }
 }
 
-/// An entry, by the places of its texts.
+/// Converts an entry and the offsets of its texts.
 fn entry_of(entry: Entry<'_>, at: Places) -> IniEntry
     ensures { ShowsEntry entry.entry at result }
 {
@@ -297,61 +298,70 @@ fn entry_of(entry: Entry<'_>, at: Places) -> IniEntry
     }
 }
 
-/// What is written where the next line that says something begins at this place.
+/// Returns the code and the output for a result; the next line with content starts at `offset`.
 fn told_of(found: Result<Option<Placed<'_>>, Stop>, offset: usize) -> (u32, IniEntry)
     ensures writes { Writes found.entry offset result.0 result.1 }
-    ensures codes { (result.0 ≡ done) ⊎ ((result.0 ≡ end) ⊎ ((result.0 ≡ refused)
-        ⊎ (result.0 ≡ no_text))) }
+    ensures codes { (result.0 ≡ done) ⊎ ((result.0 ≡ end) ⊎ ((result.0 ≡ invalid)
+        ⊎ (result.0 ≡ invalid_utf8))) }
 {
     match found {
         Ok(Some(placed)) => (DONE, entry_of(placed.entry, placed.at)),
         Ok(None) => (END, NO_ENTRY),
         Err(Stop::NoText) => (
-            NO_TEXT,
+            INVALID_UTF8,
             IniEntry {
-                place: offset,
+                error_offset: offset,
                 ..NO_ENTRY
             },
         ),
         Err(Stop::Refused(why)) => (
-            REFUSED,
+            INVALID,
             IniEntry {
-                place: offset,
-                fault: fault_number(why),
+                error_offset: offset,
+                error: fault_number(why),
                 ..NO_ENTRY
             },
         ),
     }
 }
 
-/// The next entry of an INI file, as people have them, in any dialect: `.ini`, `.cfg`, `.desktop`.
-/// A line feed ends a line. `[name]` begins a section; any other line is a key, a delimiter and a
-/// value, without white space at the ends of either; empty lines and comments are passed over, and
-/// so is a byte order mark in front. White space is tab, form feed, carriage return and space.
-/// Quotes are kept, and keys and sections may come twice.
+/// Parses the next entry of an INI file in any dialect, as common in `.ini`, `.cfg` and `.desktop`
+/// files.
+///
+/// A line feed ends a line. `[name]` starts a section. Any other line is a key, a delimiter and a
+/// value, without whitespace at the ends of either. Empty lines, comments and a byte order mark at
+/// the start are skipped. Whitespace is tab, form feed, carriage return and space. Quotes are kept,
+/// and keys and sections may be repeated.
 ///
 /// `dialect` is a sum of flags: `INI_DIALECT_PYTHON`, `INI_DIALECT_DESKTOP`, `INI_DIALECT_LENIENT`,
-/// or others from `INI_DIALECT_EQUALS` to `INI_DIALECT_BEFORE_SECTIONS`. Other bits count for
-/// nothing.
+/// or others from `INI_DIALECT_EQUALS` to `INI_DIALECT_BEFORE_SECTIONS`. Other bits are ignored.
 ///
-/// For the first call the numbers of `state` are zeros. Each further call has the state that the
-/// last one left, with the same bytes, all of the document, and the same dialect. What a call
-/// passed, no other looks at again, so all calls for a document take a time that is linear in its
-/// bytes.
+/// For the first call, `state` must be all zeros. Each further call must have the state that the
+/// previous call left, with the same bytes, which are the complete document, and the same dialect.
+/// No call looks again at bytes that an earlier call parsed, so all calls for a document take time
+/// linear in its length.
 ///
-/// `DONE`: what the entry is and the places of its texts are written; its line is UTF-8. A value of
-/// more lines comes as a pair and one `INI_MORE` for each further line. `END`: no entry is left.
-/// `REFUSED`: the next line is none of the dialect; where it begins, and why, is written.
-/// `NO_TEXT`: the next line is no UTF-8; where it begins is written. With these three no kind and
-/// no texts are written, and a further call tells the same. Lines are checked one by one, so
-/// entries are told of a document in which a later line is no UTF-8.
+/// `DONE`: the kind of the entry and the spans of its texts are written. Its line is UTF-8. A value
+/// of several lines is returned as a pair, and one `INI_MORE` for each further line.
 ///
-/// Of a state that calls left for other bytes, or that is changed, what is told may be wrong;
-/// nothing outside of the bytes is read then either.
+/// `END`: there are no more entries.
 ///
-/// The caller owes a state at `state` that can be read and written, `bytes_length` bytes at `bytes`
-/// that can be read and that nothing changes while the call runs, room for one entry at `out`, each
-/// apart from the others, and 16 KiB of stack.
+/// Only `DONE` writes a kind and spans. After another code, a further call returns the same. Lines
+/// are checked one at a time, so entries before a line that is not UTF-8 are returned. If `state`
+/// belongs to other bytes or was modified, the result may be wrong, but nothing outside `bytes` is
+/// read.
+///
+/// # Errors
+///
+/// `INVALID`: the next line is invalid in the dialect. Its offset and the reason are written.
+///
+/// `INVALID_UTF8`: the next line is not UTF-8. Its offset is written.
+///
+/// # Safety
+///
+/// `state` must be valid for reads and writes of one state, and `out` for writes of one entry.
+/// `bytes` must be valid for reads of `bytes_length` bytes, which must not change during the call.
+/// None of these may overlap. The call needs 16 KiB of stack.
 #[unsafe(no_mangle)]
 pub extern "C" fn exported_ini_next(
     state: &mut IniState,
@@ -360,8 +370,8 @@ pub extern "C" fn exported_ini_next(
     out: &mut IniEntry,
 ) -> u32
     ensures told { TellsEntry dialect state.old state.new bytes.now result out.new }
-    ensures codes { (result ≡ done) ⊎ ((result ≡ end) ⊎ ((result ≡ refused)
-        ⊎ (result ≡ no_text))) }
+    ensures codes { (result ≡ done) ⊎ ((result ≡ end) ⊎ ((result ≡ invalid)
+        ⊎ (result ≡ invalid_utf8))) }
 {
     let mut reading = reading_of(*state, bytes);
     let found = next_placed(dialect_of(dialect), bytes, &mut reading);
@@ -371,11 +381,11 @@ pub extern "C" fn exported_ini_next(
     code
 }
 
-/// Where calls of `exported_ini_next` follow one another, the first with a state of zeros, and a
-/// call then says that no entry is left: the bytes are the document that says what these calls
-/// told, all of it, once and in order. Where it refuses a line: the document is refused there, and
-/// for that. So calls in turn tell what `format_ini`'s `read_document` reads. Where it says that a
-/// line is no UTF-8, the bytes are none.
+/// States that successive calls of `exported_ini_next` parse the document, as `read_document` of
+/// `format_ini` does. The first call starts with zeros. If the last call returns `END`, the entries
+/// of the calls before it are all entries of the document, once and in order. If it returns
+/// `INVALID`, the document is invalid at that line, for that reason. If it returns `INVALID_UTF8`,
+/// the bytes are not UTF-8.
 pub fn entries_in_turn_are_of_the_document()
     ensures whole { (dialect : ℕ) (bytes : List ℕ) (outs : List IniEntry) (said : List Said)
         (state next : IniState) (out : IniEntry)
@@ -385,11 +395,11 @@ pub fn entries_in_turn_are_of_the_document()
     ensures refuses { (dialect : ℕ) (bytes : List ℕ) (outs : List IniEntry) (said : List Said)
         (state next : IniState) (out : IniEntry)
         → EntriesInTurn dialect bytes zeros outs said state
-        → TellsEntry dialect state next bytes refused out
-        → (why : Refusal) × (out.fault ≡ fault_number why)
-        × IsRefused (dialect_of dialect) bytes (record { offset = out.place; why = why }) }
+        → TellsEntry dialect state next bytes invalid out
+        → (why : Refusal) × (out.error ≡ fault_number why)
+        × IsRefused (dialect_of dialect) bytes (record { offset = out.error_offset; why = why }) }
     ensures text { (dialect : ℕ) (bytes : List ℕ) (outs : List IniEntry) (said : List Said)
         (state next : IniState) (out : IniEntry)
         → EntriesInTurn dialect bytes zeros outs said state
-        → TellsEntry dialect state next bytes no_text out → IsUtf8 bytes → ⊥ }
+        → TellsEntry dialect state next bytes invalid_utf8 out → IsUtf8 bytes → ⊥ }
 {}

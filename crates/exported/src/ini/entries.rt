@@ -1,4 +1,4 @@
-//! The entries of a document, and their bytes, one after the other.
+//! The entries of a document, and their concatenated bytes.
 
 ghost use Rattle.std.specs.Prelude.{◌≡◌, ◌<◌, ◌+◌, ◌++◌, ◌^◌, IfSome, length, map};
 ghost use Rattle.readers.specs.Sections.{pair_text, section_text};
@@ -68,7 +68,7 @@ pub fn copy_entries(found: &[(&str, &str)], text: &mut [u8])
     }
 }
 
-/// Writes which places the entries have where their bytes stand one after the other.
+/// Writes the spans of the entries in the concatenation of their bytes.
 pub fn place_entries(found: &[(&str, &str)], entries: &mut [Entry])
     requires bytes { length (text_of (map pair_text found.now)) < 2 ^ 63 }
     requires room { length entries.old ≡ length found.now }

@@ -3,29 +3,37 @@
 ghost use Rattle.std.specs.Prelude.{◌≡◌, ◌⊎◌, pos};
 ghost use Rattle.format_json_extents.specs.Number.{IsNumber};
 ghost use Rattle.format_json_extents.specs.Texts.{NoneStands};
-ghost use Rattle.exported.specs.Code.{done, no_integer, refused};
+ghost use Rattle.exported.specs.Code.{done, invalid, not_an_integer};
 ghost use Rattle.exported.specs.JsonInteger.{ShowsInteger, ShowsNatural, ShowsNoInteger};
 ghost use Rattle.exported.specs.JsonInteger.{ShowsNoNatural};
 
-use crate::code::{DONE, NO_INTEGER, REFUSED};
+use crate::code::{DONE, INVALID, NOT_AN_INTEGER};
 use format_json_extents::{integer, number};
 
-/// The integer that a number of JSON (RFC 8259) is written as: of the longest number with which the
-/// bytes begin. It has neither a point nor an exponent, so `1.0` and `1e2` are none, and fits 64
-/// bits with a sign; `-0` is 0. White space before it is not passed.
+/// Converts the longest JSON number (RFC 8259) at the start of `bytes` to a signed 64-bit integer.
+/// `-0` gives 0. Whitespace before the number is not skipped.
 ///
-/// `DONE`: it is written. `NO_INTEGER`: the number is none, or does not fit. `REFUSED`: the bytes
-/// begin with no number. With these two 0 is written.
+/// `DONE`: the integer is written.
 ///
-/// The caller owes `bytes_length` bytes at `bytes` that can be read and that nothing changes while
-/// the call runs, room for one integer at `out`, apart from them, and 16 KiB of stack.
+/// # Errors
+///
+/// `NOT_AN_INTEGER`: the number has a point or an exponent, like `1.0` and `1e2`, or does not fit.
+/// 0 is written.
+///
+/// `INVALID`: `bytes` does not start with a number. 0 is written.
+///
+/// # Safety
+///
+/// `bytes` must be valid for reads of `bytes_length` bytes, which must not change during the call,
+/// and `out` must be valid for writes of one integer. They must not overlap. The call needs 16 KiB
+/// of stack.
 #[unsafe(no_mangle)]
 pub extern "C" fn exported_json_integer(bytes: &[u8], out: &mut i64) -> u32
     ensures integer { result ≡ done → ShowsInteger bytes.now out.new }
-    ensures other { result ≡ no_integer → ShowsNoInteger bytes.now }
-    ensures refused { result ≡ refused → NoneStands IsNumber bytes.now }
+    ensures other { result ≡ not_an_integer → ShowsNoInteger bytes.now }
+    ensures refused { result ≡ invalid → NoneStands IsNumber bytes.now }
     ensures none { (result ≡ done → ⊥) → out.new ≡ pos 0 }
-    ensures codes { (result ≡ done) ⊎ ((result ≡ no_integer) ⊎ (result ≡ refused)) }
+    ensures codes { (result ≡ done) ⊎ ((result ≡ not_an_integer) ⊎ (result ≡ invalid)) }
 {
     *out = 0;
     let mut left = bytes;
@@ -35,26 +43,35 @@ pub extern "C" fn exported_json_integer(bytes: &[u8], out: &mut i64) -> u32
                 *out = found;
                 DONE
             }
-            None => NO_INTEGER,
+            None => NOT_AN_INTEGER,
         },
-        None => REFUSED,
+        None => INVALID,
     }
 }
 
-/// As `exported_json_integer`, of 64 bits without a sign: a number with a minus is none, `-0` too.
+/// Like `exported_json_integer`, for an unsigned 64-bit integer.
 ///
-/// `DONE`: it is written. `NO_INTEGER`: the number is none, or does not fit. `REFUSED`: the bytes
-/// begin with no number. With these two 0 is written.
+/// `DONE`: the integer is written.
 ///
-/// The caller owes `bytes_length` bytes at `bytes` that can be read and that nothing changes while
-/// the call runs, room for one integer at `out`, apart from them, and 16 KiB of stack.
+/// # Errors
+///
+/// `NOT_AN_INTEGER`: the number has a minus sign, even `-0`, a point or an exponent, or does not
+/// fit. 0 is written.
+///
+/// `INVALID`: `bytes` does not start with a number. 0 is written.
+///
+/// # Safety
+///
+/// `bytes` must be valid for reads of `bytes_length` bytes, which must not change during the call,
+/// and `out` must be valid for writes of one integer. They must not overlap. The call needs 16 KiB
+/// of stack.
 #[unsafe(no_mangle)]
 pub extern "C" fn exported_json_natural(bytes: &[u8], out: &mut u64) -> u32
     ensures integer { result ≡ done → ShowsNatural bytes.now out.new }
-    ensures other { result ≡ no_integer → ShowsNoNatural bytes.now }
-    ensures refused { result ≡ refused → NoneStands IsNumber bytes.now }
+    ensures other { result ≡ not_an_integer → ShowsNoNatural bytes.now }
+    ensures refused { result ≡ invalid → NoneStands IsNumber bytes.now }
     ensures none { (result ≡ done → ⊥) → out.new ≡ 0 }
-    ensures codes { (result ≡ done) ⊎ ((result ≡ no_integer) ⊎ (result ≡ refused)) }
+    ensures codes { (result ≡ done) ⊎ ((result ≡ not_an_integer) ⊎ (result ≡ invalid)) }
 {
     *out = 0;
     let mut left = bytes;
@@ -64,8 +81,8 @@ pub extern "C" fn exported_json_natural(bytes: &[u8], out: &mut u64) -> u32
                 *out = found;
                 DONE
             }
-            None => NO_INTEGER,
+            None => NOT_AN_INTEGER,
         },
-        None => REFUSED,
+        None => INVALID,
     }
 }

@@ -3,17 +3,17 @@
 ghost use Rattle.std.specs.Prelude.{◌≡◌, ◌++◌, [], List, ℕ};
 ghost use Rattle.exported.specs.Extent.{CallsInTurn, extent_of, nothing};
 ghost use Rattle.exported.specs.Turns.{all_of};
-ghost use Rattle.exported.specs.declared.resp.RespExtent.{RespExtent};
+ghost use Rattle.exported.specs.declared.resp.RespReplyState.{RespReplyState};
 ghost use Rattle.format_resp.specs.Extents.{IsOf};
 
-use crate::resp::RespExtent;
+use crate::resp::RespReplyState;
 use format_resp::extent::Extent;
 
 /// How many numbers a word has.
 const WORD: u128 = 18446744073709551616;
 
-/// What a state says, which may be all zeros.
-pub(crate) fn extent_at(state: RespExtent) -> Extent
+/// Returns the extent that `state` represents; `state` may be all zeros.
+pub(crate) fn extent_at(state: RespReplyState) -> Extent
     ensures { result ≡ extent_of state }
 {
     let bulk = match state.due {
@@ -36,15 +36,15 @@ pub(crate) fn extent_at(state: RespExtent) -> Extent
     }
 }
 
-/// The state that says so.
-pub(crate) fn state_at(extent: Extent) -> RespExtent
+/// Returns the corresponding state.
+pub(crate) fn state_at(extent: Extent) -> RespReplyState
     ensures { extent_of result ≡ extent }
 {
     let (due, bulk) = match extent.bulk {
         None => (1, 0),
         Some(size) => (2, size),
     };
-    RespExtent {
+    RespReplyState {
         due,
         passed: extent.passed,
         sought: extent.sought,
@@ -54,11 +54,13 @@ pub(crate) fn state_at(extent: Extent) -> RespExtent
     }
 }
 
-/// Where calls of `exported_resp_extent` follow one another, the first with a state of zeros, each
-/// with the state that the last one left and with its bytes and a piece more, and all ask for more:
-/// then the state that is left is one of these bytes, whatever comes after them. So what the next
-/// call tells, it tells of all of its bytes, as one call with a state of zeros would.
+/// States that successive calls of `exported_resp_extent` give the result of one call. The first
+/// call starts with zeros, and each further call has the state that the previous one left, and its
+/// bytes followed by another chunk. If all calls return `INCOMPLETE`, the last state is a state of
+/// these bytes, regardless of what follows. So the next call returns the result that a call with
+/// zeros returns for all of its bytes.
 pub fn calls_in_turn_are_of_their_bytes()
-    ensures { (pieces : List (List ℕ)) (state : RespExtent) → CallsInTurn nothing [] pieces state
+    ensures { (pieces : List (List ℕ)) (state : RespReplyState)
+        → CallsInTurn nothing [] pieces state
         → (more : List ℕ) → IsOf (extent_of state) (all_of pieces ++ more) }
 {}

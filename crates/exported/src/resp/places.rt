@@ -1,4 +1,4 @@
-//! Where the parts of a reply stand.
+//! The spans of the parts of a reply.
 
 ghost use Rattle.std.specs.Prelude.{◌≡◌, ◌+◌, ◌++◌, ◌∷◌, List, length, ℕ};
 ghost use Rattle.format_resp.specs.Parts.{NoFeed};
@@ -12,7 +12,7 @@ use crate::span::{Span, first_of};
 use format_resp::reply;
 use std::alloc::Global;
 
-/// What stands after the first line feed.
+/// Returns the bytes after the first line feed.
 fn behind_feed<'i>(bytes: &'i [u8]) -> &'i [u8]
     ensures { (line rest : List ℕ) → NoFeed line → bytes.now ≡ line ++ 10 ∷ rest
         → result.now ≡ rest }
@@ -27,7 +27,7 @@ fn behind_feed<'i>(bytes: &'i [u8]) -> &'i [u8]
     rest
 }
 
-/// What is told of a reply with which the bytes begin, after which that many are left.
+/// Returns the description of a reply at the start of `bytes`, after which `left` bytes remain.
 pub fn reply_at(
     bytes: &[u8],
     level: usize,
@@ -48,7 +48,7 @@ pub fn reply_at(
             };
             Reply {
                 kind: RESP_SIMPLE,
-                place,
+                span: place,
                 length,
                 ..NONE
             }
@@ -60,7 +60,7 @@ pub fn reply_at(
             };
             Reply {
                 kind: RESP_ERROR,
-                place,
+                span: place,
                 length,
                 ..NONE
             }
@@ -75,7 +75,7 @@ pub fn reply_at(
             let place = first_of(bytes, behind_feed(bytes), text.len());
             Reply {
                 kind: RESP_BULK,
-                place,
+                span: place,
                 length,
                 ..NONE
             }
@@ -90,7 +90,7 @@ pub fn reply_at(
             Reply {
                 kind: RESP_ARRAY,
                 elements: elements.len(),
-                place: first_of(bytes, behind, behind.len() - left),
+                span: first_of(bytes, behind, behind.len() - left),
                 length,
                 ..NONE
             }

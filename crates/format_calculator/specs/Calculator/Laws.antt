@@ -1,4 +1,4 @@
--- What holds of the calculator's items and values.
+-- Properties of the calculator's items and values.
 use Rattle.std.specs.Prelude.{◌≡◌, ◌≢◌, ◌+◌, ◌-◌, ◌*◌, ◌<◌, ◌≤◌, ℕ, ℤ, pos, neg_ℤ, ◌^◌, Bool, true}
 use Rattle.std.specs.Prelude.{false, List, [], ◌∷◌, ◌++◌, Option, Some, None, Ok, Err, ◌⊎◌}
 use Rattle.std.specs.Prelude.{if◌then◌else◌}
@@ -41,7 +41,6 @@ pub behind_takes : (test : ℕ → Bool) (c : ℕ) (cs : List ℕ) → test c �
     → behind test (c ∷ cs) ≡ behind test cs
 behind_takes test c cs e = ap (λ b. if b then behind test cs else c ∷ cs) e
 
--- what is after is an end
 behind_splits : (test : ℕ → Bool) (cs : List ℕ) → (front : List ℕ) × (cs ≡ front ++ behind test cs)
 behind_splits test [] = ([], refl)
 behind_splits test (c ∷ cs) = behind_more test c cs (behind_splits test cs) (test c)
@@ -117,7 +116,6 @@ char_ends meant i j a r = item_ends text_reading (CharItem meant) (λ p n. refl)
     in (c ∷ front, split))
     i j a r
 
--- what a part answers is a run of its item
 pub item_some : {O : Type 0} (item : Items ℕ O) (i : Input ℕ) (o : O) (rest : List ℕ)
     → item i.left.tokens o rest → ItemRuns item i (Ok o) (left_at i rest)
 item_some item i o rest is = inl (o, rest, is, refl, refl)
@@ -274,7 +272,6 @@ value_none text i j answer not fails at read w (tree, all, items, value) =
     value not in
     fails w e (ap width rest)
 
--- what is left of a formula begins at a boundary of the text
 pub left_boundary : (text : List ℕ) (i j : Input ℕ) (n : ℕ)
     → i.left.tokens ≡ behind is_white (chars text) → IsEndOf text_reading j i
     → n ≡ width (chars text) - width j.left.tokens → IsBoundary width (chars text) n

@@ -1,4 +1,4 @@
-//! What a formula is made of: numbers and operators, each with the white space after it.
+//! The items of a formula: numbers and operators, each with the whitespace after it.
 ghost use Rattle.std.specs.Prelude.{◌≡◌, ℕ, pos, ◌+◌, ◌*◌, ◌<◌, MatchBool, MatchOption};
 ghost use Rattle.std.specs.Str.{chars};
 ghost use Rattle.format_calculator.specs.Calculator.{AnswersItem, CharItem, IsDigitTaken};

@@ -1,4 +1,4 @@
-//! What the operators compute, where 64 bits hold it.
+//! The arithmetic of the operators, within 64 bits.
 ghost use Rattle.std.specs.Prelude.{ℕ, ◌<◌, ◌^◌};
 ghost use Rattle.std.specs.Option.{SomeIff};
 ghost use Rattle.format_calculator.specs.Calculator.{GivesOption, IsPower, IsUnitPower};
@@ -64,7 +64,7 @@ fn power_of(base: i64, exponent: i64) -> Option<i64>
     }
 }
 
-/// What an operator before an operand gives.
+/// Applies an operator before an operand.
 pub(super) fn signed(sign: Sign, operand: i64) -> Option<i64>
     ensures { GivesOption (sign_value sign operand) result }
 {
@@ -74,7 +74,7 @@ pub(super) fn signed(sign: Sign, operand: i64) -> Option<i64>
     }
 }
 
-/// What an operator between two operands gives.
+/// Applies an operator between two operands.
 pub(super) fn joined(pair: Pair, left: i64, right: i64) -> Option<i64>
     ensures { GivesOption (pair_value pair left right) result }
 {

@@ -1,4 +1,4 @@
-//! The operators, and what they do to their operands.
+//! The operators, and their effect on operands.
 ghost use Rattle.std.specs.Prelude.{◌≡◌};
 ghost use Rattle.winnow.specs.Items.{Gives};
 ghost use Rattle.winnow.specs.Items.Premises.{gives_ends};

@@ -1,4 +1,4 @@
--- The list has the bytes up to here, and an end of the input is left.
+-- Loop invariant: the list holds the bytes read so far, and the input is a suffix of the original.
 use Rattle.std.proofs.Common.{length}
 use Rattle.winnow.specs.Bytes.{bytes_input, bytes_reading}
 use Rattle.winnow.specs.Input.{IsEndOf}

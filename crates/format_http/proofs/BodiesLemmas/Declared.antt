@@ -31,7 +31,6 @@ one_declared fields slice answer told is = inl (
       e,
     )
 
--- where there is none, it is no number
 pub none_declared : (fields : List Pair) → Tell fields None
     → IsDeclaredLength fields (Err LengthIsNoNumber)
 none_declared fields told = inl (

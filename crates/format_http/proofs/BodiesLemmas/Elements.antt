@@ -1,4 +1,4 @@
--- The element that stands in a part of a list.
+-- Lemmas about the element in a part of a list.
 use Rattle.std.specs.Prelude.{◌≡◌, ◌<◌, ◌++◌, ℕ, List, [], ◌∷◌, length}
 use Rattle.std.specs.List.{All}
 use Rattle.std.proofs.Common.{refl, sym, ap, subst, ◌∙◌, arith, append_assoc, length-append}
@@ -9,7 +9,6 @@ use Rattle.format_http.specs.Heads.Bytes.{IsWhite}
 use Rattle.format_http.specs.Heads.FieldLine.{BeginsBare, EndsBare, IsTrimmed}
 use Rattle.format_http.specs.Heads.FieldRead.{all_front}
 
--- white space alone ends with white space
 ends_white : (x : ℕ) (xs : List ℕ) → All IsWhite (x ∷ xs) → EndsBare (x ∷ xs) → ⊥
 ends_white x [] all bare = bare x [] refl (All-head IsWhite x [] all)
 ends_white x (y ∷ ys) all bare =
@@ -66,8 +65,10 @@ no_element e part all x some =
 -- a part has one element
 pub one_element : (e f part : List ℕ) → IsElement e part → IsElement f part → e ≡ f
 one_element [] [] part x y = refl
-one_element [] (h ∷ f) part x y = absurd (no_element (h ∷ f) part (white_part part x) y (omega arith))
-one_element (h ∷ e) [] part x y = absurd (no_element (h ∷ e) part (white_part part y) x (omega arith))
+one_element [] (h ∷ f) part x y =
+    absurd (no_element (h ∷ f) part (white_part part x) y (omega arith))
+one_element (h ∷ e) [] part x y =
+    absurd (no_element (h ∷ e) part (white_part part y) x (omega arith))
 one_element (h ∷ e) (g ∷ f) part x y =
     one_end (h ∷ e) x.behind (g ∷ f) y.behind (one_beginning x.before (h ∷ e) x.behind y.before
     (g ∷ f) y.behind (sym x.splits ∙ y.splits) x.white_before y.white_before (omega arith)

@@ -1,4 +1,4 @@
--- What was found so far, one step on.
+-- Lemmas about one step of the search for the length.
 use Rattle.std.specs.Prelude.{◌≡◌, ◌⊎◌, ◌↔◌, ℕ, List, [], ◌∷◌, Option, Some, None}
 use Rattle.std.specs.Prelude.{Bool, IfSome, IsTrue}
 use Rattle.std.specs.Option.{is_some}

@@ -1,4 +1,4 @@
--- What stands before the first comma of a list.
+-- Lemmas about the part before the first comma of a list.
 use Rattle.std.specs.Prelude.{◌≡◌, ◌==◌, ◌<◌, ◌≤◌, ◌+◌, ◌-◌, ℕ, List, ◌∷◌, [], Bool}
 use Rattle.std.specs.Prelude.{length, Some, None, position}
 use Rattle.std.specs.List.{position_or_len}

@@ -8,7 +8,7 @@ use Rattle.format_http.specs.Heads.Head.{Pair}
 use Rattle.format_http.specs.declared.bodies.framing.Message.{Message}
 use Rattle.winnow.specs.Digits.{value_in}
 
--- two answers by one rule are both by its first part, or both by its second
+-- two results by one rule are both by its first part, or both by its second
 one_rule : {P A B C D E : Type 0} → Rule P A B → Rule P C D → (A → C → E) → (B → D → E) → E
 one_rule (inl (p, a)) (inl (q, c)) f g = f a c
 one_rule (inl (p, a)) (inr (not, d)) f g = absurd (not p)
@@ -16,7 +16,6 @@ one_rule (inr (not, b)) (inl (q, c)) f g = absurd (not q)
 one_rule (inr (n, b)) (inr (m, d)) f g = g b d
 
 module _ (one other : Answer) where
-  -- both are the same answer
   both : {answer : Answer} → one ≡ answer → other ≡ answer → one ≡ other
   both e f = e ∙ sym f
 

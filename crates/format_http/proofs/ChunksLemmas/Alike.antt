@@ -1,4 +1,5 @@
--- Grammars that say what is after a text, and the texts that stand first by them.
+-- Equivalence of grammars that state the continuation after a text, and of the texts that they
+-- match.
 use Rattle.std.specs.Prelude.{◌≡◌, ◌≤◌, ◌⊎◌, ℕ, zero, suc, List, [], ◌∷◌, ◌++◌, length, ⊤}
 use Rattle.std.specs.Prelude.{Option, Some, None}
 use Rattle.std.specs.List.{All}
@@ -11,8 +12,8 @@ use Rattle.winnow.specs.Counted.{counted_reading}
 use Rattle.winnow.specs.Texts.{BothText, EachText, EitherText, GatheredText, Itself, Members}
 use Rattle.winnow.specs.Texts.{OptionalText, Spelled, TakenText, Text, TokenOfText}
 
--- Where the grammar says so, a text stands first, and what is after it is so; and the other way
--- round.
+-- `Alike A text`: `A next bytes` holds if and only if `bytes` starts with a match of `text`, and
+-- `next` holds for the rest.
 pub record Alike {O : Type 0} (A : (List ℕ → Type 0) → List ℕ → Type 0) (text : Text ℕ O)
     : Type 1 where
   pub there : (next : List ℕ → Type 0) (bytes : List ℕ) → A next bytes
@@ -21,7 +22,7 @@ pub record Alike {O : Type 0} (A : (List ℕ → Type 0) → List ℕ → Type 0
   pub back : (next : List ℕ → Type 0) (o : O) (front rest : List ℕ) → text o front → next rest
       → A next (front ++ rest)
 
--- bytes as a slice of some place
+-- bytes as a slice at some address
 abbrev pub slice_of : List ℕ → Bor (List ℕ)
 slice_of bytes = record { ref_ptr = (0, 0); now = bytes }
 

@@ -24,7 +24,6 @@ use Rattle.format_http.proofs.OneLemmas.Heads.{field_line_longer}
 use Rattle.format_http.proofs.OneLemmas.Values.{all_value, field_line_some, regroup}
 use Rattle.format_http_chunked.specs.Bodies as body
 use Rattle.format_http_chunked.specs.Words.{Byte, Many, Times}
-use Rattle.format_http_chunked.specs.Words as words
 use Rattle.winnow.specs.AsChar.{IsHexDigit, IsSpace}
 use Rattle.winnow.specs.Digits.{value_in}
 use Rattle.winnow.specs.Digits.Known.{value_is}
@@ -59,7 +58,7 @@ extended_alike = then_alike (λ list _. list) (star_alike extension_alike)
 
 -- ---- size lines
 
--- what stands in a body is digits and extensions of this number
+-- a size in a body consists of digits and extensions of this number
 pub size_there : (n : ℕ) (bytes rest : List ℕ) → BodyHasSize n bytes rest
     → (digits : Slice) × (list : Extensions) × First DigitsText bytes (digits, list) rest
     × (n ≡ value_in 16 digits.now)
@@ -233,7 +232,6 @@ byte_there : (byte : ℕ) (next : List ℕ → Type 0) (bytes : List ℕ) → By
 byte_there byte next [] x = absurd x
 byte_there byte next (b ∷ rest) (is, n) = (rest, ap (λ c. c ∷ rest) is, n)
 
--- what stands in a body is a field line
 field_there : (next : List ℕ → Type 0) (bytes : List ℕ) → body.FieldLine next bytes
     → (name : List ℕ) × (value : List ℕ) × (rest : List ℕ) × IsFieldLine name value bytes rest
     × next rest

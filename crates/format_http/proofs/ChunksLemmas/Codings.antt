@@ -31,7 +31,7 @@ some_behind text (front, x ∷ word, e, is, between) = rw e (some front)
     some (y ∷ front) = omega arith
 
 module _ (value text : List ℕ) (w : IsWithout (IsEnd true) text value) where
-  -- the last element of a list is that of what is left without its end
+  -- the last element of a list is that of its prefix without trailing bytes
   pub ends_left : EndsBehind text ↔ EndsChunked value
   ends_left = (
     (λ x. (text, w.0, w.1, x, w.2)),
@@ -53,7 +53,8 @@ not_blank value (text, behind, e, x, all) blank =
 
 -- ---- over fields
 
--- The last coding so far was `chunked`, or was not, and these fields are after it.
+-- `Last is fields`: the last of all codings is `chunked`, if `is` is whether the last coding so far
+-- is `chunked`, and `fields` follow.
 abbrev pub Last : Bool → List Pair → Type 0
 Last true fields = AreBlank fields ⊎ EndChunked fields
 Last false fields = EndChunked fields

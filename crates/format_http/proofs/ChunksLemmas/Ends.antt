@@ -1,4 +1,4 @@
--- What walks over fields and over their values have come to.
+-- Lemmas about the ends of fields and of their values.
 use Rattle.std.specs.Prelude.{◌≡◌, ◌==◌, ◌↔◌, ◌≤◌, ◌++◌, ℕ, List, [], ◌∷◌, true}
 use Rattle.std.specs.Prelude.{false}
 use Rattle.std.specs.Prelude.{IsTrue, length, map}
@@ -63,7 +63,7 @@ module _ (P : ℕ → Type 0) where
 
 -- ---- the word
 
--- a letter is no white space and no comma
+-- a letter is neither whitespace nor a comma
 letter : (x y : ℕ) → to_ascii_lowercase x ≡ y → 97 ≤ y → 65 ≤ x
 letter x y e some = grind (arith, lowercase_is x, e, some)
 
@@ -75,7 +75,7 @@ letters (x ∷ word) (y ∷ ys) e all =
     let above = letter x y (same_first e) all.0 in
     ((λ is. absurd (grind (arith, above, is))), letters word ys (same_others e) all.1)
 
--- ---- what stands before an element
+-- ---- the bytes before an element
 
 white_end : (b : ℕ) → IsEnd false b → IsWhite b
 white_end b (inl is) = is

@@ -1,4 +1,4 @@
--- Whether a coding comes after `chunked`, one step on.
+-- Lemmas about one step of the search for a coding after `chunked`.
 use Rattle.std.specs.Prelude.{◌≡◌, ◌↔◌, ◌<◌, ◌⊎◌, ◌++◌, ℕ, List, [], ◌∷◌, Bool, IsTrue, codes}
 use Rattle.std.specs.Prelude.{length}
 use Rattle.std.specs.Char.{to_ascii_lowercase}
@@ -13,7 +13,7 @@ use Rattle.winnow.specs.Equal.{same_first, same_others}
 
 -- ---- a coding
 
--- texts whose beginnings are as long are cut in one way
+-- equal texts with beginnings of one length have equal beginnings
 same_parts : (a s b t : List ℕ) → a ++ s ≡ b ++ t → length a ≡ length b → (a ≡ b) × (s ≡ t)
 same_parts [] s [] t e is = (refl, e)
 same_parts [] s (y ∷ b) t e is = absurd (omega (arith, is))

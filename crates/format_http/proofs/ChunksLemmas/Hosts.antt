@@ -1,4 +1,4 @@
--- The Host fields of what is left of some fields.
+-- Lemmas about the Host fields in a suffix of some fields.
 use Rattle.std.proofs.Common.{◌+◌, ◌<◌, ◌≤◌, ℕ, List, drop, get_or, inl, inr, length}
 use Rattle.std.proofs.Common.{map, refl, subst, suc, sym}
 use Rattle.std.proofs.lemmas.List.{drop_all, drop_more}

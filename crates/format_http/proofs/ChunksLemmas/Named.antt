@@ -1,4 +1,4 @@
--- What is so of the fields that are left, one step on.
+-- Lemmas about properties of the remaining fields, after one step.
 use Rattle.std.specs.Prelude.{◌≡◌, ◌<◌, ℕ, List, [], ◌∷◌, map, length}
 use Rattle.std.proofs.Common.{◌+◌, ◌∙◌, drop, get_or, inl, inr, subst, sym}
 use Rattle.std.proofs.lemmas.List.{drop_more}
@@ -6,7 +6,7 @@ use Rattle.format_http.specs.Chunks.Framing.{HasValue, HaveValue}
 use Rattle.format_http.specs.Heads.Head.{Pair, pair}
 use Rattle.format_http.specs.declared.heads.field_line.Field.{Field}
 
--- what stands where no field does
+-- the default for indices without a field
 abbrev pub no_field : Field
 no_field = record {
   name = record { ref_ptr = (0, 0); now = [] };
@@ -14,7 +14,7 @@ no_field = record {
 }
 
 module _ (P : List Pair → Type 0) (fields : List Field) (i : ℕ) where
-  -- what is so of what is left, by the next field and those after it
+  -- a property of the remaining fields, by the next field and those after it
   pub at_next : i < length fields → P (map pair (drop i fields))
       → P (pair (get_or fields i no_field) ∷ map pair (drop (i + 1) fields))
   at_next below x =

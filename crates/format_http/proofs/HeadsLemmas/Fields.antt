@@ -1,4 +1,4 @@
--- What stands before the first colon of a field line, and which bytes are in its parts.
+-- Lemmas about the first colon of a field line, and about the bytes of its parts.
 use Rattle.std.proofs.Common.{◌≡◌, ◌∙◌, ◌++◌, ◌∷◌, ℕ, List, [], ap, arith, inl, inr, subst, sym}
 use Rattle.std.proofs.Common.{refl}
 use Rattle.std.specs.List.{All, AllByRecursion}

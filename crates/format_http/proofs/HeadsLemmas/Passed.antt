@@ -1,4 +1,4 @@
--- Fields that were passed, of which none has the name.
+-- Lemmas about the fields that were passed, none of which has the name.
 use Rattle.std.specs.Prelude.{◌++◌, ◌∷◌, ◌<◌, ◌+◌, ◌-◌, ℕ, List, [], length}
 use Rattle.std.proofs.Common.{sym, ap, subst, ◌∙◌, arith, drop, get_or, take, length-drop}
 use Rattle.std.proofs.Common.{take-append-drop}

@@ -8,7 +8,7 @@ use Rattle.format_http.specs.Heads.RequestLine.{IsRequestLine, digits}
 use Rattle.format_http.proofs.OneLemmas.Texts.{one_text}
 use Rattle.format_http.proofs.OneLemmas.Values.{field_line_begins, field_line_one}
 
--- what stands after the target and a space
+-- the bytes after the target and a space
 abbrev behind_target : ℕ → ℕ → List ℕ → List ℕ
 behind_target major minor rest =
     72 ∷ 84 ∷ 84 ∷ 80 ∷ 47 ∷ (digits major minor ++ (line_end ++ rest))

@@ -4,11 +4,10 @@ use Rattle.std.specs.List.{All}
 use Rattle.std.proofs.lemmas.List.Elements.{All-head, All-tail}
 use Rattle.winnow.specs.Equal.{same_first, same_others}
 
--- where a stranger to P stands first, no text of P does
 stranger : (P : ℕ → Type 0) (x y : ℕ) (xs ys : List ℕ) → (P x → ⊥) → P y → x ∷ xs ≡ y ∷ ys → ⊥
 stranger P x y xs ys not is e = not (subst P (sym (same_first e)) is)
 
--- there is one text of P before a stranger to it, and one rest after that
+-- bytes of P before a byte that is not in P are unique, and so is the rest
 pub one_text : (P : ℕ → Type 0) (x : ℕ) (xs ys a b : List ℕ) → (P x → ⊥) → All P xs → All P ys
     → xs ++ x ∷ a ≡ ys ++ x ∷ b → (xs ≡ ys) × (a ≡ b)
 one_text P x [] [] a b not p q e = (refl, same_others e)
@@ -23,7 +22,7 @@ one_text P x (z ∷ xs) (y ∷ ys) a b not p q e =
       again.1,
     )
 
--- after texts of P the first strangers stand at one place
+-- after bytes of P the first bytes that are not in P are at the same offset
 pub one_stranger : (P : ℕ → Type 0) (x y : ℕ) (xs ys a b : List ℕ) → (P x → ⊥) → (P y → ⊥)
     → All P xs → All P ys → xs ++ x ∷ a ≡ ys ++ y ∷ b → x ∷ a ≡ y ∷ b
 one_stranger P x y [] [] a b not other p q e = e
@@ -35,7 +34,6 @@ one_stranger P x y (z ∷ xs) (w ∷ ys) a b not other p q e =
     one_stranger P x y xs ys a b not other (All-tail P z xs p) (All-tail P w ys q)
     (same_others e)
 
--- one byte of a text of P
 pub in_middle : (P : ℕ → Type 0) (xs : List ℕ) (y : ℕ) (ys : List ℕ) → All P (xs ++ y ∷ ys) → P y
 in_middle P [] y ys all = All-head P y ys all
 in_middle P (x ∷ xs) y ys all = in_middle P xs y ys (All-tail P x (xs ++ y ∷ ys) all)

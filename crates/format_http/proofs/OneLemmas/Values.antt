@@ -1,4 +1,4 @@
--- Values of fields: there is one without the white space that stands around it.
+-- Uniqueness of field values: there is one value without the surrounding whitespace.
 use Rattle.std.proofs.Common.{◌≡◌, ◌∙◌, ◌++◌, ◌∷◌, ℕ, List, [], ap, append_assoc, arith, inl, inr}
 use Rattle.std.proofs.Common.{◌⊎◌, ◌<◌, length, length-append, refl, subst, sym}
 use Rattle.std.specs.Borrow.{Bor}
@@ -52,7 +52,7 @@ none_bare a b c y ys d p q begins e =
     begins y ys refl
     (in_middle IsWhite c y (ys ++ d) (subst P e (All-append IsWhite a b p q)))
 
--- within white space stands one text that is bare at both ends
+-- the text within whitespace that neither starts nor ends with whitespace is unique
 value_one : (a v b c w d : List ℕ) → All IsWhite a → All IsWhite b → All IsWhite c
     → All IsWhite d → BeginsBare v → EndsBare v → BeginsBare w → EndsBare w
     → a ++ (v ++ b) ≡ c ++ (w ++ d) → v ≡ w
@@ -71,7 +71,7 @@ pub regroup : (a v b x : List ℕ) → a ++ (v ++ (b ++ x)) ≡ (a ++ (v ++ b)) 
 regroup a v b x =
     sym (append_assoc a (v ++ b) x ∙ ap (λ l. a ++ l) (append_assoc v b x))
 
--- what stands between the colon and the line end is of bytes of values
+-- the bytes between the colon and the line ending are bytes of values
 pub all_value : (a v b : List ℕ) → All IsWhite a → All IsValueByte v → All IsWhite b
     → All IsValueByte (a ++ (v ++ b))
 all_value a v b p q r =
@@ -260,7 +260,6 @@ all_back : (Q : ℕ → Type 0) (xs ys : List ℕ) → All Q (xs ++ ys) → All 
 all_back Q [] ys all = all
 all_back Q (x ∷ xs) ys all = all_back Q xs ys (All-tail Q x (xs ++ ys) all)
 
--- a name, a colon, bytes of values and a line end are a field line
 pub field_line_some : (name all bytes : List ℕ) → bytes ≡ name ++ 58 ∷ (all ++ line_end)
     → 0 < length name → All IsTokenByte name → All IsValueByte all
     → (value : List ℕ) × IsFieldLine name value bytes []

@@ -21,11 +21,11 @@ use Rattle.format_http.specs.declared.bodies.framing.FramingFault.TheVariants.{N
 use Rattle.format_http.specs.declared.bodies.framing.Message.{Message}
 use Rattle.format_http.specs.declared.bodies.framing.Message.TheVariants.{Request, Response}
 
--- What is said of a message: the length of its body, or why it is refused.
+-- The result for a message: the length of its body, or the reason for its rejection.
 abbrev pub Answer : Type 0
 Answer = Result BodyLength FramingFault
 
--- Where this is so, the first rule says it; else the others do.
+-- `Rule is says others`: `says` if `is` holds, `others` otherwise.
 abbrev pub Rule : Type 0 → Type 0 → Type 0 → Type 0
 Rule is says others = (is × says) ⊎ ((is → ⊥) × others)
 
@@ -71,8 +71,8 @@ IsCodedLength message fields answer =
 abbrev pub IsNumbered : ℕ → Answer → Type 0
 IsNumbered n answer = Rule (n < 2 ^ 64) (answer ≡ Ok (Length n)) (answer ≡ Err LengthTooLarge)
 
--- All values in the list are the same: they are the numeral of a number, or invalid, as an empty
--- value is.
+-- All values in the list are the same: they are the numeral of a number, or invalid. Empty values
+-- are invalid.
 abbrev pub IsSameLength : List Pair → Answer → Type 0
 IsSameLength fields answer =
     ((n : ℕ) × IsLength fields n × IsNumbered n answer)
@@ -88,14 +88,14 @@ abbrev pub IsUndeclared : Message → Answer → Type 0
 IsUndeclared message answer =
     Rule (IsResponse message) (answer ≡ Ok UntilClose) (answer ≡ Ok NoBody)
 
--- The answer for a message of this version with these fields, by the rules of section 6.3 in order.
+-- The result for a message of this version with these fields, by the rules of section 6.3 in order.
 abbrev pub IsBodyLength : Message → ℕ → ℕ → List Pair → Answer → Type 0
 IsBodyLength message major minor fields answer =
     -- 1.
     Rule (IsWithoutBody message) (answer ≡ Ok NoBody)
     -- 2.
     (Rule (IsTunnel message) (answer ≡ Ok Tunnel)
-    -- section 6.1: of a version before 1.1 a Transfer-Encoding is a fault, even with a length
+    -- section 6.1: in a version before 1.1 a Transfer-Encoding is an error, even with a length
     (Rule (IsBefore major minor × HasOne transfer_encoding fields)
     (answer ≡ Err CodingBeforeVersion)
     -- 3.
@@ -108,7 +108,7 @@ IsBodyLength message major minor fields answer =
     -- 7 and 8.
     (IsUndeclared message answer))))))
 
--- The answer where this text is the one value.
+-- The result if `text` is the only value.
 abbrev pub IsTextLength : List ℕ → Answer → Type 0
 IsTextLength text answer =
     Rule (IsNumber text) (IsNumbered (value_in 10 text) answer) (answer ≡ Err LengthIsNoNumber)

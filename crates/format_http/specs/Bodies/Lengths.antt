@@ -1,5 +1,5 @@
--- What the Content-Length fields of a message say (RFC 9112, section 6.3, and RFC 9110, section
--- 8.6).
+-- The values of the Content-Length fields of a message (RFC 9112, section 6.3, and RFC 9110,
+-- section 8.6).
 use Rattle.std.specs.Prelude.{◌≡◌, ◌⊎◌, ℕ, List, [], ◌∷◌}
 use Rattle.format_http.specs.Bodies.Lists.{HasElement, parts_of}
 use Rattle.format_http.specs.Chunks.Framing.{IsNamed, IsNumber, content_length}
@@ -7,9 +7,8 @@ use Rattle.format_http.specs.Heads.Head.{Pair}
 use Rattle.winnow.specs.Digits.{value_in}
 
 -- One of the elements of the Content-Length fields is this text. All fields of the name are one
--- list. An element that is empty, as in `,4`, counts as one, so it differs from `4`: the field is
--- 1*DIGIT, or the same numeral several times (RFC 9110, section 8.6), and no list that may have
--- empty elements.
+-- list. Empty elements count, so that those of `,4` are different: the value is 1*DIGIT, or one
+-- numeral repeated (RFC 9110, section 8.6), which has no empty elements.
 abbrev pub HasLength : List ℕ → List Pair → Type 0
 HasLength text [] = ⊥
 HasLength text (field ∷ fields) =

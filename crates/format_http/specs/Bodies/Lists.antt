@@ -5,12 +5,12 @@ use Rattle.std.specs.List.{All, slice_split}
 use Rattle.format_http.specs.Heads.Bytes.{IsWhite}
 use Rattle.format_http.specs.Heads.FieldLine.{BeginsBare, EndsBare}
 
--- What stands between the commas of a list.
+-- The parts of a list between its commas.
 abbrev pub parts_of : List ℕ → List (List ℕ)
 parts_of = slice_split (λ b. b == 44)
 
--- The element in a part of a list: what is left of the part without the white space around it. It is
--- empty if the part has nothing else.
+-- `IsElement element part`: the part of a list is `element`, surrounded only by whitespace, which
+-- does not belong to it. The element is empty if the part is only whitespace.
 pub record IsElement (element part : List ℕ) : Type 0 where
   pub before : List ℕ
   pub behind : List ℕ
@@ -20,14 +20,14 @@ pub record IsElement (element part : List ℕ) : Type 0 where
   pub begins_bare : BeginsBare element
   pub ends_bare : EndsBare element
 
--- One of the parts has this element, which may be empty.
+-- `HasElement element parts`: one of the parts has this element, which may be empty.
 abbrev pub HasElement : List ℕ → List (List ℕ) → Type 0
 HasElement element [] = ⊥
 HasElement element (part ∷ parts) = IsElement element part ⊎ HasElement element parts
 
 -- ---- what functions return
 
--- This text is what there is.
+-- `IsThe found text`: `found` is `text`.
 abbrev pub IsThe : Option (Bor (List ℕ)) → List ℕ → Type 0
 IsThe None text = ⊥
 IsThe (Some slice) text = slice.now ≡ text

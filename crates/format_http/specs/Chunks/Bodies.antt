@@ -7,12 +7,13 @@ use Rattle.format_http_chunked.specs.Bodies.{SizeLine}
 use Rattle.winnow.specs.AsChar.{IsHexDigit}
 use Rattle.winnow.specs.Texts.{BothText, EachText, Itself, Text}
 
--- This number is the size; of one that is told as too large it is 2 ^ 64 or more.
+-- `HasNumber size n`: `n` is the size; a size that is too large is at least 2 ^ 64.
 abbrev pub HasNumber : Size → ℕ → Type 0
 HasNumber (Bytes size) n = size ≡ n
 HasNumber TooLarge n = 2 ^ 64 ≤ n
 
--- In a chunked body a size line of this number stands first in the bytes, and then the rest.
+-- `BodyHasSize n bytes rest`: by the grammar of chunked bodies, `bytes` starts with a size line of
+-- the number `n`, followed by `rest`.
 abbrev pub BodyHasSize : ℕ → List ℕ → List ℕ → Type 0
 BodyHasSize n bytes rest = SizeLine (λ size behind. (size ≡ n) × (behind ≡ rest)) bytes
 

@@ -51,8 +51,7 @@ IsEnd commas b = IsWhite b ⊎ ((commas ≡ true) × (b ≡ 44))
 abbrev pub IsBlank : List ℕ → Type 0
 IsBlank = AllByRecursion (IsEnd true)
 
--- After this text an element may begin: nothing is before it but white space, or a comma is the
--- last that stands there before white space.
+-- An element may start after this text: it is only whitespace, or ends with a comma and whitespace.
 abbrev pub IsSeparated : List ℕ → Type 0
 IsSeparated front =
     AllByRecursion IsWhite front ⊎ ((ahead : List ℕ) × (white : List ℕ)
@@ -64,7 +63,7 @@ EndsBehind text =
     (front : List ℕ) × (word : List ℕ) × (text ≡ front ++ word) × IsNamed (codes "chunked") word
     × IsSeparated front
 
--- The last element of the list is `chunked`: after it are white space and commas alone.
+-- The last element of the list is `chunked`: it is followed only by whitespace and commas.
 abbrev pub EndsChunked : List ℕ → Type 0
 EndsChunked value =
     (text : List ℕ) × (behind : List ℕ) × (value ≡ text ++ behind) × EndsBehind text
@@ -89,7 +88,7 @@ IsBare P [] = Unit {0}
 IsBare P (b ∷ []) = P b → ⊥
 IsBare P (b ∷ c ∷ bytes) = IsBare P (c ∷ bytes)
 
--- What is left of a text without the bytes of the class at its end.
+-- `IsWithout P left text`: `left` is `text` without the bytes of `P` at its end.
 abbrev pub IsWithout : (ℕ → Type 0) → List ℕ → List ℕ → Type 0
 IsWithout P left text =
     (behind : List ℕ) × (text ≡ left ++ behind) × AllByRecursion P behind × IsBare P left

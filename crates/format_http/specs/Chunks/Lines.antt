@@ -1,11 +1,11 @@
 -- The size line of a chunk of HTTP/1.1 by the rules of the standard (RFC 9112, section 7.1, and RFC
--- 9110, section 5.6), over any stream of bytes. As in each grammar of this library, the second of a
--- choice stands where the first does not, and a repetition goes on as far as it can.
+-- 9110, section 5.6), over any stream of bytes. As in each grammar of this library, the second
+-- branch of a choice applies only if the first does not match, and a repetition is as long as
+-- possible.
 use Rattle.std.specs.Prelude.{◌≡◌, ◌≤◌, ◌⊎◌, ℕ, List, Option, None, ⊤}
 use Rattle.std.specs.declared.vec.Vec.{Vec}
 use Rattle.format_http.specs.Heads.Bytes.{IsBetween, IsTokenByte, IsValueByte}
 use Rattle.winnow.specs.AsChar.{IsHexDigit, IsSpace}
-use Rattle.winnow.specs.Begun.Words as Words
 use Rattle.winnow.specs.Range.{from_to}
 use Rattle.winnow.specs.Reading.{Reading}
 use Rattle.winnow.specs.Grammar.{Both, Class, Either, Gathered, Grammar, InClass, Many, Optional}
@@ -20,7 +20,7 @@ IsQuotedByte b = (b ≡ 9) ⊎ ((b ≡ 32) ⊎ ((b ≡ 33) ⊎ (IsBetween 35 91 
 abbrev pub OneOf : {T : Type 0} → (ℕ → T) → (ℕ → Type 0) → Grammar T ℕ
 OneOf seen these = TokenOf seen (InClass these (λ b. b)) tt
 
--- that many of these bytes or more
+-- at least `least` of these bytes, as many as possible
 abbrev pub RunOf : {T L : Type 0} → Reading T L → (ℕ → T) → (ℕ → Type 0) → ℕ → Grammar T L
 RunOf reading seen these least = Class these least (λ b. b) seen reading
 

@@ -1,4 +1,4 @@
--- What the parsers read, in the words of size lines.
+-- The contracts of the parsers, in terms of the grammar of size lines.
 use Rattle.std.specs.Prelude.{◌≡◌, ◌<◌, ◌≤◌, ◌+◌, ◌*◌, ◌^◌, ◌↔◌, ℕ, IsTrue, List, length, None}
 use Rattle.std.specs.Char.{digit_value}
 use Rattle.std.specs.Str.Parse.{digits_value}
@@ -8,7 +8,6 @@ use Rattle.std.proofs.lemmas.Bool.Decides.{nat_tests}
 use Rattle.std.proofs.lemmas.Int.Digits.{digits_value_more}
 use Rattle.std.proofs.lemmas.Str.Parse.{digits_value-take-le}
 use Rattle.format_http.specs.Chunks.Lines.{OneOf, RunOf}
-use Rattle.winnow.specs.Begun.Words as Words
 use Rattle.winnow.specs.Range.{from_to}
 use Rattle.winnow.specs.Reading.{Reading}
 use Rattle.winnow.specs.Grammar.{Longest, TokenOf}
@@ -30,7 +29,7 @@ module _ {T S : Type 0} (seen : ℕ → T) (these : ℕ → Type 0) (set : S) wh
 
 -- ---- numbers
 
--- what is no digit and no letter counts 36
+-- a byte that is neither a digit nor a letter has the value 36
 pub most_value : (c : ℕ) → digit_value c ≤ 36
 most_value c = grind (arith, nat_tests)
 

@@ -1,4 +1,5 @@
--- Which requests of HTTP/1.1 a server must refuse by their heads (RFC 9112, sections 3.2 and 6).
+-- The requests of HTTP/1.1 that a server must reject because of their heads (RFC 9112, sections 3.2
+-- and 6).
 use Rattle.std.specs.Prelude.{◌≡◌, ◌<◌, ◌≤◌, ◌⊎◌, ℕ, List, [], ◌∷◌, map, Option, Some, None}
 use Rattle.std.specs.Prelude.{suc}
 use Rattle.std.specs.Char.{to_ascii_lowercase}
@@ -35,7 +36,7 @@ NeedsHost line = (line.major ≡ 1) × (1 ≤ line.minor)
 abbrev pub MayHave : RequestLine → ℕ → Type 0
 MayHave line hosts = (hosts ≡ 1) ⊎ ((hosts ≡ 0) × (NeedsHost line → ⊥))
 
--- Why a request of this line with that many Host fields is refused for them, or that it is not.
+-- The reason to reject a request of this line with this number of Host fields, or none.
 abbrev pub IsHostRefusal : RequestLine → ℕ → Option Refusal → Type 0
 IsHostRefusal line hosts (Some NoHost) = NeedsHost line × (hosts ≡ 0)
 IsHostRefusal line hosts (Some ManyHosts) = 1 < hosts
@@ -56,7 +57,7 @@ IsFramed fields =
     × HasValue content_length length fields × HaveValue content_length length fields
     × IsNumber length))
 
--- Why a request of these fields is refused, or that it is not, where its Host fields are no reason.
+-- The reason to reject a request of these fields, or none, if its Host fields are valid.
 abbrev pub IsFault : List Pair → Option Refusal → Type 0
 IsFault fields (Some NoHost) = ⊥
 IsFault fields (Some ManyHosts) = ⊥
@@ -74,8 +75,8 @@ IsFault fields (Some LengthIsNoNumber) =
     × HaveValue content_length length fields × (IsNumber length → ⊥)
 IsFault fields None = IsFramed fields
 
--- Why a request of this line, with that many Host fields among these fields, is refused, or that it
--- is not. The Host fields come first.
+-- The reason to reject a request of this line with these fields and this number of Host fields, or
+-- none. The Host fields come first.
 abbrev pub IsRefusal : RequestLine → ℕ → List Pair → Option Refusal → Type 0
 IsRefusal line hosts fields (Some NoHost) = NeedsHost line × (hosts ≡ 0)
 IsRefusal line hosts fields (Some ManyHosts) = 1 < hosts

@@ -19,7 +19,7 @@ use Rattle.winnow.specs.Digits.{value_in}
 abbrev pub Slice : Type 0
 Slice = Bor (List ℕ)
 
--- that many of these bytes or more
+-- at least `least` of these bytes, as many as possible
 abbrev pub RunText : (ℕ → Type 0) → ℕ → Text ℕ Slice
 RunText = Members counted_reading
 

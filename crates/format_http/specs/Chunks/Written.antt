@@ -1,4 +1,4 @@
--- That what the parsers read is what is written.
+-- Proofs that the parsers' grammar matches exactly the encodings.
 use Rattle.std.specs.Prelude.{◌≡◌, ◌≤◌, ◌⊎◌, ℕ, List, [], ◌∷◌, ◌++◌, Option, Some, None, ⊤}
 use Rattle.std.specs.Prelude.{Result, Ok, Err}
 use Rattle.std.specs.Borrow.{Bor}
@@ -52,7 +52,7 @@ bare_13 : IsSpace 13 → ⊥
 bare_13 (inl is) = omega (arith, is)
 bare_13 (inr is) = omega (arith, is)
 
--- a byte that stands for itself in quotes is no quote and no backslash
+-- a byte that is unescaped in quotes is neither a quote nor a backslash
 quoted_plain : (b : ℕ) → IsQuotedByte b → (b ≡ 34 → ⊥) × (b ≡ 92 → ⊥)
 quoted_plain b (inl is) = ((λ e. omega (arith, is, e)), (λ e. omega (arith, is, e)))
 quoted_plain b (inr (inl is)) = ((λ e. omega (arith, is, e)), (λ e. omega (arith, is, e)))
@@ -114,7 +114,7 @@ spaced_marks mark = record {
       );
 }
 
--- so nothing stands that begins with another
+-- tokens that start with another mark do not match
 none_marked : {O : Type 0} {g : Grammar ℕ O} {text : Text ℕ O} {follow : List ℕ → Type 0}
     (a b : ℕ) → (IsSpace a → ⊥) → (IsSpace b → ⊥) → (a ≡ b → ⊥) → IsGrammarOf g text follow
     → InFront text Anything (Marked a) → (tokens : List ℕ) → Marked b tokens → NoneStands g tokens
@@ -200,7 +200,7 @@ given_of = both_of (λ _ v. v) (spaced_of 61 bare_61) value_of
 given_marks : InFront GivenText Anything (Marked 61)
 given_marks = both_front (λ _ v. v) (spaced_marks 61) front_any
 
--- What may stand after an extension: another, or the line end.
+-- The tokens that may follow an extension: another extension, or the line ending.
 abbrev Clear : List ℕ → Type 0
 Clear rest = Marked 59 rest ⊎ Marked 13 rest
 

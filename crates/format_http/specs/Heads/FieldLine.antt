@@ -5,16 +5,16 @@ use Rattle.format_http.specs.Heads.Bytes.{IsTokenByte, IsValueByte, IsWhite, lin
 use Rattle.format_http.specs.declared.heads.field_line.Field.{Field}
 use Rattle.winnow.specs.Grammar.{Grammar}
 
--- No white space stands at the end.
+-- The text does not end with whitespace.
 abbrev pub EndsBare : List ℕ → Type 0
 EndsBare text = (b : ℕ) (front : List ℕ) → text ≡ front ++ b ∷ [] → IsWhite b → ⊥
 
--- No white space stands at the beginning.
+-- The text does not start with whitespace.
 abbrev pub BeginsBare : List ℕ → Type 0
 BeginsBare text = (b : ℕ) (more : List ℕ) → text ≡ b ∷ more → IsWhite b → ⊥
 
--- The bytes are a field line with this name and this value, and then the rest: white space may
--- stand before the value and after it, and is no part of it.
+-- `IsFieldLine name value bytes rest`: `bytes` starts with a field line of this name and value,
+-- followed by `rest`. Whitespace may surround the value, and does not belong to it.
 pub record IsFieldLine (name value bytes rest : List ℕ) : Type 0 where
   pub before : List ℕ
   pub behind : List ℕ
@@ -27,13 +27,13 @@ pub record IsFieldLine (name value bytes rest : List ℕ) : Type 0 where
   pub begins_bare : BeginsBare value
   pub ends_bare : EndsBare value
 
--- What is left of a text without the white space at its end.
+-- `IsTrimmed value text`: `value` is `text` without the whitespace at its end.
 pub record IsTrimmed (value text : List ℕ) : Type 0 where
   pub behind : List ℕ
   pub splits : text ≡ value ++ behind
   pub white_behind : All IsWhite behind
   pub ends_bare : EndsBare value
 
--- The field line of this field stands first.
+-- The bytes start with the field line of this field.
 abbrev pub FieldLineStands : Grammar ℕ Field
 FieldLineStands bytes field rest = IsFieldLine field.name.now field.value.now bytes rest

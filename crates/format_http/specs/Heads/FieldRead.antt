@@ -1,4 +1,4 @@
--- What parsers read of a field line, and that it is one.
+-- The grammar of the parsers of a field line, and a proof that it matches field lines.
 use Rattle.std.specs.Prelude.{◌≡◌, ◌<◌, ℕ, List, [], ◌∷◌, ◌++◌, length}
 use Rattle.std.specs.Borrow.{Bor}
 use Rattle.std.specs.List.{All}
@@ -19,7 +19,7 @@ use Rattle.winnow.specs.Texts.{NotFirst}
 
 -- ---- a value, with the white space around it
 
--- White space, a value and white space stand first, and no byte of a value is after them.
+-- The bytes start with whitespace, a value and whitespace, not followed by another byte of a value.
 pub record ValueStands (bytes : List ℕ) (value : Bor (List ℕ)) (rest : List ℕ) : Type 0 where
   pub before : List ℕ
   pub behind : List ℕ

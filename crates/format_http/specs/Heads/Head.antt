@@ -10,8 +10,8 @@ use Rattle.format_http.specs.declared.heads.head.Head.{Head}
 use Rattle.format_http.specs.declared.heads.request_line.RequestLine.{RequestLine}
 use Rattle.winnow.specs.Grammar.{Grammar}
 
--- What a request line says, without its place: the method, the target, and the two numbers of the
--- version.
+-- The contents of a request line, independent of its address: the method, the target, and the two
+-- numbers of the version.
 pub record Request : Type 0 where
   pub method : List ℕ
   pub target : List ℕ
@@ -35,7 +35,8 @@ Pair = List ℕ × List ℕ
 abbrev pub pair : Field → Pair
 pair field = (field.name.now, field.value.now)
 
--- The bytes are field lines of these fields, one after the other, and then the rest.
+-- `AreFieldLines fields bytes rest`: `bytes` starts with consecutive field lines of these fields,
+-- followed by `rest`.
 abbrev pub AreFieldLines : List Pair → List ℕ → List ℕ → Type 0
 AreFieldLines [] bytes rest = bytes ≡ rest
 AreFieldLines (f ∷ fields) bytes rest =
@@ -53,11 +54,11 @@ pub record IsHead (line : Request) (fields : List Pair) (bytes rest : List ℕ) 
   pub is_line : IsRequestLine line.method line.target line.major line.minor bytes behind
   pub are_fields : AreFields fields behind rest
 
--- These fields and an empty line stand first.
+-- The bytes start with these fields and an empty line.
 abbrev pub FieldsStand : {A : Type 0} → Grammar ℕ (Vec Field A)
 FieldsStand bytes fields rest = AreFields (map pair fields.items) bytes rest
 
--- This head stands first.
+-- The bytes start with this head.
 abbrev pub HeadStands : {A : Type 0} → Grammar ℕ (Head A)
 HeadStands bytes head rest = IsHead (request head.line) (map pair head.fields.items) bytes rest
 

@@ -1,4 +1,4 @@
--- What parsers read of a head, and that it is one.
+-- The grammar of the parsers of a head, and a proof that it matches heads.
 use Rattle.std.specs.Prelude.{◌≡◌, ℕ, List, [], ◌∷◌, ◌++◌, None, map, Ok, Err}
 use Rattle.std.specs.declared.vec.Vec.{Vec}
 use Rattle.std.proofs.Common.{refl, sym, ap, subst, inl, inr, ◌∙◌, arith}
@@ -37,7 +37,8 @@ module _ {A : Type 0} where
   abbrev Lists : Vec Field A → List Field → Type 0
   Lists list os = list.items ≡ os
 
-  -- Field lines stand first, as many as there are: by `repeat(alloc, 0.., ..)`.
+  -- The bytes start with these field lines, as many as there are: the grammar of `repeat(alloc,
+  -- 0.., ..)`.
   abbrev pub LinesStand : Grammar ℕ (Vec Field A)
   LinesStand = Gathered Lists (Many FieldLineStands (from_to 0 None))
 
@@ -120,7 +121,7 @@ lines_more os field list start mid rest each line same =
     by (o ∷ others) bytes (next, x, more) = (next, x, by others next more)
 
 module _ {A E : Type 0} {kind : E → Kind} {start here now : List ℕ} where
-  -- where no line stands, these are all
+  -- if no line follows, these are all
   pub lines_stop : {error : E} (list : Vec Field A) → Each FieldLineStands start list.items here
       → IsEndOf counted_reading (counted_input here) (counted_input start)
       → (kind error ≡ memory → ⊥)

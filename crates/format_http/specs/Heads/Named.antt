@@ -8,7 +8,8 @@ use Rattle.format_http.specs.declared.heads.field_line.Field.{Field}
 abbrev pub HasNo : List ℕ → List Field → Type 0
 HasNo name = All (λ field. IsNamed name field.name.now → ⊥)
 
--- This is the first field of the name, and these fields are after it.
+-- `IsNext name fields field behind`: `field` is the first field of this name, and `behind` are the
+-- fields after it.
 pub record IsNext (name : List ℕ) (fields : List Field) (field : Field) (behind : List Field)
     : Type 0 where
   pub before : List Field

@@ -40,7 +40,7 @@ literal_unique literal =
     literally_unique counted_reading (λ s xs. xs ≡ s.now) (λ _ slice. slice) literal
     (λ xs ys e f. ap (λ l. length l) (e ∙ sym f))
 
--- A carriage return and a line feed stand first.
+-- The bytes start with a carriage return and a line feed.
 abbrev pub EndStands : Grammar ℕ (Unit {0})
 EndStands bytes u rest = bytes ≡ line_end ++ rest
 

@@ -25,7 +25,7 @@ pub record IsRequestLine (method target : List ℕ) (major minor : ℕ) (bytes r
   pub is_major : major < 10
   pub is_minor : minor < 10
 
--- This request line stands first.
+-- The bytes start with this request line.
 abbrev pub RequestLineStands : Grammar ℕ RequestLine
 RequestLineStands bytes line rest =
     IsRequestLine line.method.now line.target.now line.major line.minor bytes rest

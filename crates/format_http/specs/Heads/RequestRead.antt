@@ -1,4 +1,4 @@
--- What parsers read of a request line, and that it is one.
+-- The grammar of the parsers of a request line, and a proof that it matches request lines.
 use Rattle.std.specs.Prelude.{◌≡◌, ◌<◌, ◌≤◌, ◌↔◌, ◌+◌, ◌-◌, ℕ, Bool, IsTrue, List, [], ◌∷◌, ◌++◌}
 use Rattle.std.specs.Borrow.{Bor}
 use Rattle.std.proofs.Common.{refl, sym, ap, subst, ◌∙◌, arith}
@@ -18,7 +18,7 @@ use Rattle.winnow.specs.Grammar.Unique.{both_unique, unique_by}
 
 -- ---- a digit
 
--- A digit of this number stands first.
+-- The bytes start with a digit of this number.
 abbrev pub DigitStands : Grammar ℕ ℕ
 DigitStands bytes n rest = (n < 10) × (bytes ≡ (48 + n) ∷ rest)
 
@@ -52,9 +52,9 @@ digit_unique = record {
   one = λ bytes n m rest other (below, e) (less, f). same_others (sym e ∙ f);
 }
 
--- ---- a version, with what stands before and after it
+-- ---- a version, with the bytes around it
 
--- A space, the version of these numbers and a line end stand first.
+-- The bytes start with a space, the version of these numbers and a line ending.
 abbrev pub VersionStands : Grammar ℕ (ℕ × ℕ)
 VersionStands bytes v rest =
     (v.0 < 10) × (v.1 < 10) × (bytes ≡ protocol ++ (digits v.0 v.1 ++ (line_end ++ rest)))

@@ -8,8 +8,7 @@ pub space_most : (b : ℕ) → IsSpace b → b < 33
 space_most b (inl is) = omega (arith, is)
 space_most b (inr is) = omega (arith, is)
 
--- a byte of a token is no control, no white space, no quote, no colon, no semicolon and no equals
--- sign
+-- a byte of a token is not a control, whitespace, quote, colon, semicolon or equals sign
 abbrev pub IsPlain : ℕ → Type 0
 IsPlain b = (33 ≤ b) × (b ≡ 34 → ⊥) × ((b ≤ 57) ⊎ (62 ≤ b))
 

@@ -9,8 +9,8 @@ use Rattle.format_http.specs.declared.responses.head.ResponseHead.{ResponseHead}
 use Rattle.format_http.specs.declared.responses.status_line.StatusLine.{StatusLine}
 use Rattle.winnow.specs.Grammar.{Grammar}
 
--- What a status line says, without its place: the two numbers of the version, the status code, and
--- the reason.
+-- The contents of a status line, independent of its address: the two numbers of the version, the
+-- status code, and the reason.
 pub record Status : Type 0 where
   pub major : ℕ
   pub minor : ℕ
@@ -32,7 +32,7 @@ pub record IsResponseHead (line : Status) (fields : List Pair) (bytes rest : Lis
   pub is_line : IsStatusLine line.major line.minor line.status line.reason bytes behind
   pub are_fields : AreFields fields behind rest
 
--- This head stands first.
+-- The bytes start with this head.
 abbrev pub ResponseStands : {A : Type 0} → Grammar ℕ (ResponseHead A)
 ResponseStands bytes head rest =
     IsResponseHead (status_of head.line) (map pair head.fields.items) bytes rest

@@ -1,4 +1,4 @@
--- What parsers read of the head of a response, and that it is one.
+-- The grammar of the parsers of a response's head, and a proof that it matches such heads.
 use Rattle.std.specs.Prelude.{ℕ, List, map}
 use Rattle.std.specs.declared.vec.Vec.{Vec}
 use Rattle.std.proofs.Common.{refl, sym, subst}

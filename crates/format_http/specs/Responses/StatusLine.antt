@@ -21,8 +21,8 @@ pub record IsCode (status hundreds tens ones : ℕ) : Type 0 where
   pub some_tens : tens < 10
   pub some_ones : ones < 10
 
--- What stands after the status code: a space and the reason, or nothing where there is none. The
--- standard wants the space also with no reason; here it may be missing.
+-- The bytes after the status code: a space and the reason, or nothing if there is none. The
+-- standard requires the space even without a reason; here it may be missing.
 abbrev pub IsBehind : List ℕ → List ℕ → Type 0
 IsBehind behind reason = (behind ≡ 32 ∷ reason) ⊎ ((behind ≡ []) × (reason ≡ []))
 
@@ -41,7 +41,7 @@ pub record IsStatusLine (major minor status : ℕ) (reason bytes rest : List ℕ
   pub is_behind : IsBehind behind reason
   pub is_reason : All IsValueByte reason
 
--- This status line stands first.
+-- The bytes start with this status line.
 abbrev pub StatusLineStands : Grammar ℕ StatusLine
 StatusLineStands bytes line rest =
     IsStatusLine line.major line.minor line.status line.reason.now bytes rest
@@ -57,8 +57,8 @@ pub record IsFront (major minor status : ℕ) (bytes rest : List ℕ) : Type 0 w
   pub is_minor : minor < 10
   pub is_code : IsCode status hundreds tens ones
 
--- The bytes are a space and this reason, or nothing where there is none, and a line end, and then
--- the rest.
+-- `IsEnding reason bytes rest`: `bytes` starts with a space and this reason, or nothing if there is
+-- none, and a line ending, followed by `rest`.
 pub record IsEnding (reason bytes rest : List ℕ) : Type 0 where
   pub behind : List ℕ
   pub splits : bytes ≡ behind ++ (line_end ++ rest)

@@ -1,4 +1,4 @@
--- What parsers read of a status line, and that it is one.
+-- The grammar of the parsers of a status line, and a proof that it matches status lines.
 use Rattle.std.specs.Prelude.{◌≡◌, ◌<◌, ◌+◌, ◌*◌, ℕ, List, [], ◌∷◌, ◌++◌}
 use Rattle.std.specs.Prelude.{Option, Some, None}
 use Rattle.std.specs.Borrow.{Bor}
@@ -23,7 +23,7 @@ use Rattle.winnow.specs.Grammar.Unique.{both_unique, optional_unique, unique_by}
 
 -- ---- a version, and a space after it
 
--- The version of these numbers and a space stand first.
+-- The bytes start with the version of these numbers and a space.
 abbrev pub ProtocolStands : Grammar ℕ (ℕ × ℕ)
 ProtocolStands bytes v rest =
     (v.0 < 10) × (v.1 < 10) × (bytes ≡ http ++ (digits v.0 v.1 ++ (32 ∷ rest)))
@@ -87,7 +87,7 @@ protocol_unique =
 
 -- ---- a status code
 
--- The three digits of this status code stand first.
+-- The bytes start with the three digits of this status code.
 abbrev pub CodeStands : Grammar ℕ ℕ
 CodeStands bytes status rest =
     (a : ℕ) × (b : ℕ) × (c : ℕ) × IsCode status a b c × (bytes ≡ three a b c ++ rest)
@@ -135,9 +135,9 @@ pub code_unique : IsUnique CodeStands
 code_unique = unique_by code_back (three_unique {O = ℕ × ℕ × ℕ} (λ a b c. (a, b, c)) digit_unique
     digit_unique digit_unique)
 
--- ---- a reason, and the line end
+-- ---- a reason, and the line ending
 
--- What stands after the status code of this reason, and a line end, stand first.
+-- The bytes start with this reason, as it follows a status code, and a line ending.
 abbrev pub ReasonStands : Grammar ℕ (Bor (List ℕ))
 ReasonStands bytes reason rest =
     (behind : List ℕ) × IsBehind behind reason.now × All IsValueByte reason.now

@@ -30,9 +30,8 @@ pub enum Message<'m> {
     Request,
     /// A response.
     Response {
-        /// The method of the request that it answers, in capital letters where the request has
-        /// them: names of methods are not the same in letters of either case (RFC 9110, section
-        /// 9.1).
+        /// The method of the request that this is a response to, in the request's letter case:
+        /// method names are case-sensitive (RFC 9110, section 9.1).
         method: &'m [u8],
         /// Its status code.
         status: u16,
@@ -50,20 +49,20 @@ pub enum Message<'m> {
 pub enum BodyLength {
     /// The message has no body: the next message begins after its head.
     NoBody,
-    /// The body is chunks and a trailer section, which say where they end (section 7.1). Other
-    /// codings may stand before `chunked`: what the chunks hold is then coded by these.
+    /// The body is chunks and a trailer section, which mark its end (section 7.1). If `chunked` is
+    /// preceded by other codings, the contents of the chunks are encoded by these.
     Chunked,
-    /// The body is that many bytes.
+    /// The body has this number of bytes.
     Length(u64),
     /// The body is all bytes up to the end of the connection.
     UntilClose,
-    /// What is after the head is no body: the connection has become a tunnel.
+    /// There is no body after the head: the connection has become a tunnel.
     Tunnel,
 }
 
-/// Why a message must be refused, since nothing says for certain where its body ends. A server
-/// answers such a request with status 400, and closes the connection; a user agent closes it and
-/// throws the response away, and a proxy answers with status 502.
+/// The reason why a message must be rejected: the end of its body is ambiguous. A server responds
+/// to such a request with status 400, and closes the connection. A user agent closes it and
+/// discards the response; a proxy responds with status 502.
 ///
 /// ```
 /// use format_http::bodies::framing::FramingFault;
@@ -77,15 +76,16 @@ pub enum FramingFault {
     /// A message has both a Transfer-Encoding and a Content-Length field, by which two recipients
     /// may take different bytes for its body (rule 3).
     LengthBesideCoding,
-    /// A transfer coding comes after `chunked`, be it `chunked` once more (section 6.1).
+    /// A transfer coding comes after `chunked`, possibly `chunked` again (section 6.1).
     ChunkedNotLast,
     /// The last transfer coding of a request is not `chunked`, or its Transfer-Encoding fields have
     /// none (rule 4).
     NotChunked,
     /// Two elements of the Content-Length fields are not the same text (rule 5), be it in zeros
-    /// before a number, or since one of them is empty, as in `42,`.
+    /// before a number, or because one of them is empty, as in `42,`.
     LengthsDiffer,
-    /// The one element of the Content-Length fields is no number, as where it is empty (rule 5).
+    /// The only element of the Content-Length fields is not a number, for example if it is empty
+    /// (rule 5).
     LengthIsNoNumber,
     /// The length is 2<sup>64</sup> or more.
     LengthTooLarge,
@@ -148,7 +148,7 @@ fn coded_length(message: Message<'_>, fields: &[Field<'_>]) -> Result<BodyLength
     }
 }
 
-/// The length of a body of which no field says it.
+/// Returns the length of a body whose length is not given by a field.
 fn undeclared_length(message: Message<'_>) -> Result<BodyLength, FramingFault>
     ensures { IsUndeclared message.entry result }
 {
@@ -158,24 +158,26 @@ fn undeclared_length(message: Message<'_>) -> Result<BodyLength, FramingFault>
     }
 }
 
-/// How long the body of a message of this version with these fields is, or why the message is
-/// refused, by the rules of section 6.3 in order.
+/// Returns the length of the body of a message of this version with these fields, or the reason to
+/// reject the message, by the rules of section 6.3 in order.
 ///
-/// 1. A response to HEAD, or of status 1xx, 204 or 304, has no body, whatever its fields say.
+/// 1. A response to HEAD, or of status 1xx, 204 or 304, has no body, regardless of its fields.
 /// 2. A response of status 2xx to CONNECT makes the connection a tunnel.
-/// 3. A Transfer-Encoding field in a version before 1.1, or beside a Content-Length field, is a
-///    fault.
-/// 4. A coding after `chunked`, be it `chunked` once more, is a fault (section 6.1). If the last
-///    transfer coding is `chunked`, the body is chunks. If it is another, a request is refused, and
-///    the body of a response ends with the connection.
-/// 5. Content-Length fields must be one numeral, be it several times, in a list or in several
-///    fields. An element that is empty is no numeral.
+/// 3. A Transfer-Encoding field in a version before 1.1, or together with a Content-Length field,
+///    is an error.
+/// 4. A coding after `chunked`, including `chunked` again, is an error (section 6.1). If the last
+///    transfer coding is `chunked`, the body is chunks. If it is another, a request is rejected,
+///    and the body of a response ends with the connection.
+/// 5. Content-Length fields must consist of one numeral, possibly repeated, in a list or in several
+///    fields. Empty elements are not allowed.
 /// 6. Its number is the length.
 /// 7. With neither field a request has no body.
 /// 8. With neither field the body of a response ends with the connection.
 ///
-/// Names of fields and of codings are the same in letters of either case. Of codings before the last
-/// one it is only seen whether they are `chunked`. No memory is asked for; the time is linear in the lengths of the fields.
+/// Names of fields and of codings are compared ignoring ASCII case. Codings other than `chunked`
+/// are not distinguished. `chunked` with parameters counts as `chunked` if another coding comes
+/// after it; as the last coding it is a different one. It does not allocate; the time is linear in
+/// the lengths of the fields.
 ///
 /// ```
 /// use format_http::bodies::framing::{BodyLength, FramingFault, Message, body_length};
@@ -223,8 +225,8 @@ pub fn body_length(
     undeclared_length(message)
 }
 
-/// How long the body of the request of this head is, or why the request is refused:
-/// [`body_length`].
+/// Returns the length of the body of the request of this head, or the reason to reject the request,
+/// as [`body_length`].
 ///
 /// ```
 /// use format_http::bodies::framing::{BodyLength, request_body_length};

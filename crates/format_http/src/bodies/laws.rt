@@ -1,4 +1,4 @@
-//! What holds of the lengths of bodies.
+//! Theorems about the lengths of bodies.
 #![tactic(auto)]
 
 ghost use Rattle.format_http.specs.Bodies.Framing.{Answer, IsBodyLength};
@@ -6,9 +6,9 @@ ghost use Rattle.format_http.specs.Heads.Head.{Pair};
 ghost use Rattle.format_http.specs.declared.bodies.framing.Message.{Message};
 ghost use Rattle.std.specs.Prelude.{◌≡◌, List, ℕ};
 
-/// A message has one body length at most, or one fault: the rules of section 6.3 of RFC 9112 give
-/// one answer. That they give one is what [`body_length`](crate::bodies::framing::body_length)
-/// shows, which answers for each message.
+/// Proves that a message has at most one body length, or one error: the rules of section 6.3 of RFC
+/// 9112 give at most one result. [`body_length`](crate::bodies::framing::body_length) shows that
+/// they give one for each message.
 ///
 /// ```
 /// use format_http::bodies::laws;

@@ -1,4 +1,4 @@
-//! What the Content-Length fields of a message say (RFC 9112, section 6.3).
+//! The values of the Content-Length fields of a message (RFC 9112, section 6.3).
 #![tactic(auto)]
 
 ghost use Rattle.format_http.specs.Bodies.Framing.{IsDeclaredLength, IsTextLength};
@@ -27,7 +27,7 @@ fn decimal(digits: &[u8]) -> Option<u64>
     Some(number)
 }
 
-/// What there is of two texts, which must be the same.
+/// Returns the text if both are equal or only one is present.
 fn one_of<'i>(
     found: Option<&'i [u8]>,
     other: Option<&'i [u8]>,

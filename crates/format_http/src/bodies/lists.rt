@@ -13,7 +13,8 @@ fn comma_in(list: &[u8]) -> Option<usize>
     list.iter().position(|b| *b == b',')
 }
 
-/// What stands before the first comma of a list, and the list after that comma, if there is one.
+/// Returns the part before the first comma of a list, and the rest after that comma, if there is
+/// one.
 pub(crate) fn next_part<'i>(list: &'i [u8]) -> (&'i [u8], Option<&'i [u8]>)
     ensures { parts_of list.now ≡ result.0.now ∷ parts_in result.1 }
 {
@@ -23,7 +24,7 @@ pub(crate) fn next_part<'i>(list: &'i [u8]) -> (&'i [u8], Option<&'i [u8]>)
     }
 }
 
-/// The element in a part of a list, without the white space around it: it may be empty.
+/// Returns the element in a part of a list, without the surrounding whitespace. It may be empty.
 pub(crate) fn element_of<'i>(part: &'i [u8]) -> &'i [u8]
     ensures { (element : List ℕ) → IsElement element part.now ↔ result.now ≡ element }
 {

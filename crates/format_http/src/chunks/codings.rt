@@ -1,5 +1,5 @@
-//! The codings of a message in their order: `chunked` may be the last one alone (RFC 9112, section
-//! 6.1).
+//! The order of the transfer codings of a message: only the last may be `chunked` (RFC 9112,
+//! section 6.1).
 #![tactic(auto)]
 
 ghost use Rattle.format_http.specs.Bodies.Lists.{parts_of};
@@ -11,7 +11,7 @@ ghost use Rattle.std.specs.Prelude.{◌≡◌, ◌↔◌, ◌⊎◌, IfSome, IsT
 use crate::bodies::lists::{element_of, next_part};
 use crate::heads::field_line::Field;
 
-/// Whether no more of a name comes here.
+/// Whether the name of a coding ends before these bytes.
 fn ends_name(rest: &[u8]) -> bool
     ensures { IsTrue result ↔ EndsName rest.now }
 {
@@ -21,7 +21,7 @@ fn ends_name(rest: &[u8]) -> bool
     }
 }
 
-/// Whether a coding is `chunked`, be it with parameters.
+/// Whether a coding is `chunked`, with or without parameters.
 fn names_chunked(coding: &[u8]) -> bool
     ensures { IsTrue result ↔ NamesChunked coding.now }
 {
@@ -32,8 +32,8 @@ fn names_chunked(coding: &[u8]) -> bool
     word.eq_ignore_ascii_case(b"chunked".as_slice()) && ends_name(rest)
 }
 
-/// Whether `chunked` is among the codings so far and those of this list; none if a coding of the
-/// list comes after it.
+/// Returns whether `chunked` is one of the codings so far or of this list, or `None` if a coding of
+/// the list comes after it. `before` says whether it is one of those so far.
 fn chunked_so_far(before: bool, list: &[u8]) -> Option<bool>
     ensures followed { result ≡ None
         → (IsTrue before × HasCoding (parts_of list.now)) ⊎ IsFollowed (parts_of list.now) }
@@ -57,7 +57,7 @@ fn chunked_so_far(before: bool, list: &[u8]) -> Option<bool>
     Some(chunked)
 }
 
-/// Whether a coding comes after `chunked`, in all Transfer-Encoding fields.
+/// Whether a coding comes after `chunked`. All Transfer-Encoding fields are one list.
 pub(crate) fn chunked_is_followed(fields: &[Field<'_>]) -> bool
     ensures { IsTrue result ↔ ChunkedIsFollowed (map pair fields.now) }
 {

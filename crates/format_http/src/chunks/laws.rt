@@ -13,10 +13,10 @@ ghost use Rattle.winnow.specs.InTurn.{First};
 
 use std::alloc::Allocator;
 
-/// Where a size line stands, one of the same number stands in a chunked body; of a size that is
-/// told as too large, one whose number is past 64 bits (`there`). Where one stands in a body,
-/// digits of its number stand there with extensions after them (`back`), and they are each size
-/// line that has this list of extensions (`made`).
+/// Proves the equivalence of size lines and those of chunked bodies. A size line is one of the same
+/// number in a chunked body; if its size is too large, the number does not fit in 64 bits
+/// (`there`). A size line in a body consists of digits of its number and extensions (`back`). These
+/// make every size line that has this list of extensions (`made`).
 ///
 /// ```
 /// use format_http::chunks::laws::size_lines_are_those_of_bodies;

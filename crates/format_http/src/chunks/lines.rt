@@ -18,7 +18,7 @@ use winnow::error::ParserError;
 use winnow::stream::{Compare, Range, StreamIsPartial};
 use winnow::token::{one_of, take_while};
 
-/// Hexadecimal digits, what `behind` reads, and a line end.
+/// Parses hexadecimal digits, a match of `behind`, and a line ending.
 fn ended<I, E, O, P>(behind: P, input: &mut I) -> Result<(I::Slice, O), E>
 where
     I: StreamIsPartial<Token = u8> + Compare<u8>,
@@ -35,7 +35,7 @@ where
     (HexDigit1, terminated(behind, (b'\r', b'\n'))).read(input)
 }
 
-/// A size line. What `value` reads is the value of an extension.
+/// Parses a size line. `value` parses the value of an extension.
 fn extended<I, E, A, P>(
     alloc: A,
     value: P,
@@ -60,7 +60,7 @@ where
     ended(repeat(alloc, Range::from(0..), (name, given)), input)
 }
 
-/// A size line. What `text` reads stands in the quotes of a quoted string.
+/// Parses a size line. `text` parses the contents of the quotes of a quoted string.
 fn quoted<I, E, A, P>(
     alloc: A,
     text: P,

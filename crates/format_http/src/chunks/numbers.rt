@@ -9,7 +9,8 @@ ghost use Rattle.winnow.specs.Digits.{value_in};
 
 use crate::chunks::size_line::Size;
 
-/// What a digit or a letter counts, from 0 for '0' to 35 for 'Z' and 'z'; 36 for any other byte.
+/// Returns the value of a digit or a letter, from 0 for '0' to 35 for 'Z' and 'z'; 36 for any other
+/// byte.
 pub(crate) fn value_of(byte: u8) -> u64
     ensures { result ≡ digit_value byte }
 {

@@ -1,13 +1,13 @@
-//! Which requests a server must refuse, of those whose head was read: by their Host fields (RFC
-//! 9112, section 3.2), and by the fields that say where their body ends (section 6.3).
+//! The requests with a valid head that a server must reject: because of their Host fields (RFC
+//! 9112, section 3.2), or because of the fields that determine the end of their body (section 6.3).
 //!
-//! White space between the name of a field and its colon (RFC 9112, section 5.1), and a carriage
-//! return in a name or a value (section 2.2), stand in no head that
+//! Whitespace between the name of a field and its colon (RFC 9112, section 5.1), and a carriage
+//! return in a name or a value (section 2.2), do not occur in a head that
 //! [`read_head`](crate::heads::head::read_head) reads, by the [laws](crate::heads::laws) of field
-//! lines: it backtracks there. The value of a Host field is not looked at, nor which codings other
-//! than `chunked` there are: a server answers those that it does not know with status 501 (section
-//! 6.1). Nor is a transfer coding in a request of HTTP/1.0 refused, after which a server closes the
-//! connection.
+//! lines: it backtracks there. The value of a Host field is not examined, and codings other than
+//! `chunked` are not distinguished: a server responds to unknown ones with status 501 (section
+//! 6.1). A transfer coding in a request of HTTP/1.0, after which a server closes the connection, is
+//! not rejected either.
 #![tactic(auto)]
 
 ghost use Rattle.format_http.specs.Chunks.Framing.{HasNone, HasOne, HasValue, content_length};
@@ -23,9 +23,9 @@ use crate::heads::head::Head;
 use crate::heads::request_line::RequestLine;
 use std::alloc::Allocator;
 
-/// Why a server must answer a request with status 400, by its head. That a length stands beside a
-/// coding it may overlook, and then reads the body by the coding and closes the connection; that
-/// lengths are the same numeral twice is no reason.
+/// The reason why a server must respond to a request with status 400, from its head. A server may
+/// ignore that there is a length in addition to a coding; it then reads the body by the coding and
+/// closes the connection. Repeating the same numeral as the length is not a reason.
 ///
 /// ```
 /// use format_http::chunks::refusals::Refusal;
@@ -41,16 +41,17 @@ pub enum Refusal {
     /// A request has both a Content-Length and a Transfer-Encoding field, by which two servers may
     /// take different bytes for its body (sections 6.1 and 6.3).
     LengthBesideCoding,
-    /// A coding of the Transfer-Encoding fields comes after `chunked`, be it `chunked` once more
+    /// A coding of the Transfer-Encoding fields comes after `chunked`, possibly `chunked` again
     /// (section 6.1).
     ChunkedNotLast,
     /// The last coding of the Transfer-Encoding fields is not `chunked`, or they have none, so that
-    /// nothing says where the body ends (section 6.3).
+    /// the end of the body is unknown (section 6.3).
     NotChunked,
     /// Two Content-Length fields differ (section 6.3), be it in zeros before a number.
     LengthsDiffer,
-    /// The value of the Content-Length fields is no number: not decimal digits alone, one or more.
-    /// A list, as `42, 42`, is none either, which a recipient may refuse (RFC 9110, section 8.6).
+    /// The value of the Content-Length fields is not a number, which is one or more decimal digits
+    /// and nothing else. A list such as `42, 42` is not a number either; a recipient may reject it
+    /// (RFC 9110, section 8.6).
     LengthIsNoNumber,
 }
 
@@ -67,7 +68,7 @@ fn hosts_in(fields: &[Field<'_>]) -> usize
     hosts
 }
 
-/// Why a request of this line with that many Host fields is refused for these.
+/// Returns the reason to reject a request of this line because of its number of Host fields.
 fn host_refusal(line: &RequestLine<'_>, hosts: usize) -> Option<Refusal>
     ensures { IsHostRefusal line.now hosts result }
 {
@@ -80,8 +81,8 @@ fn host_refusal(line: &RequestLine<'_>, hosts: usize) -> Option<Refusal>
     None
 }
 
-/// Why a request of these fields with no coding is refused for this length, which is of the first
-/// that has one.
+/// Returns the reason to reject a request without a coding because of its lengths. `length` is the
+/// value of the first field that has one.
 fn length_refusal(fields: &[Field<'_>], length: &[u8]) -> Option<Refusal>
     requires none { HasNone transfer_encoding (map pair fields.now) }
     requires first { HasValue content_length length.now (map pair fields.now) }
@@ -96,7 +97,7 @@ fn length_refusal(fields: &[Field<'_>], length: &[u8]) -> Option<Refusal>
     None
 }
 
-/// Why a request of these fields with no length is refused for its codings.
+/// Returns the reason to reject a request without a length because of its codings.
 fn coding_refusal(fields: &[Field<'_>]) -> Option<Refusal>
     requires none { HasNone content_length (map pair fields.now) }
     requires some { HasOne transfer_encoding (map pair fields.now) }
@@ -111,7 +112,7 @@ fn coding_refusal(fields: &[Field<'_>]) -> Option<Refusal>
     None
 }
 
-/// Why a request of these fields is refused for those that say where its body ends.
+/// Returns the reason to reject a request because of the fields that determine the end of its body.
 fn framing_refusal(fields: &[Field<'_>]) -> Option<Refusal>
     ensures { IsFault (map pair fields.now) result }
 {
@@ -125,17 +126,21 @@ fn framing_refusal(fields: &[Field<'_>]) -> Option<Refusal>
     }
 }
 
-/// Why a server must refuse the request of this head: the first of these that holds, in the order
-/// of [`Refusal`]. It has more than one Host field, or none where its version is 1.1, or a later
-/// one that begins with 1 (RFC 9112, section 3.2); a length beside a transfer coding; a coding
-/// after `chunked` (section 6.1); a last transfer coding that is not `chunked`; lengths that differ;
-/// or a length that is no number (section 6.3). None where nothing of this is so. Names of fields and of codings are the same in
-/// letters of either case.
+/// Returns the reason why a server must reject the request of this head, or `None`. It is the first
+/// of these that applies, in the order of [`Refusal`]:
 ///
-/// All fields of one name count as one list. Elements of it that are empty are passed over, and
-/// `chunked` with parameters is another coding. Fields that are no lists of codings, as with a
-/// quote that is left open, are not told from others: their last coding is what is after the last
-/// comma.
+/// - The request has more than one Host field, or none although its version is 1.1 or a later 1.x
+///   (RFC 9112, section 3.2).
+/// - It has a length in addition to a transfer coding.
+/// - A transfer coding comes after `chunked` (section 6.1).
+/// - Its last transfer coding is not `chunked`.
+/// - Its lengths differ, or the length is not a number (section 6.3).
+///
+/// Names of fields and of codings are compared ignoring ASCII case. All fields of one name count as
+/// one list. Empty codings are skipped. `chunked` with parameters counts as `chunked` if another
+/// coding comes after it; as the last coding it is a different one. Codings are separated at
+/// commas, including commas in quoted strings. Fields that are not lists of codings, for example
+/// with an unclosed quote, are not detected.
 ///
 /// ```
 /// use format_http::chunks::refusals::{Refusal, refusal_of};

@@ -1,4 +1,4 @@
-//! The size line of a chunk: a size, extensions, and a line end.
+//! The size line of a chunk: a size, extensions, and a line ending.
 #![tactic(auto)]
 
 ghost use Rattle.format_http.specs.Chunks.Bodies.{BodyHasSize, HasNumber};
@@ -26,11 +26,11 @@ pub enum Size {
     /// That many bytes.
     Bytes(u64),
     /// 2<sup>64</sup> bytes or more. A recipient must not take such a numeral for a smaller one
-    /// (RFC 9112, section 7.1), and refuses the message.
+    /// (RFC 9112, section 7.1), and rejects the message.
     TooLarge,
 }
 
-/// What a size line says. `A` is the allocator of the list.
+/// The contents of a size line. `A` is the allocator of the list.
 ///
 /// ```
 /// use format_http::chunks::size_line::{Size, read_size_line};
@@ -60,12 +60,14 @@ fn read_sized<'i, A: Allocator + Copy>(
     Ok(SizeLine { size, extensions })
 }
 
-/// The size line with which the bytes begin: one hexadecimal digit or more, any number of
-/// extensions, and a line end. What is left is the data of the chunk, and what is after that. A
-/// size line of the same number then stands in a chunked body as `format_http_chunked` decodes it.
+/// Parses a size line: one or more hexadecimal digits, any number of extensions, and a line ending.
+/// The rest starts with the data of the chunk. By the grammar of chunked bodies of
+/// `format_http_chunked`, the input then starts with a size line of the same number.
 ///
-/// An error that backtracks says that no size line stands there; some bytes may then have been
-/// passed. Else memory for the list is wanting.
+/// # Errors
+///
+/// Backtracks if the input does not start with a size line; some bytes may have been consumed. Any
+/// other error is out of memory for the list.
 ///
 /// ```
 /// use format_http::chunks::size_line::{Size, read_size_line};

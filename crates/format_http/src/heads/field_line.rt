@@ -1,5 +1,5 @@
-//! A header field line of HTTP/1.1 (RFC 9112, section 5): a name, a colon, a value, and a line end
-//! (a carriage return and a line feed). White space may stand before the value and after it.
+//! A header field line of HTTP/1.1 (RFC 9112, section 5): a name, a colon, a value, and a line
+//! ending (a carriage return and a line feed). Whitespace may surround the value.
 #![tactic(auto)]
 
 ghost use Rattle.std.specs.List.{All};
@@ -100,7 +100,7 @@ fn read_name_and_value<'i>(
     }
 }
 
-/// A line end: a carriage return and a line feed.
+/// Parses a line ending: a carriage return and a line feed.
 pub(crate) fn read_line_end<'i>(input: &mut &'i [u8]) -> Result<(), ErrMode<EmptyError>>
     ensures reads { Reads bytes_reading ⟦<ErrMode<EmptyError> as HasKind>⟧.kind EndStands
         (bytes_input input.old.now) result (bytes_input input.new.now) }
@@ -129,15 +129,15 @@ fn read_line<'i>(input: &mut &'i [u8]) -> Result<Field<'i>, ErrMode<EmptyError>>
     }
 }
 
-/// The field of the field line with which the bytes begin.
+/// Parses a field line and returns its field.
 ///
-/// The name is a token of one byte or more. The value is of visible bytes, spaces, tabs and bytes
-/// of 128 and above; it may have no bytes. Spaces and tabs may stand before it and after it, and
-/// are no part of it. So no white space stands before the first colon (RFC 9112, section 5.1), and
-/// no carriage return in the name or the value (section 2.2), which a server must refuse.
+/// The name is a token of one or more bytes. The value consists of visible bytes, spaces, tabs and
+/// bytes from 128 on, and may be empty. Spaces and tabs may surround it, and do not belong to it.
+/// So there is no whitespace before the first colon (RFC 9112, section 5.1), and no carriage return
+/// in the name or the value (section 2.2), which a server must reject.
 ///
-/// An error backtracks, and says that no field line stands there; some bytes may then have been
-/// passed. No memory is asked for.
+/// Backtracks if the input does not start with a field line; some bytes may have been consumed. It
+/// does not allocate.
 ///
 /// ```
 /// use format_http::heads::field_line::read_field_line;

@@ -1,9 +1,9 @@
-//! The head of a request of HTTP/1.1 (RFC 9112, section 2.1): a request line, field lines one
-//! after the other, and an empty line.
+//! The head of an HTTP/1.1 request (RFC 9112, section 2.1): a request line, consecutive field
+//! lines, and an empty line.
 //!
-//! An empty line before the request line, which a server should pass over (section 2.2), is no part
-//! of it, and a line that goes on after white space, which senders must not write, is no field
-//! line.
+//! An empty line before the request line, which a server should skip (section 2.2), is not part of
+//! it. A line that starts with whitespace to continue the previous one, which senders must not
+//! write, is not a field line.
 #![tactic(auto)]
 
 ghost use Rattle.std.specs.Prelude.{◌≡◌, IfErr};
@@ -33,7 +33,7 @@ pub struct Head<'i, A: Allocator> {
     pub fields: Vec<Field<'i>, A>,
 }
 
-/// Field lines, as many as stand.
+/// Parses as many field lines as there are.
 fn read_field_lines<'i, A: Allocator + Copy>(
     alloc: A,
     input: &mut &'i [u8],
@@ -94,9 +94,10 @@ fn read_parts<'i, A: Allocator + Copy>(
     }
 }
 
-/// The head with which the bytes begin.
+/// Parses the head at the start of the input.
 ///
-/// An error leaves the input as it was: it is out of memory, or says that no head stands there.
+/// After an error the input is unchanged. The error is out of memory, or the input does not start
+/// with a head.
 ///
 /// ```
 /// use format_http::heads::head::read_head;

@@ -8,9 +8,9 @@ ghost use Rattle.format_http.specs.Responses.Head.{IsResponseHead, Status};
 ghost use Rattle.std.specs.List.{All};
 ghost use Rattle.std.specs.Prelude.{◌≡◌, ◌++◌, ◌∷◌, List, ℕ};
 
-/// Before the first colon of a field line no byte is white space. So a request with white space
-/// between the name of a field and its colon, which a server must refuse (RFC 9112, section 5.1),
-/// has no head that is read.
+/// Proves that no byte before the first colon of a field line is whitespace. So
+/// [`read_head`](crate::heads::head::read_head) reads no head with whitespace between the name of a
+/// field and its colon, which a server must reject (RFC 9112, section 5.1).
 pub fn no_white_space_stands_before_a_colon()
     ensures { (name value bytes rest front more : List ℕ) → IsFieldLine name value bytes rest
         → bytes ≡ front ++ 58 ∷ more → All (λ b. b ≡ 58 → ⊥) front
@@ -25,6 +25,12 @@ pub fn no_return_stands_in_a_field()
 
 /// Bytes begin with at most one head of a request: one request line, one list of fields, and one
 /// rest.
+///
+/// ```
+/// use format_http::heads::laws;
+///
+/// laws::bytes_begin_with_one_head_at_most();
+/// ```
 pub fn bytes_begin_with_one_head_at_most()
     ensures { (line other : Request) (fields others : List Pair) (bytes one two : List ℕ)
         → IsHead line fields bytes one → IsHead other others bytes two
@@ -33,6 +39,12 @@ pub fn bytes_begin_with_one_head_at_most()
 
 /// Bytes begin with at most one head of a response: one status line, one list of fields, and one
 /// rest.
+///
+/// ```
+/// use format_http::heads::laws;
+///
+/// laws::bytes_begin_with_one_response_head_at_most();
+/// ```
 pub fn bytes_begin_with_one_response_head_at_most()
     ensures { (line other : Status) (fields others : List Pair) (bytes one two : List ℕ)
         → IsResponseHead line fields bytes one → IsResponseHead other others bytes two

@@ -7,10 +7,10 @@ ghost use Rattle.std.specs.Prelude.{◌≡◌, IfSome, List, None};
 
 use crate::heads::field_line::Field;
 
-/// The first field of this name, and the fields after it. So a loop that goes on with those after
-/// it gives all fields of the name, in order, as the lines of a list field (RFC 9110, section 5.3).
+/// Returns the first field of this name, and the fields after it. A loop that continues with those
+/// yields all fields of the name, in order, as the lines of a list field (RFC 9110, section 5.3).
 ///
-/// Names are the same in ASCII letters of either case. No memory is asked for.
+/// Names are compared ignoring ASCII case. It does not allocate.
 ///
 /// ```
 /// use format_http::heads::field_line::Field;
@@ -41,8 +41,8 @@ pub fn next_field<'f, 'i>(
     None
 }
 
-/// The first field of this name. Names are the same in ASCII letters of either case. No memory is
-/// asked for.
+/// Returns the first field of this name. Names are compared ignoring ASCII case. It does not
+/// allocate.
 ///
 /// ```
 /// use format_http::heads::field_line::Field;

@@ -1,9 +1,9 @@
 //! The request line of HTTP/1.1 (RFC 9112, section 3): a method, a request target and a version,
-//! with one space between them, and a line end (a carriage return and a line feed).
+//! separated by one space, and a line ending (a carriage return and a line feed).
 //!
-//! Section 3.2 makes four forms of a target of the grammar of URIs. Here a target is one visible
-//! byte of ASCII or more, so that each target of that grammar is one, and no space stands in it.
-//! The version is two digits; whether the server speaks it is the caller's to see.
+//! Section 3.2 defines four forms of a target by the grammar of URIs. Here a target is one or more
+//! visible ASCII bytes, which includes each target of that grammar; it contains no space. The
+//! version is two digits; the caller must check whether it is supported.
 #![tactic(auto)]
 
 ghost use Rattle.winnow.specs.Bytes.{bytes_input, bytes_reading};
@@ -69,7 +69,7 @@ pub(crate) fn read_digit<'i>(input: &mut &'i [u8]) -> Result<u8, ErrMode<EmptyEr
     }
 }
 
-/// A space, a version and the line end: the numbers of the version.
+/// Parses a space, a version and the line ending, and returns the numbers of the version.
 fn read_version<'i>(input: &mut &'i [u8]) -> Result<(u8, u8), ErrMode<EmptyError>>
     ensures reads { Reads bytes_reading ⟦<ErrMode<EmptyError> as HasKind>⟧.kind VersionStands
         (bytes_input input.old.now) result (bytes_input input.new.now) }
@@ -99,10 +99,9 @@ fn read_method_and_target<'i>(
     separated_pair(method, b' ', target).read(input)
 }
 
-/// The request line with which the bytes begin.
+/// Parses the request line at the start of the input.
 ///
-/// An error backtracks, and says that none stands there; some bytes may then have been passed. No
-/// memory is asked for.
+/// Backtracks if there is none; some bytes may have been consumed. It does not allocate.
 ///
 /// ```
 /// use format_http::heads::request_line::read_request_line;

@@ -1,4 +1,4 @@
-//! The sets of bytes of which a head is made.
+//! The sets of bytes in a head.
 #![tactic(auto)]
 
 ghost use Rattle.std.specs.Prelude.{◌↔◌, IsTrue};
@@ -31,7 +31,7 @@ impl ContainsToken<u8> for TokenBytes {
     }
 }
 
-/// The white space that may stand before a value and after it.
+/// The whitespace that may surround a value.
 #[derive(Clone, Copy, Drop)]
 pub struct White;
 

@@ -1,5 +1,5 @@
-//! The head of a response of HTTP/1.1 (RFC 9112, section 2.1): a status line, field lines one
-//! after the other, and an empty line.
+//! The head of an HTTP/1.1 response (RFC 9112, section 2.1): a status line, consecutive field
+//! lines, and an empty line.
 #![tactic(auto)]
 
 ghost use Rattle.std.specs.Prelude.{◌≡◌, IfErr, map};
@@ -51,9 +51,10 @@ fn read_parts<'i, A: Allocator + Copy>(
     }
 }
 
-/// The head of a response with which the bytes begin.
+/// Parses the head of a response at the start of the input.
 ///
-/// An error leaves the input as it was: it is out of memory, or says that no head stands there.
+/// After an error the input is unchanged. The error is out of memory, or the input does not start
+/// with a head.
 ///
 /// ```
 /// use format_http::responses::head::read_response_head;
@@ -82,8 +83,8 @@ pub fn read_response_head<'i, A: Allocator + Copy>(
     }
 }
 
-/// How long the body after the head of a response to a request of this method is, or why the
-/// response is refused: [`body_length`].
+/// Returns the length of the body after the head of a response to a request of this method, or the
+/// reason to reject the response, as [`body_length`].
 ///
 /// ```
 /// use format_http::bodies::framing::BodyLength;

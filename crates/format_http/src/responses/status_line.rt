@@ -1,9 +1,9 @@
 //! The status line of HTTP/1.1 (RFC 9112, section 4): a version, a status code of three digits and
-//! a reason, with one space between them, and a line end (a carriage return and a line feed). The
-//! standard wants the space also with no reason; here it may be missing.
+//! a reason, separated by one space, and a line ending (a carriage return and a line feed). The
+//! standard requires the space even without a reason; here it may be missing.
 //!
-//! The version is two digits; whether the client speaks it is the caller's to see. The first digit
-//! of the status code, which says its class, may be any.
+//! The version is two digits; the caller must check whether it is supported. The first digit of the
+//! status code, which is its class, may be any.
 #![tactic(auto)]
 
 ghost use Rattle.winnow.specs.Bytes.{bytes_input, bytes_reading};
@@ -37,7 +37,7 @@ pub struct StatusLine<'i> {
     pub minor: u8,
     /// The status code, below 1000.
     pub status: u16,
-    /// The reason, as it stands after the space. It may have no bytes; a client ignores it.
+    /// The reason after the space, unchanged. It may be empty; a client ignores it.
     pub reason: &'i [u8],
 }
 
@@ -73,7 +73,7 @@ fn read_code<'i>(input: &mut &'i [u8]) -> Result<u16, ErrMode<EmptyError>>
     }
 }
 
-/// A space and a reason, or nothing, and the line end.
+/// Parses a space and a reason, or nothing, and the line ending.
 fn read_reason<'i>(input: &mut &'i [u8]) -> Result<&'i [u8], ErrMode<EmptyError>>
     ensures reads { Reads bytes_reading ⟦<ErrMode<EmptyError> as HasKind>⟧.kind ReasonStands
         (bytes_input input.old.now) result (bytes_input input.new.now) }
@@ -105,10 +105,9 @@ fn read_protocol_and_code<'i>(input: &mut &'i [u8]) -> Result<((u8, u8), u16), E
     }
 }
 
-/// The status line with which the bytes begin.
+/// Parses the status line at the start of the input.
 ///
-/// An error backtracks, and says that none stands there; some bytes may then have been passed. No
-/// memory is asked for.
+/// Backtracks if there is none; some bytes may have been consumed. It does not allocate.
 ///
 /// ```
 /// use format_http::responses::status_line::read_status_line;

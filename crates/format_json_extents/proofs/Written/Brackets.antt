@@ -1,4 +1,4 @@
--- What stands in brackets is the text of a list.
+-- Proofs that the contents of brackets encode a list.
 use Rattle.std.proofs.Common.{◌≡◌, ◌∙◌, ◌++◌, ◌<◌, ◌≤◌, ◌+◌, ◌^◌, ℕ, [], ◌∷◌, List, ap}
 use Rattle.std.proofs.Common.{append_assoc, arith, inl, inr, length, length-append, refl, sym}
 use Rattle.std.specs.declared.vec.Vec.{Vec}
@@ -276,7 +276,7 @@ module _ (I B : List ℕ → Type 0) (there : (cs : List ℕ) → I cs → Then 
       ∙ ap (λ l. l ++ f.second) (mark.joins ∙ ap (λ l. l ++ mark.second) comma)))
       ∙ simp append_assoc)
 
-  -- what stands after the opening bracket, and before it
+  -- with the opening bracket before the list, as the two grammars define it
   module _ (opens closes : ℕ) where
     abbrev Opened : List ℕ → Type 0
     Opened =

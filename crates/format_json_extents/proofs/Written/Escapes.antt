@@ -1,4 +1,4 @@
--- What a backslash escapes is the text of a character.
+-- Proofs that an escape sequence encodes a character.
 use Rattle.std.proofs.Common.{◌≡◌, ◌∙◌, ◌++◌, ◌<◌, ◌≤◌, ◌+◌, ◌*◌, ◌-◌, ℕ, [], ◌∷◌, List}
 use Rattle.std.proofs.Common.{ap, append_assoc, arith, inl, inr, length, length-append, refl}
 use Rattle.std.proofs.Common.{sym}

@@ -45,7 +45,6 @@ swap_byte P Q = (
     swap (inl x) = inr x
     swap (inr y) = inl y
 
--- texts one after the other, however they are put together
 then_assoc : (P Q R : List ℕ → Type 0) → Same (Then (Then P Q) R) (Then P (Then Q R))
 then_assoc P Q R = (
   λ cs is. record {

@@ -32,7 +32,7 @@ abbrev pub IsUnitOf : ℕ → ℕ → ℕ → ℕ → ℕ → ℕ → Type 0
 IsUnitOf a b high low rest u =
     IsHex a high × IsHex b low × (rest < 256) × (u ≡ high * 4096 + low * 256 + rest)
 
--- four digits, of which the first two are of P, and the number that they are
+-- `Digits P cs u`: `cs` is four hexadecimal digits, the first two in `P`, of the number `u`
 pub record Digits (P : ℕ → ℕ → Type 0) (cs : List ℕ) (u : ℕ) : Type 0 where
   pub a : ℕ
   pub b : ℕ

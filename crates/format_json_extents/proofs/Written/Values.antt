@@ -1,4 +1,4 @@
--- Values are the texts of some value, and so are texts of JSON.
+-- Proofs that the values of this crate encode values of RFC 8259, and likewise its JSON texts.
 use Rattle.std.proofs.Common.{◌≡◌, ◌∙◌, ◌++◌, ◌↔◌, ◌<◌, ◌^◌, ℕ, zero, suc, Bool, true, false}
 use Rattle.std.proofs.Common.{[]}
 use Rattle.std.proofs.Common.{◌∷◌, List, None, Option, Some, ap, append_assoc, arith, inl, inr}

@@ -33,11 +33,11 @@ use Rattle.format_json_texts.specs.declared.value.Value.{Value}
 
 -- ---- white space
 
--- no white space stands there
+-- the characters do not start with whitespace
 abbrev pub NoGap : List ℕ → Type 0
 NoGap = NotFirst IsMultispace
 
--- neither white space, nor what a number may go on with
+-- the characters start neither with whitespace nor with one that can continue a number
 abbrev pub Ended : List ℕ → Type 0
 Ended = NotFirst (λ c. IsMultispace c ⊎ GoesOn c)
 
@@ -134,7 +134,6 @@ no_white c n e most (inl (inr f)) = absurd (omega (arith, e, most, f))
 no_white c n e most (inr (inl f)) = absurd (omega (arith, e, most, f))
 no_white c n e most (inr (inr f)) = absurd (omega (arith, e, most, f))
 
--- a character from this on is no white space
 above_white : (c : ℕ) → 33 < c → IsMultispace c → ⊥
 above_white c most is = no_white c c refl most is
 
@@ -165,7 +164,7 @@ module _ {A : Type 0} (holds : String A → List ℕ → Type 0) where
       (for_front HasText (begins_wider (λ c is. inr (inl is)) number_begins)))
       (for_front IsString (begins_wider (λ c is. inr (inr is)) (string_begins holds))))
 
--- ---- what stands between brackets
+-- ---- the contents of brackets
 
 -- elements, and what closes, are in front of no white space
 commas_front : {O A : Type 0} {element : Text ℕ O} {these : ℕ → Type 0} (close : ℕ) → 33 < close

@@ -1,4 +1,4 @@
--- Of grammars that are alike, grammars that are alike are made.
+-- Lemmas: combinators map equivalent grammars to equivalent grammars.
 use Rattle.std.specs.Prelude.{ℕ, List, [], ◌∷◌, length, Option}
 use Rattle.std.proofs.Common.{inl, inr}
 use Rattle.stream_sets.specs.Range.{Bounds, bounds_of}

@@ -1,18 +1,19 @@
--- What stands where an output decides what stands after it.
+-- Grammars whose output determines the grammar of the rest.
 use Rattle.std.specs.Prelude.{◌⊎◌, List}
 use Rattle.std.proofs.Common.{subst, arith, inl, inr}
 use Rattle.grammars.specs.Grammar.{Grammar, IsUnique, TakesTokens}
 use Rattle.grammars.specs.Grammar.Same.{Same, same_sym}
 use Rattle.grammars.specs.Grammar.Unique.{end_of_end, no_longer_than}
 
--- An output stands, and after it one of what is made of the first, by some part of the parser.
+-- A match of `grammar`, followed by a match of the grammar that `makes` chooses for its output, by
+-- `part` of the parser.
 unfoldable pub FlatMapped : {F T O H U : Type 0} → (F → O → H → Type 0) → F → (H → Grammar T U)
     → Grammar T O → Grammar T U
 FlatMapped {T = T} {O} {H} makes part reads grammar tokens u rest =
     (o : O) × (mid : List T) × (made : H) × grammar tokens o mid × makes part o made
     × reads made mid u rest
 
--- Of outputs that stand in the same tokens is made by what the same stands.
+-- Outputs for the same tokens choose equivalent grammars.
 abbrev pub MadeAlike : {F T O H U : Type 0} → (F → O → H → Type 0) → F → (H → Grammar T U)
     → Grammar T O → Type 0
 MadeAlike {T = T} {O} {H} makes part reads grammar =
@@ -56,7 +57,7 @@ module _ {F T O H U : Type 0} (makes : F → O → H → Type 0) (part : F) (rea
     );
   }
 
--- ---- of what is alike, what is alike is made
+-- ---- equivalent grammars give equivalent grammars
 
 module _ {F T O H U : Type 0} (makes : F → O → H → Type 0) (part : F) where
   flat_mapped_as : {reads other : H → Grammar T U} {g h : Grammar T O}

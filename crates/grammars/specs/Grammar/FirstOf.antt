@@ -1,4 +1,4 @@
--- A choice among a list: what stands by the first of which something stands.
+-- An ordered choice between the grammars of a list: the first that matches.
 use Rattle.std.specs.Prelude.{List, [], ◌∷◌}
 use Rattle.std.specs.List.{All}
 use Rattle.std.proofs.lemmas.List.Elements.{All-head, All-tail}
@@ -7,12 +7,12 @@ use Rattle.grammars.specs.Grammar.Alike.{either_same}
 use Rattle.grammars.specs.Grammar.Same.{Same, same_refl}
 use Rattle.grammars.specs.Grammar.Unique.{either_takes}
 
--- Of a branch and those after it, the first of which something stands.
+-- The first branch that matches, of `p` and the branches after it.
 abbrev pub FirstFrom : {P T O : Type 0} → (P → Grammar T O) → P → List P → Grammar T O
 FirstFrom grammar p [] = grammar p
 FirstFrom grammar p (q ∷ rest) = Either (grammar p) (FirstFrom grammar q rest)
 
--- Of some branches the first of which something stands; of none nothing does.
+-- The first branch that matches. An empty list matches no input.
 abbrev pub FirstOf : {P T O : Type 0} → (P → Grammar T O) → List P → Grammar T O
 FirstOf grammar [] = Never
 FirstOf grammar (p ∷ rest) = FirstFrom grammar p rest
@@ -43,7 +43,6 @@ module _ {P T O : Type 0} {first second : P → Grammar T O}
   from_same p [] = same p
   from_same p (q ∷ rest) = either_same (same p) (from_same q rest)
 
-  -- the same stands where by each branch the same does
   pub first_of_same : (branches : List P)
       → Same (FirstOf first branches) (FirstOf second branches)
   first_of_same [] = same_refl _

@@ -1,4 +1,4 @@
--- What a caller knows of grammars by their names.
+-- Lemmas for callers about the named grammars.
 use Rattle.std.specs.Prelude.{◌≡◌, ◌≤◌, ℕ, List, [], ◌∷◌, ◌++◌, length, Option, None}
 use Rattle.std.specs.Borrow.{Bor}
 use Rattle.std.specs.declared.vec.Vec.{Vec}
@@ -21,13 +21,12 @@ slice_for xs = (record { ref_ptr = (0, 0); now = xs }, refl)
 abbrev pub Byte : ℕ → Grammar ℕ ℕ
 Byte = Literally counted_reading (λ b xs. xs ≡ b ∷ []) (λ b _. b)
 
--- it stands where it is the first byte
+-- a match consumes the byte at the start
 pub byte_stands : (x : ℕ) (tokens : List ℕ) (o : ℕ) (rest : List ℕ) → Byte x tokens o rest
     → (tokens ≡ x ∷ rest) × (o ≡ x)
 unfolding Literally
 byte_stands x tokens o rest (front, slice, is, shown, e, a) = (e ∙ ap (λ l. l ++ rest) is, a)
 
--- and where it is the first byte it stands
 pub stands_byte : (x : ℕ) (tokens rest : List ℕ) → tokens ≡ x ∷ rest → Byte x tokens x rest
 unfolding Literally
 stands_byte x tokens rest e =
@@ -45,12 +44,12 @@ byte_takes x =
     literally_takes counted_reading (λ b xs. xs ≡ b ∷ []) (λ b _. b) x
     (λ e. omega (arith, ap (λ l. length l) e))
 
--- Items in a list stand one after the other, enough of them, and none stands after them.
+-- At least `least` consecutive matches, stored in a list, after which no match follows.
 unfoldable pub Listed : {T O A : Type 0} → Grammar T O → ℕ → Grammar T (Vec O A)
 Listed grammar least tokens list rest =
     Each grammar tokens list.items rest × (least ≤ length list.items) × NoneStands grammar rest
 
--- so reads a repetition into a list that has no greatest number
+-- the grammar of a repetition into a list without a greatest number
 pub repeated_list : {T O A : Type 0} (g : Grammar T O) (least : ℕ) (range : Range)
     → bounds_of range ≡ from_to least None
     → Same (Repeated (λ (list : Vec O A) os. list.items ≡ os) range g) (Listed g least)

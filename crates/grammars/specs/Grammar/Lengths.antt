@@ -1,4 +1,4 @@
--- What stands after its length.
+-- Grammars of length-prefixed contents.
 use Rattle.std.specs.Prelude.{◌≡◌, ℕ, List, [], ◌∷◌, ◌++◌, length}
 use Rattle.std.proofs.Common.{refl, sym, ap, subst, ◌∙◌, arith}
 use Rattle.streams.specs.Equal.{same_first, same_others}
@@ -7,24 +7,24 @@ use Rattle.grammars.specs.Grammar.Alike.{each_as}
 use Rattle.grammars.specs.Grammar.Same.{Same, same_sym}
 use Rattle.grammars.specs.Grammar.Unique.{each_ends, end_of_end, no_longer_than}
 
--- A length stands, and after it what stands by the number that it says.
+-- A match of `length`, followed by a match of `behind` for the number that the length denotes.
 unfoldable pub Sized : {T N O : Type 0} → (N → ℕ) → (ℕ → Grammar T O) → Grammar T N → Grammar T O
 Sized {T} {N} number behind length tokens o rest =
     (n : N) × (mid : List T) × length tokens n mid × behind (number n) mid o rest
 
--- That many tokens are first, and an output stands in them alone. What it leaves of them is
--- dropped.
+-- The first `n` tokens, which start with a match of `grammar`. The tokens among the `n` after the
+-- match are discarded.
 unfoldable pub Inside : {T O : Type 0} → Grammar T O → ℕ → Grammar T O
 Inside {T} grammar n tokens o rest =
     (front : List T) × (end : List T) × (length front ≡ n) × (tokens ≡ front ++ rest)
     × grammar front o end
 
--- That many outputs stand one after the other, held by an accumulator.
+-- `n` consecutive matches, whose outputs an accumulator stores.
 unfoldable pub Times : {T O C : Type 0} → (C → List O → Type 0) → Grammar T O → ℕ → Grammar T C
 Times {O = O} holds grammar n tokens all rest =
     (os : List O) × holds all os × (length os ≡ n) × Each grammar tokens os rest
 
--- Lengths that stand in the same tokens say the same number.
+-- Lengths that match the same tokens denote the same number.
 abbrev pub SaysOne : {T N : Type 0} → (N → ℕ) → Grammar T N → Type 0
 SaysOne {T} {N} number grammar =
     (tokens : List T) (n m : N) (rest other : List T) → grammar tokens n rest
@@ -45,7 +45,6 @@ module _ {T N O : Type 0} (number : N → ℕ) (behind : ℕ → Grammar T O) {g
         (subst Q (says tokens m n mid2 mid z x) there);
   }
 
-  -- a length that takes tokens takes some with what stands after it
   pub sized_takes : TakesTokens g → TakesTokens (Sized number behind g)
   unfolding Sized
   sized_takes takes = record {
@@ -56,7 +55,6 @@ module _ {T N O : Type 0} (number : N → ℕ) (behind : ℕ → Grammar T O) {g
     );
   }
 
--- beginnings of as many tokens are the same, and so is what is left after them
 pub same_beginnings : {T : Type 0} (f g rest more : List T) → length f ≡ length g
     → f ++ rest ≡ g ++ more → (f ≡ g) × (rest ≡ more)
 same_beginnings [] [] rest more n e = (refl, e)
@@ -75,7 +73,6 @@ inside_unique g n = record {
 }
 
 module _ {T O : Type 0} {g : Grammar T O} (unique : IsUnique g) where
-  -- after as many the same is left
   as_many_one : (os ps : List O) (tokens rest other : List T) → length os ≡ length ps
       → Each g tokens os rest → Each g tokens ps other → rest ≡ other
   as_many_one [] [] tokens rest other n e f = e ∙ sym f
@@ -106,7 +103,7 @@ module _ {T N O : Type 0} (number : N → ℕ) {g : Grammar T N} where
   sized_times_takes holds {h} each first takes =
       sized_takes number (Times holds h) first (times_unique each holds) takes
 
--- ---- of what is alike, what is alike is made
+-- ---- equivalent grammars give equivalent grammars
 
 module _ {T N O : Type 0} (number : N → ℕ) where
   sized_as : {behind other : ℕ → Grammar T O} {g h : Grammar T N}

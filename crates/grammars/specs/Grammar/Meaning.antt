@@ -1,10 +1,10 @@
--- What outputs mean: values of another type, made of them by no part of a parser.
+-- Grammars of what outputs denote: values of another type, computed without a part of a parser.
 use Rattle.std.specs.Prelude.{◌↔◌, List}
 use Rattle.grammars.specs.Grammar.{Grammar, IsUnique, Made, NoneStands, TakesTokens}
 use Rattle.grammars.specs.Grammar.Same.{Same}
 use Rattle.grammars.specs.Grammar.Unique.{made_of_takes, made_unique}
 
--- An output stands, and means this.
+-- A match of `grammar` whose output denotes `u`.
 abbrev pub Meaning : {T O U : Type 0} → (O → U → Type 0) → Grammar T O → Grammar T U
 Meaning {T} {O} {U} means grammar = Made (λ (_ : Unit {0}) o u. means o u) tt grammar
 
@@ -26,7 +26,6 @@ meaning_same makes f means g is = record {
   back = λ tokens u rest (o, x, m). (o, x, (is o u).1 m);
 }
 
--- where no output stands, none means anything
 pub none_means : {T O U : Type 0} (means : O → U → Type 0) (g : Grammar T O) (tokens : List T)
     → NoneStands g tokens → NoneStands (Meaning means g) tokens
 unfolding Made

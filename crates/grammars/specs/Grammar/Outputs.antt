@@ -1,4 +1,4 @@
--- Outputs that stand first in the same tokens: where they are the same, or show the same.
+-- Outputs that match the same tokens: when they are equal, or have equal images.
 use Rattle.std.specs.Prelude.{◌≡◌, List, [], ◌∷◌, ◌++◌, length, Bool}
 use Rattle.std.specs.Borrow.{Bor}
 use Rattle.std.proofs.Common.{refl, sym, ap, subst, inl, inr, ◌∙◌, arith, length-append}
@@ -11,13 +11,13 @@ use Rattle.stream_sets.specs.Range.{Bounds}
 use Rattle.grammars.specs.Grammar.{Both, Either, Grammar, IsUnique, Literally, Longest, Made}
 use Rattle.grammars.specs.Grammar.{Taken, Token, TokenOf}
 
--- Outputs that stand first in the same tokens show the same. The function may show all of an
--- output, or the tokens of a slice, of which the logic has many.
+-- Outputs that match the same tokens have the same image under `shown`. `shown` may be the
+-- identity, or give the tokens of a slice, since the logic has many slices with the same tokens.
 pub record IsAlike {T O V : Type 0} (shown : O → V) (grammar : Grammar T O) : Type 0 where
   pub alike : (tokens : List T) (o p : O) (rest other : List T) → grammar tokens o rest
       → grammar tokens p other → shown o ≡ shown p
 
--- Where one output that stands is rejected, so are all that stand there.
+-- If one output that matches is rejected, every output that matches the same tokens is rejected.
 abbrev pub RejectsAll : {G T O U : Type 0} → (G → O → U → Type 0) → (G → O → Type 0) → G
     → Grammar T O → Type 0
 RejectsAll {G} {T} {O} {U} accepts rejects f grammar =
@@ -42,7 +42,6 @@ same_front (x ∷ f) (y ∷ g) rest more n e =
     ap (λ z. z ∷ f) (same_first e)
     ∙ ap (λ l. y ∷ l) (same_front f g rest more (omega (arith, n)) (same_others e))
 
--- beginnings of the same tokens after which the same is left
 front_of : {T : Type 0} {tokens : List T} (f g rest more : List T) → tokens ≡ f ++ rest
     → tokens ≡ g ++ more → rest ≡ more → f ≡ g
 front_of f g rest more a b e = same_front f g rest more (omega (
@@ -115,7 +114,7 @@ both_alike {T} {O1} {O2} output {g1} {g2} unique first second = record {
       ∙ sym f;
 }
 
--- one of two that stand one after the other
+-- one of two consecutive matches
 pub first_alike : {T O1 O2 V : Type 0} (shown : O1 → V) {g1 : Grammar T O1} (g2 : Grammar T O2)
     → IsAlike shown g1 → IsAlike shown (Both (λ o1 o2. o1) g1 g2)
 unfolding Both

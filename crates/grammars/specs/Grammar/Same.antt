@@ -1,8 +1,8 @@
--- Grammars by which the same stands.
+-- Equivalent grammars.
 use Rattle.std.specs.Prelude.{List}
 use Rattle.grammars.specs.Grammar.{Grammar, IsUnique, NoneStands, TakesTokens}
 
--- Two grammars by which the same stands.
+-- `first` and `second` have the same matches.
 pub record Same {T O : Type 0} (first second : Grammar T O) : Type 0 where
   pub there : (tokens : List T) (o : O) (rest : List T) → first tokens o rest
       → second tokens o rest
@@ -21,7 +21,6 @@ same_trans first second = record {
   back = λ tokens o rest x. first.back tokens o rest (second.back tokens o rest x);
 }
 
--- where none stands by one, none does by the other
 pub none_as : {T O : Type 0} {g h : Grammar T O} → Same g h → (tokens : List T)
     → NoneStands g tokens → NoneStands h tokens
 none_as same tokens nothing o rest x = nothing o rest (same.back tokens o rest x)

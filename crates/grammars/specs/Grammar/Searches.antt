@@ -1,4 +1,4 @@
--- What stands before what is sought, and line ends.
+-- Grammars of the text up to a needle, and of line endings.
 use Rattle.std.specs.Prelude.{◌≡◌, ◌⊎◌, ◌≤◌, ℕ, List, [], ◌∷◌, ◌++◌, length}
 use Rattle.std.specs.Borrow.{Bor}
 use Rattle.streams.specs.Reading.{Reading}
@@ -8,7 +8,8 @@ use Rattle.stream_searches.specs.Compare.{StandsFirst}
 use Rattle.stream_searches.specs.FindSlice.{Stands}
 pub mod Unique
 
--- Right after the front a list that is sought stands, and none does at an earlier place.
+-- `front` is followed by a list that `sought` accepts, and no such list occurs at an earlier
+-- offset.
 pub record IsBefore {T : Type 0} (sought : List T → Type 0) (tokens front rest : List T) : Type 0
   where
     pub splits : tokens ≡ front ++ rest
@@ -16,14 +17,14 @@ pub record IsBefore {T : Type 0} (sought : List T → Type 0) (tokens front rest
     pub first : (other hit behind : List T) → Stands sought tokens other hit behind
         → length front ≤ length other
 
--- The tokens before the first place where what is sought stands, as many as the bounds say, and a
--- slice shows them.
+-- The tokens up to the first list that `sought` accepts, with a length within the bounds; `slice`
+-- shows them.
 unfoldable pub Before : {T L : Type 0} → Reading T L → (List T → Type 0) → Bounds → Grammar T L
 Before {T} reading sought bounds tokens slice rest =
     (front : List T) × IsBefore sought tokens front rest × (bounds.least ≤ length front)
     × IsWithin bounds.greatest (length front) × reading.shows slice front
 
--- A text of these bytes.
+-- A literal with these bytes.
 abbrev pub LiterallyBytes : {T L : Type 0} → Reading T L → (Bor (List ℕ) → List T → Type 0) → List ℕ
     → Grammar T L
 LiterallyBytes reading spells = Literally reading (SpelledBy spells) (λ _ slice. slice)
@@ -33,21 +34,21 @@ abbrev pub LineEnd : {T L : Type 0} → Reading T L → (Bor (List ℕ) → List
 LineEnd reading spells =
     Either (LiterallyBytes reading spells (10 ∷ [])) (LiterallyBytes reading spells (13 ∷ 10 ∷ []))
 
--- Neither a carriage return nor a line feed stands anywhere, where `sought` says for which lists a
--- pair of characters is searched.
+-- Neither a carriage return nor a line feed occurs in `tokens`. `sought` gives the lists that match
+-- a pair of characters.
 abbrev pub HasNoLineEnd : {T : Type 0} → (ℕ × ℕ → List T → Type 0) → List T → Type 0
 HasNoLineEnd {T} sought tokens =
     (front hit rest : List T) → Stands (sought (13, 10)) tokens front hit rest → ⊥
 
--- The front is what stands before the first carriage return or line feed, or all the tokens, where
--- there is neither.
+-- `front` is the tokens up to the first carriage return or line feed, or all tokens if neither
+-- occurs.
 abbrev pub IsLineOf : {T : Type 0} → (ℕ × ℕ → List T → Type 0) → List T → List T → List T → Type 0
 IsLineOf sought tokens front rest =
     IsBefore (sought (13, 10)) tokens front rest
     ⊎ (HasNoLineEnd sought tokens × (front ≡ tokens) × (rest ≡ []))
 
--- A line without its end, and a slice shows it. Where a carriage return is left after it, a line
--- feed stands after that.
+-- A line without its line ending, which `slice` shows. If a carriage return follows the line, a
+-- line feed follows the carriage return.
 unfoldable pub Line : {T L : Type 0} → Reading T L → (Bor (List ℕ) → List T → Type 0)
     → (ℕ × ℕ → List T → Type 0) → Grammar T L
 Line {T} reading spells sought tokens slice rest =

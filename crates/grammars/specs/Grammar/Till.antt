@@ -6,12 +6,12 @@ use Rattle.stream_sets.specs.declared.range.Range.{Range}
 use Rattle.grammars.specs.Grammar.{Each, Grammar, IsUnique, NoneStands, TakesTokens}
 use Rattle.grammars.specs.Grammar.Unique.{each_ends, end_of_end}
 
--- An item stands, and no terminator.
+-- A match of `item`, if `tokens` does not start with a terminator.
 abbrev pub Turn : {T O D : Type 0} → Grammar T O → Grammar T D → Grammar T O
 Turn item till tokens o rest = NoneStands till tokens × item tokens o rest
 
--- The least number of items, and after them items up to the first place where the terminator
--- stands, no more in all than the greatest number; and the terminator.
+-- The least number of items, then items up to the first terminator, and the terminator. The number
+-- of all items is at most the greatest number.
 unfoldable pub UpTo : {T O D : Type 0} → Grammar T O → Grammar T D → Bounds
     → Grammar T (List O × D)
 UpTo {T} {O} item till bounds tokens both rest =
@@ -41,8 +41,8 @@ each_same {T} {O} {g} unique (o ∷ os) (p ∷ ps) tokens rest other n (mid, x, 
     (subst P (unique.one tokens o p mid mid2 x y) more) more2
 
 module _ {T O D : Type 0} (item : Grammar T O) (till : Grammar T D) (unique : IsUnique item) where
-  -- turns after which a terminator stands are more than those after which none does, and after
-  -- these an item stands
+  -- if no terminator follows the turns `os`, the turns `ps` up to a terminator are more, and an
+  -- item follows `os`
   pub more_turns : (os ps : List O) (tokens rest other end : List T) (d : D)
       → Each (Turn item till) tokens os rest → NoneStands till rest
       → Each (Turn item till) tokens ps other → till other d end
@@ -61,7 +61,6 @@ module _ {T O D : Type 0} (item : Grammar T O) (till : Grammar T D) (unique : Is
       (subst P (unique.one tokens o p mid mid2 x y) more) none more2 z in
       (omega (arith, fewer), next)
 
-  -- after the turns before a terminator the same is left
   pub turns_same : (os ps : List O) (tokens rest other end last : List T) (d e : D)
       → Each (Turn item till) tokens os rest → till rest d end
       → Each (Turn item till) tokens ps other → till other e last → rest ≡ other

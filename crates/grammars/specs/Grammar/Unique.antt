@@ -10,7 +10,6 @@ use Rattle.grammars.specs.Grammar.{Ahead, Both, Each, Either, Gathered, Grammar,
 use Rattle.grammars.specs.Grammar.{Literally, Made, Many, NoneStands, Nothing, Optional, Parted}
 use Rattle.grammars.specs.Grammar.{Repeated, Stops, Taken, TakesTokens, Token, TokenOf}
 
--- what is left after what stands is no longer than the tokens
 pub no_longer_than : {T O : Type 0} {g : Grammar T O} → IsUnique g → (tokens : List T) (o : O)
     (rest : List T) → g tokens o rest → length rest ≤ length tokens
 no_longer_than unique tokens o rest x =
@@ -19,7 +18,6 @@ no_longer_than unique tokens o rest x =
 
 -- ---- literals
 
--- after beginnings of as many units the same is left
 pub one_front : {T L : Type 0} (reading : Reading T L) (front other rest more : List T)
     → front ++ rest ≡ other ++ more → reading.units front ≡ reading.units other → rest ≡ more
 one_front reading [] [] rest more e u = e
@@ -75,7 +73,7 @@ token_of_unique seen tells set = record {
 
 -- ---- what is made of one grammar
 
--- where one stands wherever the other does, the other leaves one rest as it does
+-- if `g` matches wherever `h` does, with the same rest, then `h` is unique
 pub unique_by : {T O U : Type 0} {g : Grammar T O} {h : Grammar T U}
     → ((tokens : List T) (u : U) (rest : List T) → h tokens u rest → (o : O) × g tokens o rest)
     → IsUnique g → IsUnique h
@@ -204,7 +202,7 @@ module _ {T O : Type 0} {g : Grammar T O} (unique : IsUnique g) where
   each_ends (o ∷ os) tokens rest (mid, x, more) =
       end_of_end (unique.ends tokens o mid x) (each_ends os mid rest more)
 
-  -- after as many as stand the same is left
+  -- maximal repetitions of the same tokens leave the same rest
   pub each_one : (greatest : Option ℕ) (k : ℕ) (os ps : List O) (n m : ℕ)
       (tokens rest other : List T) → n ≡ k + length os → m ≡ k + length ps
       → Each g tokens os rest → Stops g greatest n rest → Each g tokens ps other
@@ -232,7 +230,6 @@ module _ {T O : Type 0} {g : Grammar T O} (unique : IsUnique g) where
       each_one greatest (k + 1) os ps n m mid2 rest other (omega arith) (omega arith)
       (subst P (unique.one tokens o p mid mid2 x y) more) stops more2 ends
 
-  -- where none stands after some, no more of them stand
   pub no_more : (os ps : List O) (tokens rest other : List T) → Each g tokens os rest
       → NoneStands g rest → Each g tokens ps other → length ps ≤ length os
   no_more [] [] tokens rest other e none f = omega arith
@@ -290,7 +287,7 @@ repeated_take {T} {O} holds range {g} unique takes some = record {
 
 module _ {T O D : Type 0} {g : Grammar T O} {h : Grammar T D} (element : IsUnique g)
     (separator : IsUnique h) (bounds : Bounds) where
-  -- an element that stands first is no end of none
+  -- the list cannot be empty if `tokens` start with an element
   none_or_one : {P : Type 0} (o : O) (os : List O) (tokens mid rest : List T)
       → Stops g bounds.greatest 0 tokens → g tokens o mid
       → Stops (Both (λ d o. o) h g) bounds.greatest (length (o ∷ os)) rest → P
@@ -346,7 +343,7 @@ gathered_takes holds takes = record {
   fewer = λ tokens all rest (os, held, x). takes.fewer tokens os rest x;
 }
 
--- an output stands, of which another is made
+-- a match of `grammar` whose output `makes` turns into `u`
 abbrev pub MadeBy : {T O U : Type 0} → (List T → O → List T → U → Type 0) → Grammar T O
     → Grammar T U
 MadeBy {T} {O} makes grammar tokens u rest =

@@ -1,4 +1,4 @@
--- What texts begin with, and what stands after and before them.
+-- Lemmas about the first tokens of encodings, and about the tokens before and after them.
 use Rattle.std.specs.Prelude.{◌≡◌, ◌<◌, ℕ, List, [], ◌∷◌, ◌++◌, length, Option, Some, None}
 use Rattle.std.specs.List.{All}
 use Rattle.std.proofs.Common.{refl, sym, ap, subst, inl, inr, ◌∙◌, arith, append_assoc}
@@ -45,7 +45,7 @@ pub may_begin_none : {T : Type 0} (these : T → Type 0) (tokens : List T) → A
 may_begin_none {T} these tokens e =
     let P : List T → Type 0 = λ l. MayBegin these l in subst P (sym e) tt
 
--- ---- what is after, and what is made, may be other
+-- ---- weaker and stronger conditions on the tokens after and before
 
 module _ {T O : Type 0} {text : Text T O} {behind whole : List T → Type 0} where
   pub front_behind : {nearer : List T → Type 0} → ((rest : List T) → nearer rest → behind rest)
@@ -60,7 +60,6 @@ module _ {T O : Type 0} {text : Text T O} {behind whole : List T → Type 0} whe
     makes = λ o xs rest x b. widen (xs ++ rest) (front.makes o xs rest x b);
   }
 
--- in front of whatever stands, a text makes whatever
 pub front_any : {T O : Type 0} {text : Text T O} {behind : List T → Type 0}
     → InFront text behind Anything
 front_any = record { makes = λ o xs rest x b. tt }
@@ -71,7 +70,7 @@ pub begins_wider : {T O : Type 0} {text : Text T O} {these those : T → Type 0}
 begins_wider {T} {these = these} {those} wider begins =
     front_whole (begins_more these those wider) begins
 
--- and begins so in front of whatever stands
+-- the first token of an encoding is in the set, regardless of what follows
 pub front_begins : {T O : Type 0} {text : Text T O} {these those : T → Type 0}
     {behind : List T → Type 0} → ((t : T) → these t → those t) → BeginsIn these text
     → InFront text behind (MayBegin those)
@@ -79,7 +78,7 @@ front_begins {these = these} {those} more begins = record {
   makes = λ o xs rest x b. may_begin these those more (xs ++ rest) (begins.makes o xs rest x tt);
 }
 
--- and so does what is empty or begins in one set, where what is after it does
+-- an encoding that may be empty: its first token, or the first one after it, is in the set
 pub front_may : {T O : Type 0} {text : Text T O} {these those : T → Type 0}
     {behind : List T → Type 0} → ((t : T) → these t → those t)
     → ((rest : List T) → behind rest → MayBegin those rest) → MayBeginIn these text
@@ -201,7 +200,7 @@ each_front {T} {O} {text} {behind} front = record { makes = makes }
         subst P (sym (append_assoc xs ys rest) ∙ ap (λ l. l ++ rest) (sym e))
         (front.makes o xs (ys ++ rest) x (makes os ys rest more b))
 
--- ---- grammars that do not stand
+-- ---- grammars that do not match
 
 -- what begins outside of a set is nothing that begins in it
 pub none_begins : {T O : Type 0} {g : Grammar T O} {text : Text T O} {follow : List T → Type 0}

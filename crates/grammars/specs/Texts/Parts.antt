@@ -12,7 +12,7 @@ use Rattle.grammars.specs.Texts.Fronts.{both_front, front_whole, none_begins}
 
 -- ---- the same in other words
 
--- what may stand after may be less
+-- the condition on the tokens that follow may be stronger
 pub behind_less : {T O : Type 0} {g : Grammar T O} {text : Text T O}
     {follow nearer : List T → Type 0} → ((rest : List T) → nearer rest → follow rest)
     → IsGrammarOf g text follow → IsGrammarOf g text nearer
@@ -40,7 +40,7 @@ text_of there back is = record {
   back = λ o front rest x b. is.back o front rest (back o front x) b;
 }
 
--- ---- one after the other
+-- ---- sequences
 
 pub both_of : {T O1 O2 O : Type 0} (output : O1 → O2 → O) {g1 : Grammar T O1} {g2 : Grammar T O2}
     {first : Text T O1} {second : Text T O2} {mid follow : List T → Type 0}
@@ -112,7 +112,8 @@ either_of one two never = record {
   ];
 }
 
--- so where the first begin in a set, and the second, with what is after them, outside of it
+-- the encodings by `first` start with a token of the set; those by `second`, with what follows
+-- them, do not
 pub either_apart : {T O : Type 0} {g1 g2 : Grammar T O} {first second : Text T O}
     {follow : List T → Type 0} {these : T → Type 0} → IsGrammarOf g1 first follow
     → IsGrammarOf g2 second follow → BeginsIn these first → InFront second follow (NotFirst these)
@@ -120,7 +121,7 @@ pub either_apart : {T O : Type 0} {g1 g2 : Grammar T O} {first second : Text T O
 either_apart one two begins outside =
     either_of one two (front_whole (none_begins one begins) outside)
 
--- it or nothing: after nothing it does not stand
+-- an option: what may follow an absent value is not a match
 pub optional_of : {T O : Type 0} {g : Grammar T O} {text : Text T O} {follow : List T → Type 0}
     → IsGrammarOf g text follow → ((rest : List T) → follow rest → NoneStands g rest)
     → IsGrammarOf (Optional g) (OptionalText text) follow

@@ -34,7 +34,6 @@ list_of {T} {O} {A} {g} {text} is = record {
       (list.items, refl, is.back list.items front rest a behind);
 }
 
--- enough are, where that many are at least
 at_least : {T O : Type 0} (least : ℕ) (text : Text T (List O)) (os : List O) (tokens : List T)
     → text os tokens → least ≤ length os → AtLeast least text os tokens
 at_least zero text os tokens a enough = a
@@ -45,7 +44,7 @@ are_enough : {T O : Type 0} (least : ℕ) (text : Text T (List O)) (os : List O)
 are_enough zero text os tokens a = (a, omega arith)
 are_enough (suc n) text os tokens a = a
 
--- one after the other
+-- consecutive encodings
 module _ {T O : Type 0} {g : Grammar T O} {text : Text T O} {follow : List T → Type 0}
     (is : IsGrammarOf g text follow) where
   pub each_there : (os : List O) (tokens rest : List T) → Each g tokens os rest
@@ -60,7 +59,7 @@ module _ {T O : Type 0} {g : Grammar T O} {text : Text T O} {follow : List T →
         (xs, ys, a, b, refl),
       )
 
-  -- and after each may stand what makes, with texts, such tokens again
+  -- an encoding, with what follows it, may follow an encoding
   pub each_back : InFront text follow follow → (os : List O) (front rest : List T)
       → EachText text os front → follow rest
       → follow (front ++ rest) × Each g (front ++ rest) os rest
@@ -76,7 +75,7 @@ module _ {T O : Type 0} {g : Grammar T O} {text : Text T O} {follow : List T →
         (ys ++ rest, is.back o xs (ys ++ rest) a next, more),
       )
 
-  -- as many as stand: none stands after them
+  -- maximal repetitions: no match follows
   pub many_of : {ends : List T → Type 0} (bounds : Bounds) (least : ℕ)
       → bounds ≡ from_to least None → InFront text follow follow
       → ((rest : List T) → ends rest → follow rest)
@@ -100,7 +99,7 @@ module _ {T O : Type 0} {g : Grammar T O} {text : Text T O} {follow : List T →
         );
   }
 
-  -- as many as stand, in a list
+  -- maximal repetitions, stored in a list
   pub listed_of : {A : Type 0} {ends : List T → Type 0} (least : ℕ) → InFront text follow follow
       → ((rest : List T) → ends rest → follow rest)
       → ((rest : List T) → ends rest → NoneStands g rest)
@@ -118,7 +117,6 @@ module _ {T O : Type 0} {g : Grammar T O} {text : Text T O} {follow : List T →
         );
   }
 
--- none stand of two, where none stands of the first
 pub none_both : {T O1 O2 O : Type 0} (output : O1 → O2 → O) (g1 : Grammar T O1) (g2 : Grammar T O2)
     (tokens : List T) → NoneStands g1 tokens → NoneStands (Both output g1 g2) tokens
 unfolding Both

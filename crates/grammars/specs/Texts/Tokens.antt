@@ -56,13 +56,13 @@ divides_where these = record {
   );
 }
 
--- what tells of the tokens outside of a set
+-- the complement of a set
 pub divides_others : {X K : Type 0} (tells : X → K → Bool → Type 0) (set : X)
     {inside outside : K → Type 0} → Divides (tells set) inside outside
     → Divides (Others tells set) outside inside
 divides_others tells set d = record { has = d.lacks; lacks = d.has }
 
--- what tells of two sets
+-- the union of two sets
 pub divides_either : {T : Type 0} {first others : T → Bool → Type 0}
     {inside outside these those : T → Type 0} → Divides first inside outside
     → Divides others these those
@@ -86,7 +86,7 @@ divides_either {T} {first} {others} {inside} {outside} {these} {those} d more =
     not : (t : T) → outside t × those t → EitherTells first others t false
     not t (out, it) = inr ((d.lacks t).1 out, (more.lacks t).1 it)
 
--- what is told of tokens that are seen as themselves
+-- tokens that are seen as themselves
 pub divides_seen : {K : Type 0} (member : K → Bool → Type 0) {inside outside : K → Type 0}
     → Divides member inside outside → Divides (AnswersSeen (λ t. t) member) inside outside
 divides_seen {K} member {inside} {outside} d = record {
@@ -118,7 +118,7 @@ token_of seen tells set d = record {
 
 module _ {X K T L : Type 0} (reading : Reading T L) (seen : K → T)
     (tells : X → K → Bool → Type 0) (set : X) {these those : T → Type 0} where
-  -- a take of members: none stands after it
+  -- a maximal slice of members: no member follows
   pub longest_of : (bounds : Bounds) (least : ℕ) → bounds ≡ from_to least None
       → Divides (AnswersSeen seen (tells set)) these those
       → IsGrammarOf (Longest reading seen tells set bounds) (Members reading these least)
@@ -152,7 +152,7 @@ module _ {X K T L : Type 0} (reading : Reading T L) (seen : K → T)
         );
   }
 
-  -- a take of that many members: anything stands after it
+  -- a slice of `n` members: any token may follow
   pub exactly_of : (bounds : Bounds) (n : ℕ) → bounds ≡ from_to n (Some n)
       → Divides (AnswersSeen seen (tells set)) these those
       → IsGrammarOf (Longest reading seen tells set bounds) (SoManyOf reading these n) Anything
@@ -191,7 +191,7 @@ module _ {X K T L : Type 0} (reading : Reading T L) (seen : K → T)
           let most : m ≤ n = subst P (ap (λ b. b.greatest) one) within in
           omega (arith, most, enough, ap (λ b. b.least) one)
 
--- the characters of a class: none stands after them
+-- the characters of a class: no character of the class follows
 pub class_of : {K L : Type 0} (reading : Reading K L) (class : ℕ → Type 0) (code : K → ℕ)
     (least : ℕ) → IsGrammarOf (Class class least code (λ t. t) reading)
     (Members reading (λ t. class (code t)) least) (NotFirst (λ t. class (code t)))
@@ -199,7 +199,7 @@ class_of reading class code least =
     longest_of reading (λ t. t) (InClass class code) tt (from_to least None) least refl
     (divides_seen (InClass class code tt) (divides_where (λ t. class (code t))))
 
--- that many tokens
+-- `n` tokens
 pub counted_of : {T L : Type 0} (reading : Reading T L) (n : ℕ)
     → IsGrammarOf (Counted reading n) (CountedText reading n) Anything
 unfolding Counted CountedText

@@ -1,4 +1,4 @@
-//! The parts of a document: sections' names, pairs, and what stands between them.
+//! The parts of a document: sections' names, pairs, and the gaps between them.
 ghost use Rattle.std.specs.Prelude.{◌≡◌, MatchOption, List, ℕ};
 ghost use Rattle.std.specs.Str.{IsUtf8};
 ghost use Rattle.winnow.specs.Bytes.{bytes_input, bytes_reading};
@@ -86,13 +86,13 @@ pub(super) fn section_name<'i>(
     }
 }
 
-/// The name of a section: `[`, bytes other than `]` and a line feed, `]`. The name is UTF-8, may be
-/// empty, and is a slice of the input; what follows `]` is left.
+/// Parses the name of a section: `[`, bytes other than `]` and a line feed, `]`. The name is UTF-8,
+/// may be empty, and is a slice of the input. Leaves the rest after `]`.
 ///
-/// It backtracks where no such name begins the input, and leaves the input as it was. That is its
-/// only error: it takes no memory.
+/// Backtracks and leaves the input unchanged if the input does not start with such a name. That is
+/// its only error: it does not allocate.
 ///
-/// As the example `ini` of winnow reads it, but that a name ends with its line.
+/// Like the example `ini` of winnow, except that a name ends with its line.
 ///
 /// ```
 /// use readers::ini;
@@ -167,15 +167,16 @@ pub(super) fn value<'i>(input: &mut &'i [u8]) -> Result<&'i str, ErrMode<InputEr
     }
 }
 
-/// A key and its value: one or more ASCII letters or digits, spaces and tabs, `=`, spaces and tabs,
-/// a value of bytes other than `;` and a line feed, and a comment, if one follows: `;` with the
-/// bytes before the next line feed, which is left. The value is UTF-8, without trailing spaces,
-/// tabs and carriage returns, and may be empty. Both are slices of the input.
+/// Parses a key and its value: one or more ASCII letters or digits, spaces and tabs, `=`, spaces
+/// and tabs, a value of bytes other than `;` and a line feed, and a comment, if one follows. A
+/// comment is `;` with the bytes before the next line feed, which is not consumed. The value is
+/// UTF-8, without trailing spaces, tabs and carriage returns, and may be empty. Both are slices of
+/// the input.
 ///
-/// It backtracks where no such pair begins the input, and leaves the input as it was. That is its
-/// only error: it takes no memory.
+/// Backtracks and leaves the input unchanged if the input does not start with such a pair. That is
+/// its only error: it does not allocate.
 ///
-/// As the example `ini` of winnow reads it, but that a value ends where its text does.
+/// Like the example `ini` of winnow, except that a value ends with its text.
 ///
 /// ```
 /// use readers::ini;
@@ -217,8 +218,8 @@ pub(super) fn comment<'i>(input: &mut &'i [u8]) -> Result<(), ErrMode<InputError
     }
 }
 
-/// What stands between sections and pairs: any number of white space and comments, to the first
-/// byte that begins neither. It never fails, and takes no memory.
+/// Skips the gap between sections and pairs: all whitespace and comments, up to the first byte that
+/// begins neither. Never fails, and does not allocate.
 pub(super) fn gap<'i, A: Allocator + Copy>(
     alloc: A,
     input: &mut &'i [u8],

@@ -185,16 +185,17 @@ impl<'i, A: Allocator + Copy> Parser<
     }
 }
 
-/// Reads a document: any number of sections, each a name in brackets, as
-/// [`category`](crate::ini::category) reads it, and pairs, as
-/// [`key_value`](crate::ini::key_value) reads them, with white space and comments before, between
-/// and after them. No pair stands before the first section.
+/// Parses a document: any number of sections, each a name in brackets, as
+/// [`category`](crate::ini::category) reads it, and pairs, as [`key_value`](crate::ini::key_value)
+/// reads them, with whitespace and comments before, between and after them. No pair precedes the
+/// first section.
 ///
-/// The answer is the sections in order, each with its pairs in order, repeats kept, as slices of
-/// the input. Other bytes are [`Fault::Refused`] at the place, in bytes from the start, where the
-/// first part begins that is no section, pair, white space or comment. Memory is taken for the
-/// lists alone, so for none where no section is read, and [`Fault::NoMemory`] is answered where a
-/// request for it was refused. The input is read once, in a time that grows as its length does.
+/// Returns the sections in order, each with its pairs in order, including repeated ones, as slices
+/// of the input. The input is read once, in time linear in its length.
+///
+/// Other bytes are [`Fault::Refused`] with the offset, in bytes from the start, of the first part
+/// that is not a section, pair, whitespace or comment. Only the lists allocate, so an input without
+/// a section does not. The error is [`Fault::NoMemory`] if an allocation fails.
 ///
 /// ```
 /// use readers::fault::Fault;

@@ -21,7 +21,7 @@ pub(super) fn line_feed() -> ByteSet
     ByteSet::from_set(&b'\n')
 }
 
-/// All bytes but those of a set that has the line feed alone.
+/// Returns all bytes except those of `line_feed`, which has only the line feed.
 pub(super) fn bytes_of_line(line_feed: ByteSet) -> ByteSet
     requires { HasExactly (λ b. b ≡ 10) (has_byte line_feed) }
     ensures { HasExactly (λ b. b ≢ 10) (has_byte result) }

@@ -10,11 +10,12 @@ use std::env::Env;
 use std::io::{Error, ErrorKind, Read, Write};
 use std::process::ExitCode;
 
-/// The program: [`run`] with the words after its name, which the runtime gives, and its status as
-/// the exit code.
+/// Runs the program: [`run`] with the words after its name, which the runtime gives, and with its
+/// status as the exit code.
 ///
-/// Words that are not text are no reader's name: they give the usage line. Where there is no memory
-/// for the words, `out of memory` is on `errors`. Both have the exit code 2, and nothing is read.
+/// Words that are not UTF-8 are not a reader's name: they give the usage line. If there is no
+/// memory for the words, `errors` has `out of memory`. Both have the exit code 2, and nothing is
+/// read.
 ///
 /// ```
 /// use readers::program::serve;

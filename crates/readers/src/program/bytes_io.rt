@@ -14,7 +14,7 @@ pub(super) enum ReadFault {
     NoMemory,
 }
 
-/// How many bytes one read asks for at most.
+/// The maximum number of bytes of one read.
 const CHUNK: usize = 4096;
 
 /// One read of at most `most` bytes after those of `bytes`. True at the end of the input.

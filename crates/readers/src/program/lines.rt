@@ -28,7 +28,7 @@ pub(super) fn line_of_number<A: Allocator>(alloc: A, value: i64) -> Result<Vec<u
     Ok(line.into_bytes())
 }
 
-/// The line of a refusal.
+/// Returns the line for rejected bytes.
 pub(super) fn line_of_refusal<A: Allocator>(alloc: A, at: usize) -> Result<Vec<u8, A>, AllocError>
     ensures { IfOk result (λ v. v.items ≡ refused_line at) }
 {

@@ -1,14 +1,12 @@
--- What a caller knows of one answer: an output is no error, and there is one output or one kind.
+-- Inversion lemmas about a result: an output is not an error, and there is one output or one kind.
 use Rattle.std.specs.Prelude.{◌≡◌, Ok, Err}
 use Rattle.std.proofs.Common.{ap, ◌∙◌, subst, sym}
 use Rattle.streams.specs.Kind.{Kind}
 use Rattle.stream_errors.specs.Form.{Answer}
 
--- an output is no error
 pub ok_is_err : {O P : Type 0} {a : Answer O} {o : O} {k : Kind} → a ≡ Ok o → a ≡ Err k → P
 ok_is_err e f = absurd (cc)
 
--- two outputs of one answer are the same
 pub same_ok : {O : Type 0} {a : Answer O} {o p : O} → a ≡ Ok o → a ≡ Ok p → o ≡ p
 same_ok e f = cc
 
@@ -16,25 +14,20 @@ same_ok e f = cc
 pub same_err : {O : Type 0} {a : Answer O} {k l : Kind} → a ≡ Err k → a ≡ Err l → k ≡ l
 same_err e f = cc
 
--- the output of an answer that is one
 pub same_output : {O : Type 0} {o p : O} → ◌≡◌ {A = Answer O} (Ok o) (Ok p) → o ≡ p
 same_output e = cc
 
--- the kind of an answer that is an error
 pub same_kind : {O : Type 0} {k l : Kind} → ◌≡◌ {A = Answer O} (Err k) (Err l) → k ≡ l
 same_kind e = cc
 
--- what holds of the output that is answered
 pub at_output : {O : Type 0} {o p : O} (P : O → Type 0) → ◌≡◌ {A = Answer O} (Ok o) (Ok p) → P p
     → P o
 at_output P e told = subst P (sym (same_output e)) told
 
--- what holds of the kind that is answered
 pub at_kind : {O : Type 0} {k l : Kind} (P : Kind → Type 0) → ◌≡◌ {A = Answer O} (Err k) (Err l)
     → P l → P k
 at_kind P e told = subst P (sym (same_kind e)) told
 
--- what a parser answers that fails as its child does
 pub fails_as : {O P : Type 0} {answer : Answer O} {inner : Answer P} {k l m : Kind}
     → answer ≡ Err k → inner ≡ Err k → inner ≡ Err l → l ≡ m → answer ≡ Err m
 fails_as e f g is = e ∙ ap Err (same_err f g ∙ is)

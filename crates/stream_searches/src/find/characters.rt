@@ -30,8 +30,8 @@ fn find_encoded(all: &[u8], first: char, second: char, third: char) -> Option<op
     )
 }
 
-/// Searches bytes for the UTF-8 of one of two characters. Where both are ASCII it is a byte each,
-/// which is sought many bytes at a time, and needs no comparison where it was found.
+/// Searches bytes for the UTF-8 of one of two characters. If both are ASCII, each is one byte,
+/// which is searched for many bytes at a time, and needs no comparison where it was found.
 #[inline(always)]
 fn find_two_characters(all: &[u8], first: char, second: char) -> Option<ops::Range<usize>>
     ensures utf8 { IsUtf8 (encode_utf8 first) × IsUtf8 (encode_utf8 second) }

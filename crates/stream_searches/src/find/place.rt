@@ -1,4 +1,4 @@
-//! The first place at which bytes stand in bytes.
+//! The first offset at which bytes occur in bytes.
 ghost use Rattle.std.specs.Prelude.{◌≤◌, ◌<◌, length, MatchBool};
 ghost use Rattle.memchr.specs.Find.{FindsNeedle, IsFirst, OccursAt, Passes, is_byte};
 
@@ -7,15 +7,16 @@ use memchr::{memchr, memmem};
 // The greatest length at which a search by `memmem` is set up in little time.
 const SHORT: usize = 32;
 
-// How many places of the first byte are tried before a search that must be set up goes on: about as
-// many as take the time of that. Since their number is bounded, a search is linear in the text.
+// The number of offsets of the first byte that are tried before a search that must be set up.
+// Trying them takes about the time of that setup. Since their number is bounded, a search is linear
+// in the text.
 const SHORT_TRIES: usize = 3;
 
 // The same for a literal of more bytes.
 const LONG_TRIES: usize = 8;
 
-/// The first place at which the literal stands: from one place of its first byte to the next, for
-/// the first few of them.
+/// Returns the first offset at which the literal occurs. Tries the first few offsets of its first
+/// byte, one by one.
 #[inline(always)]
 pub(crate) fn first_place(all: &[u8], literal: &[u8]) -> Option<usize>
     ensures { FindsNeedle all.now literal.now 0 result }
@@ -81,7 +82,7 @@ fn long_place(all: &[u8], start: usize, literal: &[u8]) -> Option<usize>
     next_place(all, from, literal)
 }
 
-/// The first place from `start` on at which the byte stands.
+/// Returns the first offset from `start` on at which the byte occurs.
 #[inline(always)]
 fn next_byte(all: &[u8], start: usize, byte: u8) -> Option<usize>
     requires { start ≤ length all.now }
@@ -93,7 +94,7 @@ fn next_byte(all: &[u8], start: usize, byte: u8) -> Option<usize>
     }
 }
 
-/// The first place from `start` on at which the literal stands, by `memmem`.
+/// Returns the first offset from `start` on at which the literal occurs, by `memmem`.
 #[inline(always)]
 fn next_place(all: &[u8], start: usize, literal: &[u8]) -> Option<usize>
     requires { start ≤ length all.now }
@@ -105,7 +106,7 @@ fn next_place(all: &[u8], start: usize, literal: &[u8]) -> Option<usize>
     }
 }
 
-/// Whether the literal stands at a place.
+/// Returns whether the literal occurs at the offset `at`.
 #[inline(always)]
 fn stands_at(all: &[u8], at: usize, literal: &[u8]) -> bool
     requires { at ≤ length all.now }

@@ -8,7 +8,7 @@ use crate::compare::{CompareResult, compare_bytes};
 use memchr::memchr3;
 use std::ops;
 
-/// How many bytes one of three texts takes that stands first, if one does.
+/// Returns the length in bytes of one of three texts that `all` starts with, if there is one.
 #[inline(always)]
 fn first_length(all: &[u8], first: &[u8], second: &[u8], third: &[u8]) -> Option<usize>
     ensures { MatchOption result

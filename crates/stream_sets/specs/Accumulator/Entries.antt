@@ -1,4 +1,4 @@
--- What a caller knows of a map that took some pairs of a key and a value.
+-- Lemmas about a map that took some pairs of a key and a value.
 use Rattle.std.specs.Prelude.{◌≡◌, Bool, true, false, cond, None, Some, Option, ⊤}
 use Rattle.std.specs.Prelude.{List, [], ◌∷◌, ◌++◌, reverse}
 use Rattle.std.specs.BTreeMap.{BTreeMap, get, get_key, insert_entry, is_at}
@@ -40,7 +40,6 @@ both_equal {K} {R} order q x y at_x at_y =
     sym (order.congr q x y ((Equal-is (R q x)).0 at_x)) ∙ (Equal-is (R q y)).0 at_y
 
 module _ {K X : Type 0} {R : K → K → Ordering} (order : IsTotalOrder R) where
-  -- a key finds what was put in for an equal one, and else what it found before
   lookup_inserted : (q k : K) (v : X) (es : List (K × X))
       → lookup (is_at (R q)) (insert_entry R es k v) ≡ lookup (is_at (R q)) ((k, v) ∷ es)
   lookup_inserted q k v [] = refl
@@ -66,7 +65,6 @@ module _ {K X : Type 0} {R : K → K → Ordering} (order : IsTotalOrder R) wher
           ap (λ found. cond (test e.0) (Some e.1) found) rest
           ∙ cond_apart (test e.0) (test k) (apart is) (Some e.1) (Some v) (lookup test es)
 
-  -- after some outputs, a key finds the last of these, and else what it found before
   entries_more : (q : K) (outputs : List (K × X)) (map all : BTreeMap K X)
       → FoldsTo (entries_kept R).takes map outputs all
       → lookup (is_at (R q)) all.entries ≡ lookup (is_at (R q)) (reverse outputs ++ map.entries)
@@ -89,7 +87,7 @@ module _ {K X : Type 0} {R : K → K → Ordering} (order : IsTotalOrder R) wher
 
 -- ---- keys
 
--- the first of two answers, where there is one
+-- the first of two options if it has a value, otherwise the second
 abbrev first_of : {X : Type 0} → Option X → Option X → Option X
 first_of (Some x) other = Some x
 first_of None other = other
@@ -114,7 +112,6 @@ key_passed test k v [] fails = ap (λ b. cond b (Some k) None) fails
 key_passed test k v (e ∷ es) fails =
     ap (λ found. cond (test e.0) (Some e.0) found) (key_passed test k v es fails)
 
--- what is looked at on one side of a choice alone
 cond_off : {X : Type 0} (b : Bool) (x y z : X) → (b ≡ false → y ≡ z) → cond b x y ≡ cond b x z
 cond_off true x y z same = refl
 cond_off false x y z same = same refl

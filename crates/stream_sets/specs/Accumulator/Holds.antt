@@ -1,4 +1,4 @@
--- What accumulators hold of the outputs that they took.
+-- The contents of accumulators, in terms of the outputs that they took.
 use Rattle.std.specs.Prelude.{◌≡◌, ◌-◌, ◌^◌, ⊤, ℕ, min, List, [], ◌∷◌, ◌++◌, length, reverse}
 use Rattle.std.specs.Prelude.{encode_utf8_all, flat_map, string_bytes, Option}
 use Rattle.std.specs.BTreeMap.{BTreeMap, get, get_key, is_at}
@@ -30,7 +30,8 @@ pub record Accumulates {C O : Type 0} (takes : C → O → C → Type 0) (before
     (outputs : List O) (after : C) : Type 0 where
   pub taken : FoldsTo takes before outputs after
 
--- What an accumulator holds: the outputs that it took since it was empty.
+-- `Holds into holds`: the contents of an accumulator are given by the outputs that it took since it
+-- was empty.
 pub record Holds {C O : Type 0} (into : Accumulator C O) (holds : C → List O → Type 0)
     : Type 0 where
   pub held : (capacity : Option ℕ) (empty all : C) (os : List O) → into.starts capacity empty
@@ -45,7 +46,7 @@ list_holds = record {
 pub nothing_holds : {O : Type 0} → Holds (nothing_kept {O = O}) (λ all os. ⊤)
 nothing_holds = record { held = λ capacity empty all os starts taken. tt }
 
--- ---- what each holds of its outputs
+-- ---- the contents of each
 
 -- their number, or the greatest `usize` where there are more
 abbrev pub HasNumber : {O : Type 0} → ℕ → List O → Type 0
@@ -55,7 +56,7 @@ HasNumber number os = number ≡ min (length os) (2 ^ 64 - 1)
 abbrev pub HasCharacters : {A : Type 0} → String A → List ℕ → Type 0
 HasCharacters text os = string_bytes text ≡ encode_utf8_all os
 
--- the texts, one after the other
+-- the texts, in sequence
 abbrev pub HasTexts : {A : Type 0} → String A → List (Bor (List ℕ)) → Type 0
 HasTexts text os = string_bytes text ≡ flat_map (λ o. o.now) os
 

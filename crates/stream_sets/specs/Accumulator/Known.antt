@@ -1,4 +1,4 @@
--- What a caller knows of an accumulator that took some outputs.
+-- Lemmas about an accumulator that took some outputs.
 use Rattle.std.specs.Prelude.{◌≡◌, ◌+◌, ◌-◌, ◌^◌, ◌≤◌, ℕ, min, None, List, [], ◌∷◌, ◌++◌, length}
 use Rattle.std.specs.Prelude.{flat_map, encode_utf8_all, string_bytes}
 use Rattle.std.specs.Borrow.{Bor}
@@ -38,7 +38,6 @@ list_of_outputs {O} {A} outputs empty all start taken =
 abbrev greatest : ℕ
 greatest = 2 ^ 64 - 1
 
--- a number has what it had, and one an output more, up to the greatest
 number_more : {O : Type 0} (outputs : List O) (number all : ℕ)
     → FoldsTo (number_kept {O = O}).takes number outputs all → number ≤ greatest
     → all ≡ min (number + length outputs) greatest

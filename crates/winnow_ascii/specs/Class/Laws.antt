@@ -1,4 +1,4 @@
--- What holds of the runs of a class.
+-- Laws of parsers of a character class.
 use Rattle.std.specs.Prelude.{◌↔◌, ⊤, ℕ, IsTrue, None, ◌<◌}
 use Rattle.streams.specs.Input.{Input, IsEndOf}
 use Rattle.streams.specs.Reading.{Reading}
@@ -15,7 +15,7 @@ use Rattle.winnow_core.specs.Exact.{Backtracks, IsExact}
 use Rattle.winnow_token.specs.TakeWhile.Exact.{longest_unique, take_while_exact, take_while_fails}
 use Rattle.winnow_token.specs.TakeWhile.Exact.{longest_takes}
 
--- they leave an end
+-- every call leaves a suffix
 pub class_ends : {K T S : Type 0} (class : ℕ → Type 0) (least : ℕ) (code : K → ℕ) (seen : K → T)
     (reading : Reading T S) (form : ErrorForm) (i : Input T) (answer : Answer S) (j : Input T)
     → ClassRuns class least code seen reading form i answer j → IsEndOf reading j i
@@ -39,7 +39,6 @@ module _ {K T L : Type 0} (class : ℕ → Type 0) (least : ℕ) (code : K → �
   class_fails = take_while_fails reading form seen (InClass class code) (λ s. s)
       (λ _. from_to least None) tt tt
 
--- that many characters of a class leave one rest
 pub class_unique : {K T L : Type 0} (class : ℕ → Type 0) (least : ℕ) (code : K → ℕ) (seen : K → T)
     (reading : Reading T L) → SeesApart seen → IsUnique (Class class least code seen reading)
 class_unique class least code seen reading apart =

@@ -1,4 +1,4 @@
--- What takes of the characters of a class say that they do.
+-- The specification of parsers of a character class.
 use Rattle.std.specs.Prelude.{◌≡◌, ◌↔◌, ⊤, ℕ, IsTrue, None}
 use Rattle.std.proofs.Common.{refl, sym, subst, ◌∙◌}
 use Rattle.streams.specs.Equal.{true_is_false}
@@ -21,7 +21,7 @@ use Rattle.winnow_ascii.specs.Class.Laws.{class_ends}
 abbrev pub SeenOnce : {K T : Type 0} → (K → T) → (K → ℕ) → Type 0
 SeenOnce {K} seen code = (k l : K) → seen k ≡ seen l → code k ≡ code l
 
--- The longest beginning of characters of the class is taken, of at least that many.
+-- Takes the longest prefix of characters of the class, of at least `least` characters.
 abbrev pub class_says : {K T L : Type 0} → (ℕ → Type 0) → ℕ → (K → ℕ) → (K → T) → Reading T L
     → Says T L
 class_says class least code seen reading =

@@ -1,4 +1,4 @@
--- What a caller knows of one run of the parser of a carriage return and a line feed.
+-- Lemmas for callers about one call of `crlf`.
 use Rattle.std.specs.Prelude.{◌≡◌, ℕ, List, [], ◌∷◌}
 use Rattle.std.specs.Borrow.{Bor}
 use Rattle.std.specs.Str.{IsAscii, chars}
@@ -6,7 +6,7 @@ use Rattle.std.proofs.Common.{sym, ap, ◌∙◌, arith}
 use Rattle.std.proofs.lemmas.Str.{chars-IsAscii}
 use Rattle.std.proofs.lemmas.Str.Ascii.{IsAscii-cons, IsAscii-nil}
 
--- A text of ASCII characters stands for the list of them, and for no other.
+-- A literal of ASCII characters spells the list of them, and no other list.
 pub record SpellsAscii (spells : Bor (List ℕ) → List ℕ → Type 0) : Type 0 where
   pub list : (text : Bor (List ℕ)) (codes xs : List ℕ) → IsAscii codes → text.now ≡ codes
       → spells text xs → xs ≡ codes

@@ -1,4 +1,4 @@
--- What literals of some bytes say that they do, by whatever text of these bytes.
+-- The specification of literals with given bytes, regardless of which text has these bytes.
 use Rattle.std.specs.Prelude.{◌≡◌, ⊤, ℕ, List}
 use Rattle.std.specs.Borrow.{Bor}
 use Rattle.std.proofs.Common.{refl, sym, inl, inr, ◌∙◌}

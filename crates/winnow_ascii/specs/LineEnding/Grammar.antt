@@ -1,4 +1,4 @@
--- What a caller knows of line ends, and of what stands before them, by their grammars.
+-- Lemmas for callers about the grammars of line endings and of the text before them.
 use Rattle.std.specs.Prelude.{◌≡◌, ◌≤◌, ℕ, List, [], ◌∷◌, ◌++◌, length}
 use Rattle.std.specs.Borrow.{Bor}
 use Rattle.std.specs.List.{AllByRecursion}
@@ -29,7 +29,7 @@ unfoldable pub EndText : {L : Type 0} → Reading ℕ L → Grammar ℕ L
 EndText reading tokens slice rest =
     (end : List ℕ) × IsLineEnd end × (tokens ≡ end ++ rest) × reading.shows slice end
 
--- none of the two stands among tokens, where it is so of each place
+-- neither character occurs in a list if it does not occur at any offset
 all_in : (xs : List ℕ) → ((a : List ℕ) (c : ℕ) (b : List ℕ) → EndsLine c → xs ≡ a ++ c ∷ b → ⊥)
     → AllByRecursion InLine xs
 all_in [] none = tt
@@ -38,12 +38,10 @@ all_in (x ∷ xs) none = (
   all_in xs (λ a c b is e. none (x ∷ a) c b is (ap (λ l. x ∷ l) e)),
 )
 
--- a token of a line ends none
 not_both : {P : Type 0} (x c : ℕ) → x ≡ c → InLine x → EndsLine c → P
 not_both x c e is (inl carriage) = absurd (is.0 (e ∙ carriage))
 not_both x c e is (inr feed) = absurd (is.1 (e ∙ feed))
 
--- so a line is no longer than what stands before one of the two
 no_longer : (line rest other : List ℕ) (c : ℕ) (b : List ℕ) → AllByRecursion InLine line
     → EndsLine c → line ++ rest ≡ other ++ c ∷ b → length line ≤ length other
 no_longer [] rest other c b all is e = omega arith
@@ -51,13 +49,12 @@ no_longer (x ∷ xs) rest [] c b all is e = not_both x c (same_first e) all.0 is
 no_longer (x ∷ xs) rest (y ∷ ys) c b all is e =
     let less = no_longer xs rest ys c b all.1 is (same_others e) in omega (arith, less)
 
--- in the logic there is a text of these bytes
 text_of : (bytes : List ℕ) → Bor (List ℕ)
 text_of bytes = record { ref_ptr = (0, 0); now = bytes }
 
 module _ {L : Type 0} (reading : Reading ℕ L) (spells : Bor (List ℕ) → List ℕ → Type 0)
     (lists : SpellsAscii spells) where
-  -- a text of ASCII characters is first where these are
+  -- tokens that start with a spelling of ASCII characters start with these characters
   spelled_first : (bytes tokens : List ℕ) → IsAscii bytes
       → StandsFirst (SpelledBy spells bytes) tokens → (rest : List ℕ) × (tokens ≡ bytes ++ rest)
   spelled_first bytes tokens low (front, rest, (text, was, spelled), e) =
@@ -69,9 +66,8 @@ module _ {L : Type 0} (reading : Reading ℕ L) (spells : Bor (List ℕ) → Lis
   first_spelled bytes tokens rest low e =
       (bytes, rest, (text_of bytes, refl, lists.back (text_of bytes) bytes low refl), e)
 
-  -- ---- line ends
+  -- ---- line endings
 
-  -- a text of ASCII characters stands for a list that is these
   spelled_by : (bytes xs : List ℕ) → IsAscii bytes → xs ≡ bytes → SpelledBy spells bytes xs
   unfolding text_of
   spelled_by bytes xs low e =
@@ -128,7 +124,7 @@ module _ {L : Type 0} (reading : Reading ℕ L) (spells : Bor (List ℕ) → Lis
   -- ---- lines
 
   module _ (sought : ℕ × ℕ → List ℕ → Type 0) (seeks : SeeksEnds sought) where
-    -- one of the two stands where it is sought
+    -- a search finds each of the two characters
     ends_stand : (tokens a : List ℕ) (c : ℕ) (b : List ℕ) → EndsLine c → tokens ≡ a ++ c ∷ b
         → Stands (sought (13, 10)) tokens a (c ∷ []) b
     ends_stand tokens a c b is e = record { splits = e; is = seeks.back c is }

@@ -1,4 +1,4 @@
--- What a caller knows of one run of the parser of a line end.
+-- Lemmas for callers about one call of `line_ending`.
 use Rattle.std.specs.Prelude.{◌≡◌, ℕ, List, [], ◌∷◌, ◌⊎◌}
 
 -- a line feed, or one after a carriage return

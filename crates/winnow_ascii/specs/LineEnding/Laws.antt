@@ -1,4 +1,4 @@
--- What holds of the runs of a line end.
+-- Laws of `line_ending`.
 use Rattle.std.specs.Prelude.{ℕ, List, ⊤, Err, ◌≡◌, ◌⊎◌, false, [], ◌∷◌, Ok}
 use Rattle.std.specs.Borrow.{Bor}
 use Rattle.std.proofs.Common.{inl, inr, refl, ap}
@@ -19,7 +19,7 @@ use Rattle.winnow_core.specs.Exact.Failed.{none_at_backtrack}
 use Rattle.winnow_core.specs.Literal.Laws.{SpellsByText, TextRuns}
 use Rattle.winnow_core.specs.Literal.Laws.{text_exact, text_fails}
 
--- they leave an end
+-- every call leaves a suffix
 pub line_ending_ends : {T L : Type 0} (spells : Bor (List ℕ) → List T → Type 0)
     (reading : Reading T L) (form : ErrorForm) (i : Input T) (answer : Answer L) (j : Input T)
     → LineEndingRuns spells reading form i answer j → IsEndOf reading j i
@@ -29,7 +29,7 @@ line_ending_ends spells reading form i answer j (inr (text, is, first, r)) =
     crlf_ends spells reading form i answer j r
 
 module _ {T L : Type 0} (spells : Bor (List ℕ) → List T → Type 0) (reading : Reading T L) where
-  -- on a cut input, runs of a final answer are runs on each longer one
+  -- a final result on partial input is also a result on every longer input
   pub line_ending_stays : Stays (LineEndingRuns spells reading modal)
   line_ending_stays more flag i answer j is_cut final (inl (text, is, r, other)) =
       let q = literal_stays reading (spells text) (λ slice. slice) more flag i answer j is_cut

@@ -1,4 +1,4 @@
--- What the parser of a line end says that it does.
+-- The specification of `line_ending`.
 use Rattle.std.specs.Prelude.{◌≡◌, ⊤, ℕ, List, [], ◌∷◌, Ok, Err}
 use Rattle.std.specs.Borrow.{Bor}
 use Rattle.std.proofs.Common.{refl, inl, inr}
@@ -58,7 +58,7 @@ module _ {T L : Type 0} (spells : Bor (List ℕ) → List T → Type 0) (reading
       })
       (λ stable. stable)
 
-  -- what the first answered, but that it backs
+  -- the result of the first, unless it backtracks
   came : (other : Does T L) (at : Setting) (tokens rest : List T) (answer : Answer L)
       → (answer ≡ Err backtrack → ⊥)
       → ComesOf (or_other other) at tokens (outcome_of answer rest) (outcome_of answer rest)

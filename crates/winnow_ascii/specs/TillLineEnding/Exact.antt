@@ -1,4 +1,4 @@
--- What takes of what stands before a line end read.
+-- The grammar of `till_line_ending`.
 use Rattle.std.specs.Prelude.{◌≡◌, ◌⊎◌, ℕ, None, false, List, [], ◌∷◌, Ok, Err, ⊤}
 use Rattle.std.specs.Borrow.{Bor}
 use Rattle.std.proofs.Common.{refl, sym, ap, subst, inl, inr, ◌∙◌}
@@ -20,7 +20,7 @@ use Rattle.winnow_ascii.specs.TillLineEnding.{LineRuns, TillLineEndingRuns}
 module _ {T L : Type 0} (reading : Reading T L) (form : ErrorForm)
     (spells : Bor (List ℕ) → List T → Type 0) (alike : SpellsByText spells)
     (sought : ℕ × ℕ → List T → Type 0) where
-  -- a text that stands first is the one of these bytes that was looked for
+  -- tokens that start with the spelling of some text with these bytes start with that of `text`
   this_text : (text : Bor (List ℕ)) (bytes : List ℕ) (tokens : List T) → text.now ≡ bytes
       → StandsFirst (SpelledBy spells bytes) tokens → StandsFirst (spells text) tokens
   this_text text bytes tokens here (front, rest, (other, was, spelled), e) =
@@ -100,7 +100,7 @@ module _ {T L : Type 0} (reading : Reading T L) (form : ErrorForm)
           ok_is_err refl a
       stands i o j (inr (inr (inr (inr (k, lacks, a))))) = ok_is_err refl a
 
-      -- a carriage return stands after the line, and no line feed after that
+      -- the line is followed by a carriage return without a line feed
       lone : (i : Input T) (slice : L) (j : Input T) (return both : Bor (List ℕ))
           → return.now ≡ 13 ∷ [] → both.now ≡ 13 ∷ 10 ∷ []
           → LineRuns sought reading form i slice j → StandsFirst (spells return) j.left.tokens

@@ -1,4 +1,4 @@
--- What a caller knows of one run of the parser of what stands before a line end.
+-- Lemmas for callers about one call of `till_line_ending`.
 use Rattle.std.specs.Prelude.{◌≡◌, ℕ, List, [], ◌∷◌}
 use Rattle.std.specs.Prelude.{◌⊎◌}
 use Rattle.std.specs.Char.{encode_utf8}
@@ -13,7 +13,7 @@ EndsLine c = (c ≡ 13) ⊎ (c ≡ 10)
 abbrev pub InLine : ℕ → Type 0
 InLine c = (c ≡ 13 → ⊥) × (c ≡ 10 → ⊥)
 
--- The two characters, sought together, stand for themselves alone.
+-- The search for the two characters matches these characters and nothing else.
 pub record SeeksEnds (sought : ℕ × ℕ → List ℕ → Type 0) : Type 0 where
   pub list : (xs : List ℕ) → sought (13, 10) xs → (c : ℕ) × EndsLine c × (xs ≡ c ∷ [])
   pub back : (c : ℕ) → EndsLine c → sought (13, 10) (c ∷ [])
@@ -47,7 +47,7 @@ text_seeks = record { list = λ xs either. by xs either; back = λ c is. back c 
     back c (inl e) = inl (ap (λ d. d ∷ []) e)
     back c (inr e) = inr (ap (λ d. d ∷ []) e)
 
--- What stands after a line that is answered: nothing, a line feed, or both characters.
+-- The rest after a line: it is empty, or starts with a line feed or with both characters.
 abbrev pub BehindLine : List ℕ → Type 0
 BehindLine tokens =
     (tokens ≡ [])

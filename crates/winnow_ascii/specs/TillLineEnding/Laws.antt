@@ -1,4 +1,4 @@
--- What holds of the runs of what stands before a line end.
+-- Laws of `till_line_ending`.
 use Rattle.std.specs.Prelude.{ℕ, List, ◌++◌, ◌≡◌, [], ◌∷◌, true, Bool, Err, length}
 use Rattle.std.specs.Borrow.{Bor}
 use Rattle.std.proofs.Common.{inl, inr, ap, ◌∙◌, append_assoc, refl, sym, subst, arith}
@@ -18,14 +18,13 @@ use Rattle.winnow_core.specs.Stable.Grows.{Stays, final_by}
 use Rattle.winnow_ascii.specs.TillLineEnding.Known.{SeeksEnds}
 use Rattle.winnow_ascii.specs.Crlf.Known.{SpellsAscii, return_ascii}
 
--- a line that is taken leaves an end
 line_ends : {T L : Type 0} (sought : ℕ × ℕ → List T → Type 0) (reading : Reading T L)
     (form : ErrorForm) (i : Input T) (slice : L) (j : Input T)
     → LineRuns sought reading form i slice j → IsEndOf reading j i
 line_ends sought reading form i slice j (inl (start, end, m, takes)) = takes_end takes
 line_ends sought reading form i slice j (inr (none, kind, takes, nothing)) = takes_end takes
 
--- they leave an end
+-- every call leaves a suffix
 pub till_line_ending_ends : {T L : Type 0} (spells : Bor (List ℕ) → List T → Type 0)
     (sought : ℕ × ℕ → List T → Type 0) (reading : Reading T L) (form : ErrorForm) (i : Input T)
     (answer : Answer L) (j : Input T)
@@ -43,7 +42,6 @@ till_line_ending_ends spells sought reading form i answer j
 till_line_ending_ends spells sought reading form i answer j
     (inr (inr (inr (inr (k, lacks, e))))) = same_ends reading i j lacks.3
 
--- a list that more stand after stands first still
 pub stands_more : {T : Type 0} (spelled : List T → Type 0) (tokens more : List T)
     → StandsFirst spelled tokens → StandsFirst spelled (tokens ++ more)
 stands_more spelled tokens more (front, rest, is, splits) =
@@ -83,7 +81,7 @@ module _ {T L : Type 0} (spells : Bor (List ℕ) → List T → Type 0)
   line_more more flag i slice j is_cut (inr (none, short, takes, nothing)) =
       short_final i is_cut short tt
 
-  -- where something is left, it is not a proper beginning of one token
+  -- nonempty tokens are not a proper prefix of one token
   not_short : (text : Bor (List ℕ)) → text.now ≡ 13 ∷ [] → (tokens : List T)
       → (tokens ≡ [] → ⊥) → IsShort (spells text) tokens → ⊥
   not_short text is [] there short = there refl
@@ -94,7 +92,7 @@ module _ {T L : Type 0} (spells : Bor (List ℕ) → List T → Type 0)
         length-append ts (x ∷ others),
       ))
 
-  -- on a cut input, runs of a final answer are runs on each longer one
+  -- a final result on partial input is also a result on every longer input
   pub till_line_ending_stays : Stays (TillLineEndingRuns spells sought reading modal)
   till_line_ending_stays more flag i answer j is_cut final
       (inl (slice, return, is, line, none, e)) =

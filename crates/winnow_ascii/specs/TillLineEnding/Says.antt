@@ -1,4 +1,4 @@
--- What takes up to a line end say that they do.
+-- The specification of `till_line_ending`.
 use Rattle.std.specs.Prelude.{◌≡◌, ◌⊎◌, ⊤, ℕ, Bool, false, List, [], ◌∷◌, ◌++◌, length, None}
 use Rattle.std.specs.Borrow.{Bor}
 use Rattle.std.proofs.Common.{refl, sym, ap, subst, inl, inr, ◌∙◌, arith, length-append}
@@ -33,12 +33,12 @@ use Rattle.winnow_ascii.specs.TillLineEnding.Laws.{nothing_first, stands_more}
 use Rattle.winnow_ascii.specs.TillLineEnding.Laws.{till_line_ending_ends}
 use Rattle.winnow_token.specs.TakeUntil.Says.{before_more}
 
--- No more is asked for: nothing more comes, or errors have no kind for it.
+-- `Incomplete` is not returned: the input is complete, or errors have no kind for it.
 abbrev pub IsForGood : Setting → Type 0
 IsForGood at = (at.more ≡ false) ⊎ (at.form ≡ plain)
 
--- The front is a line: what stands before the first carriage return or line feed; or all the
--- tokens, where there is neither and no more is asked for.
+-- `front` is a line: the tokens up to the first carriage return or line feed; or all tokens, if
+-- neither occurs and `Incomplete` is not returned.
 abbrev pub IsLine : {T : Type 0} → (ℕ × ℕ → List T → Type 0) → List T → Case T
 IsLine sought front at tokens rest =
     IsBefore (sought (13, 10)) tokens front rest
@@ -48,36 +48,37 @@ IsLine sought front at tokens rest =
 abbrev pub HasReturn : {T : Type 0} → (Bor (List ℕ) → List T → Type 0) → List T → Type 0
 HasReturn spells = StandsFirst (SpelledBy spells (13 ∷ []))
 
--- They begin with a carriage return and a line feed.
+-- The tokens start with a carriage return and a line feed.
 abbrev pub HasBoth : {T : Type 0} → (Bor (List ℕ) → List T → Type 0) → List T → Type 0
 HasBoth spells = StandsFirst (SpelledBy spells (13 ∷ 10 ∷ []))
 
--- They end before it is told.
+-- The tokens end before "\r\n" can be decided.
 abbrev pub EndsFirst : {T : Type 0} → (Bor (List ℕ) → List T → Type 0) → List T → Type 0
 EndsFirst spells = IsShort (SpelledBy spells (13 ∷ 10 ∷ []))
 
--- A line stands first, which a slice shows, and a line feed after each carriage return.
+-- The tokens start with a line that `slice` shows. If a carriage return follows it, so does a line
+-- feed.
 abbrev pub IsWholeLine : {T L : Type 0} → (Bor (List ℕ) → List T → Type 0)
     → (ℕ × ℕ → List T → Type 0) → Reading T L → L → Case T
 IsWholeLine {T} spells sought reading slice at tokens rest =
     (front : List T) × IsLine sought front at tokens rest × reading.shows slice front
     × (HasReturn spells rest → HasBoth spells rest)
 
--- A carriage return stands after a line, and what comes after it is not told yet.
+-- The line is followed by a carriage return, and the token after it is not yet known.
 abbrev pub IsOpenLine : {T : Type 0} → (Bor (List ℕ) → List T → Type 0)
     → (ℕ × ℕ → List T → Type 0) → Case T
 IsOpenLine {T} spells sought at tokens rest =
     (front : List T) × IsLine sought front at tokens rest × HasReturn spells rest
     × (HasBoth spells rest → ⊥) × EndsFirst spells rest
 
--- A lone carriage return stands after a line.
+-- The line is followed by a lone carriage return.
 abbrev pub IsLone : {T : Type 0} → (Bor (List ℕ) → List T → Type 0)
     → (ℕ × ℕ → List T → Type 0) → Case T
 IsLone {T} spells sought at tokens rest =
     (front : List T) × IsLine sought front at tokens rest × HasReturn spells rest
     × (HasBoth spells rest → ⊥) × (EndsFirst spells rest → ⊥)
 
--- No line end stands anywhere, and more is asked for.
+-- No line ending occurs, and `Incomplete` is returned.
 abbrev pub LacksEnd : {T : Type 0} → (ℕ × ℕ → List T → Type 0) → Setting → List T → Type 0
 LacksEnd sought at tokens = HasNoLineEnd sought tokens × (IsForGood at → ⊥)
 
@@ -101,7 +102,6 @@ module _ {T L : Type 0} (spells : Bor (List ℕ) → List T → Type 0)
   as_line at front rest (inl before) = inl before
   as_line at front rest (inr (none, ends, all, nothing)) = inr (none, all, nothing)
 
-  -- one line stands first
   one_rest : (at : Setting) {tokens : List T} (f g rest end : List T)
       → IsLine sought f at tokens rest → IsLine sought g at tokens end → rest ≡ end
   one_rest at f g rest end a b =
@@ -131,7 +131,7 @@ module _ {T L : Type 0} (spells : Bor (List ℕ) → List T → Type 0)
       let (hit, behind, there) = stands_behind before in none front hit behind there
   line_or_none at tokens front rest (inr (never, ends, all, nothing)) (none, asks) = asks ends
 
-  -- a line on a cut input is followed by something, and is one on a longer input
+  -- a line in partial input has a nonempty rest, and is also a line in longer input
   line_more : SeeksSome sought → (more : List T) (flag : Bool) (tokens front rest : List T)
       → IsLine sought front on_cut tokens rest
       → IsLine sought front (grown flag) (tokens ++ more) (rest ++ more) × (rest ≡ [] → ⊥)
@@ -146,7 +146,6 @@ module _ {T L : Type 0} (spells : Bor (List ℕ) → List T → Type 0)
   line_more some more flag tokens front rest (inr (none, inr form, all, nothing)) =
       modal-not_plain form
 
-  -- a carriage return that stands first in more stands first
   return_there : SpellsOne spells → (more rest : List T) → (rest ≡ [] → ⊥)
       → HasReturn spells (rest ++ more) → HasReturn spells rest
   return_there one more [] some first = absurd (some refl)

@@ -1,4 +1,4 @@
-//! Line ends, and what stands before one.
+//! Parsers of line endings, and of the text before one.
 ghost use Rattle.std.specs.Prelude.{MatchResult};
 ghost use Rattle.stream_errors.specs.Form.{answer_by};
 ghost use Rattle.streams.specs.Input.{IsEndOf};
@@ -17,10 +17,10 @@ use winnow_core::literal::take_literal;
 use winnow_core::parser::Parser;
 use winnow_core::short::short;
 
-/// A carriage return and a line feed; the output is the slice of the input.
+/// Parses a carriage return and a line feed and returns their slice.
 ///
-/// It backtracks, and consumes nothing, where they do not stand first. Where a cut input is a
-/// proper beginning of them, it is incomplete with an unknown need, and consumes nothing.
+/// Backtracks without consuming input if they do not match. On partial input that is a proper
+/// prefix of them, returns `Incomplete` with an unknown need without consuming input.
 ///
 /// ```
 /// let mut input = "\r\na";
@@ -42,10 +42,10 @@ where
     take_literal(input, "\r\n")
 }
 
-/// A line feed, which is the output.
+/// Parses a line feed and returns it.
 ///
-/// It backtracks, and consumes nothing, where no line feed stands first. On a cut input with
-/// nothing left it is incomplete with an unknown need.
+/// Backtracks without consuming input if the input does not start with a line feed. On empty
+/// partial input, returns `Incomplete` with an unknown need.
 ///
 /// ```
 /// let mut input = "\na";
@@ -67,10 +67,10 @@ where
     '\n'.parse_next(input)
 }
 
-/// A tab, which is the output.
+/// Parses a tab and returns it.
 ///
-/// It backtracks, and consumes nothing, where no tab stands first. On a cut input with nothing left
-/// it is incomplete with an unknown need.
+/// Backtracks without consuming input if the input does not start with a tab. On empty partial
+/// input, returns `Incomplete` with an unknown need.
 ///
 /// ```
 /// let mut input = "\ta";
@@ -92,11 +92,10 @@ where
     '\t'.parse_next(input)
 }
 
-/// A line end, with or without a carriage return; the output is the slice of the input.
+/// Parses a line feed, or a carriage return and a line feed, and returns their slice.
 ///
-/// It backtracks, and consumes nothing, where neither a line feed nor a carriage return with a line
-/// feed stands first. On a cut input with nothing left, or with no more than a carriage return, it
-/// is incomplete with an unknown need, and consumes nothing.
+/// Backtracks without consuming input if neither matches. On partial input that is empty or only a
+/// carriage return, returns `Incomplete` with an unknown need without consuming input.
 ///
 /// ```
 /// let mut input = "\na";
@@ -130,14 +129,16 @@ where
     }
 }
 
-/// What stands before the first carriage return or line feed, which stays unread, or all of a whole
-/// input with neither; the output is the slice of the input.
+/// Parses the input up to the first carriage return or line feed and returns its slice. The line
+/// ending is not consumed.
 ///
-/// On a cut input with neither it is incomplete with an unknown need, and consumes nothing; under
-/// an error type with no mode it answers all that is left there too. Where what follows is a
-/// carriage return without a line feed, it backtracks, and the input stands at the carriage return;
-/// where a cut input ends after that, it is incomplete with an unknown need, and the input stands
-/// there too.
+/// On complete input without either, it takes all remaining input. On partial input without either,
+/// it returns `Incomplete` with an unknown need without consuming input; if the error type has no
+/// mode, it takes all remaining input there too.
+///
+/// If a carriage return without a line feed follows, it backtracks and leaves the input at the
+/// carriage return. If partial input ends after the carriage return, it returns `Incomplete` with
+/// an unknown need and also leaves the input there.
 ///
 /// Known as `not_line_ending` in nom.
 ///
@@ -173,8 +174,8 @@ where
     }
 }
 
-/// What stands before the first carriage return or line feed; or, where there is neither and that
-/// is no want of more input, all that is left.
+/// Takes the input up to the first carriage return or line feed. If neither occurs and the error
+/// for missing input is a backtrack, it takes all remaining input.
 #[inline(always)]
 fn till_return_or_feed<I: StreamIsPartial + FindSlice<(char, char)>, E: ParserError<I>>(
     input: &mut I,

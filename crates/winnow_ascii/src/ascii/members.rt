@@ -13,7 +13,7 @@ use streams::stream::StreamIsPartial;
 use winnow_core::parser::Parser;
 use winnow_token::token::take_while;
 
-/// The longest beginning of members of `set`, none too.
+/// Parses zero or more members of `set` and returns their slice.
 #[inline(always)]
 pub(crate) fn any_of<S: ContainsToken<I::Token> + Drop, I: StreamIsPartial, E: ParserError<I>>(
     input: &mut I,
@@ -28,7 +28,7 @@ pub(crate) fn any_of<S: ContainsToken<I::Token> + Drop, I: StreamIsPartial, E: P
     take_while::<_, I, E>(Range::from(0..), set).parse_next(input)
 }
 
-/// The longest beginning of members of `set`, at least one.
+/// Parses one or more members of `set` and returns their slice.
 #[inline(always)]
 pub(crate) fn some_of<S: ContainsToken<I::Token> + Drop, I: StreamIsPartial, E: ParserError<I>>(
     input: &mut I,

@@ -1,4 +1,4 @@
--- What holds of the runs of a length and of what stands after it.
+-- Laws of length-prefixed parsers.
 use Rattle.std.specs.Prelude.{ℕ, Ok, Err, ◌≡◌, ◌⊎◌, false, List}
 use Rattle.std.proofs.Common.{inl, inr, refl, subst}
 use Rattle.streams.specs.Input.{is_end_of_trans, with_more, Input}
@@ -15,7 +15,7 @@ use Rattle.stream_errors.specs.Form.Known.{at_kind, ok_is_err}
 use Rattle.winnow_core.specs.Exact.{FailsBy, IsExact}
 use Rattle.winnow_core.specs.States.{pair_is}
 
--- they leave an end, where those of both do
+-- every call leaves a suffix, if both parsers do
 pub length_ends : {S V T N L O : Type 0} (reading : Reading T L) (number : N → ℕ)
     (count : Runs S T N) (following : ℕ → Runs V T O) → LeaveEnds reading count
     → ((n : ℕ) → LeaveEnds reading (following n))

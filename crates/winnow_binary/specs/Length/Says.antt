@@ -1,4 +1,4 @@
--- What a length and what stands after it say that they do.
+-- The specification of length-prefixed parsers.
 use Rattle.std.specs.Prelude.{◌≡◌, ℕ, Ok, Err}
 use Rattle.std.proofs.Common.{sym, subst, inl, inr, ◌∙◌}
 use Rattle.streams.specs.Input.{Input}
@@ -11,7 +11,7 @@ use Rattle.winnow_core.specs.Then.{Comes, Then, did_in, then_law}
 use Rattle.winnow_core.specs.Then.Steps.{fails_on, holds_where, meets_where, where_took}
 use Rattle.winnow_binary.specs.Length.{LengthRuns}
 
--- Lengths that are alike are one number.
+-- Equal lengths denote the same number.
 abbrev pub OneLength : {N : Type 0} → (N → ℕ) → (N → N → Type 0) → Type 0
 OneLength {N} number alike = (m n : N) → alike m n → number m ≡ number n
 
@@ -19,7 +19,8 @@ OneLength {N} number alike = (m n : N) → alike m n → number m ≡ number n
 abbrev pub by_length : {T N O : Type 0} → (N → ℕ) → (ℕ → Does T O) → N → Comes T O
 by_length number following n at tokens mid y = following (number n) at mid y
 
--- A length, and what follows it, with what is asked of both, and when what follows is stable.
+-- A length, followed by a parser, with the precondition of both. `stable` is the condition under
+-- which the second parser is stable.
 abbrev pub length_says : {T N O : Type 0} → (N → ℕ) → (ℕ → Does T O) → Type 0 → Type 0
     → (O → O → Type 0) → Says T N → Says T O
 length_says number following premise stable also p = record {

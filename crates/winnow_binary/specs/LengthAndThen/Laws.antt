@@ -1,4 +1,4 @@
--- What holds of the runs of a length and a parser of that many tokens.
+-- Laws of `length_and_then`.
 use Rattle.std.specs.Prelude.{◌≡◌, ℕ, Bool, false, List, Err, ◌⊎◌, ◌++◌, length, Ok}
 use Rattle.std.proofs.Common.{ap, subst, ◌∙◌, inl, inr, refl, sym, arith, length-append}
 use Rattle.streams.specs.Input.{Input, Status, Takes, passes_end}
@@ -25,7 +25,6 @@ use Rattle.winnow_core.specs.Exact.Errors.{complete_err_fails}
 use Rattle.winnow_core.specs.Exact.Failed.{short_backtracks}
 use Rattle.winnow_binary.specs.Length.Laws.{length_exact, length_fails}
 
--- what is taken leaves an end
 pub taken_ends : {S T L O : Type 0} (reading : Reading T L) (form : ErrorForm) (counts : Bool)
     (run : Runs S T O) (n : ℕ) → LeaveEnds reading (TakenRuns reading form counts run n)
 taken_ends reading form counts run n s i answer t j (inl (taken, rest, as_many, passes, ran)) =
@@ -33,7 +32,7 @@ taken_ends reading form counts run n s i answer t j (inl (taken, rest, as_many, 
 taken_ends reading form counts run n s i answer t j (inr (k, few, kind, e, kept, same)) =
     same_ends reading i j same
 
--- they leave an end, where those of the length do
+-- every call leaves a suffix, if the parser of the length does
 pub length_and_then_ends : {S V T N L O : Type 0} (number : N → ℕ) (reading : Reading T L)
     (form : ErrorForm) (counts : Bool) (count : Runs S T N) (run : Runs V T O)
     → LeaveEnds reading count
@@ -57,7 +56,7 @@ made_of {T} now tokens place possible status a b c d =
     ∙ ap (λ p. make tokens p now.left.possible now.status) b
     ∙ ap (λ q. make tokens place q now.status) c ∙ ap (λ s. make tokens place possible s) d
 
--- A stream over the slice of tokens that were taken, marked complete, is the input of these alone.
+-- A stream over the slice of the taken tokens, marked complete, is the input of only these tokens.
 pub only_first_is : {T S : Type 0} {reading : Reading T S} {taken : List T}
     {earlier later now : Input T} {slice : S} → ShowsOneList reading
     → Takes reading taken earlier slice later → IsUpdate reading later slice now
@@ -70,8 +69,8 @@ only_first_is {taken = taken} {earlier = earlier} {later = later} {now = now} on
 
 module _ {T : Type 0} {following : Following T} where
   module _ {L : Type 0} (reading : Reading T L) (counts : Bool) where
-    -- that many tokens as an input of their own, which no more input changes: whatever the parser
-    -- is
+    -- the `n` tokens are an input of their own, so more input does not change the result, whatever
+    -- the parser is
     taken_grows : {V O : Type 0} (run : Runs V T O) (n : ℕ)
         → Grows following (TakenRuns reading modal counts run n)
     taken_grows run n more flag s i answer t j may final
@@ -83,7 +82,7 @@ module _ {T : Type 0} {following : Following T} where
         (inr (k, few, short, e, kept, same)) =
         short_final i may.0 short (final_by (Err k) e final)
 
-    -- they grow where those of the length do, whatever the parser is
+    -- stable under longer input, if the parser of the length is, for every other parser
     pub length_and_then_grows : {S V N O : Type 0} (number : N → ℕ) {count : Runs S T N}
         (run : Runs V T O) → Grows following count
         → Grows following (LengthAndThenRuns number reading modal counts count run)
@@ -92,11 +91,10 @@ module _ {T : Type 0} {following : Following T} where
 
 -- ---- what it reads
 
--- ---- a parser of that many tokens
+-- ---- a parser of `n` tokens
 
 module _ {S T L O : Type 0} (reading : Reading T L) (form : ErrorForm) (counts : Bool)
     {run : Runs S T O} {g : Grammar T O} {s : S} (c : IsExact s run g) (n : ℕ) where
-  -- a run of the parser on its own tokens, where no need of more is told
   inside_kept : (i : Input T) (answer : Answer O) (t : S) (j : Input T) → i.status.cut ≡ false
       → CompleteErrRuns run s i answer t j → t ≡ s
   inside_kept i answer t j is (inl (o, r, same, e)) = (c.kept i (Ok o) t j is r).0
@@ -167,7 +165,7 @@ module _ {S T L O : Type 0} (reading : Reading T L) (form : ErrorForm) (counts :
           inr (λ o rest (front, end, many, split, x). absurd
           (omega (arith, ap (λ l. length l) split, length-append front rest, many, few)))
 
--- it fails as what reads them does, or so that others are tried
+-- its errors are those of the parser, or backtracks
 module _ {S T L O b m : Type 0} (reading : Reading T L) (form : ErrorForm) (counts : Bool)
     {run : Runs S T O} {s : S} (f : FailsBy (Allowed b m) s run) (n : ℕ) where
   inside_allowed : FailsBy (Allowed b m) s (TakenRuns reading form counts run n)

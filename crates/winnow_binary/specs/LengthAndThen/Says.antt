@@ -1,4 +1,4 @@
--- What a parser of the tokens after a length says that it does.
+-- The specification of `length_and_then`.
 use Rattle.std.specs.Prelude.{◌≡◌, ◌⊎◌, ◌<◌, ◌-◌, ℕ, Bool, false, List, ◌++◌, length, Option}
 use Rattle.std.specs.Prelude.{Err, Ok}
 use Rattle.std.proofs.Common.{append_assoc, arith, inl, inr, length-append, refl, sym, ap, subst}
@@ -28,7 +28,7 @@ use Rattle.winnow_binary.specs.LengthAndThen.{LengthAndThenRuns, TakenRuns, only
 abbrev pub on_their_own : Setting → Setting
 on_their_own at = record { form = at.form; more = false; possible = at.possible }
 
--- What is left of the tokens is dropped, and what stands after them is left.
+-- The outcome with `rest` as the remaining tokens: the tokens that the parser leaves are discarded.
 abbrev pub behind : {T O : Type 0} → List T → Outcome T O → Outcome T O
 behind rest (took o end) = took o rest
 behind rest (backs place) = backs rest
@@ -104,7 +104,7 @@ module _ {T O : Type 0} {alike : O → O → Type 0} {stable : Type 0} {does : D
       (λ at tokens x y (f, rest, w, many, split, d, e) (few, h).
       absurd (omega (arith, many, few, ap (λ l. length l) split, length-append f rest)))
 
--- what is answered, where no more is asked for
+-- the outcome of a result other than `Incomplete`
 answered : {T O : Type 0} (answer : Answer O) (rest end : List T)
     → ((need : Option ℕ) → answer ≡ Err (incomplete need) → ⊥)
     → outcome_of answer rest ≡ behind rest (outcome_of answer end)

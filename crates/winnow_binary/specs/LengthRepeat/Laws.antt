@@ -1,4 +1,4 @@
--- What holds of the runs of a length and that many items.
+-- Laws of `length_repeat`.
 use Rattle.std.specs.Prelude.{ℕ, Some, ◌≡◌, ◌⊎◌, false, List, Ok, Err}
 use Rattle.std.proofs.Common.{inr, sym, refl, ap, inl, ◌∙◌, arith}
 use Rattle.streams.specs.Equal.{same_some}
@@ -23,7 +23,7 @@ use Rattle.winnow_repeat.specs.Repeat.Exact.{items_allowed, items_fail, items_ke
 use Rattle.winnow_repeat.specs.Repeat.Exact.{items_stand}
 use Rattle.winnow_binary.specs.Length.Laws.{length_exact, length_fails}
 
--- they leave an end, where those of both do
+-- every call leaves a suffix, if both parsers do
 pub length_repeat_ends : {S V T N L O C : Type 0} (reading : Reading T L) (number : N → ℕ)
     (into : Accumulator C O) (assert_kind : Kind) (count : Runs S T N) (run : Runs V T O)
     → LeaveEnds reading count → LeaveEnds reading run
@@ -33,14 +33,13 @@ length_repeat_ends reading number into assert_kind count run first second =
     (λ n. many_ends reading run into assert_kind (from_to n (Some n)) second)
 
 module _ {T : Type 0} {following : Following T} where
-  -- that many items
   pub length_repeat_grows : {S V N O C : Type 0} (number : N → ℕ) (into : Accumulator C O)
       (asserted : Kind) {count : Runs S T N} (run : Runs V T O) → Grows following count
       → Grows following run → Grows following (LengthRepeatRuns number into asserted count run)
   length_repeat_grows number into asserted run reads items =
       length_grows number _ reads (λ n. many_grow run into asserted (from_to n (Some n)) items)
 
--- ---- that many items
+-- ---- `n` items
 
 module _ {S T O C : Type 0} {run : Runs S T O} {g : Grammar T O} (into : Accumulator C O)
     (asserted : Kind) (holds : C → List O → Type 0) {s : S} (keeps : Holds into holds)

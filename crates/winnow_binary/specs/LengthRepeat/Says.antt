@@ -1,4 +1,4 @@
--- What that many items after a length say that they do.
+-- The specification of `length_repeat`.
 use Rattle.std.specs.Prelude.{ℕ, List, Some}
 use Rattle.stream_errors.specs.Form.{assert_kind}
 use Rattle.stream_sets.specs.Accumulator.{Accumulator}

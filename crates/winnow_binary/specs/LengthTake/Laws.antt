@@ -1,4 +1,4 @@
--- What holds of the runs of a length and that many tokens.
+-- Laws of `length_take`.
 use Rattle.std.specs.Prelude.{ℕ, Bool, ⊤, false}
 use Rattle.std.proofs.Common.{refl, ap}
 use Rattle.streams.specs.Reading.{Reading}
@@ -19,7 +19,7 @@ use Rattle.winnow_core.specs.Exact.Along.{exact_along, fails_along}
 use Rattle.winnow_token.specs.Take.Laws.{take_exact, take_fails}
 use Rattle.winnow_binary.specs.Length.Laws.{length_exact, length_fails}
 
--- they leave an end, where those of the length do
+-- every call leaves a suffix, if the parser of the length does
 pub length_take_ends : {S T N L : Type 0} (number : N → ℕ) (reading : Reading T L)
     (form : ErrorForm) (counts : Bool) (count : Runs S T N) → LeaveEnds reading count
     → LeaveEnds reading (LengthTakeRuns number reading form counts count)
@@ -29,7 +29,7 @@ length_take_ends number reading form counts count ends s i answer t j ran =
 
 module _ {T : Type 0} {following : Following T} where
   module _ {L : Type 0} (reading : Reading T L) (counts : Bool) where
-    -- that many tokens
+    -- `n` tokens
     take_grows : (n : ℕ)
         → Grows following (Keeps {S = ⊤} (λ _. TakeRuns reading modal counts n))
     take_grows n = grows (λ s i answer t j r. take_ends reading modal counts n i answer j r.0)
@@ -45,7 +45,7 @@ module _ {T : Type 0} {following : Following T} where
 
 -- ---- tokens
 
--- that many tokens, as a run by no state
+-- `n` tokens, as a stateless parser
 module _ {T L : Type 0} (reading : Reading T L) (form : ErrorForm) (counts : Bool) where
   some_exact : (n : ℕ) → IsExact tt (Keeps (λ (_ : ⊤). TakeRuns reading form counts n))
       (Counted reading n)

@@ -1,4 +1,4 @@
--- Takes after their length as parts of what a composition reads.
+-- Lemmas about `length_take` as a part of a composition.
 use Rattle.std.specs.Prelude.{◌≡◌, ℕ, Bool, List, ◌++◌, length, Ok, Err}
 use Rattle.std.specs.Borrow.{Bor}
 use Rattle.std.proofs.Common.{refl, sym, ap, subst, ◌∙◌, append_assoc, inl, inr}

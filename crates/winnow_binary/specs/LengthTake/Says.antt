@@ -1,4 +1,4 @@
--- What a take by a length says that it does.
+-- The specification of `length_take`.
 use Rattle.std.specs.Prelude.{ℕ, Bool, ⊤}
 use Rattle.std.proofs.Common.{refl, ap}
 use Rattle.streams.specs.Reading.{Reading}

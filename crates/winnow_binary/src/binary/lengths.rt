@@ -7,11 +7,11 @@ ghost use Rattle.winnow_binary.specs.LengthTake.{length_take_count};
 use crate::binary::impls::{LengthAndThen, LengthRepeat, LengthTake};
 use std::marker::PhantomData;
 
-/// A parser of a length, by `count`, and of that many tokens after it; the output is their slice.
+/// Parses a length with `count`, takes that number of tokens and returns their slice.
 ///
-/// A failure of `count` is handed on. Where there are fewer tokens it fails, and the input stands
-/// after the length; on a cut input it is incomplete there: the need is how many units are
-/// missing, and unknown over text. No memory is taken.
+/// An error of `count` is returned unchanged. If there are fewer tokens, it fails and leaves the
+/// input after the length. On partial input that error is `Incomplete`; its need is the number of
+/// missing units, or unknown for text. It does not allocate.
 ///
 /// Known as `length_data` in nom.
 ///
@@ -32,14 +32,15 @@ pub fn length_take<Input, Count, Error, CountParser>(
     }
 }
 
-/// A parser of a length, by `count`, and of that many tokens after it, by `parser`, which is run on
-/// these alone; what it leaves of them is dropped.
+/// Parses a length with `count`, and then that number of tokens with `parser`.
 ///
-/// A failure of `count` is handed on. Where there are fewer tokens it fails, and the input stands
-/// after the length; on a cut input it is incomplete there: the need is how many units are
-/// missing, and unknown over text. Else the input stands after the tokens, whatever `parser`
-/// answers; to it no more input comes, so an error of it that asks for more backtracks, and another
-/// one is handed on. No memory is taken.
+/// `parser` runs on these tokens as complete input, and the tokens that it does not consume are
+/// discarded. The input is left after the tokens, whatever `parser` returns. If `parser` returns
+/// `Incomplete`, this backtracks; other errors of `parser` are returned unchanged.
+///
+/// An error of `count` is returned unchanged. If there are fewer tokens, it fails and leaves the
+/// input after the length. On partial input that error is `Incomplete`; its need is the number of
+/// missing units, or unknown for text. It does not allocate.
 ///
 /// Known as `length_value` in nom.
 ///
@@ -63,13 +64,15 @@ pub fn length_and_then<Input, Output, Count, Error, CountParser, ParseNext>(
     }
 }
 
-/// A parser of a length, by `count`, and of that many items after it, by `parser`, whose outputs
-/// are put into an accumulator: `()` keeps nothing, a `Vec` keeps them in order.
+/// Parses a length with `count`, and then that number of items with `parser`, and collects the
+/// outputs in an accumulator.
 ///
-/// A failure of `count` is handed on, and so is each failure of `parser`. Each item must consume,
-/// else it is an assert error; where the length is 0 nothing is run after it. The input stands
-/// where the last run left it. Memory is taken by the accumulator alone; where that could not grow,
-/// the error is out of memory.
+/// The accumulator `()` discards the outputs, and `Vec` stores them in order. If the length is 0,
+/// `parser` is not run.
+///
+/// Errors of `count` and of `parser` are returned unchanged. An item that consumes no input is an
+/// assert error. Only the accumulator allocates; if it cannot grow, the error is out of memory. The
+/// input is left where the last call left it.
 ///
 /// Known as `length_count` in nom.
 ///

@@ -1,4 +1,4 @@
--- What holds of the runs of one bit.
+-- Laws of `bool`.
 use Rattle.std.specs.Prelude.{Bool, Err}
 use Rattle.std.proofs.Common.{inl, inr}
 use Rattle.streams.specs.Input.{Input, IsEndOf, passes_end}
@@ -9,7 +9,7 @@ use Rattle.winnow_bits.specs.BitBool.{BitBoolRuns}
 use Rattle.winnow_core.specs.Stable.Grows.{Stays, final_by}
 use Rattle.winnow_core.specs.Stable.Longer.{passes_more, same_more, short_final}
 
--- they leave an end
+-- every call leaves a suffix
 pub bit_bool_ends : {L : Type 0} (reading : Reading Bool L) (form : ErrorForm) (i : Input Bool)
     (answer : Answer Bool) (j : Input Bool) → BitBoolRuns reading form i answer j
     → IsEndOf reading j i

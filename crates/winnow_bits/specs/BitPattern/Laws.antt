@@ -1,4 +1,4 @@
--- What holds of the runs of takes of bits that must be a number.
+-- Laws of `pattern`.
 use Rattle.std.specs.Prelude.{ℕ, Bool, Ok, Err}
 use Rattle.std.proofs.Common.{inl, inr}
 use Rattle.streams.specs.Input.{Input, IsEndOf, with_more}
@@ -10,7 +10,7 @@ use Rattle.winnow_bits.specs.BitTake.Laws.{bit_take_ends, bit_take_stays}
 use Rattle.winnow_core.specs.Stable.Grows.{Stays, final_by}
 use Rattle.winnow_core.specs.Stable.Longer.{same_more}
 
--- they leave an end
+-- every call leaves a suffix
 pub bit_pattern_ends : {O L : Type 0} (number : O → ℕ) (width : ℕ) (reading : Reading Bool L)
     (form : ErrorForm) (wanted n : ℕ) (i : Input Bool) (answer : Answer O) (j : Input Bool)
     → BitPatternRuns number width reading form wanted n i answer j → IsEndOf reading j i

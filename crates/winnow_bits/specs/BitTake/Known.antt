@@ -1,4 +1,4 @@
--- What a caller knows of one run of a take of bits that answered.
+-- Lemmas for callers about one call of `take` of bits.
 use Rattle.std.specs.Prelude.{ℕ, Bool, Ok}
 use Rattle.std.proofs.Common.{refl, sym, subst, inl, inr}
 use Rattle.streams.specs.Input.{Input}

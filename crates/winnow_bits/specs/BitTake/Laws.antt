@@ -1,4 +1,4 @@
--- What holds of the runs of takes of bits.
+-- Laws of `take` of bits.
 use Rattle.std.specs.Prelude.{ℕ, Bool, List, Err}
 use Rattle.std.proofs.Common.{inl, inr}
 use Rattle.streams.specs.Input.{Input, IsEndOf, passes_end, with_more}
@@ -10,7 +10,7 @@ use Rattle.winnow_bits.specs.BitTake.{BitTakeRuns}
 use Rattle.winnow_core.specs.Stable.Longer.{passes_more, same_more, short_final}
 use Rattle.winnow_core.specs.Stable.Grows.{Stays, final_by}
 
--- they leave an end
+-- every call leaves a suffix
 pub bit_take_ends : {O L : Type 0} (number : O → ℕ) (width : ℕ) (reading : Reading Bool L)
     (form : ErrorForm) (n : ℕ) (i : Input Bool) (answer : Answer O) (j : Input Bool)
     → BitTakeRuns number width reading form n i answer j → IsEndOf reading j i
@@ -32,7 +32,6 @@ module _ {L : Type 0} (reading : Reading Bool L) where
     passes = passes_more more flag r.passes;
   }
 
-  -- that many bits, as a number
   pub bit_take_stays : {O : Type 0} (number : O → ℕ) (width n : ℕ)
       → Stays (BitTakeRuns number width reading modal n)
   bit_take_stays number width n more flag i answer j is_cut final

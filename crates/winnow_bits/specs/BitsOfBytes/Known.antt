@@ -1,4 +1,4 @@
--- What a caller knows of one run of a parser of bits on bytes that answered.
+-- Lemmas for callers about one call of `bits`.
 use Rattle.std.specs.Prelude.{◌≡◌, ◌≤◌, ◌*◌, ℕ, Bool, true, ◌++◌, length, take, Ok}
 use Rattle.std.proofs.Common.{refl, sym, ap, subst, ◌∙◌, arith, inl, inr, length-append}
 use Rattle.std.proofs.lemmas.List.{take_at}
@@ -14,7 +14,7 @@ use Rattle.stream_bits.specs.Within.{ReadsNumber}
 use Rattle.winnow_core.specs.Runs.{Runs}
 use Rattle.winnow_bits.specs.BitsOfBytes.{BitsOfBytesRuns, LeavesWholeBytes}
 
--- The parser ran on the bits, and the bytes of which it read none are left.
+-- The parser ran on the bits, and the whole bytes among its remaining bits remain.
 pub record RanOnBits {S L O : Type 0} (reading : Reading ℕ L) (run : Runs S Bool O) (s : S)
     (i : Input ℕ) (o : O) (t : S) (j : Input ℕ) : Type 0 where
   pub behind : Input Bool

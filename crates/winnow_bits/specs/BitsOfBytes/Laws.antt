@@ -1,4 +1,4 @@
--- What holds of the runs of parsers of bits on the bits of bytes.
+-- Laws of `bits`.
 use Rattle.std.specs.Prelude.{◌≡◌, ◌+◌, ◌*◌, ◌-◌, ◌<◌, ◌≤◌, ℕ, suc, Bool, true, List, [], ◌∷◌, ◌++◌}
 use Rattle.std.specs.Prelude.{length, take, drop, Ok, Err}
 use Rattle.std.specs.List.{All}
@@ -28,7 +28,7 @@ use Rattle.winnow_core.specs.Stable.{IsFinal, IsStable}
 use Rattle.winnow_core.specs.Stable.Grows.{final_by}
 use Rattle.winnow_bits.specs.LongerBits.{longer_bits, need_final}
 
--- they leave an end, where those of the parser of bits do
+-- every call leaves a suffix, if the parser of bits does
 pub bits_of_bytes_ends : {S L O : Type 0} (reading : Reading ℕ L) (form : ErrorForm)
     (run : Runs S Bool O) → LeaveEnds (bits_reading reading) run
     → LeaveEnds reading (BitsOfBytesRuns reading form run)
@@ -134,7 +134,6 @@ module _ {L : Type 0} (reading : Reading ℕ L) (counts : CountsBytes reading) (
       (ap (λ m. i.left.place.passed + m * step) (omega arith)) (omega arith)
       ∙ sym (bytes_move reading counts n i.left.place between)
 
-  -- after the bits read, the bytes of which none was read are left
   pub leaves_whole : LeavesWholeBytes reading i k j
   leaves_whole = record {
     begun = take n i.left.tokens;
@@ -156,7 +155,7 @@ module _ {L : Type 0} (reading : Reading ℕ L) (counts : CountsBytes reading) (
     );
   }
 
--- what may follow bytes, of which the bits may follow their bits
+-- bytes that may follow bytes have bits that may follow their bits
 bits_may : {L : Type 0} (reading : Reading ℕ L) (bytes more : List ℕ)
     → FitsBehind (All (λ b. b < 256)) length most_bytes bytes more
     → (bits_follow reading).can_follow (bits_from bytes 0) (bits_of more)

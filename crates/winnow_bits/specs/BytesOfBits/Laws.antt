@@ -1,4 +1,4 @@
--- What holds of the runs of parsers of bytes on the bytes of bits.
+-- Laws of `bytes`.
 use Rattle.std.specs.Prelude.{◌≡◌, ◌+◌, ◌*◌, ◌/◌, ◌%◌, ◌<◌, ℕ, Bool, true, ◌++◌, length, Ok, nat_lt}
 use Rattle.std.specs.Prelude.{◌≤◌, List, Err}
 use Rattle.std.specs.List.{All}
@@ -41,7 +41,7 @@ module _ {L : Type 0} (reading : Reading ℕ L) (counts : CountsBytes reading) (
     );
   })
 
-  -- the bits of what is left of the bytes of bits are an end of the bits
+  -- the bits of the remaining bytes are a suffix of the bits
   pub bits_of_end : IsEndOf (bits_reading reading) (bits_input m 0) i
   bits_of_end =
       let d = ends.ends.dropped in
@@ -78,7 +78,7 @@ module _ {L : Type 0} (reading : Reading ℕ L) (counts : CountsBytes reading) (
         cut = ends.cut ∙ ap (λ s. s.cut) whole.status;
       }
 
--- they leave an end, where those of the parser of bytes do
+-- every call leaves a suffix, if the parser of bytes does
 pub bytes_of_bits_ends : {S L O : Type 0} (reading : Reading ℕ L) → CountsBytes reading
     → (form : ErrorForm) (run : Runs S ℕ O) → LeaveEnds reading run
     → LeaveEnds (bits_reading reading) (BytesOfBitsRuns (bits_reading reading) form run)
@@ -90,7 +90,7 @@ bytes_of_bits_ends reading counts form run ends s i answer t j
 bytes_of_bits_ends reading counts form run ends s i answer t j
     (inr (inr (cannot, kept, e, same))) = same_ends (bits_reading reading) i j same
 
--- the bytes after the rest of a byte begun
+-- the bytes after a partly consumed byte
 pub whole_behind : {L : Type 0} (reading : Reading ℕ L) (i j : Input ℕ) (offset bits : ℕ)
     → Moves reading i j offset bits → (offset + bits) % 8 ≡ 0 → bits < 8
     → All (λ b. b < 256) j.left.tokens → j.left.place.bits_read ≡ 0

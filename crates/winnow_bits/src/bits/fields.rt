@@ -1,4 +1,4 @@
-//! What takes of bits share.
+//! Helper functions of `take` and `pattern`.
 #![tactic(auto, using(streams::specs::Ends::ends_follow))]
 
 ghost use Rattle.std.specs.Prelude.{◌≡◌, ◌<◌, ◌≤◌, ◌+◌, length, true};
@@ -16,7 +16,7 @@ use streams::needed::Needed;
 use streams::stream::{Stream, StreamIsPartial};
 use winnow_core::short::short;
 
-/// The next `count` bits as a number, which stand in one byte.
+/// Takes the next `count` bits, which are in one byte, as a number.
 #[inline(always)]
 fn take_within_byte<I: ByteStream, O: BitOutput>(input: &mut Bits<I>, count: usize) -> O
     requires possible { (⟦<Bits<I> as Stream>⟧.view input.old).left.possible ≡ true }
@@ -34,7 +34,7 @@ fn take_within_byte<I: ByteStream, O: BitOutput>(input: &mut Bits<I>, count: usi
     }
 }
 
-/// The next `count` bits as a number, which begin in one byte and end in the next.
+/// Takes the next `count` bits, which start in one byte and end in the next, as a number.
 #[inline(always)]
 fn take_of_two_bytes<I: ByteStream, O: BitOutput>(input: &mut Bits<I>, count: usize) -> O
     requires possible { (⟦<Bits<I> as Stream>⟧.view input.old).left.possible ≡ true }
@@ -54,9 +54,9 @@ fn take_of_two_bytes<I: ByteStream, O: BitOutput>(input: &mut Bits<I>, count: us
     }
 }
 
-/// The next `count` bits as a number, which begin in one byte and end in a later one: what is left
-/// of the first byte, then whole bytes, then what is missing. Each turn of the loop takes as many,
-/// so that the compiler folds counts that it knows, and unrolls the loop.
+/// Takes the next `count` bits, which start in one byte and end in a later one, as a number: the
+/// rest of the first byte, whole bytes, and the bits of the last byte. Every iteration of the loop
+/// takes the same number of bits, so that the compiler folds constant counts and unrolls the loop.
 #[inline(always)]
 fn take_across_bytes<I: ByteStream, O: BitOutput>(input: &mut Bits<I>, count: usize) -> O
     requires possible { (⟦<Bits<I> as Stream>⟧.view input.old).left.possible ≡ true }
@@ -89,8 +89,8 @@ fn take_across_bytes<I: ByteStream, O: BitOutput>(input: &mut Bits<I>, count: us
     }
 }
 
-/// The next `count` bits as a number. Those of one byte or two take no loop, so that the compiler
-/// folds counts that it knows.
+/// Takes the next `count` bits as a number. Bits of one or two bytes need no loop, so that the
+/// compiler folds constant counts.
 #[inline(always)]
 fn take_number<I: ByteStream, O: BitOutput>(input: &mut Bits<I>, count: usize) -> O
     requires possible { (⟦<Bits<I> as Stream>⟧.view input.old).left.possible ≡ true }

@@ -4,7 +4,7 @@ ghost use Rattle.std.proofs.Common.{eqb-true, eq-eqb};
 ghost use Rattle.stream_bits.specs.BitList.{bit_number};
 
 /// The unsigned numbers that [`take`](crate::bits::take) and [`pattern`](crate::bits::pattern)
-/// answer.
+/// return.
 ///
 /// ```
 /// use winnow::binary::bits::BitOutput;
@@ -22,13 +22,13 @@ pub trait BitOutput: Copy + Default + PartialEq {
     /// How many bits a value holds.
     const WIDTH: usize;
 
-    /// Twice the number, plus the bit. The caller owes that this fits.
+    /// Returns twice the number, plus the bit. The result must fit.
     fn push_bit(self, bit: bool) -> Self
         requires fits { 2 * number self + bit_number bit < 2 ^ WIDTH }
         ensures { number result ≡ 2 * number self + bit_number bit };
 
-    /// The number with `count` bits after it, as `count` calls of `push_bit` make it. The caller
-    /// owes at most 8 bits, a number of that many bits, and that the result fits.
+    /// Appends `count` bits to the number, like `count` calls of `push_bit`. `count` must be at
+    /// most 8, `bits` must have at most `count` bits, and the result must fit.
     fn push_bits(self, bits: u8, count: usize) -> Self
         requires few { count ≤ 8 }
         requires below { bits < 2 ^ count }

@@ -1,4 +1,4 @@
-//! What runs of a parser of bits on bytes, and of bytes on bits, share.
+//! Helper functions of `bits` and `bytes`.
 #![tactic(auto, using(streams::specs::Ends::ends_follow))]
 
 ghost use Rattle.std.specs.Prelude.{◌≡◌, true};
@@ -14,7 +14,7 @@ use streams::byte_stream::ByteStream;
 use streams::needed::Needed;
 use streams::stream::Stream;
 
-/// The bytes of which no bit was read.
+/// Returns the remaining whole bytes.
 #[inline(always)]
 pub(crate) fn whole_bytes<I: ByteStream>(bits: Bits<I>) -> I
     requires { (⟦<Bits<I> as Stream>⟧.view bits).left.possible ≡ true }
@@ -31,7 +31,7 @@ pub(crate) fn whole_bytes<I: ByteStream>(bits: Bits<I>) -> I
     bytes
 }
 
-/// A need of bits in bytes.
+/// Converts a need of bits to one of bytes.
 #[inline]
 fn needed_in_bytes(needed: Needed) -> Needed
     ensures { need_of result ≡ need_in_bytes (need_of needed) }
@@ -42,7 +42,7 @@ fn needed_in_bytes(needed: Needed) -> Needed
     }
 }
 
-/// A need of bytes in bits.
+/// Converts a need of bytes to one of bits.
 #[inline]
 fn needed_in_bits(needed: Needed) -> Needed
     ensures { need_of result ≡ need_in_bits (need_of needed) }
@@ -56,7 +56,7 @@ fn needed_in_bits(needed: Needed) -> Needed
     }
 }
 
-/// An error of a parser of bits as one of the bytes.
+/// Converts an error of a parser of bits to one of bytes.
 #[inline]
 pub(crate) fn in_bytes<I: ByteStream, E: ParserError<Bits<I>> + ErrorConvert<F>, F: ParserError<I>>(
     input: &I,
@@ -70,7 +70,7 @@ pub(crate) fn in_bytes<I: ByteStream, E: ParserError<Bits<I>> + ErrorConvert<F>,
     }
 }
 
-/// An error of a parser of bytes as one of the bits.
+/// Converts an error of a parser of bytes to one of bits.
 #[inline]
 pub(crate) fn in_bits<I: ByteStream, E: ParserError<I> + ErrorConvert<F>, F: ParserError<Bits<I>>>(
     input: &Bits<I>,

@@ -1,5 +1,5 @@
--- What a choice claims: what the first does, and what the others do where it backtracks. What one
--- input decides of it is said by `or_else_says`.
+-- The specification of `alt` by grammars: that of the first branch, and that of the others if it
+-- backtracks. `or_else_says` specifies how its result depends on the input.
 use Rattle.std.specs.Prelude.{◌≡◌}
 use Rattle.grammars.specs.Grammar.{Either}
 use Rattle.grammars.specs.Grammar.Unique.{either_takes}

@@ -1,4 +1,4 @@
--- What a choice among the items of an array or a slice reads.
+-- The grammar of `alt` over the items of an array or a slice.
 use Rattle.std.specs.Prelude.{◌≡◌, ◌⊎◌, ⊤, List, [], ◌∷◌, ◌++◌, Ok, Err}
 use Rattle.std.specs.List.{All}
 use Rattle.std.proofs.Common.{refl, sym, ap, subst, inl, inr, ◌∙◌}
@@ -50,7 +50,7 @@ module _ {S T O : Type 0} (run : Runs S T O) (assert_kind : Kind) where
   one_branch a i answer t j (inr (b ∷ c ∷ cs, x, rest, ran, y, m, old, new, back, r, last)) =
       some_is_none (sym (same_others old))
 
-  -- one of more is that of the first, or else of the others
+  -- a call with two branches or more is one of the first, or of the others
   pub more_branches : (a b : S) (others : List S) (i : Input T) (answer : Answer O) (t : List S)
       (j : Input T) → AltSliceRuns run assert_kind (a ∷ b ∷ others) i answer t j
       → (y : S) × (ts : List S) × (t ≡ y ∷ ts)
@@ -133,7 +133,7 @@ module _ {S T O : Type 0} (run : Runs S T O) (assert_kind : Kind) where
         f.fails i k (y, ts) j is r;
   }
 
-  -- without a branch it fails by an assert error, and nothing stands
+  -- without branches it fails with an assert error, and nothing matches
   no_branch : {g : Grammar T O} → ((tokens : List T) (o : O) (rest : List T) → g tokens o rest → ⊥)
       → IsExact [] (AltSliceRuns run assert_kind) g
   no_branch nothing = record {
@@ -152,8 +152,8 @@ module _ {S T O : Type 0} (run : Runs S T O) (assert_kind : Kind) where
     };
   }
 
--- Branches of which each is exact and lets the next be tried, and asks for no memory where each is
--- so spared.
+-- Branches that are exact and whose errors are backtracks or out of memory. If `spares` holds, they
+-- are never out of memory.
 module _ {S T O : Type 0} (run : Runs S T O) (assert_kind : Kind)
     (grammar : S → Grammar T O) (known spares : S → Type 0)
     (exact : (p : S) → known p → IsExact p run (grammar p))

@@ -1,5 +1,4 @@
--- What a caller knows of one run of a choice that answered: of two branches, and by the nesting of
--- more.
+-- Lemmas for callers about one call of `alt` with two branches; calls with more are nested.
 use Rattle.std.specs.Prelude.{◌≡◌, Ok, Err, ◌⊎◌}
 use Rattle.std.proofs.Common.{ap, inl, inr}
 use Rattle.streams.specs.Input.{Input}

@@ -1,4 +1,4 @@
--- What holds of the runs of choices.
+-- Laws of `alt`.
 use Rattle.std.specs.Prelude.{◌≡◌, Err, ◌⊎◌, Ok, false}
 use Rattle.std.proofs.Common.{refl, subst, ap, ◌∙◌, inl, inr}
 use Rattle.streams.specs.Input.{Input, Remaining, back_at, is_end_of_back, is_end_of_trans}
@@ -16,7 +16,7 @@ use Rattle.grammars.specs.Grammar.Unique.{either_unique}
 use Rattle.winnow_core.specs.Exact.{FailsBy, IsExact, IsSoft}
 use Rattle.winnow_core.specs.Exact.Failed.{none_at_backtrack}
 
--- they leave an end, where those of the branches do
+-- every call leaves a suffix, if the branches do
 pub or_else_ends : {S1 S2 T L O : Type 0} (reading : Reading T L) (run : Runs S1 T O)
     (others : Runs S2 T O) → LeaveEnds reading run → LeaveEnds reading others
     → LeaveEnds reading (OrElse run others)

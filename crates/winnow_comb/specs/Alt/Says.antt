@@ -1,4 +1,4 @@
--- What a choice says that it does.
+-- The specification of `alt`.
 use Rattle.std.specs.Prelude.{◌≡◌, List, Ok, Err}
 use Rattle.std.proofs.Common.{refl, inl, inr, ◌∙◌}
 use Rattle.streams.specs.Input.{Input, back_at}

@@ -21,7 +21,8 @@ abbrev pub AltSliceRuns : {S T O : Type 0} → Runs S T O → Kind → Runs (Lis
 AltSliceRuns {S} {T} {O} run assert_kind s i answer t j =
     -- there is none
     ((s ≡ []) × (t ≡ []) × (answer ≡ Err assert_kind) × (j ≡ i))
-    -- the branch x answers, after some that backtracked: it does not backtrack, or it is the last
+    -- some branches backtracked, and the result is that of the branch x, which does not backtrack
+    -- or is the last
     ⊎ ((before : List S) × (x : S) × (rest : List S) × (ran : List S) × (y : S) × (m : Input T)
     × (s ≡ before ++ x ∷ rest) × (t ≡ ran ++ y ∷ rest) × Backtracked run i.left before i ran m
     × run x m answer y j × (answer ≡ Err backtrack → rest ≡ []))

@@ -1,4 +1,4 @@
--- What holds of the runs of a child whose errors backtrack.
+-- Laws of `backtrack_err`.
 use Rattle.std.specs.Prelude.{Ok, Err}
 use Rattle.std.proofs.Common.{inl, inr}
 use Rattle.streams.specs.Reading.{Reading}
@@ -10,7 +10,7 @@ use Rattle.winnow_comb.specs.BacktrackErr.{BacktrackErrRuns}
 use Rattle.winnow_core.specs.Stable.{IsFinalKind}
 use Rattle.winnow_core.specs.Stable.Grows.{Grows, final_by}
 
--- they leave an end, where those of the child do
+-- every call leaves a suffix, if the child does
 pub backtrack_err_ends : {S T L O : Type 0} (reading : Reading T L) (run : Runs S T O)
     → LeaveEnds reading run → LeaveEnds reading (BacktrackErrRuns run)
 backtrack_err_ends reading run ends s i answer t j (inl (o, r, e)) = ends s i (Ok o) t j r
@@ -23,7 +23,7 @@ backtrack_of_final (incomplete need) final = final
 backtrack_of_final memory final = final
 
 module _ {T : Type 0} {following : Following T} where
-  -- they grow where those of the child do
+  -- stable under longer input, if the child is
   pub backtrack_err_grows : {S O : Type 0} {run : Runs S T O} → Grows following run
       → Grows following (BacktrackErrRuns run)
   backtrack_err_grows child more flag s i answer t j may final (inl (o, r, e)) =

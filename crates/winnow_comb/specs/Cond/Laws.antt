@@ -1,4 +1,4 @@
--- What holds of the runs of a child on a condition.
+-- Laws of `cond`.
 use Rattle.std.specs.Prelude.{Ok, Err, ◌≡◌, ◌⊎◌, Bool, true, false, List, [], Option, Some, None}
 use Rattle.std.proofs.Common.{inl, inr, refl, sym, ap, ◌∙◌}
 use Rattle.streams.specs.Reading.{Reading}
@@ -17,7 +17,7 @@ use Rattle.stream_errors.specs.Form.Known.{at_kind, ok_is_err, same_kind, same_o
 use Rattle.winnow_core.specs.Exact.{FailsBy, IsExact}
 use Rattle.winnow_core.specs.States.{pair_is}
 
--- they leave an end, where those of the child do
+-- every call leaves a suffix, if the child does
 pub cond_ends : {S T L O : Type 0} (reading : Reading T L) (run : Runs S T O)
     → LeaveEnds reading run → LeaveEnds reading (CondRuns run)
 cond_ends reading run ends s i answer t j (inl (o, holds, r, e), kept) = ends s.0 i (Ok o) t.0 j r
@@ -27,7 +27,7 @@ cond_ends reading run ends s i answer t j (inr (inr (fails, e, same_state, same)
     same_ends reading i j same
 
 module _ {T : Type 0} {following : Following T} where
-  -- they grow where those of the child do
+  -- stable under longer input, if the child is
   pub cond_grows : {S O : Type 0} {run : Runs S T O} → Grows following run
       → Grows following (CondRuns run)
   cond_grows child more flag s i answer t j may final (inl (o, holds, r, e), kept) =
@@ -65,7 +65,7 @@ when_unique {T} {O} condition {g} unique = record {
         true_is_false (sym holds ∙ fails)
     one tokens rest other o p (inr (fails, e, same)) (inr (never, d, is)) = same ∙ sym is
 
--- what is run on a condition, without what is said of the condition after it
+-- the cases of `cond`, without the state of the condition after the call
 abbrev CondWay : {S T O : Type 0} → Runs S T O → S × Bool → Input T → Answer (Option O) → S
     → Input T → Type 0
 CondWay {O = O} run s i answer t j =

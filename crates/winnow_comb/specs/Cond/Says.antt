@@ -1,4 +1,4 @@
--- What a part on a condition says that it does.
+-- The specification of `cond`.
 use Rattle.std.specs.Prelude.{Bool, true, false, Option, Some, None, Ok, Err}
 use Rattle.std.proofs.Common.{sym, subst, inl, inr}
 use Rattle.streams.specs.Input.{Input}
@@ -14,11 +14,11 @@ use Rattle.winnow_core.specs.Then.Steps.{takes, takes_hold, takes_meet, where_to
 use Rattle.winnow_comb.specs.Cond.{CondRuns}
 use Rattle.winnow_comb.specs.Opt.Laws.{AlikeOptions}
 
--- What the part took is there.
+-- Wraps the output in `Some`.
 abbrev pub is_there : {T O : Type 0} → Next T O (Option O)
 is_there = where_took (λ o. takes (Some o))
 
--- The part is run where the condition holds, and else nothing is taken.
+-- The child if the condition is true; otherwise `None` without consuming input.
 abbrev pub DoesWhen : {T O : Type 0} → Bool → Does T O → Does T (Option O)
 DoesWhen true does = Then does is_there
 DoesWhen false does = at_start (takes None)

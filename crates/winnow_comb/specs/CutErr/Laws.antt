@@ -1,4 +1,4 @@
--- What holds of the runs of a child whose errors cut.
+-- Laws of `cut_err`.
 use Rattle.std.specs.Prelude.{Ok, Err, ◌≡◌, ◌⊎◌, false}
 use Rattle.std.proofs.Common.{inl, inr, refl, ap, ◌∙◌}
 use Rattle.streams.specs.Reading.{Reading}
@@ -16,7 +16,7 @@ use Rattle.stream_errors.specs.Form.Known.{at_kind, at_output, ok_is_err, same_k
 use Rattle.winnow_core.specs.Exact.{FailsBy, IsExact}
 use Rattle.winnow_core.specs.Exact.Allowed.{Allowed, cut_allowed, memory_allowed}
 
--- they leave an end, where those of the child do
+-- every call leaves a suffix, if the child does
 pub cut_err_ends : {S T L O : Type 0} (reading : Reading T L) (run : Runs S T O)
     → LeaveEnds reading run → LeaveEnds reading (CutErrRuns run)
 cut_err_ends reading run ends s i answer t j (inl (o, r, e)) = ends s i (Ok o) t j r
@@ -30,7 +30,7 @@ cut_of_final (incomplete need) final = final
 cut_of_final memory final = final
 
 module _ {T : Type 0} {following : Following T} where
-  -- they grow where those of the child do
+  -- stable under longer input, if the child is
   pub cut_err_grows : {S O : Type 0} {run : Runs S T O} → Grows following run
       → Grows following (CutErrRuns run)
   cut_err_grows child more flag s i answer t j may final (inl (o, r, e)) =

@@ -1,4 +1,4 @@
--- What a part whose errors cut says that it does.
+-- The specification of `cut_err`.
 use Rattle.std.specs.Prelude.{◌≡◌, List, Ok, Err}
 use Rattle.std.proofs.Common.{inl, inr}
 use Rattle.streams.specs.Input.{Input}

@@ -1,4 +1,4 @@
--- What holds of the runs of the parser that takes nothing.
+-- Laws of `empty`.
 use Rattle.winnow_comb.specs.Empty.{EmptyRuns}
 use Rattle.winnow_core.specs.Stable.Longer.{same_more}
 use Rattle.winnow_core.specs.Stable.Grows.{Stays}
@@ -10,7 +10,7 @@ use Rattle.stream_errors.specs.Form.Known.{ok_is_err, same_ok}
 use Rattle.winnow_core.specs.Exact.{Backtracks, IsExact}
 use Rattle.winnow_core.specs.Runs.{Keeps}
 
--- on a cut input, runs of a final answer are runs on each longer one
+-- a final result on partial input is also a result on every longer input
 pub empty_stays : {T : Type 0} → Stays (EmptyRuns {T = T})
 empty_stays more flag i answer j is_cut final (e, same) = (e, same_more more flag same)
 

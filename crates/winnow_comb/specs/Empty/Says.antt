@@ -1,4 +1,4 @@
--- What the parser that takes nothing says that it does.
+-- The specification of `empty`.
 use Rattle.std.specs.Prelude.{⊤}
 use Rattle.winnow_core.specs.Outcome.{gave}
 use Rattle.winnow_core.specs.Runs.{Keeps}

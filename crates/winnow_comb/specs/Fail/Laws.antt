@@ -1,4 +1,4 @@
--- What holds of the runs of the parser that fails.
+-- Laws of `fail`.
 use Rattle.winnow_comb.specs.Fail.{FailRuns}
 use Rattle.winnow_core.specs.Stable.Longer.{same_more}
 use Rattle.winnow_core.specs.Stable.Grows.{Stays}
@@ -9,7 +9,7 @@ use Rattle.stream_errors.specs.Form.Known.{ok_is_err, same_kind}
 use Rattle.winnow_core.specs.Exact.{Backtracks, IsExact}
 use Rattle.winnow_core.specs.Runs.{Keeps}
 
--- on a cut input, runs of a final answer are runs on each longer one
+-- a final result on partial input is also a result on every longer input
 pub fail_stays : {T O : Type 0} → Stays (FailRuns {T = T} {O = O})
 fail_stays more flag i answer j is_cut final (e, same) = (e, same_more more flag same)
 

@@ -1,4 +1,4 @@
--- What the parser that fails says that it does.
+-- The specification of `fail`.
 use Rattle.std.specs.Prelude.{◌≡◌, ⊤}
 use Rattle.winnow_core.specs.Outcome.{gave}
 use Rattle.winnow_core.specs.Runs.{Keeps}

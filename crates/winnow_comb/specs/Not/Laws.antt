@@ -1,4 +1,4 @@
--- What holds of the runs of a child that is not to succeed.
+-- Laws of `not`.
 use Rattle.std.specs.Prelude.{Ok, Err, ◌≡◌, ◌⊎◌, ⊤, false, []}
 use Rattle.std.proofs.Common.{inl, inr, refl, sym, ap, ◌∙◌}
 use Rattle.streams.specs.Kind.{backtrack, Kind, memory}
@@ -17,7 +17,7 @@ use Rattle.winnow_core.specs.Exact.{FailsBy, IsExact, IsSoft}
 use Rattle.winnow_core.specs.Exact.Allowed.{Allowed, back_allowed}
 use Rattle.winnow_core.specs.Exact.Failed.{none_at_backtrack}
 
--- they leave an end, where those of the child do
+-- every call leaves a suffix, if the child does
 pub not_ends : {S T L O : Type 0} (reading : Reading T L) (run : Runs S T O)
     → LeaveEnds reading run → LeaveEnds reading (NotRuns run)
 not_ends reading run ends s i answer t j (inl (o, m, r, e, same)) =
@@ -28,7 +28,7 @@ not_ends reading run ends s i answer t j (inr (inr (k, m, r, other, e, same))) =
     back_ends reading i m j same (ends s i (Err k) t m r)
 
 module _ {T : Type 0} {following : Following T} where
-  -- they grow where those of the child do
+  -- stable under longer input, if the child is
   pub not_grows : {S O : Type 0} {run : Runs S T O} → Grows following run
       → Grows following (NotRuns run)
   not_grows child more flag s i answer t j may final (inl (o, m, r, e, same)) =

@@ -1,4 +1,4 @@
--- What a part that is not to stand says that it does.
+-- The specification of `not`.
 use Rattle.std.specs.Prelude.{◌≡◌, ⊤, Ok, Err}
 use Rattle.std.proofs.Common.{refl, inl, inr}
 use Rattle.streams.specs.Input.{Input}

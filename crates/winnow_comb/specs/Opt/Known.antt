@@ -1,4 +1,4 @@
--- What a caller knows of one run of a child that may be left out, where it answered.
+-- Lemmas for callers about one call of `opt`.
 use Rattle.std.specs.Prelude.{◌≡◌, Option, Some, None, Ok, Err, ◌⊎◌}
 use Rattle.std.specs.Prelude.{MatchOption}
 use Rattle.std.proofs.Common.{refl, inl, inr}

@@ -1,4 +1,4 @@
--- What holds of the runs of a child that may be left out.
+-- Laws of `opt`.
 use Rattle.std.specs.Prelude.{Ok, Err, ◌≡◌, ◌⊎◌, Option, Some, None, ⊤, false}
 use Rattle.std.proofs.Common.{inl, inr, refl, ap, ◌∙◌}
 use Rattle.streams.specs.Kind.{backtrack, Kind, memory}
@@ -17,7 +17,7 @@ use Rattle.stream_errors.specs.Form.Known.{at_kind, ok_is_err, same_ok, same_kin
 use Rattle.winnow_core.specs.Exact.{FailsBy, IsExact, IsSoft}
 use Rattle.winnow_core.specs.Exact.Failed.{none_at_backtrack}
 
--- they leave an end, where those of the child do
+-- every call leaves a suffix, if the child does
 pub opt_ends : {S T L O : Type 0} (reading : Reading T L) (run : Runs S T O)
     → LeaveEnds reading run → LeaveEnds reading (OptRuns run)
 opt_ends reading run ends s i answer t j (inl (o, r, e)) = ends s i (Ok o) t j r
@@ -26,7 +26,7 @@ opt_ends reading run ends s i answer t j (inr (inl (m, r, e, same))) =
 opt_ends reading run ends s i answer t j (inr (inr (k, r, other, e))) = ends s i (Err k) t j r
 
 module _ {T : Type 0} {following : Following T} where
-  -- they grow where those of the child do
+  -- stable under longer input, if the child is
   pub opt_grows : {S O : Type 0} {run : Runs S T O} → Grows following run
       → Grows following (OptRuns run)
   opt_grows child more flag s i answer t j may final (inl (o, r, e)) =
@@ -39,7 +39,7 @@ module _ {T : Type 0} {following : Following T} where
       let (q, still) = child more flag s i (Err k) t j may (final_by (Err k) e final) r in
       (inr (inr (k, q, other, e)), still)
 
--- Both are there, and alike, or none is.
+-- Both are `None`, or both are `Some` of equal outputs.
 abbrev pub AlikeOptions : {O : Type 0} → (O → O → Type 0) → Option O → Option O → Type 0
 AlikeOptions alike None None = ⊤
 AlikeOptions alike None (Some p) = ⊥

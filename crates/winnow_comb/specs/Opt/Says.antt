@@ -1,4 +1,4 @@
--- What a part that may be left out says that it does.
+-- The specification of `opt`.
 use Rattle.std.specs.Prelude.{Option, Some, None, Ok, Err}
 use Rattle.std.proofs.Common.{inl, inr}
 use Rattle.streams.specs.Input.{Input}

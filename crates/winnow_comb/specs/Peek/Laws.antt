@@ -1,4 +1,4 @@
--- What holds of the runs of a child whose run consumes nothing.
+-- Laws of `peek`.
 use Rattle.streams.specs.Kind.{Kind}
 use Rattle.streams.specs.Reading.{Reading}
 use Rattle.streams.specs.Following.{Following}
@@ -13,14 +13,14 @@ use Rattle.grammars.specs.Grammar.{Ahead, Grammar}
 use Rattle.grammars.specs.Grammar.Unique.{ahead_unique}
 use Rattle.winnow_core.specs.Exact.{FailsBy, IsExact}
 
--- they leave an end, where those of the child do
+-- every call leaves a suffix, if the child does
 pub peek_ends : {S T L O : Type 0} (reading : Reading T L) (run : Runs S T O)
     → LeaveEnds reading run → LeaveEnds reading (PeekRuns run)
 peek_ends reading run ends s i answer t j (m, r, same) =
     back_ends reading i m j same (ends s i answer t m r)
 
 module _ {T : Type 0} {following : Following T} where
-  -- they grow where those of the child do
+  -- stable under longer input, if the child is
   pub peek_grows : {S O : Type 0} {run : Runs S T O} → Grows following run
       → Grows following (PeekRuns run)
   peek_grows child more flag s i answer t j may final (m, r, same) =

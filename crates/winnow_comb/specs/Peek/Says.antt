@@ -1,4 +1,4 @@
--- What a part that is only looked at says that it does.
+-- The specification of `peek`.
 use Rattle.std.specs.Prelude.{Ok, Err}
 use Rattle.std.proofs.Common.{refl}
 use Rattle.streams.specs.Input.{Input}
@@ -14,7 +14,7 @@ use Rattle.winnow_core.specs.Then.Steps.{start_holds, start_meets, takes_none, t
 use Rattle.winnow_core.specs.Then.Steps.{takes_none_meet}
 use Rattle.winnow_comb.specs.Peek.{PeekRuns}
 
--- What the part does, and nothing is taken.
+-- The outcome of the child, without consuming input.
 abbrev pub looked_at : {T O : Type 0} → Next T O O
 looked_at = record {
   on_took = takes_none;

@@ -1,5 +1,5 @@
--- What a caller knows of one run of two children with one between them. Of a failure `three_err` of
--- InOrder.Known says what is known.
+-- Lemmas for callers about one call of `separated_pair`. For errors see `three_err` of
+-- InOrder.Known.
 use Rattle.std.specs.Prelude.{Ok}
 use Rattle.std.proofs.Common.{sym, subst}
 use Rattle.streams.specs.Input.{Input}

@@ -1,5 +1,4 @@
--- What a caller knows of one run of a child before one whose output is let go. Of a failure
--- `both_err` of InOrder.Known says what is known.
+-- Lemmas for callers about one call of `terminated`. For errors see `both_err` of InOrder.Known.
 use Rattle.std.specs.Prelude.{Ok}
 use Rattle.std.proofs.Common.{sym, subst}
 use Rattle.streams.specs.Input.{Input}

@@ -1,4 +1,4 @@
-//! Combinators of one parser, and parsers that take nothing.
+//! Combinators of one parser, and parsers that consume no input.
 ghost use Rattle.std.specs.Prelude.{◌≡◌};
 ghost use Rattle.stream_errors.specs.Form.{answer_by};
 ghost use Rattle.streams.specs.Input.{IsEndOf};
@@ -16,10 +16,10 @@ use std::marker::PhantomData;
 use stream_errors::parser_error::ParserError;
 use streams::stream::Stream;
 
-/// A parser of `parser` or of nothing.
+/// Runs `parser` and returns `None` if it backtracks.
 ///
-/// Where `parser` backtracks the output is `None`, and the input is back at the start. Its other
-/// errors, cut, incomplete and out of memory, are handed on, with the input as it left it.
+/// If it backtracks, the input is reset. Its other errors (cut, incomplete and out of memory) are
+/// returned unchanged, with the input where `parser` left it.
 ///
 /// ```
 /// assert_eq!(rt; opt('a').parse_peek("ab"), Ok::<_, EmptyError>(("b", Some('a'))));
@@ -39,10 +39,11 @@ pub fn opt<Input, Output, Error, ParseNext>(
     }
 }
 
-/// A parser that runs `parser` only where `condition` holds.
+/// Runs `parser` if `condition` is true.
 ///
-/// Where it does not hold the output is `None`, and nothing is run. Where it holds the output is
-/// that of `parser`, and each of its errors is handed on, with the input as it left it.
+/// If `condition` is false it returns `None`, and `parser` is not run. Otherwise it returns the
+/// output of `parser`; errors of `parser` are returned unchanged, with the input where `parser`
+/// left it.
 ///
 /// ```
 /// assert_eq!(rt; cond(true, 'a').parse_peek("ab"), Ok::<_, EmptyError>(("b", Some('a'))));
@@ -65,10 +66,9 @@ pub fn cond<Input, Output, Error, ParseNext>(
     }
 }
 
-/// A parser that answers as `parser` does and consumes nothing. Known as `look_ahead` and `rewind`
-/// too.
+/// Runs `parser` without consuming input. Known as `look_ahead` and `rewind` too.
 ///
-/// Whatever `parser` answers, an output or an error of any kind, the input is back at the start.
+/// The input is reset whatever `parser` returns, an output or an error of any kind.
 ///
 /// ```
 /// assert_eq!(rt; peek('a').parse_peek("ab"), Ok::<_, EmptyError>(("ab", 'a')));
@@ -87,11 +87,11 @@ pub fn peek<Input, Output, Error, ParseNext>(
     }
 }
 
-/// A parser that succeeds where `parser` does not, and consumes nothing.
+/// Succeeds if `parser` backtracks, without consuming input.
 ///
-/// Where `parser` backtracks the output is `()`, and where it succeeds this backtracks. Its other
-/// errors, cut, incomplete and out of memory, are handed on. In each case the input is back at
-/// the start.
+/// It returns `()` if `parser` backtracks, and backtracks if `parser` succeeds. The other errors of
+/// `parser` (cut, incomplete and out of memory) are returned unchanged. In every case the input is
+/// reset.
 ///
 /// ```
 /// assert_eq!(rt; not('a').parse_peek("b"), Ok::<_, EmptyError>(("b", ())));
@@ -114,10 +114,10 @@ pub fn not<Input, Output, Error, ParseNext>(
     }
 }
 
-/// A parser that cuts where `parser` backtracks, so that no other branch is tried.
+/// Turns a backtrack of `parser` into a cut, so that no other branch is tried.
 ///
-/// An output is handed on, and so is an error that cuts, is incomplete or is out of memory. The
-/// input stands where `parser` left it.
+/// Outputs and other errors (cut, incomplete and out of memory) are returned unchanged. The input
+/// is left where `parser` left it.
 ///
 /// Known as `cut` in nom.
 ///
@@ -141,10 +141,10 @@ pub fn cut_err<Input, Output, Error, ParseNext>(
     }
 }
 
-/// A parser that backtracks where `parser` cuts, so that another branch may be tried.
+/// Turns a cut of `parser` into a backtrack, so that another branch may be tried.
 ///
-/// An output is handed on, and so is an error that backtracks, is incomplete or is out of memory.
-/// The input stands where `parser` left it.
+/// Outputs and other errors (backtrack, incomplete and out of memory) are returned unchanged. The
+/// input is left where `parser` left it.
 ///
 /// ```
 /// let mut input = "b";
@@ -166,7 +166,7 @@ pub fn backtrack_err<Input, Output, Error, ParseNext>(
     }
 }
 
-/// Succeeds, and consumes nothing. Known as `value` and `success` too.
+/// Succeeds without consuming input. Known as `value` and `success` too.
 ///
 /// ```
 /// let mut input = "a";
@@ -182,7 +182,7 @@ pub fn empty<Input: Stream, Error: ParserError<Input>>(_input: &mut Input) -> Re
     Ok(())
 }
 
-/// Backtracks, and consumes nothing. Known as `unexpected` too.
+/// Backtracks without consuming input. Known as `unexpected` too.
 ///
 /// ```
 /// let mut input = "a";

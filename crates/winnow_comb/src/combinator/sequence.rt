@@ -10,9 +10,9 @@ ghost use Rattle.winnow_comb.specs.Terminated.{terminated_ignored, terminated_pa
 use crate::combinator::impls::{Delimited, Preceded, SeparatedPair, Terminated};
 use std::marker::PhantomData;
 
-/// A parser of `ignored` and then `parser`, with the output of `parser`.
+/// Runs `ignored` and then `parser`, and returns the output of `parser`.
 ///
-/// The first failure is handed on, with the input as the failing parser left it.
+/// The first error is returned unchanged, with the input where the failing parser left it.
 ///
 /// ```
 /// assert_eq!(rt; preceded('(', 'a').parse_peek("(a)"), Ok::<_, EmptyError>((")", 'a')));
@@ -39,9 +39,9 @@ pub fn preceded<Input, Ignored, Output, Error, IgnoredParser, ParseNext>(
     }
 }
 
-/// A parser of `parser` and then `ignored`, with the output of `parser`.
+/// Runs `parser` and then `ignored`, and returns the output of `parser`.
 ///
-/// The first failure is handed on, with the input as the failing parser left it.
+/// The first error is returned unchanged, with the input where the failing parser left it.
 ///
 /// ```
 /// assert_eq!(rt; terminated('a', ';').parse_peek("a;b"), Ok::<_, EmptyError>(("b", 'a')));
@@ -68,9 +68,9 @@ pub fn terminated<Input, Output, Ignored, Error, ParseNext, IgnoredParser>(
     }
 }
 
-/// A parser of `first`, `separator` and `second`, with the outputs of the first and the last.
+/// Runs `first`, `separator` and `second`, and returns the outputs of `first` and `second`.
 ///
-/// The first failure is handed on, with the input as the failing parser left it.
+/// The first error is returned unchanged, with the input where the failing parser left it.
 ///
 /// Known as `separated_pair` in nom.
 ///
@@ -100,9 +100,9 @@ pub fn separated_pair<Input, Output1, Sep, Output2, Error, Parser1, SepParser, P
     }
 }
 
-/// A parser of `ignored1`, `parser` and `ignored2`, with the output of `parser`.
+/// Runs `ignored1`, `parser` and `ignored2`, and returns the output of `parser`.
 ///
-/// The first failure is handed on, with the input as the failing parser left it.
+/// The first error is returned unchanged, with the input where the failing parser left it.
 ///
 /// Known as `between` in other libraries.
 ///

@@ -7,8 +7,8 @@ use stream_errors::parser_error::ParserError;
 use streams::stream::Stream;
 use winnow_core::parser::Parser;
 
-/// A choice among the items of an array answers as the first that does not backtrack, or as the
-/// last one, and each is run from the same place.
+/// [`alt`](crate::combinator::alt) over an array returns the result of the first item that does not
+/// backtrack, or of the last. Every item is run from the same position.
 pub fn alt_of_an_array_answers_as_the_first<
     const N: usize,
     P: Parser<I, O, E>,
@@ -20,8 +20,8 @@ pub fn alt_of_an_array_answers_as_the_first<
         (⟦<[P; N] as Alt<I, O, E>>⟧.meaning E.form) }
 {}
 
-/// A choice among the items of a slice answers as the first that does not backtrack, or as the last
-/// one, and each is run from the same place.
+/// [`alt`](crate::combinator::alt) over a slice returns the result of the first item that does not
+/// backtrack, or of the last. Every item is run from the same position.
 pub fn alt_of_a_slice_answers_as_the_first<
     'a,
     P: Parser<I, O, E> + 'a,

@@ -1,4 +1,4 @@
--- What a parser whose output another parser reads says that it does.
+-- The specification of `and_then`.
 use Rattle.std.specs.Prelude.{◌≡◌, ℕ, false, List, Option, Ok, Err}
 use Rattle.std.proofs.Common.{refl, sym, subst, inl, inr}
 use Rattle.streams.specs.Input.{Input}
@@ -11,7 +11,7 @@ use Rattle.winnow_core.specs.Runs.{Meaning}
 use Rattle.winnow_core.specs.Says.{Lawful, Said, Says}
 use Rattle.winnow_core.specs.Settles.Says.{SettlesOne, settle_says, settles_said}
 
--- Outputs that are alike are one input.
+-- Equal outputs are the same input.
 abbrev pub OneInput : {O V : Type 0} → (O → Input V) → (O → O → Type 0) → Type 0
 OneInput {O} view alike = (o p : O) → alike o p → view o ≡ view p
 
@@ -30,7 +30,7 @@ and_then_says view p q = settle_says (λ form o u. WithinDoes view q.does form o
     (λ form o k. WithinDoes view q.does form o (Err k))
     (p.premise × OneInput view p.alike × q.premise) q.alike p
 
--- an error that is like an output wants memory
+-- if an error and an output are both possible, the error is out of memory
 ok_err : {T O : Type 0} (also : O → O → Type 0) (o : O) (k : Kind) (rest end : List T)
     → Alike also (outcome_of (Ok o) rest) (outcome_of (Err k) end) → k ≡ memory
 ok_err also o backtrack rest end is = absurd is
@@ -45,7 +45,7 @@ err_ok also o cut rest end is = absurd is
 err_ok also o (incomplete need) rest end is = absurd is
 err_ok also o memory rest end is = refl
 
--- kinds of which no more is asked for
+-- the kinds of two errors other than `Incomplete`
 err_err : {T O : Type 0} (also : O → O → Type 0) (k l : Kind) (rest end : List T)
     → ((need : Option ℕ) → k ≡ incomplete need → ⊥)
     → Alike also (outcome_of (Err k) rest) (outcome_of (Err l) end) → OneKind k l

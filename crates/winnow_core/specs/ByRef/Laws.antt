@@ -1,4 +1,4 @@
--- What holds of the runs of the parser after a reference.
+-- Laws of `by_ref`.
 use Rattle.streams.specs.Kind.{Kind}
 use Rattle.streams.specs.Reading.{Reading}
 use Rattle.streams.specs.Following.{Following}
@@ -11,13 +11,13 @@ use Rattle.grammars.specs.Grammar.{Grammar}
 use Rattle.winnow_core.specs.Exact.{FailsBy, IsExact}
 use Rattle.winnow_core.specs.States.{pair_is}
 
--- they leave an end, where those of the parser do
+-- every call leaves a suffix, if the parser does
 pub by_ref_ends : {S T L O : Type 0} (reading : Reading T L) (run : Runs S T O)
     → LeaveEnds reading run → LeaveEnds reading (ByRefRuns run)
 by_ref_ends reading run child s i answer t j (r, kept) = child s.0 i answer t.0 j r
 
 module _ {T : Type 0} {following : Following T} where
-  -- they grow where those of the child do
+  -- stable under longer input, if the child is
   pub by_ref_grows : {S O : Type 0} {run : Runs S T O} → Grows following run
       → Grows following (ByRefRuns run)
   by_ref_grows child more flag s i answer t j may final (r, kept) =

@@ -1,4 +1,4 @@
--- What a parser whose errors ask for no more says that it does.
+-- The specification of `complete_err`.
 use Rattle.std.specs.Prelude.{◌≡◌, List, Err}
 use Rattle.std.proofs.Common.{refl, ap, ◌∙◌}
 use Rattle.streams.specs.Kind.{Kind, backtrack, cut, incomplete, memory}
@@ -12,7 +12,7 @@ use Rattle.winnow_core.specs.Then.{ComesOf, Next, Then, then_law}
 use Rattle.winnow_core.specs.Then.Steps.{backs_hold, backs_meet, backs_on, cuts_hold, cuts_meet}
 use Rattle.winnow_core.specs.Then.Steps.{cuts_on, takes, takes_hold, takes_meet}
 
--- Where the part asks for more, it backs.
+-- Turns `Incomplete` into a backtrack.
 abbrev pub completes : {T O : Type 0} → Next T O O
 completes = record {
   on_took = takes;

@@ -1,4 +1,4 @@
--- What one context leaves of the kind of an error.
+-- Lemmas about the kind of an error after a context is added.
 use Rattle.std.specs.Prelude.{◌≡◌, ◌⊎◌, IsSome, None}
 use Rattle.std.proofs.Common.{inl, inr, refl, subst}
 use Rattle.streams.specs.Kind.{ErrorForm, Kind}
@@ -8,7 +8,8 @@ use Rattle.winnow_core.specs.Context.{ContextBecomes}
 use Rattle.winnow_core.specs.Stable.{IsFinalKind}
 use Rattle.winnow_core.specs.MakesError.Laws.{KeepsFinal}
 
--- An incomplete error keeps none, and stays; each other keeps it, or was refused memory.
+-- `Incomplete` stores no context and is unchanged. Other kinds store it, or their allocation
+-- failed.
 abbrev pub Told : Keeping → Kind → Kind → Type 0
 Told keeping k l =
     (IsSome (need_of_kind k) × (l ≡ k)) ⊎ ((need_of_kind k ≡ None) × KindGiven keeping k l)
@@ -19,7 +20,7 @@ pub is_told : (form : ErrorForm) (keeping : Keeping) (k l : Kind) → KeepsConte
 is_told form keeping k l (inl (is, some, same)) = inl (some, same)
 is_told form keeping k l (inr given) = inr given
 
--- an error that was told a clone
+-- an error to which a clone is added
 pub becomes_told : {C : Type 0} (IsClone : C → C → Type 0) (ClonesAlways : C → Type 0)
     (context : C) (gives : C → Keeping) (copy : C) (k l : Kind) → IsClone context copy
     → Told (gives copy) k l
@@ -35,7 +36,7 @@ pub given_final : (keeping : Keeping) (k l : Kind) → KindGiven keeping k l →
 given_final keeping k l (inl (kept, is)) final = subst IsFinalKind is final
 given_final keeping k l (inr (refused, is)) final = absurd (subst IsFinalKind is final)
 
--- a kind that is told is final where what it becomes is
+-- if the kind with a context is final, so is the kind without
 pub context_keeps : {C : Type 0} (IsClone : C → C → Type 0) (ClonesAlways : C → Type 0)
     → KeepsFinal (ContextBecomes IsClone ClonesAlways)
 context_keeps IsClone ClonesAlways c k l d (same, inl (some, is)) final =

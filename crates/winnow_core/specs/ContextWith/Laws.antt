@@ -1,4 +1,4 @@
--- What holds of the runs of a parser whose errors are told by a closure.
+-- Laws of `context_with`.
 use Rattle.std.proofs.Common.{subst, inl, inr, sym}
 use Rattle.std.specs.Prelude.{List, [], ◌∷◌, Option}
 use Rattle.std.specs.List.{FoldsTo}

@@ -44,7 +44,7 @@ module _ {S T O U : Type 0} {run : Runs S T O} {s : S} {alike : O → O → Type
           (err_not_memory f nb) r q in
           (both_err also e f like, place)
 
--- outputs that are alike, between the same places
+-- equal outputs with the same span
 abbrev pub AlikeBetween : {O : Type 0} → (O → O → Type 0) → O × Range ℕ → O × Range ℕ → Type 0
 AlikeBetween alike u v = alike u.0 v.0 × (u.1 ≡ v.1)
 

@@ -1,4 +1,4 @@
--- What decides where an input stands, and what answers are.
+-- Lemmas: when inputs and results are the same.
 use Rattle.std.specs.Prelude.{◌≡◌, List, [], ◌∷◌, ◌++◌, Ok, Err}
 use Rattle.std.proofs.Common.{refl, sym, ap, subst, ◌∙◌, arith}
 use Rattle.streams.specs.Equal.{same_first, same_others}
@@ -7,7 +7,6 @@ use Rattle.streams.specs.Reading.{Reading, units-nil}
 use Rattle.stream_errors.specs.Form.{Answer}
 use Rattle.winnow_core.specs.Decided.{AlikeAnswers, NotMemory}
 
--- two beginnings of as many units are the same
 pub same_front : {T L : Type 0} (reading : Reading T L) (front other rest more : List T)
     → front ++ rest ≡ other ++ more → reading.units front ≡ reading.units other → front ≡ other
 same_front reading [] [] rest more e u = refl
@@ -23,7 +22,6 @@ same_front {T} reading (x ∷ xs) (y ∷ ys) rest more e u =
     (omega (arith, same, reading.units_add (y ∷ []) xs, reading.units_add (y ∷ []) ys)) in
     ap (λ z. z ∷ xs) first ∙ ap (λ l. y ∷ l) others
 
--- two outputs that are alike
 pub both_ok : {O : Type 0} (alike : O → O → Type 0) {a b : Answer O} {o p : O} → a ≡ Ok o
     → b ≡ Ok p → alike o p → AlikeAnswers alike a b
 both_ok alike {b = b} {o = o} e f like =
@@ -37,17 +35,16 @@ both_err alike {b = b} {k = k} e f like =
     subst (λ x. AlikeAnswers alike x b) (sym e)
     (subst (λ x. AlikeAnswers alike (Err k) x) (sym f) like)
 
--- an output is no want of memory
 pub ok_not_memory : {O : Type 0} {o : O} → NotMemory {O = O} (Ok o)
 ok_not_memory e = cc
 
--- another kind is none
+-- if the results of a child are not out of memory, neither is its error
 pub err_not_memory : {O U : Type 0} {answer : Answer U} {k : Kind} → answer ≡ Err k
     → NotMemory answer → NotMemory {O = O} (Err k)
 err_not_memory {answer = answer} {k = k} e other f =
     let same : k ≡ memory = cc in other (e ∙ ap Err same)
 
--- answers that are alike are so where more is alike
+-- equality of results for a weaker equality of outputs
 pub widened : {O : Type 0} (alike also : O → O → Type 0) → ((o p : O) → alike o p → also o p)
     → (a b : Answer O) → AlikeAnswers alike a b → AlikeAnswers also a b
 widened alike also more (Ok o) (Ok p) like = more o p like

@@ -1,4 +1,4 @@
--- What holds of the runs of the end of the input.
+-- Laws of `eof`.
 use Rattle.std.specs.Prelude.{⊤, ◌≡◌, ◌⊎◌, [], Ok, Err}
 use Rattle.std.proofs.Common.{inl, inr, refl, sym, ap, subst, ◌∙◌}
 use Rattle.streams.specs.Input.{Input, IsEndOf, takes_end}
@@ -12,7 +12,6 @@ use Rattle.grammars.specs.Grammar.{NoTokens, NoneStands}
 use Rattle.stream_errors.specs.Form.Known.{ok_is_err, same_ok, same_kind}
 use Rattle.winnow_core.specs.Exact.{Backtracks, IsExact}
 
--- it leaves an end
 pub eof_ends : {T L : Type 0} (reading : Reading T L) (i : Input T) (answer : Answer L)
     (j : Input T) → EofRuns reading i answer j → IsEndOf reading j i
 eof_ends reading i answer j (inl (slice, nothing, takes, e)) = takes_end takes

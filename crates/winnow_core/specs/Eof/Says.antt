@@ -1,4 +1,4 @@
--- What the parser of the end of the input says that it does.
+-- The specification of `eof`.
 use Rattle.std.specs.Prelude.{◌≡◌, ⊤, []}
 use Rattle.std.proofs.Common.{sym, ◌∙◌, inl, inr}
 use Rattle.stream_errors.specs.Form.{Answer}
@@ -13,13 +13,13 @@ use Rattle.winnow_core.specs.Says.Cases.{FailsWhere, OneCase, TakesWhere, cases_
 use Rattle.winnow_core.specs.Says.Cases.{takes_law}
 use Rattle.winnow_core.specs.Says.Leaf.{here_did, leaf_said, takes_did}
 
--- Nothing is left, and a slice of nothing is taken; or something is.
+-- If no tokens remain, takes an empty slice; otherwise fails.
 abbrev pub EofDoes : {T L : Type 0} → Reading T L → Does T L
 EofDoes reading = OneCase
     (TakesWhere (λ o at tokens rest. (tokens ≡ []) × (rest ≡ []) × reading.shows o []))
     (FailsWhere (λ at tokens. tokens ≡ [] → ⊥))
 
--- What is taken at an end may stand before more tokens.
+-- It is not stable: the end of partial input need not be the end of longer input.
 abbrev pub eof_says : {T L : Type 0} → Reading T L → Says T L
 eof_says reading = record {
   premise = ⊤;

@@ -1,4 +1,4 @@
--- What holds of the runs of a parser whose errors are converted.
+-- Laws of `err_into`.
 use Rattle.std.specs.Prelude.{◌≡◌}
 use Rattle.std.proofs.Common.{subst, ◌∙◌}
 use Rattle.streams.specs.Kind.{Kind}

@@ -1,4 +1,4 @@
--- What a parser whose errors are converted says that it does.
+-- The specification of `err_into`.
 use Rattle.std.proofs.Common.{ap}
 use Rattle.streams.specs.Kind.{Kind}
 use Rattle.stream_errors.specs.Form.{ErrorForm}

@@ -1,4 +1,4 @@
--- What adapters read that make another output.
+-- Grammars of adapters that return another output.
 use Rattle.std.specs.Prelude.{◌≡◌, ⊤, ℕ, List, ◌++◌}
 use Rattle.std.specs.declared.ops.Range.{Range}
 use Rattle.std.proofs.Common.{refl, subst, sym, inl, inr}
@@ -174,7 +174,7 @@ unfolding AndTaken
 and_taken_takes {L = L} {O} reading some = made_takes
     (λ tokens o rest (both : O × L). (both.0 ≡ o) × Shows reading tokens rest both.1) some
 
--- ---- nothing in the place of an output
+-- ---- outputs that are replaced by `()`
 
 void_ran : {S T O : Type 0} (run : Runs S T O) (s : S) (i : Input T) (answer : Answer (Unit {0}))
     (t : S) (j : Input T) → VoidRuns run s i answer t j
@@ -196,7 +196,7 @@ pub void_fails : {S T O : Type 0} {run : Runs S T O} {s : S} {allowed : Kind →
     → FailsBy allowed s run → FailsBy allowed s (VoidRuns run)
 void_fails {run = run} {s} f = made_fails (void_made run s) (λ o k never. absurd never) f
 
--- ---- places, of which tokens tell nothing
+-- ---- spans, which tokens do not determine
 
 -- any range of places
 abbrev pub AnyPlaces : {O : Type 0} → Unit {0} → O → Range ℕ → Type 0

@@ -1,12 +1,12 @@
--- The kinds with which a parser may fail on a whole input, by what it claims.
+-- The kinds of errors that a parser may return on complete input, by its specification.
 use Rattle.std.specs.Prelude.{◌≡◌, ◌⊎◌, ℕ, Option}
 use Rattle.std.proofs.Common.{refl, sym, inl, inr, ◌∙◌}
 use Rattle.streams.specs.Kind.{Kind, backtrack, cut, incomplete, memory}
 use Rattle.winnow_core.specs.Exact.{Backtracks, FailsBy, IsSoft, fails_wider}
 use Rattle.winnow_core.specs.Runs.{Runs}
 
--- No failure asks for more input. None is for good where failures let others be tried, and none is
--- for want of memory where none is asked for.
+-- No error is `Incomplete`. None is a cut if `backtracks` holds, and none is out of memory if
+-- `spares` holds.
 pub record Allowed (backtracks spares : Type 0) (k : Kind) : Type 0 where
   pub asks_no_more : (need : Option ℕ) → k ≡ incomplete need → ⊥
   pub lets_others : backtracks → k ≡ cut → ⊥
@@ -52,7 +52,7 @@ cut_allowed unless is = record {
     never_memory : ◌≡◌ {A = Kind} cut memory → ⊥
     never_memory e = absurd (cc)
 
--- want of memory is where it is asked for
+-- out of memory is allowed if the parser may allocate
 pub memory_allowed : {b m : Type 0} {k : Kind} → (m → ⊥) → k ≡ memory → Allowed b m k
 memory_allowed unless is = record {
   asks_no_more = λ need e. never_incomplete need (sym is ∙ e);

@@ -1,4 +1,4 @@
--- What is read where errors become others.
+-- Grammars of adapters of errors.
 use Rattle.std.specs.Prelude.{◌≡◌, ◌⊎◌, false, IsTrue, Ok, Err}
 use Rattle.std.proofs.Common.{refl, ap, subst, sym, inl, inr, ◌∙◌}
 use Rattle.streams.specs.Input.{Input}
@@ -19,12 +19,12 @@ use Rattle.winnow_core.specs.MapErrKept.{KeepsEachKind, MapErrKeptBecomes, MapEr
 use Rattle.winnow_core.specs.Runs.{Runs}
 use Rattle.winnow_core.specs.States.{pair_is}
 
--- What changes errors is after each as it was, and a kind stays or becomes out of memory.
+-- The change of an error keeps its own state, and the kind is unchanged or becomes out of memory.
 pub record KeepsKinds {G : Type 0} (becomes : G → Kind → Kind → G → Type 0) (f : G) : Type 0 where
   pub stays : (k l : Kind) (h : G) → becomes f k l h → h ≡ f
   pub kind : (k l : Kind) (h : G) → becomes f k l h → (l ≡ k) ⊎ (l ≡ memory)
 
--- What a kind of the one choice becomes is of the other.
+-- A kind in `allowed` becomes a kind in `also`.
 abbrev pub Leads : {G : Type 0} → (Kind → Type 0) → (Kind → Type 0)
     → (G → Kind → Kind → G → Type 0) → G → Type 0
 Leads {G} allowed also becomes f = (k l : Kind) (h : G) → becomes f k l h → allowed k → also l
@@ -79,7 +79,7 @@ errors_fail {S} {G} {T} {O} {run} {s} {also = also} becomes leads f = record { f
     fails i k t j is (inr (m, l, r, made, e)) =
         at_kind also e (leads m l t.1 made (f.fails i m t.0 j is r))
 
--- a context that is kept leaves a kind, or was refused memory
+-- a context keeps the kind, unless its allocation failed
 pub context_keeps_kinds : {C : Type 0} {c : C × (C → Keeping)} (is_clone : C → C → Type 0)
     (clones : C → Type 0) → KeepsKinds (ContextBecomes is_clone clones) c
 context_keeps_kinds is_clone clones = record {
@@ -92,11 +92,11 @@ context_keeps_kinds is_clone clones = record {
   ];
 }
 
--- No copy of the context is refused memory where an error keeps it.
+-- Storing a copy of the context in an error never fails to allocate.
 abbrev pub NeverRefused : {C : Type 0} → (C → C → Type 0) → C × (C → Keeping) → Type 0
 NeverRefused {C} is_clone c = (copy : C) → is_clone c.0 copy → IsTrue (c.1 copy).refused → ⊥
 
--- it is refused memory where the clone of the context is, or an error that keeps it
+-- it is out of memory if cloning the context, or storing the clone, failed to allocate
 pub context_fails : {S T O C : Type 0} {run : Runs S T O} {s : S × (C × (C → Keeping))}
     {allowed : Kind → Type 0} (is_clone : C → C → Type 0) (clones : C → Type 0)
     → (¬ (clones s.1.0) → allowed memory)
@@ -136,7 +136,7 @@ err_into_exact {S} kind new_kind converts same c = exact_along (λ (t : S). (t, 
     (λ t e. ap (λ x. x.0) e) (λ i answer t j ran. ran)
     (errors_exact (err_into_keeps kind new_kind converts same) c)
 
--- What an error is converted to wants memory where the error does.
+-- The converted error is out of memory only if the original error is.
 abbrev pub ConvertsSparing : {E D : Type 0} → (E → Kind) → (D → Kind) → (E → D → Type 0) → Type 0
 ConvertsSparing {E} {D} kind new_kind converts =
     (old : E) (new : D) → converts old new → new_kind new ≡ memory → kind old ≡ memory
@@ -212,7 +212,7 @@ map_err_kept_fails {allowed = allowed} kind new_kind step f =
     errors_fail (MapErrKeptBecomes kind new_kind step)
     (λ k l h (became, same) may. subst allowed (sym same) may) f
 
--- ---- errors that ask for no more
+-- ---- errors that are never `Incomplete`
 
 -- what is allowed stays so
 allowed_complete : {b m : Type 0} (k : Kind) → Allowed b m k → Allowed b m (complete_kind k)

@@ -1,4 +1,4 @@
--- What is read where an output is made of another, or refused.
+-- Grammars of adapters that turn an output into another, or reject it.
 use Rattle.std.specs.Prelude.{◌≡◌, ◌⊎◌, false, List, Ok, Err}
 use Rattle.std.proofs.Common.{refl, sym, subst, inl, inr, ◌∙◌}
 use Rattle.streams.specs.Input.{Input}
@@ -10,8 +10,8 @@ use Rattle.stream_errors.specs.Form.Known.{at_kind, ok_is_err, same_ok}
 use Rattle.winnow_core.specs.Exact.{FailsBy, IsExact}
 use Rattle.winnow_core.specs.Runs.{Runs}
 
--- A run of a parser, and what is made of its output; or its output is refused, with an error of
--- some kind; or it fails. What runs it is after that as it was, where the parser is.
+-- A call of a parser whose output is turned into another; or its output is rejected, with an error
+-- of some kind; or it fails. If the parser keeps its state, so does the adapter.
 abbrev pub Making : {S R T O U : Type 0} → (List T → O → List T → U → Type 0)
     → (O → Kind → Type 0) → Runs S T O → S → R → Input T → Answer U → R → Input T → Type 0
 Making {S} {R} {T} {O} {U} makes refused run s r i answer t j =
@@ -29,7 +29,8 @@ pub record IsMade {S R T O U : Type 0} (makes : List T → O → List T → U �
     pub ran : (i : Input T) (answer : Answer U) (t : R) (j : Input T) → made r i answer t j
         → Making makes refused run s r i answer t j
 
--- Where an output is refused memory is wanted, or nothing stands of what is made.
+-- If an output is rejected, the error is out of memory, or the input does not start with a match of
+-- the adapter's grammar.
 abbrev pub Refuses : {T O U : Type 0} → (List T → O → List T → U → Type 0)
     → (O → Kind → Type 0) → Grammar T O → Type 0
 Refuses {T} {O} makes refused grammar =

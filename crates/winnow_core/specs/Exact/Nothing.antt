@@ -1,4 +1,4 @@
--- What the parser of nothing reads.
+-- The grammar of `empty`.
 use Rattle.std.proofs.Common.{refl, ap, ◌∙◌}
 use Rattle.grammars.specs.Grammar.{Nothing}
 use Rattle.grammars.specs.Grammar.Unique.{unique_nothing}

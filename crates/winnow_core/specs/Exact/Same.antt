@@ -1,4 +1,4 @@
--- What is read by grammars by which the same stands.
+-- Lemmas about parsers of equivalent grammars.
 use Rattle.std.specs.Prelude.{Result, Ok, Err}
 use Rattle.std.proofs.Common.{inl, inr}
 use Rattle.streams.specs.Input.{Input}

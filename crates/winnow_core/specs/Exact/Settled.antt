@@ -1,4 +1,4 @@
--- What is read where an output is settled, accepted or refused.
+-- Grammars of adapters that accept or reject an output.
 use Rattle.std.specs.Prelude.{◌≡◌, ◌⊎◌, Bool, true, false, IsTrue, List, Option, Some, None}
 use Rattle.std.specs.Prelude.{Result, Ok, Err}
 use Rattle.std.proofs.Common.{refl, ap, subst, inl, inr, ◌∙◌}
@@ -23,8 +23,8 @@ use Rattle.winnow_core.specs.TryMap.{TryMapRuns, TryMapSettles}
 use Rattle.winnow_core.specs.Verify.{VerifySettles}
 use Rattle.winnow_core.specs.VerifyMap.{VerifyMapRuns}
 
--- What settles outputs is after each as it was. What it accepts and rejects is so in these words,
--- and it rejects by a backtrack, or is out of memory.
+-- `settle` keeps its state. It accepts and rejects as `accepts` and `rejects` specify; its errors
+-- are backtracks or out of memory.
 pub record Settler {G O U : Type 0} (settle : G → O → Answer U → G → Type 0)
     (accepts : G → O → U → Type 0) (rejects : G → O → Type 0) (f : G) : Type 0 where
   pub stays : (o : O) (answer : Answer U) (h : G) → settle f o answer h → h ≡ f
@@ -112,7 +112,7 @@ verify_fails tests stays f = settled_fails (verify_settler tests stays) (λ o k 
   | inr (found, e) ↦ back_allowed (same_kind e)
 ]) f
 
--- it gives none
+-- it returns `None`
 abbrev pub GivesNone : {G O U : Type 0} → (G → O → Option U → G → Type 0) → G → O → Type 0
 GivesNone step f o = step f o None f
 
@@ -246,7 +246,7 @@ pub try_map_exact : {S G T O U R : Type 0} {run : Runs S T O} {s : S × (G × (R
 unfolding Made
 try_map_exact step stays all c = settled_exact (try_map_settler step stays) all c
 
--- No error is refused memory to be kept.
+-- Storing an error never fails to allocate.
 abbrev pub ErrorsKept : {R : Type 0} → (R → Keeping) → Type 0
 ErrorsKept {R} keeping = (r : R) → IsTrue (keeping r).refused → ⊥
 
@@ -265,7 +265,7 @@ try_map_fails step stays never f =
 
 -- ---- an output that is read by another parser
 
--- an output stands first in it by a grammar
+-- the output starts with a match of a grammar
 abbrev pub ReadsWithin : {V O U : Type 0} → (O → Input V) → Grammar V U → Unit {0} → O → U → Type 0
 ReadsWithin {V = V} view grammar _ o u = (rest : List V) × grammar (view o).left.tokens u rest
 

@@ -1,4 +1,4 @@
--- What a parse of all of an input tells.
+-- The result of `parse`, which parses all of an input.
 use Rattle.std.specs.Prelude.{◌≡◌, ◌⊎◌, ⊤, ℕ, false, List, [], Some, Result, Ok, Err, IfOk}
 use Rattle.std.specs.Prelude.{IfErr}
 use Rattle.std.proofs.Common.{refl, subst, sym, inl, inr, ◌∙◌}
@@ -19,18 +19,18 @@ use Rattle.winnow_core.specs.Exact.Failed.{not_memory}
 use Rattle.winnow_core.specs.Parse.{IsFaultAt, ParsesWhole}
 use Rattle.winnow_core.specs.Runs.{Runs}
 
--- A fault for want of memory.
+-- An error that is out of memory.
 abbrev pub IsWant : {I X : Type 0} → (X → Kind) → ParseFault I X Needed → Type 0
 IsWant inner_kind (Refused e) = inner_kind (refused_inner e) ≡ memory
 IsWant inner_kind (Incomplete needed) = ⊥
 
--- A fault that refuses what is there, and asks for no more.
+-- An error other than `Incomplete`.
 abbrev pub IsRefused : {I X : Type 0} → ParseFault I X Needed → Type 0
 IsRefused (Refused e) = ⊤
 IsRefused (Incomplete needed) = ⊥
 
--- What all tokens are by a grammar. An output stands, and nothing is left; a fault says that none
--- stands so, or is out of memory, and asks for no more tokens.
+-- The result of parsing all tokens, in terms of a grammar. An output matches all tokens. An error
+-- is out of memory, or the tokens do not match; it is never `Incomplete`.
 pub record ReadsAll {I T O X : Type 0} (inner_kind : X → Kind) (grammar : Grammar T O)
     (tokens : List T) (result : Result O (ParseFault I X Needed)) : Type 0 where
   pub stands : IfOk result (λ o. grammar tokens o [])
@@ -46,7 +46,7 @@ fault_wants view units inner_kind i j k (Refused e) m is =
     sym (same_some (subst P m is).1)
 fault_wants view units inner_kind i j k (Incomplete needed) m is = absurd (cc)
 
--- the fault of a kind that is allowed refuses what is there
+-- an error of an allowed kind is not `Incomplete`
 fault_refuses : {I T X b m : Type 0} (view : I → Input T) (units : List T → ℕ)
     (inner_kind : X → Kind) (i j : Input T) (k : Kind) (fault : ParseFault I X Needed)
     → Allowed b m k → IsFaultAt view units inner_kind i.left j k fault → IsRefused fault
@@ -54,7 +54,7 @@ fault_refuses view units inner_kind i j k (Refused e) may is = tt
 fault_refuses view units inner_kind i j k (Incomplete needed) may is =
     absurd (may.asks_no_more (need_of needed) is)
 
--- and where no memory is asked for it is for no want of it
+-- an error of a parser that does not allocate is not out of memory
 spared_kind : {X b m : Type 0} {P : Type 0} (inner_kind : X → Kind) (x : X) (k : Kind) → m
     → Allowed b m k → inner_kind_of k ≡ Some (inner_kind x) → inner_kind x ≡ memory → P
 spared_kind inner_kind x backtrack spares may is wanted = not_memory (same_some is ∙ wanted)
@@ -71,7 +71,7 @@ fault_spared view units inner_kind i j k (Refused e) spares may is wanted =
     spared_kind inner_kind (refused_inner e) k spares may is.1 wanted
 fault_spared view units inner_kind i j k (Incomplete needed) spares may is wanted = wanted
 
--- a whole parse by a parser that asks for no memory is refused none
+-- `parse` of a parser that does not allocate is never out of memory
 pub all_spared : {S I T O X b m : Type 0} {s : S} {run : Runs S T O} (view : I → Input T)
     (units : List T → ℕ) (inner_kind : X → Kind) → FailsBy (Allowed b m) s run → m
     → (t : S) (i : Input T) (result : Result O (ParseFault I X Needed)) → i.status.cut ≡ false
@@ -85,7 +85,7 @@ all_spared {b = b} {m} view units inner_kind f spares t i (Err fault) is
     fault_spared view units inner_kind i j backtrack fault spares
     (back_allowed {b = b} {m = m} refl) at
 
--- what all tokens are, by what a whole parse answers
+-- the result of `parse`, in terms of a grammar
 pub all_told : {S I T O X b m : Type 0} {s : S} {run : Runs S T O} {grammar : Grammar T O}
     (view : I → Input T) (units : List T → ℕ) (inner_kind : X → Kind) → IsExact s run grammar
     → FailsBy (Allowed b m) s run
@@ -112,7 +112,6 @@ all_told {b = b} {m} view units inner_kind c f t i (Err fault) is
           (back_allowed {b = b} {m = m} refl) at;
     }
 
--- what is read by one grammar is read by one alike
 pub reads_all_as : {I T O X : Type 0} {inner_kind : X → Kind} {g h : Grammar T O} {tokens : List T}
     {result : Result O (ParseFault I X Needed)} → Same g h → ReadsAll inner_kind g tokens result
     → ReadsAll inner_kind h tokens result

@@ -1,4 +1,4 @@
--- What holds of the runs of a parser that an output decides.
+-- Laws of `flat_map`.
 use Rattle.std.specs.Prelude.{Ok, Err, ◌≡◌, ◌⊎◌, false, List}
 use Rattle.std.proofs.Common.{inl, inr, refl, subst}
 use Rattle.streams.specs.Input.{is_end_of_trans, with_more, Input}
@@ -16,7 +16,7 @@ use Rattle.winnow_core.specs.Closures.{Gives, Stays}
 use Rattle.winnow_core.specs.Exact.{FailsBy, IsExact}
 use Rattle.winnow_core.specs.States.{pair_is}
 
--- they leave an end, where those of the child and of the parsers made do
+-- every call leaves a suffix, if the child and the second parsers do
 pub flat_map_ends : {S G H V T L O U : Type 0} (reading : Reading T L)
     (step : G → O → H → G → Type 0) (state : H → V) (run : Runs S T O) (second : Runs V T U)
     → LeaveEnds reading run → LeaveEnds reading second
@@ -28,7 +28,7 @@ flat_map_ends reading step state run second child next s i answer t j (inr (k, r
     child s.0 i (Err k) t.0 j r
 
 module _ {T : Type 0} {following : Following T} where
-  -- they grow where those of both children do
+  -- stable under longer input, if both children are
   pub flat_map_grows : {S G H V O U : Type 0} {run : Runs S T O} {second : Runs V T U}
       (step : G → O → H → G → Type 0) (state : H → V) → Grows following run
       → Grows following second → Grows following (FlatMapRuns step state run second)

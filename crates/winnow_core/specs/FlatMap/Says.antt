@@ -1,4 +1,4 @@
--- What a parser says that it does, whose output decides what is parsed next.
+-- The specification of `flat_map`.
 use Rattle.std.specs.Prelude.{◌≡◌, Ok, Err}
 use Rattle.std.proofs.Common.{sym, subst, inl, inr, ◌∙◌}
 use Rattle.streams.specs.Input.{Input}
@@ -13,7 +13,7 @@ use Rattle.winnow_core.specs.States.{pair_is}
 use Rattle.winnow_core.specs.Then.{Comes, Then, did_in, then_law}
 use Rattle.winnow_core.specs.Then.Steps.{fails_on, holds_where, meets_where, where_took}
 
--- Of outputs that are alike parsers of one state are made.
+-- For equal outputs the closure returns parsers of the same state.
 abbrev pub MakesOne : {G O H V : Type 0} → (G → O → H → G → Type 0) → G → (H → V)
     → (O → O → Type 0) → Type 0
 MakesOne {O = O} {H = H} step f state alike =

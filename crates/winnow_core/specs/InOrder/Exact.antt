@@ -1,4 +1,4 @@
--- What children in order read.
+-- The grammars of sequences.
 use Rattle.std.specs.Prelude.{◌≡◌, ◌⊎◌, false, List, Ok, Err}
 use Rattle.std.proofs.Common.{refl, ap, subst, inl, inr}
 use Rattle.streams.specs.Input.{Input}
@@ -14,7 +14,7 @@ use Rattle.winnow_core.specs.Runs.{Runs}
 use Rattle.winnow_core.specs.Sequence.{SequenceRuns1}
 use Rattle.winnow_core.specs.States.{pair_is}
 
--- nothing of both where the first is read, and none of the second stands after it
+-- if the first matches and the rest does not match the second, the sequence does not match
 pub none_behind : {S1 T O1 O2 O : Type 0} (output : O1 → O2 → O) {run1 : Runs S1 T O1}
     {g1 : Grammar T O1} (g2 : Grammar T O2) {s : S1} → IsExact s run1 g1 → (i a : Input T) (o : O1)
     → g1 i.left.tokens o a.left.tokens → NoneStands g2 a.left.tokens

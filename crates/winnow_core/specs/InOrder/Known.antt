@@ -1,5 +1,5 @@
--- What a caller knows of one run of children in order that answered: where it succeeded all did;
--- where it failed one did, by that kind, and those before it succeeded.
+-- Lemmas for callers about one call of a sequence. If it succeeded, all children did. If it failed,
+-- one child failed with that kind, and the children before it succeeded.
 use Rattle.std.specs.Prelude.{◌≡◌, Ok, Err, ◌⊎◌}
 use Rattle.std.proofs.Common.{refl, inl, inr}
 use Rattle.streams.specs.Input.{Input}
@@ -7,11 +7,11 @@ use Rattle.streams.specs.Kind.{Kind}
 use Rattle.stream_errors.specs.Form.{Answer}
 use Rattle.stream_errors.specs.Form.Known.{at_kind, ok_is_err, same_ok}
 
--- A run is given by what it relates, an output or a kind and the inputs between the children, so
--- that antt finds it at a caller's parsers. That the children which did not run keep their states
--- is Kept.
+-- A call is given by the relations between outputs, kinds and the inputs between the children, so
+-- that antt finds them at a caller's parsers. `Kept` states that the children which did not run
+-- keep their states.
 
--- two children: the runs of BothRuns, by what they relate
+-- two children: the calls of BothRuns, by their relations
 abbrev pub BothCases : {T O1 O2 O : Type 0} → (O1 → O2 → O) → (O1 → Input T → Type 0)
     → (O2 → Input T → Type 0) → (Kind → Type 0) → (Kind → Input T → Type 0) → Type 0 → Answer O
     → Type 0
@@ -37,7 +37,7 @@ both_err {Failed1 = Failed1} k (inr (inl (l, r1, same, e))) = inl (at_kind Faile
 both_err {Failed2 = Failed2} k (inr (inr (o1, l, a, r1, r2, e))) =
     inr (o1, a, r1, at_kind (λ x. Failed2 x a) e r2)
 
--- three children: the runs of ThreeRuns, by what they relate
+-- three children: the calls of ThreeRuns, by their relations
 abbrev pub ThreeCases : {T O1 O2 O3 O : Type 0} → (O1 → O2 → O3 → O)
     → (O1 → Input T → Type 0) → (O2 → Input T → Input T → Type 0) → (O3 → Input T → Type 0)
     → (Kind → Type 0) → (Kind → Input T → Type 0) → (Kind → Input T → Type 0) → Type 0 → Type 0

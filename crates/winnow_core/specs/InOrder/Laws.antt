@@ -1,4 +1,4 @@
--- What holds of the runs of children in order.
+-- Laws of sequences.
 use Rattle.std.specs.Prelude.{Ok, Err}
 use Rattle.std.proofs.Common.{inl, inr}
 use Rattle.streams.specs.Following.{Following}
@@ -8,7 +8,7 @@ use Rattle.winnow_core.specs.InOrder.{BothRuns, ThreeRuns}
 use Rattle.winnow_core.specs.Runs.{Runs, LeaveEnds}
 use Rattle.winnow_core.specs.Stable.Grows.{Grows, final_by}
 
--- they leave an end, where those of the children do
+-- every call leaves a suffix, if the children do
 pub both_ends : {S1 S2 T L O1 O2 O : Type 0} (reading : Reading T L) (output : O1 → O2 → O)
     (run1 : Runs S1 T O1) (run2 : Runs S2 T O2) → LeaveEnds reading run1
     → LeaveEnds reading run2 → LeaveEnds reading (BothRuns output run1 run2)

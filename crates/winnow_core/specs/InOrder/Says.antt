@@ -1,4 +1,4 @@
--- What children in order, whose outputs make one output, say that they do.
+-- The specification of sequences whose outputs are combined into one.
 use Rattle.std.specs.Prelude.{◌≡◌, ◌⊎◌, Ok, Err}
 use Rattle.std.proofs.Common.{ap, ◌∙◌, inl, inr}
 use Rattle.stream_errors.specs.Form.{Answer, ErrorForm}
@@ -68,7 +68,7 @@ turn_does {S} {R} {T} {U = U} {does} {second} {next} {s} {first} {others} part r
         did_in s t (pair_is one.kept same) one
         (fails_on (λ o. and_then second (next o)) at i.left.tokens j.left.tokens k e)
 
--- the same of runs over other states
+-- the same for calls over other states
 pub does_along : {A B T O : Type 0} {does : Does T O} {s : A} {runs : Meaning A T O}
     {others : Meaning B T O} (of : A → B) → ((t : A) → of t ≡ of s → t ≡ s)
     → ((form : ErrorForm) (i : Input T) (answer : Answer O) (t : A) (j : Input T)

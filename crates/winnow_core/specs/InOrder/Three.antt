@@ -1,4 +1,4 @@
--- What three children in order read.
+-- The grammars of sequences of three.
 use Rattle.std.specs.Prelude.{◌⊎◌}
 use Rattle.std.proofs.Common.{refl, ap, inl, inr, ◌∙◌}
 use Rattle.streams.specs.Input.{Input}

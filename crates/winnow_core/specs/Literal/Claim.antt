@@ -1,4 +1,4 @@
--- What literals claim.
+-- The specification of literals by grammars.
 use Rattle.std.specs.Prelude.{◌≡◌, List, [], ⊤}
 use Rattle.streams.specs.Reading.{Reading}
 use Rattle.grammars.specs.Grammar.{Literally}
@@ -11,7 +11,7 @@ use Rattle.winnow_core.specs.Literal.Says.{literal_said}
 use Rattle.winnow_core.specs.Runs.{Keeps}
 use Rattle.winnow_core.specs.Says.Decided.{decided_of}
 
--- A literal that stands for the lists `spells`, of which the output is made by `output`.
+-- A literal with the spellings `spells`; `output` computes its output.
 abbrev pub literal_claim : {S T L O : Type 0} → Reading T L → (S → List T → Type 0)
     → (S → L → O) → (O → O → Type 0) → S → Claim T O
 literal_claim reading spells output alike s = record {

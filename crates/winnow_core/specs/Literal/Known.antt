@@ -1,11 +1,11 @@
--- What a caller knows of one run of a literal that answered.
+-- Lemmas for callers about one call of a literal.
 use Rattle.std.specs.Prelude.{◌≡◌, false, List, [], ◌∷◌, ◌++◌, Ok, Err}
-use Rattle.std.proofs.Common.{refl, sym, ap, subst, ◌∙◌, inl, inr, arith, length, length-append}
-use Rattle.streams.specs.Equal.{same_rest, true_is_false}
+use Rattle.std.proofs.Common.{refl, sym, ap, ◌∙◌, inl, inr}
+use Rattle.streams.specs.Equal.{true_is_false}
 use Rattle.streams.specs.Input.{Input, Takes}
 use Rattle.streams.specs.Kind.{Kind, backtrack}
 use Rattle.streams.specs.Reading.{Reading}
-use Rattle.stream_errors.specs.Form.{Answer, ErrorForm}
+use Rattle.stream_errors.specs.Form.{ErrorForm}
 use Rattle.stream_errors.specs.Form.Known.{ok_is_err, same_err, same_ok}
 use Rattle.stream_searches.specs.Compare.{StandsFirst}
 use Rattle.winnow_core.specs.Literal.{LiteralRuns}
@@ -36,7 +36,7 @@ literal_taken reading form spelled output i o j (inr (inl (short, cut, e, same))
 literal_taken reading form spelled output i o j (inr (inr (other, whole, e, same))) =
     ok_is_err refl e
 
--- A literal that does not stand first in a whole input, which stays.
+-- Complete input does not start with the literal, and is unchanged.
 pub record LiteralMissing {T : Type 0} (spelled : List T → Type 0) (i : Input T) (k : Kind)
     (j : Input T) : Type 0 where
   pub stays : j ≡ i
@@ -54,7 +54,7 @@ literal_missing reading form spelled output i k j whole (inr (inl (short, cut, e
 literal_missing reading form spelled output i k j whole (inr (inr (other, open_too, e, same))) =
     record { stays = same; kind = same_err refl e; other = other }
 
--- A literal of one token that was taken: the token, and after it what is left.
+-- A literal of one token matched: the token is followed by the rest.
 pub record TokenTaken {T : Type 0} (x : T) (i j : Input T) : Type 0 where
   pub splits : i.left.tokens ≡ x ∷ j.left.tokens
   pub status : j.status ≡ i.status
@@ -69,7 +69,7 @@ token_taken reading form x output i o j ran =
       status = taken.takes.passed.status;
     }
 
--- One that does not stand first in a whole input, which stays.
+-- Complete input does not start with the token, and is unchanged.
 pub record TokenMissing {T : Type 0} (x : T) (i : Input T) (k : Kind) (j : Input T) : Type 0 where
   pub stays : j ≡ i
   pub kind : k ≡ backtrack
@@ -92,38 +92,3 @@ pub token_whole : {T : Type 0} {x : T} {i j : Input T} → TokenTaken x i j
 token_whole taken whole = ap (λ s. s.cut) taken.status ∙ whole
 
 -- ---- what a run must answer, where it is known how the input begins
-
--- a literal that begins the input is taken
-pub literal_must : {T S O : Type 0} (reading : Reading T S) (form : ErrorForm) (t : List T)
-    (output : S → O) (rest : List T) (i : Input T) (answer : Answer O) (j : Input T)
-    → i.left.tokens ≡ t ++ rest → LiteralRuns reading form (λ xs. xs ≡ t) output i answer j
-    → (slice : S) × (answer ≡ Ok (output slice)) × Takes reading t i slice j
-literal_must reading form t output rest i answer j begins (inl (front, slice, spelled, takes, a)) =
-    let Q : List _ → Type 0 = λ l. Takes reading l i slice j in
-    (slice, a, subst Q spelled takes)
-literal_must reading form t output rest i answer j begins (inr (inl ((x, more, s), cut, a, same))) =
-    absurd (omega (
-      arith,
-      ap (λ l. length l) s,
-      ap (λ l. length l) begins,
-      length-append i.left.tokens (x ∷ more),
-      length-append t rest,
-    ))
-literal_must reading form t output rest i answer j begins (inr (inr (not_p, short, a, same))) =
-    absurd (not_p (t, rest, refl, begins))
-
--- ... so what follows is left
-pub literal_must_leave : {T S O : Type 0} {o : O} (reading : Reading T S) (form : ErrorForm)
-    (t : List T) (output : S → O) (rest : List T) (i j : Input T) → i.left.tokens ≡ t ++ rest
-    → LiteralRuns reading form (λ xs. xs ≡ t) output i (Ok o) j → j.left.tokens ≡ rest
-literal_must_leave reading form t output rest i j begins ran =
-    let it = literal_must reading form t output rest i _ j begins ran in
-    same_rest t _ _ (sym it.2.passed.tokens ∙ begins)
-
--- ... and it does not fail
-pub literal_must_answer : {T S O X : Type 0} {k : Kind} (reading : Reading T S)
-    (form : ErrorForm) (t : List T) (output : S → O) (rest : List T) (i j : Input T)
-    → i.left.tokens ≡ t ++ rest
-    → LiteralRuns reading form (λ xs. xs ≡ t) output i (Err k) j → X
-literal_must_answer reading form t output rest i j begins ran =
-    let it = literal_must reading form t output rest i _ j begins ran in ok_is_err it.1 refl

@@ -1,4 +1,4 @@
--- What holds of the runs of a literal.
+-- Laws of literals.
 use Rattle.std.specs.Prelude.{List, ◌++◌, [], ◌∷◌, None, Err, ◌≡◌, ℕ, false, Ok, ⊤}
 use Rattle.std.proofs.Common.{inl, inr, subst, append_assoc, arith, length-append, refl, sym, ap}
 use Rattle.std.proofs.Common.{◌∙◌}
@@ -20,7 +20,6 @@ use Rattle.grammars.specs.Grammar.Unique.{literally_unique, one_front}
 use Rattle.stream_errors.specs.Form.Known.{ok_is_err, same_ok, same_kind}
 use Rattle.winnow_core.specs.Exact.{Backtracks, IsExact}
 
--- it leaves an end
 pub literal_ends : {T L O : Type 0} (reading : Reading T L) (form : ErrorForm)
     (spelled : List T → Type 0) (output : L → O) (i : Input T) (answer : Answer O) (j : Input T)
     → LiteralRuns reading form spelled output i answer j → IsEndOf reading j i
@@ -31,8 +30,8 @@ literal_ends reading form spelled output i answer j (inr (inl (short, is_cut, e,
 literal_ends reading form spelled output i answer j (inr (inr (other, whole, e, same))) =
     same_ends reading i j same
 
--- what neither stands first nor is short does not stand first in a longer input, and is not short
--- there
+-- if tokens do not start with a spelling and are not a proper prefix of one, neither does longer
+-- input, nor is it
 pub still_not_first : {T : Type 0} (spelled : List T → Type 0) (tokens more : List T)
     → (StandsFirst spelled tokens → ⊥) → (IsShort spelled tokens → ⊥)
     → StandsFirst spelled (tokens ++ more) → ⊥
@@ -49,7 +48,7 @@ still_not_short spelled tokens [] short (x, others, spells) =
 still_not_short spelled tokens (y ∷ ys) short (x, others, spells) =
     short (y, ys ++ x ∷ others, subst spelled (append_assoc tokens (y ∷ ys) (x ∷ others)) spells)
 
--- on a cut input, runs of a final answer are runs on each longer one
+-- a final result on partial input is also a result on every longer input
 pub literal_stays : {T L O : Type 0} (reading : Reading T L) (spelled : List T → Type 0)
     (output : L → O) → Stays (LiteralRuns reading modal spelled output)
 literal_stays reading spelled output more flag i answer j is_cut final
@@ -68,7 +67,7 @@ literal_stays reading spelled output more flag i answer j is_cut final
       same_more more flag same,
     ))
 
--- where something is left, it is not a proper beginning of one token
+-- nonempty tokens are not a proper prefix of one token
 pub never_short : {T : Type 0} (spelled : List T → Type 0) (tokens : List T) → IsOneToken spelled
     → (tokens ≡ [] → ⊥) → IsShort spelled tokens → ⊥
 never_short spelled [] one some short = some refl
@@ -82,7 +81,6 @@ abbrev pub ShowSame : {T L : Type 0} → Reading T L → L → L → Type 0
 ShowSame {T} reading slice other =
     (front : List T) × reading.shows slice front × reading.shows other front
 
--- tokens that stand first in some are no longer than these
 pub not_longer : {P T L : Type 0} (reading : Reading T L) (tokens front rest more : List T) (x : T)
     → tokens ≡ front ++ rest → reading.units front ≡ reading.units (tokens ++ x ∷ more) → P
 not_longer reading tokens front rest more x e u =
@@ -148,12 +146,12 @@ module _ {X S T L O : Type 0} (reading : Reading T L) (form : ErrorForm)
       fails i k j is (inr (inl (short, cut, e, same))) = true_is_false (sym cut ∙ is)
       fails i k j is (inr (inr (nothing, cuts, e, same))) = same_kind e
 
--- What two texts of the same bytes stand for is the same.
+-- Two texts with the same bytes spell the same lists.
 abbrev pub SpellsByText : {T : Type 0} → (Bor (List ℕ) → List T → Type 0) → Type 0
 SpellsByText {T} spells = (s t : Bor (List ℕ)) (xs : List T) → s.now ≡ t.now → spells s xs
     → spells t xs
 
--- a text of these bytes, whichever it is
+-- a text with these bytes
 abbrev pub TextRuns : {T L : Type 0} → Reading T L → (Bor (List ℕ) → List T → Type 0) → List ℕ
     → ErrorForm → Input T → Answer L → Input T → Type 0
 TextRuns reading spells bytes form i answer j =

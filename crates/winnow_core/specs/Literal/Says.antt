@@ -1,4 +1,4 @@
--- What literals say that they do.
+-- The specification of literals.
 use Rattle.std.specs.Prelude.{◌≡◌, ⊤, true, false, List, ◌∷◌, ◌++◌, None}
 use Rattle.std.proofs.Common.{refl, sym, ◌∙◌, inl, inr, append_assoc, subst, ap}
 use Rattle.grammars.specs.Grammar.Unique.{one_front}
@@ -18,8 +18,8 @@ use Rattle.winnow_core.specs.Says.Cases.{fails_law, lacks_law, takes_law}
 use Rattle.winnow_core.specs.Says.Lacks.{short_outcome}
 use Rattle.winnow_core.specs.Says.Leaf.{here_did, leaf_said, takes_did}
 
--- It stands first, and a slice of it is taken; or a cut input is too short to tell; or it does not
--- stand first, and no more input could change that.
+-- The input starts with the literal, and a slice of it is taken; or partial input is too short to
+-- decide; or the input does not start with it, and more input cannot change that.
 abbrev pub LiteralDoes : {T L O : Type 0} → Reading T L → (List T → Type 0) → (L → O) → Does T O
 LiteralDoes {L = L} reading spelled output =
     OneCase (TakesWhere (λ o at tokens rest. (front : _) × (slice : L) × spelled front
@@ -68,7 +68,7 @@ module _ {T L O : Type 0} (reading : Reading T L) (spelled : List T → Type 0) 
             one_front reading f g rest end (sym e ∙ d) units,
           )
 
-      -- what stands first is not short
+      -- the cases for a match and for a proper prefix exclude each other
       apart : (at : Setting) (tokens : List T) (x y : Outcome T O)
           → TakesWhere (λ o at tokens rest. Taken o tokens rest) at tokens x
           → OneCase

@@ -1,12 +1,12 @@
--- What a caller knows of one run that makes an error of another, where it answered: for `context`,
--- `context_with`, `complete_err`, `map_err` and `err_into`.
+-- Lemmas for callers about one call of an adapter of errors: `context`, `context_with`,
+-- `complete_err`, `map_err` and `err_into`.
 use Rattle.std.specs.Prelude.{◌≡◌, Ok, Err, ◌⊎◌}
 use Rattle.std.proofs.Common.{refl, inl, inr}
 use Rattle.streams.specs.Kind.{Kind}
 use Rattle.stream_errors.specs.Form.{Answer}
 use Rattle.stream_errors.specs.Form.Known.{at_kind, at_output, ok_is_err}
 
--- the runs of MakesError, by what the child's relate; Became is what a kind became
+-- the calls of MakesError, by the relations of the child; Became relates the old and the new kind
 abbrev pub MakesErrorCases : {O : Type 0} → (O → Type 0) → Type 0 → (Kind → Type 0)
     → (Kind → Kind → Type 0) → Answer O → Type 0
 MakesErrorCases {O} Ran Kept Failed Became answer =

@@ -1,4 +1,4 @@
--- What holds of the runs that make an error of another.
+-- Laws of adapters of errors.
 use Rattle.std.specs.Prelude.{Ok, Err}
 use Rattle.std.proofs.Common.{inl, inr}
 use Rattle.streams.specs.Kind.{Kind}
@@ -9,7 +9,7 @@ use Rattle.winnow_core.specs.Runs.{Runs, LeaveEnds}
 use Rattle.winnow_core.specs.Stable.{IsFinalKind}
 use Rattle.winnow_core.specs.Stable.Grows.{Grows, final_by}
 
--- they leave an end, where those of the child do
+-- every call leaves a suffix, if the child does
 pub makes_error_ends : {S G T L O : Type 0} (reading : Reading T L)
     (becomes : G → Kind → Kind → G → Type 0) (run : Runs S T O) → LeaveEnds reading run
     → LeaveEnds reading (MakesError becomes run)
@@ -18,13 +18,13 @@ makes_error_ends reading becomes run child s i answer t j (inl (o, r, same, e)) 
 makes_error_ends reading becomes run child s i answer t j (inr (k, l, r, became, e)) =
     child s.0 i (Err k) t.0 j r
 
--- What becomes a final kind is one.
+-- If the new kind is final, so is the old one.
 abbrev pub KeepsFinal : {G : Type 0} → (G → Kind → Kind → G → Type 0) → Type 0
 KeepsFinal {G} becomes = (g : G) (k l : Kind) (h : G) → becomes g k l h → IsFinalKind l
     → IsFinalKind k
 
 module _ {T : Type 0} {following : Following T} where
-  -- they grow where those of the child do, and what becomes a final kind is one
+  -- stable under longer input, if the child is and `becomes` satisfies `KeepsFinal`
   pub makes_error_grows : {S G O : Type 0} {run : Runs S T O}
       (becomes : G → Kind → Kind → G → Type 0) → KeepsFinal becomes → Grows following run
       → Grows following (MakesError becomes run)

@@ -1,4 +1,4 @@
--- What is said of the runs that make an error of another.
+-- The specification of adapters of errors.
 use Rattle.std.specs.Prelude.{◌≡◌, ◌⊎◌, List, ℕ, Option, Ok, Err}
 use Rattle.std.proofs.Common.{sym, subst, inl, inr, ◌∙◌}
 use Rattle.streams.specs.Input.{Input}
@@ -15,7 +15,7 @@ use Rattle.winnow_core.specs.States.{pair_is}
 use Rattle.winnow_core.specs.Then.{Comes, ComesOf, Holds, Meets, Next, Then, did_in, then_law}
 use Rattle.winnow_core.specs.Then.Steps.{takes, takes_hold, takes_meet}
 
--- A kind becomes another, and what is left stays.
+-- Changes the kind; the remaining tokens are unchanged.
 abbrev pub kind_turns : {T O : Type 0} → (Kind → Kind → Type 0) → Kind → Comes T O
 kind_turns becomes k at tokens place y =
     (l : Kind) × becomes k l × (y ≡ outcome_of (Err l) place)
@@ -28,7 +28,7 @@ turned becomes = record {
   on_asks = λ need. kind_turns becomes (incomplete need);
 }
 
--- each run of a part, by what comes of its failures
+-- the specification of each call, by that of the errors
 pub errors_said : {S G T O : Type 0} {says : Says T O} {s : S × G} {meaning : Meaning S T O}
     {premise stable : Type 0} {next : Next T O O} (becomes : G → Kind → Kind → G → Type 0)
     → (premise → says.premise) → (premise → Lawful stable says.alike (Then says.does next))

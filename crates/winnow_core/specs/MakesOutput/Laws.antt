@@ -1,4 +1,4 @@
--- What holds of the runs that make an output of another.
+-- Laws of adapters of outputs.
 use Rattle.std.specs.Prelude.{Ok, Err, Bool, List}
 use Rattle.std.proofs.Common.{inl, inr}
 use Rattle.streams.specs.Input.{Input, with_more}
@@ -8,7 +8,7 @@ use Rattle.winnow_core.specs.MakesOutput.{MakesOutput}
 use Rattle.winnow_core.specs.Runs.{Runs, LeaveEnds}
 use Rattle.winnow_core.specs.Stable.Grows.{Grows, final_by}
 
--- they leave an end, where those of the child do
+-- every call leaves a suffix, if the child does
 pub makes_output_ends : {S T L O U : Type 0} (reading : Reading T L)
     (makes : Input T → O → Input T → U → Type 0) (run : Runs S T O) → LeaveEnds reading run
     → LeaveEnds reading (MakesOutput makes run)
@@ -16,15 +16,15 @@ makes_output_ends reading makes run child s i answer t j (inl (o, u, r, made, e)
     child s i (Ok o) t j r
 makes_output_ends reading makes run child s i answer t j (inr (k, r, e)) = child s i (Err k) t j r
 
--- What is made of an output, of where it began and of where it ended, is made of them in a longer
--- input too.
+-- The new output is the same in longer input.
 abbrev pub MakesMore : {T O U : Type 0} → (Input T → O → Input T → U → Type 0) → Type 0
 MakesMore {T} {O} {U} makes =
     (more : List T) (flag : Bool) (i : Input T) (o : O) (j : Input T) (u : U) → makes i o j u
     → makes (with_more i more flag) o (with_more j more flag) u
 
 module _ {T : Type 0} {following : Following T} where
-  -- they grow where those of the child do, and what is made is made of longer inputs too
+  -- final results are final on longer input, if those of the child are and the new output is the
+  -- same
   pub makes_output_grows : {S O U : Type 0} {run : Runs S T O}
       (makes : Input T → O → Input T → U → Type 0) → MakesMore makes → Grows following run
       → Grows following (MakesOutput makes run)

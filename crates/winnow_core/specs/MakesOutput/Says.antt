@@ -1,4 +1,4 @@
--- What is said of the runs that make an output of another.
+-- The specification of adapters of outputs.
 use Rattle.std.specs.Prelude.{◌≡◌, List, ◌++◌, Ok, Err}
 use Rattle.std.proofs.Common.{refl, inl, inr}
 use Rattle.streams.specs.Input.{Input}
@@ -17,7 +17,7 @@ gives_one {U = U} gives o at tokens rest y = (u : U) × gives tokens o rest u ×
 abbrev pub made : {T O U : Type 0} → (List T → O → List T → U → Type 0) → Next T O U
 made gives = where_took (gives_one gives)
 
--- Of outputs that are alike alike ones are made, and they are made where more tokens follow.
+-- Equal outputs are turned into equal outputs, and the same ones if more tokens follow.
 pub record MakesAlike {T O U : Type 0} (gives : List T → O → List T → U → Type 0)
     (alike : O → O → Type 0) (also : U → U → Type 0) : Type 0 where
   pub one : (tokens rest : List T) (o p : O) (u v : U) → alike o p → gives tokens o rest u
@@ -35,7 +35,7 @@ made_of makes one = record {
   stays = λ more tokens rest o u x. x;
 }
 
--- what is made of outputs that are alike
+-- both are computed from equal outputs
 abbrev pub OutputsMadeAlike : {O U : Type 0} → (O → O → Type 0) → (O → U → Type 0) → U → U → Type 0
 OutputsMadeAlike {O = O} alike makes u v = (o : O) × (p : O) × alike o p × makes o u × makes p v
 

@@ -1,4 +1,4 @@
--- What a parser whose output a closure maps says that it does.
+-- The specification of `map`.
 use Rattle.std.specs.Prelude.{Ok, Err}
 use Rattle.std.proofs.Common.{subst, inl, inr}
 use Rattle.streams.specs.Input.{Input}

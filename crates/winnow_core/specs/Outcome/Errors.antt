@@ -5,11 +5,10 @@ use Rattle.streams.specs.Kind.{Kind, backtrack, cut, incomplete, memory}
 use Rattle.winnow_core.specs.Outcome.{Alike, IsFinal, Outcome, alike_wants, asks, final_by, longer}
 use Rattle.winnow_core.specs.Outcome.{outcome_of, wants}
 
--- Two kinds are the same, or one is want of memory.
+-- The kinds are the same, or one is out of memory.
 abbrev pub OneKind : Kind → Kind → Type 0
 OneKind k l = (k ≡ l) ⊎ ((k ≡ memory) ⊎ (l ≡ memory))
 
--- an error that wants memory
 pub wants_by : {T O : Type 0} (place : List T) {x : Outcome T O} {k : Kind}
     → x ≡ outcome_of (Err k) place → k ≡ memory → x ≡ wants
 wants_by place e is = e ∙ ap (λ l. outcome_of (Err l) place) is
@@ -34,7 +33,6 @@ module _ {T O : Type 0} (place : List T) where
       subst (λ n. Alike {T = T} also (outcome_of (Err k) place) (outcome_of (Err n) place))
       (sym is) (alike_wants also (outcome_of (Err k) place))
 
-  -- it asks for more by a kind that does
   pub asking : (l : Kind) (need : Option ℕ) (end : List T)
       → ◌≡◌ {A = Outcome T O} (asks need end) (outcome_of (Err l) place) → l ≡ incomplete need
   asking backtrack need end e = absurd (cc)
@@ -42,7 +40,6 @@ module _ {T O : Type 0} (place : List T) where
   asking (incomplete other) need end e = cc
   asking memory need end e = absurd (cc)
 
-  -- and is then not final, nor where it wants memory
   pub not_final : (l : Kind) (need : Option ℕ) {y : Outcome T O}
       → (l ≡ incomplete need) ⊎ (l ≡ memory) → IsFinal y → y ≡ outcome_of (Err l) place → ⊥
   not_final l need (inl is) final e =

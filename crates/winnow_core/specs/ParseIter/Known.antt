@@ -1,6 +1,6 @@
--- What a caller knows of the calls of an iterator over all of an input: its items so far are the
--- outputs of a chain of runs that consume; after them all is read, or the run that ended it has
--- given its fault.
+-- Lemmas for callers about the calls of an iterator over all of an input. The items so far are the
+-- outputs of consecutive calls that consume input. Then all input is consumed, or the call that
+-- ended the iterator has returned its error.
 use Rattle.std.specs.Prelude.{◌≡◌, List, [], ◌∷◌, ◌++◌, Option, Some, None, Ok, Err, Result}
 use Rattle.std.proofs.Common.{sym, subst, inl, inr}
 use Rattle.std.proofs.lemmas.Fn.{FoldsTo-push}
@@ -30,7 +30,7 @@ parse_iter_item run assert_kind is_fault s o t
     (inr (inl (start, i, j, k, f, from, some, ends, fault, is, to))) = absurd (cc)
 parse_iter_item run assert_kind is_fault s o t (inr (inr (nothing, is, same, to))) = absurd (cc)
 
--- a fault: the iterator read on where something was left, and the run ended it
+-- an error: some input was unread, and the call ended the iterator
 pub parse_iter_fault : {S T O F : Type 0} (run : Runs S T O) (assert_kind : Kind)
     (is_fault : Remaining T → Input T → Kind → F → Type 0) (s : ParseIterState S T) (fault : F)
     (t : ParseIterState S T) → ParseIterNext run assert_kind is_fault s (Some (Err fault)) t
@@ -63,7 +63,8 @@ parse_iter_none run assert_kind is_fault s t (inr (inr (nothing, is, same, to)))
 
 -- ---- the calls so far
 
--- Items in a chain, from a state and the start of an input to where an iterator now stands.
+-- Items of consecutive calls, from a state and the start of an input to the current position of an
+-- iterator.
 abbrev pub HasRead : {S T O : Type 0} → Runs S T O → S → Input T → List O → ParseIterState S T
     → Type 0
 HasRead {T = T} run s i outputs u =
@@ -103,7 +104,7 @@ parse_iter_all {T = T} run assert_kind is_fault s i outputs u t (m, at, chain) s
     let P : Standing T → Type 0 = λ x. NothingToRead x in
     (m, chain, subst P at (parse_iter_none run assert_kind is_fault u t step).0)
 
--- The fault of the run after items in a chain, where something was left.
+-- The error of the call after the items, with some input unread.
 pub record IsRefused {S T O F : Type 0} (run : Runs S T O) (assert_kind : Kind)
     (is_fault : Remaining T → Input T → Kind → F → Type 0) (s : S) (i : Input T)
     (outputs : List O) (fault : F) : Type 0 where
@@ -117,10 +118,10 @@ pub record IsRefused {S T O F : Type 0} (run : Runs S T O) (assert_kind : Kind)
   pub behind : S
   pub at : Input T
   pub ends : EndsIter run assert_kind parser input kind behind at
-  -- its fault, of which the place is counted from the start
+  -- its error, whose offset is counted from the start
   pub is : is_fault i.left at kind fault
 
--- a fault after the items of a chain, as a loop needs it
+-- an error after some items, in the form that a loop needs
 pub parse_iter_refused : {S T O F : Type 0} (run : Runs S T O) (assert_kind : Kind)
     (is_fault : Remaining T → Input T → Kind → F → Type 0) (s : S) (i : Input T)
     (outputs : List O) (u : ParseIterState S T) (item : Result O F) (t : ParseIterState S T)

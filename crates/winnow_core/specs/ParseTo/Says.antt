@@ -1,4 +1,4 @@
--- What a parser whose output is read as text says that it does.
+-- The specification of `parse_to`.
 use Rattle.std.specs.Prelude.{Option, Some, None}
 use Rattle.std.proofs.Common.{refl, ap, inl, inr}
 use Rattle.stream_errors.specs.Form.Known.{at_output, ok_is_err, same_kind}
@@ -9,13 +9,13 @@ use Rattle.winnow_core.specs.Says.{Said, Says}
 use Rattle.winnow_core.specs.Says.Along.{said_along}
 use Rattle.winnow_core.specs.Settles.Says.{Refuses, backtracks_one, settle_says, settles_said}
 
--- Outputs that are alike read as something both or not at all.
+-- Of equal outputs both convert or neither does.
 pub record ReadsSame {O U : Type 0} (reads : O → Option U → Type 0) (alike : O → O → Type 0)
     : Type 0 where
   pub apart : (o p : O) (u : U) → alike o p → reads o (Some u) → reads p None → ⊥
   pub either : (o p : O) (u : U) → alike o p → reads o None → reads p (Some u) → ⊥
 
--- What it reads as is the output; what reads as nothing is refused.
+-- The converted value is the output; an output that does not convert is rejected.
 abbrev pub parse_to_says : {T O U : Type 0} → (O → Option U → Type 0) → Says T O → Says T U
 parse_to_says reads p = settle_says (λ form o u. reads o (Some u))
     (λ form. Refuses (λ o. reads o None))

@@ -1,4 +1,4 @@
--- What is said of runs is said of others that each are one of them.
+-- Specifications of calls that are calls of other parsers.
 use Rattle.std.specs.Prelude.{◌≡◌, ◌++◌, true}
 use Rattle.std.proofs.Common.{sym, subst}
 use Rattle.streams.specs.Input.{Input}

@@ -1,4 +1,4 @@
--- Parsers with no parts, by cases: what is done in each, and what each owes.
+-- Leaf parsers by cases: the outcome of each, and its obligations.
 use Rattle.std.specs.Prelude.{◌≡◌, ◌⊎◌, ℕ, Bool, false, List, ◌++◌, Option}
 use Rattle.std.proofs.Common.{refl, sym, ap, ◌∙◌, inl, inr}
 use Rattle.winnow_core.specs.Outcome.{Outcome, took, backs, asks, Setting, on_cut, grown, Does}
@@ -8,16 +8,16 @@ use Rattle.winnow_core.specs.Runs.{Meaning}
 use Rattle.winnow_core.specs.Says.{Lawful, Said, Says}
 use Rattle.winnow_core.specs.Says.Lacks.{lacks_alike, lacks_whole, misused_alike, misused_whole}
 
--- A case: whether it is so, and what is then left.
+-- A case: whether it applies, and the remaining tokens.
 abbrev pub Case : Type 0 → Type 1
 Case T = Setting → List T → List T → Type 0
 
--- An output is taken: it is so of the tokens, the output and what is left.
+-- Takes an output in the case `so` of the tokens, the output and the rest.
 abbrev pub TakesWhere : {T O : Type 0} → (O → Case T) → Does T O
 TakesWhere {T} {O} so at tokens y =
     (o : O) × (rest : List T) × so o at tokens rest × (y ≡ took o rest)
 
--- It backs, and this is left.
+-- Backtracks and leaves `place`.
 abbrev pub BacksWhere : {T O : Type 0} → Case T → Does T O
 BacksWhere {T} so at tokens y = (place : List T) × so at tokens place × (y ≡ backs place)
 
@@ -25,7 +25,7 @@ BacksWhere {T} so at tokens y = (place : List T) × so at tokens place × (y ≡
 abbrev pub FailsWhere : {T O : Type 0} → (Setting → List T → Type 0) → Does T O
 FailsWhere so at tokens y = so at tokens × (y ≡ backs tokens)
 
--- There are too few tokens, of so many units.
+-- There are too few tokens; `need` gives the number of missing units.
 abbrev pub LacksWhere : {T O : Type 0} → (List T → Option ℕ) → (Setting → List T → Type 0)
     → Does T O
 LacksWhere need so at tokens y = so at tokens × (y ≡ lacks at (need tokens) tokens)
@@ -39,7 +39,7 @@ LacksAfter {T} need so at tokens y =
 abbrev pub MisusedWhere : {T O : Type 0} → Type 0 → Does T O
 MisusedWhere so at tokens y = so × (y ≡ misused at tokens)
 
--- What is done where this holds.
+-- An outcome under a condition.
 abbrev pub Given : {T O : Type 0} → Type 0 → Does T O → Does T O
 Given so does at tokens y = so × does at tokens y
 
@@ -154,7 +154,7 @@ module _ {T O : Type 0} {stable : Type 0} {alike : O → O → Type 0} where
       stays is more flag tokens x final (inl a) = inl (p.stays is more flag tokens x final a)
       stays is more flag tokens x final (inr b) = inr (q.stays is more flag tokens x final b)
 
--- what suffices for a premise may be asked in its place
+-- a premise may be replaced by a stronger one
 pub under : {S T O : Type 0} {says : Says T O} {s : S} {meaning : Meaning S T O} {also : Type 0}
     → (also → says.premise) → Said says s meaning
     → Said (record says { premise = also }) s meaning

@@ -1,4 +1,4 @@
--- That one state and one input decide the runs of a parser follows from what it says.
+-- Lemmas: specified outcomes imply that the result is a function of state and input.
 use Rattle.std.specs.Prelude.{◌≡◌, ◌++◌, List, Ok, Err}
 use Rattle.std.proofs.Common.{refl, sym, ap, ◌∙◌}
 use Rattle.std.proofs.lemmas.List.{append_cancel_right}
@@ -11,7 +11,7 @@ use Rattle.winnow_core.specs.Outcome.{Alike, outcome_of}
 use Rattle.winnow_core.specs.Runs.{LeaveEnds, Meaning}
 use Rattle.winnow_core.specs.Says.{Said, Says, here, setting_of}
 
--- answers of outcomes that are alike, neither of which is out of memory
+-- the results of equal outcomes, neither of which is out of memory
 pub answers : {T O : Type 0} (alike : O → O → Type 0) (a b : Answer O) (rest end : List T)
     → NotMemory a → NotMemory b → Alike alike (outcome_of a rest) (outcome_of b end)
     → AlikeAnswers alike a b × (rest ≡ end)

@@ -39,7 +39,6 @@ whole_by modal true need other rest end is e = true_is_false is
 whole_by modal false need other rest end is e = absurd (cc)
 whole_by plain more need other rest end is e = absurd (cc)
 
--- a whole input is not asked for more
 pub lacks_whole : {T O : Type 0} (at : Setting) (need other : Option ℕ) (rest end : List T)
     → at.more ≡ false → ◌≡◌ {A = Outcome T O} (asks other end) (lacks at need rest) → ⊥
 lacks_whole at need other rest end is e = whole_by at.form at.more need other rest end is e
@@ -61,7 +60,6 @@ never_asks : {T O : Type 0} (form : ErrorForm) (place : List T) (need : Option �
 never_asks modal place need end e = absurd (cc)
 never_asks plain place need end e = absurd (cc)
 
--- a parser that was made wrongly asks for no more
 pub misused_whole : {T O : Type 0} (at : Setting) (place : List T) (need : Option ℕ)
     (end : List T) → ◌≡◌ {A = Outcome T O} (asks need end) (misused at place) → ⊥
 misused_whole at place need end e = never_asks at.form place need end e

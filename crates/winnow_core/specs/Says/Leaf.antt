@@ -38,7 +38,7 @@ module _ {S T L O : Type 0} {does : Does T O} {at : Setting} {s : S} {answer : A
       → does at i.left.tokens (outcome_of answer j.left.tokens) → Did does at s i answer s j
   takes_did p done = passes_did p.passed done
 
--- it took nothing
+-- it consumed no input
 pub here_did : {S T O : Type 0} {does : Does T O} {at : Setting} {s : S} {answer : Answer O}
     {i j : Input T} → j ≡ i → does at i.left.tokens (outcome_of answer i.left.tokens)
     → Did does at s i answer s j

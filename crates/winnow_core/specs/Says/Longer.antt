@@ -1,4 +1,4 @@
--- Each longer input gets what a stable parser answers on a cut one.
+-- Lemmas: every longer input has the result of a stable parser on partial input.
 use Rattle.std.specs.Prelude.{◌≡◌, Bool, true, List, ◌++◌, Ok, Err}
 use Rattle.std.proofs.Common.{append_assoc, refl, sym, ap, subst, ◌∙◌}
 use Rattle.streams.specs.Input.{Input, IsEndOf, Status, with_more}
@@ -13,9 +13,9 @@ use Rattle.winnow_core.specs.Says.{Did, IsAt, Said, Says, Tells, told}
 use Rattle.winnow_core.specs.Says.Decided.{answers, same_end}
 use Rattle.winnow_core.specs.Stable.{IsFinal}
 
--- A final answer on a cut input, and what a longer input is answered from the same state, want of
--- memory aside: the outputs are alike, or both errors are of one kind; the state is the same; and
--- what was left is left, with what was added.
+-- A final result on partial input, and the result on longer input from the same state, unless out
+-- of memory: equal outputs or errors of the same kind, the same new state, and the same rest
+-- followed by the added tokens.
 pub record EachLongerGets {S T O : Type 0} (s : S) (meaning : Meaning S T O)
     (alike : O → O → Type 0) : Type 0 where
   pub gets : (more : List T) (flag : Bool) (i : Input T) (answer other : Answer O) (t u : S)

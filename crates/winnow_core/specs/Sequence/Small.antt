@@ -1,4 +1,4 @@
--- What tuples of no and of one parser say that they do.
+-- The specification of tuples of zero and one parsers.
 use Rattle.std.specs.Prelude.{◌≡◌, ⊤}
 use Rattle.std.proofs.Common.{refl, ap}
 use Rattle.winnow_core.specs.InOrder.Decided.{AlikeOne}

@@ -1,5 +1,5 @@
--- What a caller knows of one run that settles an output, where it answered: for `verify`,
--- `parse_to`, `try_map` and `and_then`.
+-- Lemmas for callers about one call of an adapter that may reject an output: `verify`, `parse_to`,
+-- `try_map` and `and_then`.
 use Rattle.std.specs.Prelude.{◌≡◌, Ok, Err, ◌⊎◌}
 use Rattle.std.proofs.Common.{refl, inl, inr}
 use Rattle.streams.specs.Input.{Input}
@@ -29,8 +29,7 @@ settles_ok {Accepted = Accepted} u (inl (o, x, r, settled, e)) =
 settles_ok u (inr (inl (o, k, a, r, settled, e, back))) = ok_is_err refl e
 settles_ok u (inr (inr (k, r, same, e))) = ok_is_err refl e
 
--- an error: the child's output was refused, and the input is back at the start; or it is the
--- child's, and nothing was settled
+-- an error: the child's output was rejected and the input is reset, or the child failed
 pub settles_err : {T O U : Type 0} {Ran : O → Type 0} {RanTo : O → Input T → Type 0}
     {Accepted : O → U → Type 0} {Refused : O → Kind → Type 0} {Back : Input T → Type 0}
     {Failed : Kind → Type 0}

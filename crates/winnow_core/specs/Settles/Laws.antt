@@ -1,4 +1,4 @@
--- What holds of the runs that settle an output.
+-- Laws of adapters that may reject an output.
 use Rattle.std.specs.Prelude.{Ok, Err}
 use Rattle.std.proofs.Common.{inl, inr}
 use Rattle.streams.specs.Reading.{Reading}
@@ -11,7 +11,7 @@ use Rattle.winnow_core.specs.Runs.{Runs, LeaveEnds}
 use Rattle.winnow_core.specs.Stable.Longer.{back_grows}
 use Rattle.winnow_core.specs.Stable.Grows.{Grows, final_by}
 
--- they leave an end, where those of the child do
+-- every call leaves a suffix, if the child does
 pub settles_ends : {S G T L O U : Type 0} (reading : Reading T L)
     (settle : G → O → Answer U → G → Type 0) (run : Runs S T O) → LeaveEnds reading run
     → LeaveEnds reading (Settles settle run)
@@ -23,7 +23,7 @@ settles_ends reading settle run child s i answer t j (inr (inr (k, r, same, e)))
     child s.0 i (Err k) t.0 j r
 
 module _ {T : Type 0} {following : Following T} where
-  -- they grow where those of the child do
+  -- stable under longer input, if the child is
   pub settles_grows : {S G O U : Type 0} {run : Runs S T O}
       (settle : G → O → Answer U → G → Type 0) → Grows following run
       → Grows following (Settles settle run)

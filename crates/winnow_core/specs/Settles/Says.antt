@@ -1,4 +1,4 @@
--- What is said of the runs that settle an output.
+-- The specification of adapters that may reject an output.
 use Rattle.std.specs.Prelude.{◌≡◌, ◌⊎◌, ℕ, Option, Ok, Err}
 use Rattle.std.proofs.Common.{refl, sym, subst, inl, inr, ◌∙◌}
 use Rattle.streams.specs.Input.{Input}
@@ -14,11 +14,12 @@ use Rattle.winnow_core.specs.States.{pair_is}
 use Rattle.winnow_core.specs.Then.{Comes, Next, Then, back_in, did_in, then_law}
 use Rattle.winnow_core.specs.Then.Steps.{fails_on, holds_where, meets_where, where_took}
 
--- What is accepted of an output, and by which kinds it is refused, in a form of errors.
+-- A relation between outputs and results (accepted values, or kinds of errors), by the form of
+-- errors.
 abbrev pub Accepts : Type 0 → Type 0 → Type 1
 Accepts O U = ErrorForm → O → U → Type 0
 
--- The part's output is accepted; or it is refused, and nothing is taken.
+-- The output is accepted; or it is rejected, without consuming input.
 abbrev pub settled_to : {T O U : Type 0} → Accepts O U → Accepts O Kind → O → Comes T U
 settled_to {U = U} accepts rejects o at tokens rest y =
     ((u : U) × accepts at.form o u × (y ≡ took u rest))
@@ -27,8 +28,8 @@ settled_to {U = U} accepts rejects o at tokens rest y =
 abbrev pub settled : {T O U : Type 0} → Accepts O U → Accepts O Kind → Next T O U
 settled accepts rejects = where_took (settled_to accepts rejects)
 
--- Outputs that are alike are accepted alike, or refused by one kind. Memory may be refused at any
--- time, and no more is asked for.
+-- For equal outputs, the accepted values are equal, or both are rejected with the same kind. Any
+-- allocation may fail, and no error is `Incomplete`.
 pub record SettlesOne {O U : Type 0} (accepts : Accepts O U) (rejects : Accepts O Kind)
     (alike : O → O → Type 0) (also : U → U → Type 0) : Type 0 where
   pub both : (form : ErrorForm) (o p : O) (u v : U) → alike o p → accepts form o u
@@ -116,13 +117,13 @@ settles_said {S} {G} {T} {O} {U} {says} {s} {meaning} {premise} accepts rejects 
         did_in s t (pair_is did.kept kept) did
         (fails_on (settled_to accepts rejects) at i.left.tokens j.left.tokens k e)
 
--- ---- what is refused backtracks
+-- ---- rejection is a backtrack
 
--- an output that is refused
+-- an output that is rejected
 abbrev pub Refuses : {O : Type 0} → (O → Type 0) → O → Kind → Type 0
 Refuses refuses o k = refuses o × (k ≡ backtrack)
 
--- one that is accepted is not refused
+-- equal outputs are not both accepted and rejected
 pub backtracks_one : {O U : Type 0} {alike : O → O → Type 0} {also : U → U → Type 0}
     (accepts : O → U → Type 0) (refuses : O → Type 0)
     → ((o p : O) (u v : U) → alike o p → accepts o u → accepts p v → also u v)

@@ -1,4 +1,5 @@
--- What lemmas of combinators take of a child and give: its runs stay, and what is left may grow.
+-- The property of a child that lemmas about combinators need and prove: it is stable, and the rest
+-- may be followed by the same tokens.
 use Rattle.std.specs.Prelude.{◌≡◌, Bool, true, false, List}
 use Rattle.std.proofs.Common.{sym, subst, ◌∙◌}
 use Rattle.streams.specs.Equal.{true_is_false}
@@ -13,7 +14,7 @@ use Rattle.winnow_core.specs.Stable.{IsFinal, IsStable}
 abbrev pub MayGrow : {T : Type 0} → Following T → List T → Input T → Type 0
 MayGrow following more i = (i.status.cut ≡ true) × Follows following i.left more
 
--- As `IsStable`, and what is left may grow so too.
+-- Like `IsStable`; the rest may also be followed by these tokens.
 abbrev pub Grows : {S T O : Type 0} → Following T → Runs S T O → Type 0
 Grows {S} {T} {O} following run =
     (more : List T) (flag : Bool) (s : S) (i : Input T) (answer : Answer O) (t : S) (j : Input T)
@@ -29,7 +30,7 @@ grows {following = following} ends stable more flag s i answer t j (is_cut, foll
       (e.cut ∙ is_cut, follows_end following more e follows),
     )
 
--- and what it gives
+-- the property that a combinator must prove
 pub stays : {S T O : Type 0} {following : Following T} {run : Runs S T O} → Grows following run
     → IsStable following run
 stays child more flag s i answer t j is_cut follows final r =
@@ -48,12 +49,11 @@ pub leaf_stays : {S T O : Type 0} (following : Following T)
 leaf_stays following runs leaf more flag s i answer t j is_cut follows final (r, kept) =
     (leaf s more flag i answer j is_cut final r, kept)
 
--- an answer of a final kind
+-- a result of a final kind
 pub final_by : {O : Type 0} {answer : Answer O} (known : Answer O) → answer ≡ known
     → IsFinal answer → IsFinal known
 final_by known e final = let P : Answer _ → Type 0 = λ a. IsFinal a in subst P e final
 
--- a cut input is not whole
 pub not_whole : {P : Type 0} {flag : Bool} → flag ≡ true → flag ≡ false → P
 not_whole is_cut whole = true_is_false (sym is_cut ∙ whole)
 

@@ -1,4 +1,4 @@
--- What a caller knows of runs that no longer input changes.
+-- Lemmas for callers about stable parsers.
 use Rattle.std.specs.Prelude.{◌≡◌, Ok, Err}
 use Rattle.std.proofs.Common.{refl, sym, subst, inl, inr}
 use Rattle.streams.specs.Following.{Following}
@@ -18,8 +18,8 @@ settles_by_answer following run stable s i (Err cut) t j is_cut r =
 settles_by_answer following run stable s i (Err (incomplete need)) t j is_cut r = inl (need, refl)
 settles_by_answer following run stable s i (Err memory) t j is_cut r = inr (inl refl)
 
--- Each run of a stable parser under errors with a mode asks for more on a cut input, or wants
--- memory, or answers what every longer input gets.
+-- With errors that have a mode, a stable parser on partial input returns `Incomplete`, is out of
+-- memory, or returns the result of every longer input.
 pub each_settles : {S T O : Type 0} {following : Following T} (meaning : Meaning S T O)
     (form : ErrorForm) → form ≡ modal → IsStable following (meaning modal)
     → EachSettlesOnCut following (meaning form)

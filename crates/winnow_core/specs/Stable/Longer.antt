@@ -1,4 +1,4 @@
--- What holds of an input, and of it with more tokens after.
+-- Lemmas about an input, and about the input followed by more tokens.
 use Rattle.std.specs.Prelude.{◌≡◌, ◌<◌, ℕ, Bool, true, List, ◌++◌, length, Option, [], ◌∷◌}
 use Rattle.std.proofs.Common.{sym, ap, subst, inl, inr, ◌∙◌, append_assoc, arith, length-append}
 use Rattle.std.proofs.Common.{refl, ◌⊎◌}
@@ -52,12 +52,11 @@ pub takes_more : {T L : Type 0} {reading : Reading T L} {front : List T} {i j : 
 takes_more more flag p =
     record { shown = p.shown; passed = passes_more more flag p.passed }
 
--- after what is passed the input is still cut
 pub passes_cut : {T L : Type 0} {reading : Reading T L} {front : List T} {i j : Input T}
     → Passes reading front i j → i.status.cut ≡ true → j.status.cut ≡ true
 passes_cut p is_cut = ap (λ s. s.cut) p.status ∙ is_cut
 
--- a cut input that is too short has no final answer
+-- missing tokens of partial input have no final result
 pub short_final : {T P : Type 0} {need : Option ℕ} (i : Input T) {k : Kind}
     → i.status.cut ≡ true → ShortKind modal need i k → IsFinalKind k → P
 short_final i is_cut (inl (cuts, kind)) final = absurd (subst IsFinalKind kind final)
@@ -68,7 +67,7 @@ pub still_fewer : {T : Type 0} (more xs ys : List T) → length xs < length ys
     → length (xs ++ more) < length (ys ++ more)
 still_fewer more xs ys less = omega (arith, less, length-append xs more, length-append ys more)
 
--- two beginnings of one list: the one is a beginning of the other
+-- of two prefixes of one list, one is a prefix of the other
 pub one_beginning : {T : Type 0} (xs more front rest : List T) → xs ++ more ≡ front ++ rest
     → ((others : List T) × (xs ≡ front ++ others))
     ⊎ ((x : T) × (others : List T) × (front ≡ xs ++ x ∷ others))

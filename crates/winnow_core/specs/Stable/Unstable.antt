@@ -8,7 +8,7 @@ use Rattle.winnow_core.specs.Eof.{EofRuns}
 use Rattle.winnow_core.specs.Runs.{Keeps}
 use Rattle.winnow_core.specs.Stable.{IsStable}
 
--- a cut input of which nothing is left
+-- an empty partial input
 abbrev pub cut_end : {T : Type 0} → Input T
 cut_end = record { left = at_start []; status = record { cut = true; recorded = [] } }
 
@@ -26,12 +26,11 @@ takes_none {T} reading slice shown = record {
   };
 }
 
--- what may stand after no token may follow it
 pub may_follow : {T : Type 0} (following : Following T) (x : T)
     → following.can_follow [] (x ∷ []) → Follows following cut_end.left (x ∷ [])
 may_follow following x follows = record { possible = refl; tokens = follows }
 
--- the end of the input is none where a token follows
+-- `eof` matches empty partial input, but not if a token follows
 pub eof_unstable : {T L : Type 0} (reading : Reading T L) (following : Following T) (slice : L)
     (x : T) → reading.shows slice [] → following.can_follow [] (x ∷ [])
     → IsStable following (Keeps (λ (s : ⊤). EofRuns reading)) → ⊥

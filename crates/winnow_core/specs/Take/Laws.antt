@@ -1,4 +1,4 @@
--- What holds of the runs of the slice that a parser read.
+-- Laws of the adapter `take`.
 use Rattle.std.specs.Prelude.{◌≡◌, List, ◌++◌, Ok, Err}
 use Rattle.std.proofs.Common.{ap, sym, ◌∙◌, inl, inr, append_assoc}
 use Rattle.streams.specs.Reading.{Reading}
@@ -8,15 +8,15 @@ use Rattle.winnow_core.specs.Take.{TakeRuns}
 use Rattle.winnow_core.specs.Runs.{Runs, LeaveEnds}
 use Rattle.winnow_core.specs.Stable.Grows.{Grows, final_by}
 
--- they leave an end, where those of the child do
+-- every call leaves a suffix, if the child does
 pub take_ends : {S T L O : Type 0} (reading : Reading T L) (run : Runs S T O)
     → LeaveEnds reading run → LeaveEnds reading (TakeRuns reading run)
 take_ends reading run child s i answer t j (inl (o, front, slice, r, splits, shown, e)) =
     child s i (Ok o) t j r
 take_ends reading run child s i answer t j (inr (k, r, e)) = child s i (Err k) t j r
 
--- where a slice shows one list of tokens, those of the slice that it answers and then the rest are
--- the input before
+-- if a slice determines its tokens, then those of the returned slice, followed by the rest, are the
+-- original input
 pub taken_from_the_front : {S T L O : Type 0} (reading : Reading T L) (run : Runs S T O)
     (tokens_of : L → List T) → ((l : L) (xs : List T) → reading.shows l xs → tokens_of l ≡ xs)
     → TakesFromTheFront tokens_of (TakeRuns reading run)
@@ -28,7 +28,7 @@ taken_from_the_front reading run tokens_of told s i slice t j
 taken_from_the_front reading run tokens_of told s i slice t j (inr (k, r, e)) = cc
 
 module _ {T : Type 0} {following : Following T} where
-  -- they grow where those of the child do
+  -- stable under longer input, if the child is
   pub take_adapter_grows : {S L O : Type 0} {run : Runs S T O} (reading : Reading T L)
       → Grows following run → Grows following (TakeRuns reading run)
   take_adapter_grows reading child more flag s i answer t j may final

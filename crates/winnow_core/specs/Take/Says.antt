@@ -1,4 +1,4 @@
--- What a parser says that it does, in the place of whose output is the slice that it read.
+-- The specification of the adapter `take`.
 use Rattle.std.specs.Prelude.{◌≡◌, List, ◌++◌}
 use Rattle.std.proofs.Common.{sym, subst, ap, inl, inr, ◌∙◌, append_assoc}
 use Rattle.std.proofs.lemmas.List.{append_cancel_right}
@@ -10,7 +10,7 @@ use Rattle.winnow_core.specs.Says.{Said, Says}
 use Rattle.winnow_core.specs.Says.Along.{said_along}
 use Rattle.winnow_core.specs.Take.{TakeRuns}
 
--- A slice shows the tokens before what is left.
+-- A slice shows the consumed tokens.
 abbrev pub ShowsTaken : {T L : Type 0} → Reading T L → List T → List T → L → Type 0
 ShowsTaken {T} reading tokens rest slice =
     (front : List T) × (tokens ≡ front ++ rest) × reading.shows slice front

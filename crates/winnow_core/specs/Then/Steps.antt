@@ -1,4 +1,4 @@
--- What may come of a part: what most parsers make of it.
+-- The continuations of most combinators.
 use Rattle.std.specs.Prelude.{◌≡◌, Bool, List, ◌++◌, ℕ, Option, Err}
 use Rattle.std.proofs.Common.{refl}
 use Rattle.streams.specs.Kind.{Kind}
@@ -10,7 +10,7 @@ use Rattle.winnow_core.specs.Says.{Lawful}
 use Rattle.winnow_core.specs.Then.{Comes, ComesOf, Holds, Meets, Next, NextHolds, NextMeets, Then}
 use Rattle.winnow_core.specs.Then.{final_comes, hands_on, one_comes, stays_comes, whole_comes}
 
--- an output, and what is left
+-- returns an output and leaves the rest
 abbrev pub takes : {T U : Type 0} → U → Comes T U
 takes u at tokens rest y = y ≡ took u rest
 
@@ -30,7 +30,7 @@ backs_to_start at tokens place y = y ≡ backs tokens
 abbrev pub cuts_on : {T U : Type 0} → Comes T U
 cuts_on at tokens place y = y ≡ cuts place
 
--- it asks for more where the part did
+-- is incomplete where the child was
 abbrev pub asks_on : {T U : Type 0} → Option ℕ → Comes T U
 asks_on need at tokens place y = y ≡ asks need place
 
@@ -38,7 +38,7 @@ asks_on need at tokens place y = y ≡ asks need place
 abbrev pub cuts_to_start : {T U : Type 0} → Comes T U
 cuts_to_start at tokens place y = y ≡ cuts tokens
 
--- it asks for more, and nothing is taken
+-- is incomplete, without consuming input
 abbrev pub asks_to_start : {T U : Type 0} → Option ℕ → Comes T U
 asks_to_start need at tokens place y = y ≡ asks need tokens
 
@@ -139,7 +139,6 @@ module _ {T U : Type 0} {stable : Type 0} where
     stays = λ is more flag tokens y final e. h.stays is more flag tokens tokens y final e;
   }
 
-  -- what is asked for is not final
   pub asks_later : stable → (need : Option ℕ) (tokens place : List T) (y : Outcome T U)
       → IsFinal y → y ≡ asks need place → ⊥
   asks_later is need tokens place y final e = final_by {y = asks need place} e final

@@ -1,4 +1,4 @@
--- What a caller knows of an output that a closure made, or failed to make.
+-- Lemmas for callers about the result of a fallible closure.
 use Rattle.std.specs.Prelude.{◌≡◌, Ok, Err, ◌⊎◌}
 use Rattle.std.proofs.Common.{refl, inl, inr}
 use Rattle.streams.specs.Kind.{Kind}
@@ -18,7 +18,7 @@ pub try_map_made : {U R : Type 0} {Made : U → Type 0} {Failed : R → Type 0}
 try_map_made {Made = Made} u (inl (x, made, e)) = at_output Made e made
 try_map_made u (inr (r, k, failed, kind, e)) = ok_is_err refl e
 
--- refused: the closure failed
+-- rejected: the closure failed
 pub try_map_failed : {U R : Type 0} {Made : U → Type 0} {Failed : R → Type 0}
     {Kinds : R → Kind → Type 0} (k : Kind) → Tried Made Failed Kinds (Err k)
     → (r : R) × Failed r × Kinds r k

@@ -1,4 +1,4 @@
--- What a parser whose output a closure that may fail maps says that it does.
+-- The specification of `try_map`.
 use Rattle.std.specs.Prelude.{◌≡◌, Result, Ok, Err}
 use Rattle.std.proofs.Common.{refl, sym, subst, inl, inr, ◌∙◌}
 use Rattle.streams.specs.Kind.{Kind, backtrack}
@@ -14,18 +14,18 @@ use Rattle.winnow_core.specs.Settles.Says.{SettlesOne, settle_says, settles_said
 use Rattle.winnow_core.specs.States.{pair_is}
 use Rattle.winnow_core.specs.TryMap.{TryMapRuns, TryMapSettles}
 
--- Of outputs that are alike it makes something both or fails at both.
+-- For equal outputs the closure succeeds for both or fails for both.
 pub record TriesSame {G O U R : Type 0} (step : G → O → Result U R → G → Type 0) (f : G)
     (alike : O → O → Type 0) : Type 0 where
   pub apart : (o p : O) (u : U) (r : R) → alike o p → step f o (Ok u) f → step f p (Err r) f → ⊥
   pub either : (o p : O) (u : U) (r : R) → alike o p → step f o (Err r) f → step f p (Ok u) f → ⊥
 
--- The closure fails, and its error is made one that backtracks, or is refused memory.
+-- The closure fails, and its error becomes a backtrack, or out of memory.
 abbrev pub FailsBy : {G O U R : Type 0} → (G → O → Result U R → G → Type 0) → G × (R → Keeping)
     → O → Kind → Type 0
 FailsBy {R = R} step f o k = (r : R) × step f.0 o (Err r) f.0 × KindGiven (f.1 r) backtrack k
 
--- What the closure makes is the output; where it fails, the output is refused.
+-- The value of the closure is the output; if it fails, the output is rejected.
 abbrev pub try_map_says : {G T O U R : Type 0} → (G → O → Result U R → G → Type 0)
     → G × (R → Keeping) → Says T O → Says T U
 try_map_says step f p = settle_says (λ form. GivesOk step f.0) (λ form. FailsBy step f)

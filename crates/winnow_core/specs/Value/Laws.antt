@@ -1,4 +1,4 @@
--- What holds of the runs that answer a value.
+-- Laws of `value`.
 use Rattle.std.specs.Prelude.{Ok, Err}
 use Rattle.std.proofs.Common.{inl, inr}
 use Rattle.streams.specs.Reading.{Reading}
@@ -8,7 +8,7 @@ use Rattle.winnow_core.specs.Runs.{Runs, LeaveEnds}
 use Rattle.winnow_core.specs.Value.{ValueRuns}
 use Rattle.winnow_core.specs.Stable.Grows.{Grows, final_by}
 
--- they leave an end, where those of the child do
+-- every call leaves a suffix, if the child does
 pub value_ends : {S T L O U : Type 0} (reading : Reading T L) (IsClone : U → U → Type 0)
     (ClonesAlways : U → Type 0) (run : Runs S T O) → LeaveEnds reading run
     → LeaveEnds reading (ValueRuns IsClone ClonesAlways run)
@@ -21,7 +21,7 @@ value_ends reading IsClone ClonesAlways run child s i answer t j (inr (inr (k, r
     child s.0 i (Err k) t.0 j r
 
 module _ {T : Type 0} {following : Following T} where
-  -- they grow where those of the child do
+  -- stable under longer input, if the child is
   pub value_grows : {S O U : Type 0} {run : Runs S T O} (IsClone : U → U → Type 0)
       (ClonesAlways : U → Type 0) → Grows following run
       → Grows following (ValueRuns IsClone ClonesAlways run)

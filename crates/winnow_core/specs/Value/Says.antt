@@ -1,4 +1,4 @@
--- What a parser says that it does, in the place of whose output a value is cloned.
+-- The specification of `value`.
 use Rattle.std.specs.Prelude.{◌≡◌, Ok, Err}
 use Rattle.std.proofs.Common.{refl, inl, inr}
 use Rattle.streams.specs.Input.{Input}

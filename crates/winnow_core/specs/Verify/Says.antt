@@ -1,4 +1,4 @@
--- What a parser whose output a closure tests says that it does.
+-- The specification of `verify`.
 use Rattle.std.specs.Prelude.{◌≡◌, Bool, true, false}
 use Rattle.std.proofs.Common.{refl, sym, subst, inl, inr}
 use Rattle.stream_errors.specs.Form.Known.{ok_is_err, same_kind, same_output}
@@ -8,13 +8,13 @@ use Rattle.winnow_core.specs.Says.{Said, Says}
 use Rattle.winnow_core.specs.Settles.Says.{Refuses, backtracks_one, settle_says, settles_said}
 use Rattle.winnow_core.specs.Verify.{VerifyRuns, VerifySettles}
 
--- Of outputs that are alike it finds the same.
+-- The test has the same result for equal outputs.
 pub record FindsSame {G O : Type 0} (tests : G → O → Bool → G → Type 0) (f : G)
     (alike : O → O → Type 0) : Type 0 where
   pub apart : (o p : O) → alike o p → tests f o true f → tests f p false f → ⊥
   pub either : (o p : O) → alike o p → tests f o false f → tests f p true f → ⊥
 
--- Found true, it is the output; found false, it is refused.
+-- If the test is true, the output is accepted; otherwise it is rejected.
 abbrev pub verify_says : {G T O : Type 0} → (G → O → Bool → G → Type 0) → G → Says T O → Says T O
 verify_says tests f p = settle_says (λ form. Finds tests f)
     (λ form. Refuses (λ o. tests f o false f))

@@ -1,4 +1,4 @@
--- What holds of the runs of an output that may be refused.
+-- Laws of `verify_map`.
 use Rattle.std.specs.Prelude.{Option, Ok, Err}
 use Rattle.std.proofs.Common.{inl, inr}
 use Rattle.streams.specs.Reading.{Reading}
@@ -10,7 +10,7 @@ use Rattle.winnow_core.specs.Runs.{Runs, LeaveEnds}
 use Rattle.winnow_core.specs.Stable.Longer.{back_grows}
 use Rattle.winnow_core.specs.Stable.Grows.{Grows, final_by}
 
--- they leave an end, where those of the child do
+-- every call leaves a suffix, if the child does
 pub verify_map_ends : {S G T L O U : Type 0} (reading : Reading T L) (run : Runs S T O)
     (step : G → O → Option U → G → Type 0) → LeaveEnds reading run
     → LeaveEnds reading (VerifyMapRuns run step)
@@ -22,7 +22,7 @@ verify_map_ends reading run step child s i answer t j (inr (inr (k, r, same, e))
     child s.0 i (Err k) t.0 j r
 
 module _ {T : Type 0} {following : Following T} where
-  -- they grow where those of the child do
+  -- stable under longer input, if the child is
   pub verify_map_grows : {S G O U : Type 0} {run : Runs S T O}
       (step : G → O → Option U → G → Type 0) → Grows following run
       → Grows following (VerifyMapRuns run step)

@@ -1,4 +1,4 @@
--- What a parser whose output a closure maps or refuses says that it does.
+-- The specification of `verify_map`.
 use Rattle.std.specs.Prelude.{◌≡◌, ◌⊎◌, Option, Some, None, Ok, Err}
 use Rattle.std.proofs.Common.{refl, subst, inl, inr}
 use Rattle.streams.specs.Kind.{backtrack}
@@ -12,13 +12,13 @@ use Rattle.winnow_core.specs.Says.Along.{said_along}
 use Rattle.winnow_core.specs.Settles.Says.{Refuses, backtracks_one, settle_says, settles_said}
 use Rattle.winnow_core.specs.VerifyMap.{VerifyMapRuns}
 
--- Of outputs that are alike it refuses both or none.
+-- For equal outputs the closure returns `None` for both or neither.
 pub record RefusesSame {G O U : Type 0} (step : G → O → Option U → G → Type 0) (f : G)
     (alike : O → O → Type 0) : Type 0 where
   pub apart : (o p : O) (u : U) → alike o p → step f o (Some u) f → step f p None f → ⊥
   pub either : (o p : O) (u : U) → alike o p → step f o None f → step f p (Some u) f → ⊥
 
--- What the closure gives is the output; where it gives none, it is refused.
+-- The value of the closure is the output; if it is `None`, the output is rejected.
 abbrev pub verify_map_says : {G T O U : Type 0} → (G → O → Option U → G → Type 0) → G → Says T O
     → Says T U
 verify_map_says step f p = settle_says (λ form. GivesSome step f)

@@ -1,4 +1,4 @@
--- What a caller knows of one run of an output that is dropped, where it answered.
+-- Lemmas for callers about one call of `void`.
 use Rattle.std.specs.Prelude.{◌≡◌, Ok, Err, ◌⊎◌}
 use Rattle.std.proofs.Common.{refl, inl, inr}
 use Rattle.streams.specs.Kind.{Kind}

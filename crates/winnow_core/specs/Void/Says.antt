@@ -1,4 +1,4 @@
--- What a parser whose output is dropped says that it does.
+-- The specification of `void`.
 use Rattle.std.specs.Prelude.{⊤}
 use Rattle.std.proofs.Common.{inl, inr}
 use Rattle.winnow_core.specs.MakesOutput.Says.{of_output_said, of_output_says}

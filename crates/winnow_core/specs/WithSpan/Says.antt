@@ -1,5 +1,4 @@
--- What a parser says that it does, beside whose output are places. Tokens do not tell them, so any
--- two are alike.
+-- The specification of `with_span`. Tokens do not determine spans, so all spans are equal.
 use Rattle.std.specs.Prelude.{◌≡◌, ⊤, ℕ}
 use Rattle.std.specs.declared.ops.Range.{Range}
 use Rattle.std.proofs.Common.{sym, subst}

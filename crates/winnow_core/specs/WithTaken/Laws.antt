@@ -1,4 +1,4 @@
--- What holds of the runs of an output with the slice that was read.
+-- Laws of `with_taken`.
 use Rattle.std.specs.Prelude.{◌≡◌, List, ◌++◌}
 use Rattle.std.proofs.Common.{ap, sym, ◌∙◌, inl, inr, append_assoc}
 use Rattle.streams.specs.Reading.{Reading}
@@ -7,8 +7,8 @@ use Rattle.winnow_core.specs.Runs.{Runs}
 use Rattle.winnow_core.specs.WithTaken.{WithTakenRuns}
 use Rattle.winnow_core.specs.MakesOutput.Laws.{MakesMore}
 
--- where a slice shows one list of tokens, those of the slice that it answers and then the rest are
--- the input before
+-- if a slice determines its tokens, then those of the returned slice, followed by the rest, are the
+-- original input
 pub with_taken_from_the_front : {S T L O : Type 0} (reading : Reading T L) (run : Runs S T O)
     (tokens_of : L → List T) → ((l : L) (xs : List T) → reading.shows l xs → tokens_of l ≡ xs)
     → TakesFromTheFront (λ both. tokens_of both.1) (WithTakenRuns reading run)

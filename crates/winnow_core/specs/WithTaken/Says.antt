@@ -1,4 +1,4 @@
--- What a parser says that it does, beside whose output is the slice that it read.
+-- The specification of `with_taken`.
 use Rattle.std.specs.Prelude.{◌≡◌, List}
 use Rattle.std.proofs.Common.{sym, subst}
 use Rattle.streams.specs.Reading.{Reading}

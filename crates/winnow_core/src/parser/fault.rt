@@ -1,4 +1,4 @@
-//! The faults of whole parses.
+//! Errors of `parse` and `parse_iter`.
 ghost use Rattle.streams.specs.Input.{Remains};
 ghost use Rattle.winnow_core.specs.Parse.{IsFaultAt};
 
@@ -7,7 +7,7 @@ use stream_errors::parser_error::ParserError;
 use streams::needed::Needed;
 use streams::stream::Stream;
 
-/// The fault of an error that arose where `input` stands.
+/// Returns the error of `parse` for an error at the position of `input`.
 pub(crate) fn fault_at<I: Stream, E: ParserError<I>>(
     input: I,
     start: I::Checkpoint,

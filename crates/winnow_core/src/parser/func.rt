@@ -1,6 +1,6 @@
 //! Closures as parsers.
 ghost use Rattle.std.specs.Fn.{CalledAtMut};
-ghost use Rattle.winnow_core.specs.Func.{FuncRuns, LeavesEndsFrom};
+ghost use Rattle.winnow_core.specs.Func.{CalledWithMut, FuncRuns, FuncWithRuns, LeavesEndsFrom};
 ghost use Rattle.winnow_core.specs.Claim.{no_claim, nothing_claimed};
 ghost use Rattle.winnow_core.specs.Says.{nothing_done, nothing_said};
 
@@ -8,12 +8,14 @@ use crate::parser::Parser;
 use stream_errors::parser_error::ParserError;
 use streams::stream::Stream;
 
-/// A parser that runs the caller's closure, which owes that it leaves an end of its input: from the
-/// state that it is in, and from each that its calls lead to (`LeavesEndsFrom`). What a call owes
-/// beside that is the caller's own clause. `leaves_always` and `leaves_within` in `specs/Func.antt`
-/// show it for closures whose every state leaves ends, and for a set of states that calls keep.
+/// A parser that calls a closure.
 ///
-/// A plain function owes one clause, over bytes, or over any stream where it is then used at one:
+/// Every call must leave a suffix of its input, from the current state of the closure and from
+/// every state that its calls lead to (`LeavesEndsFrom`). Any further requirement is in the
+/// caller's own clause. `leaves_always` and `leaves_within` in `specs/Func.antt` prove this for
+/// closures that leave a suffix in every state, and for a set of states that calls preserve.
+///
+/// A plain function needs one clause, over bytes, or over any stream if it is used at one:
 ///
 /// ```
 /// ghost use Rattle.streams.specs.Bytes.{bytes_input, bytes_reading};
@@ -65,5 +67,53 @@ impl<F: FnMut(&mut I) -> Result<O, E>, I: Stream, O, E: ParserError<I>> Parser<I
     #[inline(always)]
     fn parse_next(&mut self, input: &mut I) -> Result<O, E> {
         (self.0)(input)
+    }
+}
+
+/// A parser that runs the caller's function at an argument, as an allocator: each run calls it
+/// once, at a copy of the argument. The function owes what that of a [`Func`] owes.
+///
+/// A closure whose output borrows from the input is refused, and this takes the function itself:
+///
+/// ```
+/// ghost use Rattle.streams.specs.Bytes.{bytes_input, bytes_reading};
+/// ghost use Rattle.streams.specs.Input.{IsEndOf};
+///
+/// fn marked<'i>(mark: u8, input: &mut &'i [u8]) -> Result<&'i [u8], EmptyError>
+///     ensures { IsEndOf bytes_reading (bytes_input input.new.now) (bytes_input input.old.now) }
+/// {
+///     mark.take().parse_next(input)
+/// }
+///
+/// let mut word = FuncWith(b'a', marked);
+/// assert_eq!(rt; word.parse_peek(b"ab".as_slice()), Ok((b"b".as_slice(), b"a".as_slice())));
+/// ```
+#[derive(Clone, Copy, Drop)]
+pub struct FuncWith<A, F>(pub A, pub F);
+
+impl<A: Copy, F: FnMut(A, &mut I) -> Result<O, E>, I: Stream, O, E: ParserError<I>> Parser<I, O, E>
+    for FuncWith<A, F> {
+    ghost can_parse = { λ s. F.IsAlwaysCallable s.1
+        × LeavesEndsFrom I.reading I.view (CalledWithMut F.FnMut s.0) s.1 };
+
+    ghost State = { A × F };
+
+    ghost state = { λ s. (s.0, s.1) };
+
+    ghost meaning = { λ _. FuncWithRuns I.reading I.view E.kind (CalledWithMut F.FnMut) };
+
+    ghost says = { λ _. nothing_said };
+
+    ghost claim = { λ _. no_claim };
+
+    ghost leaves_ends = { λ form s i answer t j r. r.0.1 };
+
+    ghost said = { λ _. nothing_done };
+
+    ghost claimed = { λ _. nothing_claimed };
+
+    #[inline(always)]
+    fn parse_next(&mut self, input: &mut I) -> Result<O, E> {
+        (self.1)(self.0, input)
     }
 }

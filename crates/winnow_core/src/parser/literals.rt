@@ -17,10 +17,10 @@ use stream_searches::caseless::Caseless;
 use stream_searches::compare::Compare;
 use streams::stream::StreamIsPartial;
 
-/// A byte stands for itself, and is its own output.
+/// Matches the byte, and returns it.
 ///
-/// It fails, and consumes nothing, where the byte does not stand first; on a cut input with
-/// nothing left it is incomplete with an unknown need.
+/// Fails without consuming input if the input does not start with the byte. On empty partial input
+/// it returns `Incomplete` with an unknown need.
 impl<I: StreamIsPartial + Compare<u8>, E: ParserError<I>> Parser<I, u8, E> for u8 {
     ghost State = { Self };
 
@@ -55,7 +55,7 @@ impl<I: StreamIsPartial + Compare<u8>, E: ParserError<I>> Stable<I, u8, E> for u
     fn stay() {}
 }
 
-/// Bytes stand for themselves; the output is the slice of the input.
+/// Matches the bytes, and returns the slice of the input.
 impl<'t, I: StreamIsPartial + Compare<&'t [u8]>, E: ParserError<I>> Parser<I, I::Slice, E>
     for &'t [u8] {
     ghost State = { Self };
@@ -93,7 +93,7 @@ impl<'t, I: StreamIsPartial + Compare<&'t [u8]>, E: ParserError<I>> Stable<I, I:
     fn stay() {}
 }
 
-/// Bytes stand for themselves; the output is the slice of the input.
+/// Matches the bytes, and returns the slice of the input.
 impl<'t, const N: usize, I: StreamIsPartial + Compare<&'t [u8; N]>, E: ParserError<I>> Parser<
     I,
     I::Slice,
@@ -137,10 +137,10 @@ impl<'t, const N: usize, I: StreamIsPartial + Compare<&'t [u8; N]>, E: ParserErr
     fn stay() {}
 }
 
-/// A character stands for itself, and is its own output.
+/// Matches the character, and returns it.
 ///
-/// It fails, and consumes nothing, where the character does not stand first; where a cut input is
-/// too short to tell it is incomplete with an unknown need.
+/// Fails without consuming input if the input does not start with the character. On partial input
+/// that is too short to decide it returns `Incomplete` with an unknown need.
 impl<I: StreamIsPartial + Compare<char>, E: ParserError<I>> Parser<I, char, E> for char {
     ghost State = { Self };
 
@@ -175,7 +175,7 @@ impl<I: StreamIsPartial + Compare<char>, E: ParserError<I>> Stable<I, char, E> f
     fn stay() {}
 }
 
-/// A text stands for itself; the output is the slice of the input.
+/// Matches the text, and returns the slice of the input.
 impl<'t, I: StreamIsPartial + Compare<&'t str>, E: ParserError<I>> Parser<I, I::Slice, E>
     for &'t str {
     ghost State = { Self };
@@ -213,7 +213,7 @@ impl<'t, I: StreamIsPartial + Compare<&'t str>, E: ParserError<I>> Stable<I, I::
     fn stay() {}
 }
 
-/// Bytes without regard to ASCII case stand for themselves; the output is the slice of the input.
+/// Matches the bytes regardless of ASCII case, and returns the slice of the input.
 impl<'t, I: StreamIsPartial + Compare<Caseless<&'t [u8]>>, E: ParserError<I>> Parser<I, I::Slice, E>
     for Caseless<&'t [u8]> {
     ghost State = { Self };
@@ -251,7 +251,7 @@ impl<'t, I: StreamIsPartial + Compare<Caseless<&'t [u8]>>, E: ParserError<I>> St
     fn stay() {}
 }
 
-/// Bytes without regard to ASCII case stand for themselves; the output is the slice of the input.
+/// Matches the bytes regardless of ASCII case, and returns the slice of the input.
 impl<
     't,
     const N: usize,
@@ -297,7 +297,7 @@ impl<
     fn stay() {}
 }
 
-/// A text without regard to ASCII case stands for itself; the output is the slice of the input.
+/// Matches the text regardless of ASCII case, and returns the slice of the input.
 impl<'t, I: StreamIsPartial + Compare<Caseless<&'t str>>, E: ParserError<I>> Parser<I, I::Slice, E>
     for Caseless<&'t str> {
     ghost State = { Self };

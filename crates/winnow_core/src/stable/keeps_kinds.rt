@@ -7,10 +7,10 @@ ghost use Rattle.stream_errors.specs.Mode.{mode_kind};
 use stream_errors::has_kind::HasKind;
 use stream_errors::mode::ErrMode;
 
-/// A type of errors to which errors with a mode are converted so that they keep their kinds.
+/// Error types to which errors with a mode are converted without changing their kind.
 ///
-/// Over it [`ErrInto`](crate::combinator::impls::ErrInto) is stable. Errors with a mode keep
-/// their kinds where they are converted to their own type.
+/// Over such a type [`ErrInto`](crate::combinator::impls::ErrInto) is stable. Errors with a mode
+/// keep their kinds if they are converted to their own type.
 ///
 /// ```
 /// fn keeps<E: KeepsKinds<ErrMode<EmptyError>>>(error: ErrMode<EmptyError>) -> E {

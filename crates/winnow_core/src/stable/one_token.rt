@@ -9,7 +9,8 @@ use streams::partial::Partial;
 
 /// A stream on which a literal of type `T` is one token.
 ///
-/// So are a byte on bytes and a character on text; a character on bytes may be several.
+/// This holds for a byte on bytes and a character on text; a character on bytes may be several
+/// tokens.
 ///
 /// ```
 /// fn one_token<'i, I: ComparesOneToken<char> + Drop>(input: I) -> CompareResult {

@@ -1,4 +1,4 @@
--- What holds of the runs of text with escapes.
+-- Properties of the calls for text with escapes.
 use Rattle.std.specs.Prelude.{Ok, Err, List, Bool, None, ◌++◌}
 use Rattle.std.proofs.Common.{inl, inr, refl, ap}
 use Rattle.streams.specs.Input.{Input, IsEndOf, back_at, is_end_of_trans, with_more}
@@ -19,13 +19,11 @@ use Rattle.winnow_repeat.specs.Chain.Laws.{chain_grows}
 module _ {S W V T L O D P : Type 0} (reading : Reading T L) (normal : Runs S T O)
     (control : Runs W T D) (escape : Runs V T P) (ends : LeaveEnds reading normal)
     (controls : LeaveEnds reading control) (escapes : LeaveEnds reading escape) where
-  -- from the place where normal backtracked
   back_there : (s : S) (i : Input T) (t : S) (x : Input T) → normal s i (Err backtrack) t x
       → IsEndOf reading (back_at i.left x) i
   back_there s i t x r =
       back_ends reading i x (back_at i.left x) refl (ends s i (Err backtrack) t x r)
 
-  -- a turn leaves an end, where its parsers do
   pub escape_turn_ends : LeaveEnds reading (EscapeTurnRuns normal control escape)
   escape_turn_ends s i answer t j (some, inl (o, r, kept, stays, e)) = ends s.0 i (Ok o) t.0 j r
   escape_turn_ends s i answer t j (some, inr (inl (k, r, other, kept, stays, e))) =
@@ -42,7 +40,6 @@ module _ {S W V T L O D P : Type 0} (reading : Reading T L) (normal : Runs S T O
       is_end_of_trans (controls s.1 (back_at i.left x) (Err memory) t.1 j c)
       (back_there s.0 i t.0 x r)
 
-  -- and so does what is no turn
   pub no_turn_ends : (s : S × W × V) (i : Input T) (t : S × W × V) (j : Input T)
       → NoTurnRuns normal control s i t j → IsEndOf reading j i
   no_turn_ends s i t j (some, (x, r, c, kept)) =
@@ -70,7 +67,6 @@ module _ {S W V T L O D P : Type 0} (reading : Reading T L) (normal : Runs S T O
             ↦ is_end_of_trans (escape_turn_ends u m (Ok o) t j r) behind
       ]
 
--- they leave an end, where those of the three parsers do
 pub escaped_ends : {S W V T L O D P C : Type 0} (reading : Reading T L) (normal : Runs S T O)
     (control : Runs W T D) (escape : Runs V T P) (into : Accumulator C (Turn O P))
     (assert_kind short : Kind) → LeaveEnds reading normal → LeaveEnds reading control
@@ -133,7 +129,7 @@ module _ {S W V T O D P : Type 0} {following : Following T} (normal : Runs S T O
   turn_grows more flag s i answer t j may final
       (some, inr (inr (inr (inr (x, r, c, kept, e))))) = absurd (final_by (Err memory) e final)
 
-  -- they grow where those of the child do
+  -- stable under longer input, if the child is
   no_turn_grows : (more : List T) (flag : Bool) (s : S × W × V) (i : Input T) (t : S × W × V)
       (j : Input T) → MayGrow following more i → NoTurnRuns normal control s i t j
       → NoTurnRuns normal control s (with_more i more flag) t (with_more j more flag)

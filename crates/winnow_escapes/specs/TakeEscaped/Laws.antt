@@ -1,4 +1,4 @@
--- What holds of the runs of text with escapes, as it stands.
+-- Properties of the calls for raw text with escapes.
 use Rattle.std.specs.Prelude.{List}
 use Rattle.streams.specs.Kind.{Kind}
 use Rattle.streams.specs.Reading.{Reading}
@@ -9,7 +9,6 @@ use Rattle.winnow_escapes.specs.Escaped.{EscapedRuns}
 use Rattle.winnow_escapes.specs.Escaped.Laws.{escaped_ends}
 use Rattle.winnow_escapes.specs.TakeEscaped.{TakeEscapedRuns, no_turns_kept}
 
--- they leave an end, where those of the three parsers do
 pub take_escaped_ends : {S W V T L O D P : Type 0} (reading : Reading T L) (normal : Runs S T O)
     (control : Runs W T D) (escape : Runs V T P) (assert_kind short : Kind)
     → LeaveEnds reading normal → LeaveEnds reading control → LeaveEnds reading escape

@@ -1,4 +1,4 @@
-//! Turns of what stands for itself and of escapes, into an accumulator.
+//! Turns of literal text and of escapes, into an accumulator.
 ghost use Rattle.std.specs.Prelude.{◌≡◌, [], MatchResult, None};
 ghost use Rattle.stream_errors.specs.Form.{answer_by, assert_kind, incomplete_kind, plain};
 ghost use Rattle.streams.specs.Input.{IsEndOf};
@@ -12,16 +12,16 @@ use streams::needed::Needed;
 use streams::stream::{Stream, StreamIsPartial};
 use winnow_core::parser::Parser;
 
-/// What a turn gives.
+/// The output of a turn.
 #[derive(Drop)]
 pub enum Turn<O, P> {
-    /// The output of what stands for itself.
+    /// The output of literal text.
     Normal(O),
-    /// The output of what stands after a control.
+    /// The output of the input after a control.
     Escape(P),
 }
 
-/// Tries a turn, where something is left. It gives nothing where the control refuses.
+/// Tries a turn, if input remains. There is no turn if the control does not match.
 pub(crate) fn try_turn<
     N: Parser<I, O, E>,
     K: Parser<I, D, ControlError>,
@@ -81,7 +81,7 @@ fn keep<O, P, C: Accumulate<O, A> + Accumulate<P, A>, A>(
     }
 }
 
-/// Reads turns while anything is left.
+/// Reads turns while input remains.
 pub(crate) fn read_turns<
     N: Parser<I, O, E>,
     K: Parser<I, D, ControlError>,

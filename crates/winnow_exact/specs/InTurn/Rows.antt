@@ -1,4 +1,4 @@
--- What calls in turn tell of rows of texts.
+-- Results of successive calls for consecutive encodings.
 use Rattle.std.specs.Prelude.{◌≡◌, ◌<◌, ◌+◌, ℕ, List, [], ◌∷◌, ◌++◌, length}
 use Rattle.std.proofs.Common.{refl, sym, ap, inl, inr, ◌∙◌, arith, append_assoc, length-append}
 use Rattle.std.proofs.lemmas.List.{append-nil}
@@ -10,7 +10,7 @@ use Rattle.grammars.specs.Grammar.{IsUnique}
 use Rattle.grammars.specs.Texts.{EachText, Text}
 use Rattle.winnow_exact.specs.InTurn.{Failed, First, Stood, completes_end}
 
--- That many texts, one after the other.
+-- `n` consecutive encodings.
 abbrev pub RowOf : {T O : Type 0} → Text T O → ℕ → Text T (List O)
 RowOf text n os tokens = (length os ≡ n) × EachText text os tokens
 
@@ -28,7 +28,7 @@ row_more text (p ∷ ps) o xs ys (us, vs, b, more, e) a = (
 )
 
 module _ {T O : Type 0} (text : Text T O) (unique : IsUnique (First text)) where
-  -- after fewer texts one more stands
+  -- fewer encodings are followed by another one
   row_next : (os ps : List O) (xs ys rest other : List T) → EachText text os xs
       → EachText text ps ys
       → xs ++ rest ≡ ys ++ other → length os < length ps
@@ -103,7 +103,7 @@ module _ {T L O : Type 0} {reading : Reading T L} {following : Following T} (tex
         );
   }
 
-  -- where one fails that many fail
+  -- if a later element fails, `many` elements fail
   pub more_failed : (n many : ℕ) {os : List O} {k : Kind} {m j : Input T}
       → IsUnique (First text) → Stood reading following (First (RowOf text n)) i os m
       → Failed reading following (First text) m k j → n < many

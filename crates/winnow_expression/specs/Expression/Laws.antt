@@ -1,4 +1,4 @@
--- What holds of what calls do.
+-- Properties of the results of calls.
 use Rattle.std.specs.Prelude.{◌≡◌, ℕ, ℤ, Bool, Ok, Err, List}
 use Rattle.std.proofs.Common.{inl, inr}
 use Rattle.stream_errors.specs.Form.{Answer}
@@ -156,7 +156,6 @@ mutual
       is_end_of_trans (turn_leaves reading g ends x.call v s m a t j turn)
       (closes_end reading g ends x.operator x.call.turn i m goes.0 _ goes.2)
 
--- an expression leaves an end
 pub expression_leaves : {S W T L V F G H : Type 0} (reading : Reading T L)
     (g : Grammar S W T V F G H) (level : ℤ)
     → LeavesEnds reading g → LeaveEnds reading (ExpressionRuns g level)

@@ -1,4 +1,4 @@
--- What holds of operators as parsers.
+-- Properties of operators as parsers.
 use Rattle.std.proofs.Common.{inl, inr, refl}
 use Rattle.std.specs.Prelude.{Ok, Err}
 use Rattle.stream_errors.specs.Form.{Answer}
@@ -10,7 +10,6 @@ use Rattle.winnow_expression.specs.Operators.{OperatorRuns}
 use Rattle.winnow_core.specs.Stable.Grows.{Stays, final_by}
 use Rattle.winnow_core.specs.Stable.Longer.{same_more}
 
--- their runs leave an end
 pub operator_ends : {T L O : Type 0} (reading : Reading T L) (IsClone : O → O → Type 0)
     (ClonesAlways : O → Type 0) (s : O) (i : Input T) (answer : Answer O) (j : Input T)
     → OperatorRuns IsClone ClonesAlways s i answer j → IsEndOf reading j i
@@ -24,7 +23,7 @@ pub operator_answers : {T O : Type 0} (IsClone : O → O → Type 0) (ClonesAlwa
     (s o : O) (i : Input T) → IsClone s o → OperatorRuns IsClone ClonesAlways s i (Ok o) i
 operator_answers IsClone ClonesAlways s o i is = inl (o, is, refl, refl)
 
--- on a cut input, runs of a final answer are runs on each longer one
+-- a final result on partial input is also a result on every longer input
 pub operator_stays : {T O : Type 0} (IsClone : O → O → Type 0) (ClonesAlways : O → Type 0)
     (s : O) → Stays (OperatorRuns {T = T} IsClone ClonesAlways s)
 operator_stays IsClone ClonesAlways s more flag i answer j is_cut final (inl (o, is, e, same)) =

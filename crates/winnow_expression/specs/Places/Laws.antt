@@ -1,4 +1,4 @@
--- What holds of the runs at the places of operands and operators.
+-- Properties of calls where operands and operators are expected.
 use Rattle.std.specs.Prelude.{Ok, Err}
 use Rattle.std.proofs.Common.{inl, inr}
 use Rattle.streams.specs.Input.{back_at, is_end_of_trans}
@@ -12,7 +12,6 @@ use Rattle.winnow_expression.specs.declared.combinator.operators.Infix.{Infix}
 use Rattle.winnow_expression.specs.declared.combinator.operators.Postfix.{Postfix}
 use Rattle.winnow_expression.specs.declared.combinator.operators.Prefix.{Prefix}
 
--- they leave an end, where those of operands and prefixes do
 pub first_ends : {S W T L V F : Type 0} (reading : Reading T L) (operand : Runs S T V)
     (prefix : Runs W T (Prefix F)) → LeaveEnds reading operand → LeaveEnds reading prefix
     → LeaveEnds reading (FirstRuns operand prefix)

@@ -6,7 +6,7 @@ ghost use Rattle.winnow_expression.specs.Calls.{asked, greatest, with_infix};
 
 use std::alloc::Allocator;
 
-/// What a call refuses of the operators that are not below its `least`.
+/// The operators that a call rejects, of those that are not below its `least`.
 #[derive(Clone, Copy)]
 pub enum Refuses {
     /// None of them.
@@ -25,7 +25,7 @@ pub enum Refuses {
 pub struct Call {
     /// The least power of its operators, if it takes any.
     pub least: i64,
-    /// How many units were left where it began.
+    /// The number of units that remained where it began.
     pub began: usize,
     /// How many units were left where its present turn began.
     pub turn: usize,
@@ -82,8 +82,8 @@ impl Call {
         }
     }
 
-    /// The call after an infix that it took, whose turn began where that many units were left, and
-    /// whose power it remembers if it was a `Neither`.
+    /// Returns the call after an infix that it took. The infix's turn began where `units` units
+    /// remained. The call stores the power of an infix that is a `Neither`.
     #[inline(always)]
     pub fn behind(&self, units: usize, neither: Option<i64>) -> Call
         requires { (call_of self.now).least ≤ℤ greatest }

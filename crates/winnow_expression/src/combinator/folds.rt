@@ -1,4 +1,4 @@
-//! What operators do with their operands.
+//! The effects of operators on their operands.
 ghost use Rattle.streams.specs.Input.{Input, IsEndOf};
 ghost use Rattle.stream_errors.specs.Form.{Answer, ErrorForm, answer_by};
 ghost use Rattle.winnow_core.specs.Ends.{same_ends};
@@ -7,10 +7,10 @@ ghost use Rattle.winnow_expression.specs.Folds.{RefusesBinary, RefusesUnary};
 use stream_errors::parser_error::ParserError;
 use streams::stream::Stream;
 
-/// What a prefix or a postfix operator does with its operand.
+/// The fold of a prefix or a postfix operator, which is applied to its operand.
 ///
-/// The operand has been read, and `input` stands after it. A fold may refuse, as where a sum is
-/// too large: its error is the expression's, and the input is left where the fold left it.
+/// The operand has been read, and `input` is the rest after it. A fold may fail, as for a sum that
+/// is too large: its error is that of the expression, and the input is left where the fold left it.
 ///
 /// ```
 /// ghost use Rattle.streams.specs.Input.{IsEndOf};
@@ -31,7 +31,7 @@ use streams::stream::Stream;
 /// assert_eq!(rt; Not.apply(&mut "", true), Ok::<_, EmptyError>(false));
 /// ```
 pub trait FoldUnary<I: Stream, O, E: ParserError<I>>: Drop {
-    // What it answers and leaves, by the form of the errors.
+    // The result, and the input that it leaves, by the form of the errors.
     ghost folds: { ErrorForm → Self → Input I.Seen → O → Answer O → Input I.Seen → Type 0 };
 
     /// Applies the operator.
@@ -40,16 +40,16 @@ pub trait FoldUnary<I: Stream, O, E: ParserError<I>>: Drop {
             (answer_by E.kind result) (I.view input.new) }
         ensures ends { IsEndOf I.reading (I.view input.new) (I.view input.old) };
 
-    // Whatever it answers, it leaves an end.
+    // In every case it leaves a suffix of the input.
     ghost leaves_ends: { (form : ErrorForm) (f : Self) (i : Input I.Seen) (v : O) (a : Answer O)
         (j : Input I.Seen) → folds form f i v a j → IsEndOf I.reading j i };
 }
 
-/// What an infix operator does with its operands.
+/// The fold of an infix operator, which is applied to its operands.
 ///
-/// The operands have been read, and `input` stands after the right one. A fold may refuse, as
-/// where a sum is too large: its error is the expression's, and the input is left where the fold
-/// left it.
+/// The operands have been read, and `input` is the rest after the right one. A fold may fail, as
+/// for a sum that is too large: its error is that of the expression, and the input is left where
+/// the fold left it.
 ///
 /// ```
 /// ghost use Rattle.streams.specs.Input.{IsEndOf};
@@ -70,7 +70,7 @@ pub trait FoldUnary<I: Stream, O, E: ParserError<I>>: Drop {
 /// assert_eq!(rt; And.apply(&mut "", true, false), Ok::<_, EmptyError>(false));
 /// ```
 pub trait FoldBinary<I: Stream, O, E: ParserError<I>>: Drop {
-    // What it answers and leaves, by the form of the errors.
+    // The result, and the input that it leaves, by the form of the errors.
     ghost folds: { ErrorForm → Self → Input I.Seen → O → O → Answer O → Input I.Seen → Type 0 };
 
     /// Applies the operator.
@@ -79,7 +79,7 @@ pub trait FoldBinary<I: Stream, O, E: ParserError<I>>: Drop {
             (answer_by E.kind result) (I.view input.new) }
         ensures ends { IsEndOf I.reading (I.view input.new) (I.view input.old) };
 
-    // Whatever it answers, it leaves an end.
+    // In every case it leaves a suffix of the input.
     ghost leaves_ends: { (form : ErrorForm) (f : Self) (i : Input I.Seen) (v w : O) (a : Answer O)
         (j : Input I.Seen) → folds form f i v w a j → IsEndOf I.reading j i };
 }

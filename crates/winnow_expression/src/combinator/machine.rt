@@ -55,7 +55,7 @@ pub fn close<I: Stream, O: Drop, E: ParserError<I>, F: FoldUnary<I, O, E>, H: Fo
     }
 }
 
-/// Reads at the place of an operand: an operand, or a prefix, which is then open.
+/// Parses an operand, or a prefix, which is then open.
 pub fn operand_step<
     I: Stream,
     O: Drop,
@@ -92,7 +92,7 @@ pub fn operand_step<
     }
 }
 
-/// Reads at the place of an operator, after a left operand.
+/// Parses an operator, after a left operand.
 pub fn turn_step<
     I: Stream,
     O: Drop,

@@ -15,9 +15,9 @@ use streams::stream::Stream;
 use winnow_core::parser::Parser;
 use winnow_core::stable::Stable;
 
-/// A prefix operator: its power, and what it does with its operand.
+/// A prefix operator: its power and its fold.
 ///
-/// The operand takes in all operators that are at least as strong as the power.
+/// The operand includes all operators that are at least as strong as the power.
 ///
 /// ```
 /// let mut minus = '-'.value(Prefix(12, "negated"));
@@ -27,7 +27,7 @@ use winnow_core::stable::Stable;
 #[derive(Clone, Drop)]
 pub struct Prefix<F>(pub i64, pub F);
 
-/// A postfix operator: its power, and what it does with its operand.
+/// A postfix operator: its power and its fold.
 ///
 /// ```
 /// let mut mark = '!'.value(Postfix(13, "factorial"));
@@ -37,11 +37,10 @@ pub struct Prefix<F>(pub i64, pub F);
 #[derive(Clone, Drop)]
 pub struct Postfix<F>(pub i64, pub F);
 
-/// An infix operator: its power, and what it does with its operands.
+/// An infix operator: its power and its fold.
 ///
-/// Where operators of one power follow one another, those that are `Left` are joined from the left
-/// and those that are `Right` from the right; after a `Neither` another infix of its power ends
-/// the expression.
+/// Consecutive operators of one power are joined from the left if they are `Left`, and from the
+/// right if they are `Right`. After a `Neither`, another infix of its power ends the expression.
 ///
 /// ```
 /// let mut operator = alt(('+'.value(Infix::Left(5, "sum")), '^'.value(Infix::Right(9, "power"))));

@@ -9,14 +9,14 @@ use stream_errors::parser_error::ParserError;
 use streams::stream::Stream;
 use winnow_core::parser::Parser;
 
-/// What is read at the place of an operand.
+/// The item that is read where an operand is expected.
 #[derive(Drop)]
 pub enum First<O, F> {
     Operand(O),
     Prefix(i64, F),
 }
 
-/// What is read at the place of an operator.
+/// The item that is read where an operator is expected.
 #[derive(Drop)]
 pub enum Next<G, H> {
     Nothing,

@@ -6,25 +6,25 @@ use crate::combinator::folds::NoFold;
 use crate::combinator::impls::Expression;
 use winnow_comb::combinator::impls::Fail;
 
-/// A parser of operands with prefix, postfix and infix operators between them, joined by the
-/// powers of the operators.
+/// Parses operands with prefix, postfix and infix operators between them, joined by the powers of
+/// the operators.
 ///
 /// It has no operators until [`prefix`], [`postfix`] and [`infix`] set parsers of them, and joins
-/// all of power 0 and more until [`current_precedence_level`] sets another least power. What an
-/// operator does with its operands is its fold, a value with [`FoldUnary`] or [`FoldBinary`].
+/// all of power 0 and more until [`current_precedence_level`] sets another least power. An operator
+/// is applied to its operands by its fold, a value with [`FoldUnary`] or [`FoldBinary`].
 ///
-/// An operator that is weaker than the open operator asks for is put back and ends that one's right
-/// operand, whose fold is applied; one that is weaker than the level ends the expression, and is
+/// An operator that is weaker than the open operator requires is put back and ends that one's right
+/// operand, whose fold is applied. One that is weaker than the level ends the expression, and is
 /// left unread. A postfix that was put back is not tried as an infix. An infix of the power of a
-/// `Neither` that was joined before it, with nothing but postfixes between them, ends all that is
-/// open: the folds are applied from the innermost out, and the infix is left unread.
+/// `Neither` that was joined before it, with nothing but postfixes between them, ends all open
+/// operators: the folds are applied from the innermost out, and the infix is left unread.
 ///
-/// Where the operand backtracks a prefix is run, whose error is handed on. Other errors of the
-/// parts, and those of folds, are handed on, with the input where the part or the fold left it. It
-/// is an assert error where a prefix consumes nothing, where an infix comes and nothing was
-/// consumed since the present operand began, the infix included, and where an operator with its
-/// operand consumed nothing. An open operator waits in a list of `alloc`: where that could not
-/// grow, the error is out of memory, and the input stands after the operator.
+/// If the operand backtracks, a prefix is run, whose error is returned unchanged. Other errors of
+/// the parts, and those of folds, are returned unchanged, with the input where the part or the fold
+/// left it. It is an assert error if a prefix consumes nothing, if an infix comes and nothing was
+/// consumed since the current operand began, including the infix, or if an operator with its
+/// operand consumed nothing. An open operator is stored in a list of `alloc`. If that cannot grow,
+/// the error is out of memory, and the input is left after the operator.
 ///
 /// Known as Pratt's method, or precedence climbing.
 ///

@@ -1,4 +1,4 @@
--- What an expression over items reads, as a grammar.
+-- The grammar of an expression over items.
 use Rattle.std.specs.Prelude.{◌≡◌, ◌⊎◌, ◌<◌, ◌++◌, ℕ, ℤ, Bool, List, length, Ok, Err, Result, IfErr}
 use Rattle.std.proofs.Common.{refl, sym, ap, inl, inr, ◌∙◌, append_assoc, arith}
 use Rattle.streams.specs.Input.{Input, IsEndOf}
@@ -29,8 +29,8 @@ use Rattle.winnow_expression_trees.specs.Items.{NextItems, ReadsItems}
 use Rattle.winnow_expression_trees.specs.Reading.{Over}
 use Rattle.winnow_expression_trees.specs.Tree.{Tree, leaf, before, behind, between}
 
--- Over the items that the tokens begin with, a tree keeps the powers at a level: it has this value,
--- and these tokens are after it.
+-- A tree over the items that the tokens start with respects precedence at a level. It has this
+-- value, and this rest follows it.
 unfoldable pub ReadsTree : {T V F G H : Type 0} → Items T V → Items T (Prefix F)
     → Items T (Postfix G) → Items T (Infix H) → (F → V → V → Type 0) → (G → V → V → Type 0)
     → (H → V → V → V → Type 0) → ℤ → Grammar T V
@@ -39,7 +39,7 @@ ReadsTree {V = V} {F} {G} {H} operand prefix postfix infix_ one other two level 
     × ItemsTree operand prefix postfix infix_ level tokens tree rest all
     × HasValue one other two tree v
 
--- An item is a beginning of the tokens.
+-- An item is a prefix of the tokens.
 abbrev pub IsFront : {T O : Type 0} → Items T O → Type 0
 IsFront {T} {O} item = (tokens : List T) (o : O) (rest : List T) → item tokens o rest
     → (front : List T) × (tokens ≡ front ++ rest)
@@ -50,7 +50,6 @@ joined : {T : Type 0} {i k j : List T} → (front : List T) × (i ≡ front ++ k
 joined {j = j} (x, is) (y, at) =
     (x ++ y, is ∙ ap (λ l. x ++ l) at ∙ sym (append_assoc x y j))
 
--- what a call answers it answers as an output
 ok_told : {O E : Type 0} (kind : E → Kind) {o : O} → answer_by kind (Ok o) ≡ Ok o
 ok_told kind = refl
 
@@ -62,8 +61,6 @@ err_told kind is = absurd (cc)
 module _ {T V F G H : Type 0} (operand : Items T V) (prefix : Items T (Prefix F))
     (postfix : Items T (Postfix G)) (infix_ : Items T (Infix H)) (one : F → V → V → Type 0)
     (other : G → V → V → Type 0) (two : H → V → V → V → Type 0) (level : ℤ) where
-  -- A run that reads items reads by the grammar, where each of its errors backtracks or wants
-  -- memory.
   pub tree_told : {L E : Type 0} (reading : Reading T L) (kind : E → Kind) (i : Input T)
       (result : Result V E) (j : Input T)
       → ReadsItems operand prefix postfix infix_ one other two level i (answer_by kind result) j

@@ -1,4 +1,4 @@
--- What holds of trees over inputs holds of trees over lists of tokens.
+-- Properties of trees over inputs, for trees over lists of tokens.
 use Rattle.std.specs.Prelude.{◌≡◌, ◌<◌, ℤ, Bool, List, Ok, Err}
 use Rattle.std.proofs.lemmas.Bool.{cases_lt}
 use Rattle.std.proofs.Common.{refl, sym, ◌∙◌, ap, subst, inl, inr, arith}

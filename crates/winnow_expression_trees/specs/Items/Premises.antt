@@ -74,7 +74,6 @@ pub gives_rest : {T V : Type 0} (given : V → Type 0) (i j : Input T) (a : Answ
 gives_rest given i j a (inl (v, is, e, p)) = p
 gives_rest given i j a (inr (none, e, p)) = p
 
--- a fold that gives one value acts alike with itself
 pub gives_alike : {F T V : Type 0} (fold : F → V → V → Type 0) (f : F)
     → ((v : V) → GivesOne (fold f v))
     → FoldAlike {T = T} (λ v w. v ≡ w) (λ g i v a j. Gives (fold g v) i a j) f f
@@ -96,7 +95,6 @@ gives_both_alike fold f single = record {
 
 -- ---- ends
 
--- an item's run leaves an end, where a stream keeps no place
 pub item_ends : {T O L : Type 0} (reading : Reading T L) (item : Items T O)
     → ((p : Place) (n : ℕ) → reading.advance p n ≡ p)
     → ((tokens rest : List T) (o : O) → item tokens o rest
@@ -116,7 +114,6 @@ item_ends {T} reading item still splits i j a (inl (o, rest, is, e, place)) =
     })
 item_ends reading item still splits i j a (inr (none, e, place)) = same_ends reading i j place
 
--- a fold that gives a value leaves an end
 pub gives_ends : {T V L : Type 0} (reading : Reading T L) (given : V → Type 0) (i j : Input T)
     (a : Answer V) → Gives given i a j → IsEndOf reading j i
 gives_ends reading given i j a r = same_ends reading i j (gives_rest given i j a r)

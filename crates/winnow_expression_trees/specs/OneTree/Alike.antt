@@ -1,4 +1,4 @@
--- What is decided by a place, up to outputs and folds that are alike.
+-- The items and trees that an offset determines, up to equivalent outputs and folds.
 use Rattle.std.specs.Prelude.{◌≡◌, Some}
 use Rattle.std.proofs.Common.{refl, ap}
 use Rattle.winnow_expression_trees.specs.Tree.{Tree, leaf, before, behind, between, top_neither}
@@ -30,7 +30,6 @@ alike_power ag ah (infix_read o) Nothing e = absurd e
 alike_power ag ah (infix_read o) (Postfix q g) e = absurd e
 alike_power ag ah (infix_read o) (infix_read q) e = ap Some e.0
 
--- alike trees have the same neither on top
 pub alike_top : {V F G H : Type 0} (av : V → V → Type 0) (af : F → F → Type 0) (ag : G → G → Type 0)
     (ah : H → H → Type 0) (t u : Tree V F G H) → AlikeTree av af ag ah t u
     → top_neither t ≡ top_neither u

@@ -1,4 +1,4 @@
--- A call reads exactly the trees that keep the powers.
+-- A call reads exactly the trees that respect precedence.
 use Rattle.std.specs.Prelude.{◌≡◌, ◌<ℤ◌, ℤ, Bool, true, false, Some}
 use Rattle.std.proofs.Common.{refl, ◌∙◌, subst, inl, inr}
 use Rattle.winnow_expression.specs.Operators.{left_power, right_power}
@@ -94,7 +94,6 @@ outcome_reads first next m t i j k x true binds reaches over read (o, is, inl me
 outcome_reads first next m t i j k x true binds reaches over read (o, is, inr met) =
     builds_here first next t m i j k o binds reaches over (subst (λ z. next j z k) is read) met
 
--- a tree that keeps the powers is read
 pub complete : {V F G H P : Type 0} (first : P → First V F → P → Type 0)
     (next : P → Next G H → P → Type 0) (m : ℤ) (t : Tree V F G H) (i j : P) (b : Bool)
     → Over first next t i j → Keeps next m t j b → Reads first next m i t j b

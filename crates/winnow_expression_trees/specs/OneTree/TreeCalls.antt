@@ -26,7 +26,7 @@ mutual
         → first i (prefix_read p f) j → Reads first next p j r k true
         → Reads first next m i (before p f r) k true
 
-  -- It goes on from a tree.
+  -- It continues from a tree.
   pub data Grows {V F G H P : Type 0} (first : P → First V F → P → Type 0)
       (next : P → Next G H → P → Type 0) : ℤ → Tree V F G H → P → Tree V F G H → P → Bool
       → Type 0 where

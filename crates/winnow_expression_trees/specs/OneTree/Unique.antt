@@ -1,4 +1,4 @@
--- A call has one result, and at most one tree keeps the powers.
+-- A call has one result, and at most one tree respects precedence.
 use Rattle.std.specs.Prelude.{◌≡◌, ℤ, Bool, true, false}
 use Rattle.std.proofs.Common.{refl, sym, ◌∙◌, subst, inl, inr}
 use Rattle.std.specs.Int.Signed.{clash_ℤ}
@@ -114,7 +114,7 @@ module _ {V F G H P : Type 0} (av : V → V → Type 0) (af : F → F → Type 0
               ]
         ]
 
-  -- At most one tree over what is read from a place keeps the powers.
+  -- At most one tree over the reading from an offset respects precedence.
   pub one_tree : (m : ℤ) (i : P) (t u : Tree V F G H) (j k : P) (b c : Bool)
       → Over first next t i j → Keeps next m t j b → Over first next u i k → Keeps next m u k c
       → AlikeTree av af ag ah t u × (j ≡ k) × (b ≡ c)

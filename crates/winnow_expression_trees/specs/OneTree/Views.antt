@@ -1,4 +1,4 @@
--- How a call goes on by what is read at its place.
+-- The continuation of a call, by the item that is read next.
 use Rattle.std.specs.Prelude.{◌≡◌, ◌≤ℤ◌, ◌<ℤ◌, ◌⊎◌, ℤ, Bool, true, false, Some}
 use Rattle.std.proofs.Common.{refl, sym, ◌∙◌, ap, subst, inl, inr}
 use Rattle.std.specs.Int.Signed.{clash_ℤ}
@@ -21,7 +21,7 @@ use Rattle.winnow_expression_trees.specs.OneTree.TreeCalls.{grows_postfix, grows
 use Rattle.winnow_expression_trees.specs.OneTree.Alike.{Decided, alike_power}
 use Rattle.winnow_expression_trees.specs.Alike.{AlikeFirst, AlikeInfix, AlikeNext}
 
--- the call above goes on from the tree of an operator, or ends with it
+-- the call above continues from the tree of an operator, or ends with it
 abbrev pub Follows : {V F G H P : Type 0} → (P → First V F → P → Type 0)
     → (P → Next G H → P → Type 0)
     → ℤ → Tree V F G H → P → Tree V F G H → P → Bool → Bool → Type 0

@@ -15,12 +15,10 @@ use Rattle.winnow_core.specs.Decided.{NotMemory as NotWantOfMemory}
 use Rattle.winnow_expression.specs.Units.{units_left}
 use Rattle.winnow_expression_trees.specs.Premises.{AnswersAlike, IsStateless, NotMemory}
 
--- an answer that is no want of memory, in the words of both crates
 no_memory : {O : Type 0} (a : Answer O) → NotMemory a → NotWantOfMemory a
 no_memory (Ok o) other e = ok_is_err refl e
 no_memory (Err k) other e = other (same_kind e)
 
--- and answers that are alike
 same_answers : {O : Type 0} (alike : O → O → Type 0) (a b : Answer O) → AlikeAnswers alike a b
     → AnswersAlike alike a b
 same_answers alike (Ok o) (Ok p) like = like
@@ -45,7 +43,6 @@ wider_answers one other wider (Ok o) (Err l) like = like
 wider_answers one other wider (Err k) (Ok p) like = like
 wider_answers one other wider (Err k) (Err l) like = like
 
--- as far as more outputs are alike
 pub stateless_wider : {S T O : Type 0} {s : S} {run : Runs S T O} {one other : O → O → Type 0}
     → ((o p : O) → one o p → other o p) → IsStateless one run s → IsStateless other run s
 stateless_wider {one = one} {other} wider c = record {
@@ -57,7 +54,7 @@ stateless_wider {one = one} {other} wider c = record {
 
 -- ---- operators that consume
 
--- Where it answers an output it consumes, in this state.
+-- If it returns an output in this state, it consumes input.
 abbrev pub Moves : {S T O : Type 0} → (List T → ℕ) → Runs S T O → S → Type 0
 Moves {S} {T} {O} units run s =
     (i j : Input T) (o : O) (t : S) → run s i (Ok o) t j
@@ -74,7 +71,6 @@ byte_moves form b i j o t (ran, kept) =
       ap (λ l. length l) (token_taken bytes_reading form b (λ _. b) i o j ran).splits,
     )
 
--- a value in the place of what consumes does
 pub value_moves : {S T O U : Type 0} (units : List T → ℕ) (is_clone : U → U → Type 0)
     (clones : U → Type 0) (run : Runs S T O) (s : S) (x : U) → Moves units run s
     → Moves units (ValueRuns is_clone clones run) (s, x)

@@ -8,8 +8,8 @@ use Rattle.winnow_comb.specs.Fail.{FailRuns}
 use Rattle.winnow_core.specs.Runs.{Keeps}
 use Rattle.winnow_expression_trees.specs.Premises.{AnswersAlike, IsStateless, NotMemory}
 
--- A run of a parser with no state that counts: it changes only the place, and the input decides its
--- answer and what it leaves. Want of memory aside.
+-- A call of a parser whose state does not matter. Unless memory runs out, it changes only the
+-- position, and the input determines its result and the rest.
 pub record IsPlain {T O : Type 0} (alike : O → O → Type 0)
     (run : Input T → Answer O → Input T → Type 0) : Type 0 where
   pub status : (i j : Input T) (a : Answer O) → run i a j → NotMemory a → j.status ≡ i.status

@@ -14,8 +14,8 @@ use winnow_core::parser::Parser;
 /// The stream of bytes.
 type Bytes = &'static [u8];
 
-/// A parser of which one state and one input decide what it answers is a part of an expression as
-/// the laws of trees ask, as far as its outputs are alike.
+/// States that a parser whose result is determined by one state and one input meets the
+/// requirements of the laws of trees, up to equivalent outputs.
 ///
 /// ```
 /// use winnow_expression_trees::laws::parts::a_decided_part_is_stateless;
@@ -28,7 +28,7 @@ pub fn a_decided_part_is_stateless<P: Parser<I, O, E>, I: Stream, O, E: ParserEr
         → IsStateless (P.claim s).alike (P.meaning E.form) s }
 {}
 
-/// A byte consumes, where it is answered.
+/// States that a byte consumes input if it is returned.
 ///
 /// ```
 /// use winnow_expression_trees::laws::parts::a_byte_consumes;
@@ -40,7 +40,8 @@ pub fn a_byte_consumes<E: ParserError<Bytes>>()
         (⟦<u8 as Parser<Bytes, u8, E>>⟧.meaning E.form) b }
 {}
 
-/// A value in the place of an output consumes what the output does.
+/// States that a parser whose output is replaced with a value consumes input if the original one
+/// does.
 ///
 /// ```
 /// use winnow_expression_trees::laws::parts::a_value_consumes;

@@ -1,4 +1,4 @@
--- Integers as bytes that stand first.
+-- Grammars of integers: the input starts with their bytes.
 use Rattle.std.specs.Prelude.{◌≡◌, ◌<◌, ℕ, List, ◌++◌, length}
 use Rattle.std.proofs.Common.{sym, ap, ◌∙◌, arith, length-append}
 use Rattle.grammars.specs.Grammar.{Grammar, IsUnique, TakesTokens}
@@ -12,7 +12,6 @@ Integer width value tokens o rest =
     × (o ≡ value bytes)
 
 module _ {O : Type 0} (width : ℕ) (value : List ℕ → O) where
-  -- the bytes of two that stand in the same tokens are the same
   same_bytes : (tokens rest other : List ℕ) (xs ys : List ℕ) → length xs ≡ width
       → length ys ≡ width → tokens ≡ xs ++ rest → tokens ≡ ys ++ other
       → (xs ≡ ys) × (rest ≡ other)

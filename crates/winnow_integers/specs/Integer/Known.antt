@@ -1,4 +1,4 @@
--- What a caller knows of one run of the parser of an integer.
+-- Inversion lemmas about a call of the parser of an integer.
 use Rattle.std.specs.Prelude.{◌≡◌, ℕ, List, length, Ok}
 use Rattle.std.proofs.Common.{refl, inl, inr}
 use Rattle.streams.specs.Input.{Input, Passes}
@@ -7,7 +7,7 @@ use Rattle.stream_errors.specs.Form.{ErrorForm}
 use Rattle.stream_errors.specs.Form.Known.{ok_is_err, same_ok}
 use Rattle.winnow_integers.specs.Integer.{AreBytes, IntegerRuns}
 
--- An integer that was read: that many bytes were passed, and it is their value.
+-- An integer was read: `width` bytes were passed, and it is their value.
 pub record IntegerRead {S O : Type 0} (width : ℕ) (value : List ℕ → O) (reading : Reading ℕ S)
     (i : Input ℕ) (o : O) (j : Input ℕ) : Type 0 where
   pub bytes : List ℕ
@@ -18,7 +18,6 @@ pub record IntegerRead {S O : Type 0} (width : ℕ) (value : List ℕ → O) (re
 
 module _ {S O : Type 0} (width : ℕ) (value : List ℕ → O) (reading : Reading ℕ S)
     (form : ErrorForm) where
-  -- an output: that many bytes were passed, and it is their value
   pub integer_ok : (i : Input ℕ) (o : O) (j : Input ℕ)
       → IntegerRuns width value reading form i (Ok o) j → IntegerRead width value reading i o j
   integer_ok i o j (inl (bytes, as_many, are, passes, e)) = record {

@@ -1,4 +1,4 @@
--- What holds of the runs of integers.
+-- Properties of the calls of integers.
 use Rattle.std.specs.Prelude.{◌≡◌, ℕ, List, Ok, Err, ◌⊎◌, ◌<◌, suc, false, length}
 use Rattle.std.proofs.Common.{refl, ap, ◌∙◌, inl, inr, arith, length-append}
 use Rattle.streams.specs.Input.{Input, IsEndOf, passes_end}
@@ -16,7 +16,7 @@ use Rattle.winnow_core.specs.Exact.{Backtracks, IsExact}
 use Rattle.winnow_core.specs.Exact.Failed.{short_backtracks}
 use Rattle.winnow_integers.specs.Integer.Grammar.{Integer, integer_unique}
 
--- they leave an end
+-- every call leaves a suffix
 pub integer_ends : {S O : Type 0} (width : ℕ) (value : List ℕ → O) (reading : Reading ℕ S)
     (form : ErrorForm) (i : Input ℕ) (answer : Answer O) (j : Input ℕ)
     → IntegerRuns width value reading form i answer j → IsEndOf reading j i
@@ -31,7 +31,6 @@ pub integer_leaves : {X S O : Type 0} (width : ℕ) (value : X → List ℕ → 
 integer_leaves width value reading form x i answer y j r =
     integer_ends width (value x) reading form i answer j r.0
 
--- bytes that were taken, and what is made of them
 pub integer_made : {S O : Type 0} (width : ℕ) (value : List ℕ → O) (reading : Reading ℕ S)
     (form : ErrorForm) (i : Input ℕ) (bytes : List ℕ) (o : O) (j : Input ℕ)
     → IntegerRuns width (λ l. l) reading form i (Ok bytes) j → o ≡ value bytes

@@ -1,4 +1,4 @@
--- Integers as parts of what a composition reads.
+-- Integers as parts of compositions.
 use Rattle.std.specs.Prelude.{◌≡◌, ℕ, List, [], ◌∷◌, ◌++◌, length}
 use Rattle.std.proofs.Common.{refl, sym, ap, ◌∙◌, arith}
 use Rattle.streams.specs.Equal.{same_first, same_others}
@@ -19,14 +19,14 @@ same_fronts (x ∷ front) (y ∷ taken) rest left same lengths =
     let others = same_fronts front taken rest left (same_others same) (omega (arith, lengths)) in
     (ap (λ z. z ∷ taken) (sym (same_first same)) ∙ ap (λ l. x ∷ l) others.0, others.1)
 
--- a value of that many bytes
+-- `IsValueOf width value o`: `o` is the value of `width` bytes
 abbrev pub IsValueOf : {O : Type 0} → ℕ → (List ℕ → O) → O → Type 0
 IsValueOf width value o =
     (bytes : List ℕ) × (o ≡ value bytes) × (length bytes ≡ width) × AreBytes bytes
 
 module _ {X S O : Type 0} (width : ℕ) (value : X → List ℕ → O) (reading : Reading ℕ S)
     (form : ErrorForm) where
-  -- what an integer means, by what its value depends on
+  -- the calls of an integer whose value depends on `x`
   abbrev pub IntegerOf : Runs X ℕ O
   IntegerOf = Keeps (λ x. IntegerRuns width (value x) reading form)
 

@@ -1,4 +1,4 @@
--- What integers say that they do.
+-- The outcomes of parsers of integers.
 use Rattle.std.specs.Prelude.{◌≡◌, ◌⊎◌, ◌<◌, ◌-◌, ⊤, Bool, false, ℕ, List, ◌++◌, length, Option}
 use Rattle.std.specs.Prelude.{Some}
 use Rattle.std.proofs.Common.{append_assoc, sym, ap, ◌∙◌, inl, inr, arith}
@@ -16,7 +16,7 @@ use Rattle.winnow_core.specs.Says.Leaf.{here_did, leaf_said, passes_did}
 use Rattle.winnow_integers.specs.Integer.{AreBytes, IntegerRuns}
 
 module _ {O : Type 0} (width : ℕ) (value : List ℕ → O) where
-  -- That many bytes stand first, and their value is taken; or there are too few.
+  -- The tokens start with `width` bytes, and their value is taken; or there are too few.
   abbrev pub IntegerDoes : Does ℕ O
   IntegerDoes at tokens x =
       ((bytes : List ℕ) × (rest : List ℕ) × (tokens ≡ bytes ++ rest) × (length bytes ≡ width)
@@ -31,7 +31,6 @@ module _ {O : Type 0} (width : ℕ) (value : List ℕ → O) where
     alike = λ o p. o ≡ p;
   }
 
-  -- the bytes that stand first are not too few
   enough : {P : Type 0} (tokens bytes rest : List ℕ) → tokens ≡ bytes ++ rest
       → length bytes ≡ width → length tokens < width → P
   enough tokens bytes rest split many few =

@@ -1,4 +1,4 @@
--- What std's words for the bytes of integers have to do with the values of bytes.
+-- The relation of std's definitions for the bytes of integers to the values of bytes.
 use Rattle.std.specs.Prelude.{◌≡◌, ◌<◌, ◌≤◌, ◌+◌, ◌-◌, ◌*◌, ◌^◌, ℕ, zero, suc, List, [], ◌∷◌}
 use Rattle.std.specs.Prelude.{length, reverse, slice_index, ℤ, Bool, true, false, nat_lt}
 use Rattle.std.specs.Int.{Width, w8, w16, w32, w64, w128, byte_len, byte_worth, sum_through}
@@ -99,7 +99,6 @@ whole w32 = omega arith
 whole w64 = omega arith
 whole w128 = omega arith
 
--- that many bytes stand for a number of the type
 pub fits_width : (w : Width) (bytes : List ℕ) → length bytes ≡ suc (byte_len w - 1)
     → AreBytes bytes → value_of bytes < 2 ^ bits w
 fits_width w bytes e are =
@@ -140,7 +139,6 @@ signed_value_of w (b ∷ bytes) e are = by (nat_lt b 128) refl
         rw (is, le-ltb (value_of (b ∷ bytes)) (2 ^ hbits w) (omega (arith, first, half w, low)))
         (omega (arith, ints, rest, last, whole w, low, pow-succ' 256 (length bytes)))
 
--- a signed number that is answered
 answered : (w : Width) (bytes : List ℕ) (z : ℤ) → z ≡ cast_signed w (value_of bytes)
     → length bytes ≡ suc (byte_len w - 1) → AreBytes bytes
     → cast_signed w (cast_unsigned w z) ≡ signed_of bytes

@@ -18,7 +18,6 @@ byte_is : (k x : ℕ) → byte_at k x ≡ x / 256 ^ k % 256
 byte_is zero x = ap (λ y. y % 256) (sym (div-one x))
 byte_is (suc k) x = refl
 
--- the lowest bytes are those of what is below their place
 lowest : (k c v : ℕ) → bytes_high_first k (c * 256 ^ k + v) ≡ bytes_high_first k v
 lowest zero c v = refl
 lowest (suc k) c v =
@@ -46,14 +45,12 @@ value_written (b ∷ bytes) are =
     ap (λ x. x ∷ bytes_high_first (length bytes) (value_of (b ∷ bytes))) first
     ∙ ap (λ l. b ∷ l) (lowest (length bytes) b (value_of bytes) ∙ value_written bytes others)
 
--- an unsigned number of that many bytes, the highest first, and the lowest first
 pub be_written : (width n : ℕ) (bytes : List ℕ) → n ≡ value_of bytes → length bytes ≡ width
     → AreBytes bytes → bytes_high_first width n ≡ bytes
 be_written width n bytes is as_many are =
     ap (λ w. bytes_high_first w n) (sym as_many) ∙ ap (bytes_high_first (length bytes)) is
     ∙ value_written bytes are
 
--- that many bytes of a number that these hold stand for it
 pub length_written : (k n : ℕ) → length (bytes_high_first k n) ≡ k
 length_written zero n = refl
 length_written (suc k) n = omega (arith, length_written k n)

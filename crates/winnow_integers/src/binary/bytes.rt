@@ -12,7 +12,7 @@ use streams::needed::Needed;
 use streams::stream::StreamIsPartial;
 use winnow_core::short::short;
 
-/// Takes that many bytes.
+/// Takes `N` bytes.
 #[inline(always)]
 pub(crate) fn take_bytes<const N: usize, I: StreamIsPartial + ByteStream, E: ParserError<I>>(
     input: &mut I,
@@ -28,7 +28,7 @@ pub(crate) fn take_bytes<const N: usize, I: StreamIsPartial + ByteStream, E: Par
     Ok(next_bytes(input))
 }
 
-/// The next bytes, of which that many are left.
+/// Consumes the next `N` bytes and returns them. At least `N` bytes must remain.
 #[inline(always)]
 fn next_bytes<const N: usize, I: ByteStream>(input: &mut I) -> [u8; N]
     requires { N ≤ length (I.view input.old).left.tokens }
@@ -44,7 +44,7 @@ fn next_bytes<const N: usize, I: ByteStream>(input: &mut I) -> [u8; N]
     bytes
 }
 
-/// The number of 24 bits, of which the highest byte stands first, as two's complement.
+/// Returns the number of 24 bits in two's complement, most significant byte first.
 #[inline(always)]
 pub(crate) fn signed_24(bytes: [u8; 3]) -> i32
     ensures { result ≡ signed_of bytes }

@@ -1,16 +1,16 @@
 //! The order of bytes.
 
-/// The order in which the bytes of an integer stand.
+/// The order of the bytes of an integer.
 ///
 /// ```
 /// let of_a_network = Endianness::Big;
 /// ```
 #[derive(Clone, Copy, Debug, PartialEq, Eq)]
 pub enum Endianness {
-    /// The highest byte stands first.
+    /// Most significant byte first.
     Big,
-    /// The lowest byte stands first.
+    /// Least significant byte first.
     Little,
-    /// As the machine has it: the lowest byte stands first.
+    /// The order of the machine: least significant byte first.
     Native,
 }

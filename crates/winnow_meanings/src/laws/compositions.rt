@@ -1,8 +1,9 @@
-//! What nested compositions of parsers of the library mean, over what their leaves mean.
+//! The semantics of nested compositions of the library's parsers, in terms of the semantics of
+//! their leaves.
 //!
-//! The meaning of a composition is made of its children's, so that of each parser is its derivation
-//! by ordered choice, down to its leaves. Here are some, written out in the words of the
-//! definitions.
+//! The semantics of a composition is defined by those of its children. So the semantics of each
+//! parser is its derivation by ordered choice, down to its leaves. Here are some examples, spelled
+//! out with the definitions.
 ghost use Rattle.std.specs.Fn.{CalledAt};
 ghost use Rattle.stream_errors.specs.Form.{assert_kind};
 ghost use Rattle.stream_sets.specs.Accumulator.{list_kept};
@@ -34,18 +35,18 @@ use winnow_repeat::combinator::impls::{Repeat, RepeatTill};
 use winnow_separated::combinator::impls::Separated;
 use winnow_token::token::impls::TakeWhile;
 
-/// What a sign and one of two letters with digits answer: the sign, if it is there, and the letter
-/// and the digits.
+/// The output of an optional sign and one of two letters with digits: the sign, and the letter and
+/// the digits.
 pub type SignedOutput<L> = (Option<u8>, (u8, L));
 
-/// A sign that may be left out, and one of two letters with digits: `(opt(sign), alt(((letter,
-/// Digit1), (letter, Digit1))))`.
+/// An optional sign, and one of two letters with digits: `(opt(sign), alt(((letter, Digit1),
+/// (letter, Digit1))))`.
 pub type Signed<I, L, E> = (
     Opt<u8, I, u8, E>,
     AltParser<((u8, Digit1), (u8, Digit1)), I, (u8, L), E>,
 );
 
-/// A list of what these answer.
+/// A list of these outputs.
 pub type Outputs<L, A> = Vec<SignedOutput<L>, A>;
 
 /// A repetition of them into a list.
@@ -75,7 +76,7 @@ pub type DigitsUpTo<I, L, E, A> = RepeatTill<
     A,
 >;
 
-/// What a closure makes of members of a set that another closure accepts, between two bytes.
+/// The members of a set between two bytes, accepted by one closure and mapped by another.
 pub type InBytes<S, G, H, I, L, O, E> = Delimited<
     u8,
     Map<Verify<TakeWhile<S, I, E>, G, I, L, E>, H, I, L, O, E>,
@@ -87,8 +88,8 @@ pub type InBytes<S, G, H, I, L, O, E> = Delimited<
     E,
 >;
 
-/// A sequence of an option and a choice of two sequences means a run of the option, and then one of
-/// the first sequence, or, where that backtracks, of the second from the same place.
+/// A sequence of an option and a choice of two sequences means a call of the option, and then one
+/// of the first sequence or, if that backtracks, of the second from the same position.
 pub fn a_sequence_of_an_option_and_a_choice_means_its_derivation<
     I: StreamIsPartial + Compare<u8>,
     E: ParserError<I>,
@@ -101,8 +102,8 @@ where
         (DigitsRuns I.Token.code I.seen_as I.reading E.form)) }
 {}
 
-/// A repetition of these into a list means a chain of such runs, whose outputs the list takes one
-/// by one, and what ended it.
+/// A repetition of these into a list means consecutive calls, whose outputs the list takes one by
+/// one, and the call that ended them.
 pub fn a_repetition_of_sequences_means_its_derivation<
     I: StreamIsPartial + Compare<u8>,
     E: ParserError<I>,
@@ -116,8 +117,8 @@ where
         (DigitsRuns I.Token.code I.seen_as I.reading E.form)) list_kept (assert_kind E.form)) }
 {}
 
-/// A list of these with a byte between them means a run of the first, and a chain of links, each
-/// the byte and such a run.
+/// A list of these with a byte between them means a call of the first, and consecutive links, each
+/// the byte and such a call.
 pub fn a_list_of_separated_sequences_means_its_derivation<
     I: StreamIsPartial + Compare<u8>,
     E: ParserError<I>,
@@ -132,8 +133,8 @@ where
         list_kept (assert_kind E.form)) }
 {}
 
-/// Digits after a byte, up to another byte, mean turns: that byte, or, where it backtracks, the
-/// byte before digits and these, from the same place.
+/// Digits after a byte, up to another byte, mean turns: the terminating byte or, if that
+/// backtracks, the first byte and digits from the same position.
 pub fn items_up_to_a_byte_mean_their_derivation<
     I: StreamIsPartial + Compare<u8>,
     E: ParserError<I>,
@@ -148,9 +149,9 @@ where
         list_kept (assert_kind E.form)) }
 {}
 
-/// What a closure makes of tokens that another closure accepts, between two bytes, means a run of
-/// the first byte, a take of members, a call of each closure, and a run of the second byte, up to
-/// what fails; a slice that is refused backtracks.
+/// Tokens between two bytes, accepted by one closure and mapped by another, mean a call of the
+/// first byte, a slice of members, a call of each closure, and a call of the second byte, up to the
+/// first failure. A rejected slice is a backtrack.
 pub fn tokens_between_two_bytes_mean_their_derivation<
     I: StreamIsPartial + Compare<u8>,
     S: ContainsToken<I::Token>,

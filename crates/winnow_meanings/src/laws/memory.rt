@@ -1,9 +1,9 @@
-//! Want of memory is never hidden: no combinator here answers a success, or runs another branch,
-//! after a child that is out of memory.
+//! Out of memory is never hidden: after a child that is out of memory, no combinator here succeeds
+//! or runs another branch.
 //!
-//! Each law has the same form. Whatever run of a combinator answers anything but want of memory is
-//! one of its children's runs that do not want memory either. So where a child is out of memory,
-//! that is the answer.
+//! All laws have the same form. Every call of a combinator that is not out of memory consists of
+//! calls of its children that are not out of memory either. So if a child is out of memory, that is
+//! the result.
 ghost use Rattle.stream_errors.specs.Form.{assert_kind};
 ghost use Rattle.winnow_comb.specs.Alt.{OrElse};
 ghost use Rattle.winnow_comb.specs.Alt.Slice.{AltSliceRuns};
@@ -25,7 +25,7 @@ use winnow_core::parser::Parser;
 use winnow_repeat::combinator::impls::{Repeat, RepeatTill};
 use winnow_separated::combinator::impls::Separated;
 
-/// No branch of a choice is run after one that is out of memory: the choice wants it too.
+/// No branch of a choice is run after one that is out of memory: the choice is out of memory too.
 pub fn a_choice_never_hides_want_of_memory<
     A: Parser<I, O, E>,
     B: Parser<I, O, E>,
@@ -42,7 +42,7 @@ pub fn a_choice_never_hides_want_of_memory<
         (GivenMemory (C.meaning E.form)))) }
 {}
 
-/// The same of a choice among the parsers of an array.
+/// Likewise for `alt` of an array.
 pub fn a_choice_of_an_array_never_hides_want_of_memory<
     const N: usize,
     P: Parser<I, O, E>,
@@ -54,14 +54,13 @@ pub fn a_choice_of_an_array_never_hides_want_of_memory<
         (AltSliceRuns (GivenMemory (P.meaning E.form)) (assert_kind E.form)) }
 {}
 
-/// A parser that may be left out is not left out where it is out of memory.
+/// An optional parser that is out of memory is not skipped.
 pub fn an_option_never_hides_want_of_memory<P: Parser<I, O, E>, I: Stream, O, E: ParserError<I>>()
     ensures { NeverHides (⟦<Opt<P, I, O, E> as Parser<I, Option<O>, E>>⟧.meaning E.form)
         (OptRuns (GivenMemory (P.meaning E.form))) }
 {}
 
-/// No parser of a sequence is run after one that is out of memory, and nothing is answered in its
-/// place.
+/// No parser of a sequence is run after one that is out of memory, and that error is the result.
 pub fn a_sequence_never_hides_want_of_memory<
     A: Parser<I, O, E>,
     B: Parser<I, O2, E>,

@@ -1,4 +1,4 @@
--- What a caller knows of one run of the parser of a decimal signed number.
+-- Inversion lemmas about a call of the parser of a decimal signed number.
 use Rattle.std.specs.Prelude.{◌≡◌, ◌<◌, ℕ, ℤ, true, false, List, [], ◌∷◌, ◌++◌}
 use Rattle.std.specs.Prelude.{Ok, ◌⊎◌}
 use Rattle.std.proofs.Common.{refl, sym, ap, subst, ◌∙◌, inl, inr, arith}
@@ -18,8 +18,8 @@ use Rattle.winnow_numbers.specs.Numeral.{SignRuns, is_none}
 use Rattle.winnow_numbers.specs.Numeral.Known.{behind, digits_are, digits_run, digits_stop}
 use Rattle.winnow_numbers.specs.Numeral.Known.{leads_behind, numeral_front, passes_two}
 
--- A number that was read: its decimal digits with their sign were passed, and no digit is left
--- after them, but after a lone '0'.
+-- A number was read: its decimal digits with their sign were passed, and no digit follows them,
+-- except after a single '0'.
 pub record IntRead {K T S : Type 0} (seen : K → T) (code : K → ℕ) (reading : Reading T S)
     (fits : ℤ → Type 0) (i : Input T) (z : ℤ) (j : Input T) : Type 0 where
   pub front : List T
@@ -102,7 +102,6 @@ module _ {N K T S : Type 0} (number : N → ℤ) (fits : ℤ → Type 0) (seen :
 
   -- ---- decimal digits with a sign are passed
 
-  -- a digit is no sign
   no_sign : (c d : ℕ) → c ≡ d → IsDecDigit d → IsSign c → ⊥
   no_sign c d e is (inl plus) = omega (arith, e, is, plus)
   no_sign c d e is (inr minus) = omega (arith, e, is, minus)

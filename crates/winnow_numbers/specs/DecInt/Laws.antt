@@ -1,4 +1,4 @@
--- What holds of the runs of decimal signed numbers.
+-- Properties of the calls of decimal signed numbers.
 use Rattle.std.specs.Prelude.{◌≡◌, ℕ, ℤ, List, true, Err}
 use Rattle.std.proofs.Common.{refl, sym, ap, subst, inl, inr, ◌∙◌}
 use Rattle.streams.specs.Input.{Input, IsEndOf, with_more}
@@ -19,7 +19,7 @@ use Rattle.winnow_numbers.specs.Numeral.Once.{numeral_or_none, one_miss, one_num
 use Rattle.winnow_core.specs.Stable.Longer.{same_more}
 use Rattle.winnow_core.specs.Stable.Grows.{Stays, final_by}
 
--- they leave an end
+-- every call leaves a suffix
 pub dec_int_ends : {N K T S : Type 0} (number : N → ℤ) (fits : ℤ → Type 0) (seen : K → T)
     (code : K → ℕ) (reading : Reading T S) (form : ErrorForm) (i : Input T) (answer : Answer N)
     (j : Input T) → DecIntRuns number fits seen code reading form i answer j → IsEndOf reading j i
@@ -32,7 +32,7 @@ dec_int_ends number fits seen code reading form i answer j (inr (inr (k, none, e
     no_numeral_ends seen code reading form true i k j none
 
 module _ {K T L : Type 0} (seen : K → T) (code : K → ℕ) (reading : Reading T L) where
-  -- on a cut input, runs of a final answer are runs on each longer one
+  -- a final result on partial input is also a result on every longer input
   pub dec_int_stays : {N : Type 0} (number : N → ℤ) (fits : ℤ → Type 0)
       → Stays (DecIntRuns number fits seen code reading modal)
   dec_int_stays number fits more flag i answer j is_cut final
@@ -75,7 +75,6 @@ module _ {N K T L : Type 0} (number : N → ℤ) (fits : ℤ → Type 0) (seen :
       none_status seen code reading form true i k j none
 
   module _ (once : SeenOnce seen code) where
-    -- a numeral, and one that stands there too, have one number
     one_value : (i : Input T) (sign other xs ys : List ℕ) (a b : Input T)
         → NumeralRuns seen code reading true i sign xs a
         → NumeralRuns seen code reading true i other ys b

@@ -1,4 +1,4 @@
--- What parsers of decimal signed numbers say that they do.
+-- The outcomes of parsers of decimal signed numbers.
 use Rattle.std.specs.Prelude.{◌≡◌, ⊤, ℕ, ℤ, true, List, Ok, Err}
 use Rattle.std.proofs.Common.{refl, ap, inl, inr, ◌∙◌}
 use Rattle.streams.specs.Input.{Input}
@@ -21,7 +21,7 @@ use Rattle.winnow_numbers.specs.Numeral.Exact.{dec_int_fails}
 use Rattle.winnow_numbers.specs.Numeral.Says.{HasNumeral, NoNumeralDoes, none_of, none_to}
 use Rattle.winnow_numbers.specs.Numeral.Says.{numeral_of, numeral_to}
 
--- A numeral stands first, and its number fits.
+-- The tokens start with a numeral, and its number fits.
 abbrev pub IsNumber : {N K T : Type 0} → (N → ℤ) → (ℤ → Type 0) → (K → T) → (K → ℕ) → N → Case T
 IsNumber number fits seen code n at tokens rest =
     (sign : List ℕ) × (digits : List ℕ) × HasNumeral seen code true at tokens sign digits rest
@@ -34,7 +34,7 @@ IsMisfit {T = T} fits seen code at tokens =
     × HasNumeral seen code true at tokens sign digits rest
     × (fits (signed_value sign digits) → ⊥)
 
--- The number of a numeral is taken; or it does not fit; or no numeral stands first.
+-- The number of a numeral is taken; or it does not fit; or the tokens do not start with a numeral.
 abbrev pub dec_int_says : {N K T : Type 0} → (N → ℤ) → (ℤ → Type 0) → (K → T) → (K → ℕ) → Says T N
 dec_int_says number fits seen code = record {
   premise = ⊤;

@@ -1,4 +1,4 @@
--- What a caller knows of one run of the parser of a decimal unsigned number.
+-- Inversion lemmas about a call of the parser of a decimal unsigned number.
 use Rattle.std.specs.Prelude.{◌≡◌, ◌<◌, ℕ, true, false, List, [], ◌∷◌, Ok}
 use Rattle.std.specs.Prelude.{◌⊎◌}
 use Rattle.std.specs.Fmt.{decimal}
@@ -17,8 +17,8 @@ use Rattle.winnow_numbers.specs.Numeral.Known.{digits_are, digits_front}
 use Rattle.winnow_numbers.specs.Numeral.Known.{digits_stop, unsigned}
 use Rattle.winnow_numbers.specs.Numeral.Once.{numeral_or_none, one_miss, one_numeral}
 
--- A number that was read: its decimal digits were passed, and no digit is left after them, but
--- after a lone '0'.
+-- A number was read: its decimal digits were passed, and no digit follows them, except after a
+-- single '0'.
 pub record UintRead {K T S : Type 0} (seen : K → T) (code : K → ℕ) (reading : Reading T S)
     (bound : ℕ) (i : Input T) (n : ℕ) (j : Input T) : Type 0 where
   pub front : List T
@@ -53,10 +53,9 @@ module _ {N K T S : Type 0} (number : N → ℕ) (bound : ℕ) (seen : K → T) 
   dec_uint_ok i n j (inr (inl (digits, a, runs, misfit, e, same))) = ok_is_err refl e
   dec_uint_ok i n j (inr (inr (k, none, e))) = ok_is_err refl e
 
-  -- ---- where tokens that are seen alike are one character
+  -- ---- if tokens with the same view are one character
 
   module _ (once : SeenOnce seen code) where
-    -- a numeral, and one that stands there too, have one number
     one_value : (i : Input T) (xs ys : List ℕ) (a b : Input T)
         → NumeralRuns seen code reading false i [] xs a
         → NumeralRuns seen code reading false i [] ys b
@@ -65,7 +64,6 @@ module _ {N K T S : Type 0} (number : N → ℕ) (bound : ℕ) (seen : K → T) 
         let one = one_numeral seen code reading once false i [] [] xs ys a b p q in
         (ap (λ l. value_in 10 l) one.1.0, one.1.1)
 
-    -- An input has one answer.
     pub dec_uint_once : (i : Input T) (answer other : Answer N) (j k : Input T)
         → DecUintRuns number bound seen code reading form i answer j
         → DecUintRuns number bound seen code reading form i other k

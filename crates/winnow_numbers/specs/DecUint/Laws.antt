@@ -1,4 +1,4 @@
--- What holds of the runs of decimal unsigned numbers.
+-- Properties of the calls of decimal unsigned numbers.
 use Rattle.std.specs.Prelude.{◌≡◌, ℕ, false, [], Err, Ok}
 use Rattle.std.proofs.Common.{inl, inr, ap}
 use Rattle.streams.specs.Input.{Input, IsEndOf, with_more}
@@ -14,7 +14,7 @@ use Rattle.winnow_core.specs.Decided.{AlikeAnswers}
 use Rattle.winnow_numbers.specs.NumberLaws.{AnswersSame}
 use Rattle.winnow_numbers.specs.Numeral.Known.{none_status, numeral_status}
 
--- they leave an end
+-- every call leaves a suffix
 pub dec_uint_ends : {N K T S : Type 0} (number : N → ℕ) (bound : ℕ) (seen : K → T)
     (code : K → ℕ) (reading : Reading T S) (form : ErrorForm) (i : Input T) (answer : Answer N)
     (j : Input T) → DecUintRuns number bound seen code reading form i answer j → IsEndOf reading j i
@@ -26,7 +26,7 @@ dec_uint_ends number bound seen code reading form i answer j (inr (inr (k, none,
     no_numeral_ends seen code reading form false i k j none
 
 module _ {K T L : Type 0} (seen : K → T) (code : K → ℕ) (reading : Reading T L) where
-  -- on a cut input, runs of a final answer are runs on each longer one
+  -- a final result on partial input is also a result on every longer input
   pub dec_uint_stays : {N : Type 0} (number : N → ℕ) (bound : ℕ)
       → Stays (DecUintRuns number bound seen code reading modal)
   dec_uint_stays number bound more flag i answer j is_cut final

@@ -1,4 +1,4 @@
--- What parsers of decimal unsigned numbers say that they do.
+-- The outcomes of parsers of decimal unsigned numbers.
 use Rattle.std.specs.Prelude.{◌≡◌, ◌<◌, ◌≤◌, ⊤, ℕ, false, List, [], Ok, Err}
 use Rattle.std.proofs.Common.{refl, ap, inl, inr, ◌∙◌}
 use Rattle.streams.specs.Input.{Input}
@@ -21,7 +21,7 @@ use Rattle.winnow_numbers.specs.Numeral.Exact.{dec_uint_fails}
 use Rattle.winnow_numbers.specs.Numeral.Says.{HasNumeral, NoNumeralDoes, none_of, none_to}
 use Rattle.winnow_numbers.specs.Numeral.Says.{numeral_of, numeral_to}
 
--- A numeral stands first, and its number fits.
+-- The tokens start with a numeral, and its number fits.
 abbrev pub IsNumber : {N K T : Type 0} → (N → ℕ) → ℕ → (K → T) → (K → ℕ) → N → Case T
 IsNumber number bound seen code n at tokens rest =
     (digits : List ℕ) × HasNumeral seen code false at tokens [] digits rest
@@ -33,7 +33,7 @@ IsTooLarge {T = T} bound seen code at tokens =
     (digits : List ℕ) × (rest : List T) × HasNumeral seen code false at tokens [] digits rest
     × (bound ≤ value_in 10 digits)
 
--- The number of a numeral is taken; or it does not fit; or no numeral stands first.
+-- The number of a numeral is taken; or it does not fit; or the tokens do not start with a numeral.
 abbrev pub dec_uint_says : {N K T : Type 0} → (N → ℕ) → ℕ → (K → T) → (K → ℕ) → Says T N
 dec_uint_says number bound seen code = record {
   premise = ⊤;

@@ -1,4 +1,4 @@
--- What is known of the decimal digits of a number: they are one list, and the one that std writes.
+-- Lemmas about the decimal digits of a number: they are one list, and the one that std writes.
 use Rattle.std.specs.Prelude.{◌≡◌, ◌<◌, ◌≤◌, ◌+◌, ◌*◌, ◌^◌, ℕ, List, [], ◌∷◌, ◌++◌}
 use Rattle.std.specs.Prelude.{length, ◌/◌, ◌%◌, ◌⊎◌}
 use Rattle.std.specs.Char.{digit_value}
@@ -55,7 +55,6 @@ pub some_value : (d : ℕ) (ds : List ℕ) → AllByRecursion IsDecDigit (d ∷ 
 some_value d ds all leads =
     omega (arith, value_above d ds all.0 leads, one-le-pow (length ds) 10 (omega arith))
 
--- a greater digit stands for more than what stands after a lesser one
 lesser : (c d p v w : ℕ) → c < d → v < p → c * p + v ≡ d * p + w → ⊥
 lesser c d p v w less low same =
     omega (arith, mul-le-mul_right {m = suc c} {n = d} p less, low, same)
@@ -179,7 +178,7 @@ lone zero ds (c, cs, e, leads, alone) others f = sym (same_others (sym e ∙ f))
 lone (suc m) ds (c, cs, e, leads, alone) others f =
     absurd (omega (arith, same_first (sym e ∙ f), leads (omega arith)))
 
--- What std's `{}` writes of a number with at most 64 digits are its decimal digits ...
+-- The output of std's `{}` for a number with at most 64 digits is its decimal digits ...
 pub decimal_digits : (n : ℕ) → n < 10 ^ 64 → IsDecimalOf (decimal n) n
 decimal_digits n small =
     let numeral = decimal_is_IsNumeral_wide n small in

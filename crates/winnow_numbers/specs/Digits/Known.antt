@@ -1,4 +1,4 @@
--- What is known of the characters of digits.
+-- Lemmas about the characters of digits.
 use Rattle.std.specs.Prelude.{◌≡◌, ◌+◌, ◌*◌, ◌^◌, ℕ, List, [], ◌∷◌, ◌++◌, length}
 use Rattle.std.specs.Char.{digit_value}
 use Rattle.std.specs.List.{All, AllByRecursion}
@@ -65,7 +65,7 @@ module _ {K T : Type 0} (seen : K → T) (code : K → ℕ) where
       let P : List ℕ → Type 0 = λ l. AreCharacters seen code (seen x ∷ []) l in
       subst P (sym e) ((x, refl, refl), tt)
 
--- ---- where tokens that are seen alike are one character
+-- ---- if tokens with the same view are one character
 
 module _ {K T : Type 0} (seen : K → T) (code : K → ℕ) (once : SeenOnce seen code) where
   -- a token is a character of a class, or one outside of it
@@ -74,7 +74,6 @@ module _ {K T : Type 0} (seen : K → T) (code : K → ℕ) (once : SeenOnce see
   one_class class t u e (x, is, member) (y, other, stranger) =
       stranger (subst class (once x y (is ∙ e ∙ sym other)) member)
 
-  -- so one of the class does not stand first where none does
   pub one_first : (class : ℕ → Type 0) (t : T) (rest tokens : List T) → tokens ≡ t ∷ rest
       → IsIn seen code class t → NoneFirst seen code class tokens → ⊥
   one_first class t rest tokens e member (inl none) = absurd cc
@@ -89,12 +88,10 @@ module _ {K T : Type 0} (seen : K → T) (code : K → ℕ) (once : SeenOnce see
       → IsIn seen code class t
   member_of class t c (x, is, e) member = (x, is, subst class (sym e) member)
 
-  -- tokens that are seen alike have one number
   pub one_number : (t u : T) (c d : ℕ) → t ≡ u → IsOf t c → IsOf u d → c ≡ d
   one_number t u c d e (x, is, same) (y, other, f) =
       sym same ∙ once x y (is ∙ e ∙ sym other) ∙ f
 
-  -- All characters of a class that stand first are one list, and their numbers another.
   pub one_front : (class : ℕ → Type 0) (xs ys rest others : List T) (cs ds : List ℕ)
       → xs ++ rest ≡ ys ++ others → AreCharacters seen code xs cs → AllByRecursion class cs
       → NoneFirst seen code class rest → AreCharacters seen code ys ds
@@ -118,7 +115,6 @@ module _ {K T : Type 0} (seen : K → T) (code : K → ℕ) (once : SeenOnce see
         ap (λ n. n ∷ cs) (one_number x y c d first p.0 q.0) ∙ ap (λ l. d ∷ l) more.1,
       )
 
-  -- where all characters are of the class, nothing stands after those of it that stand first
   pub none_behind : (class : ℕ → Type 0) (front rest tokens : List T) → tokens ≡ front ++ rest
       → All (IsIn seen code class) tokens → NoneFirst seen code class rest → rest ≡ []
   none_behind class front rest tokens e all (inl none) = none

@@ -1,4 +1,4 @@
--- What a caller knows of one run of the parser of a hexadecimal number.
+-- Inversion lemmas about a call of the parser of a hexadecimal number.
 use Rattle.std.specs.Prelude.{◌≡◌, ◌<◌, ◌≤◌, ℕ, true, false, List, [], ◌∷◌, ◌++◌, length}
 use Rattle.std.specs.Prelude.{Ok}
 use Rattle.std.specs.List.{All, AllByRecursion}
@@ -16,8 +16,8 @@ use Rattle.winnow_numbers.specs.HexUint.{HexUintRuns}
 use Rattle.winnow_numbers.specs.Numeral.Known.{behind, leads_behind}
 use Rattle.winnow_numbers.specs.Numeral.Once.{one_end}
 
--- All hexadecimal digits that stand first are passed, as many as a type holds, and no more input
--- adds one.
+-- The longest prefix of hexadecimal digits is passed. A type holds all of them, and more input adds
+-- no digit.
 pub record HexDigits {K T S : Type 0} (seen : K → T) (code : K → ℕ) (reading : Reading T S)
     (most : ℕ) (i : Input T) (digits : List ℕ) (j : Input T) : Type 0 where
   pub front : List T
@@ -29,7 +29,7 @@ pub record HexDigits {K T S : Type 0} (seen : K → T) (code : K → ℕ) (readi
   pub stops : NoneFirst seen code IsHexDigit j.left.tokens
   pub ended : j.left.tokens ≡ [] → j.status.cut ≡ false
 
--- More digits stand first than a type holds.
+-- The tokens start with more digits than a type holds.
 abbrev pub HasMore : {K T : Type 0} → (K → T) → (K → ℕ) → ℕ → List T → Type 0
 HasMore {K} {T} seen code most tokens =
     (front : List T) × (t : T) × (rest : List T) × (tokens ≡ front ++ t ∷ rest)
@@ -38,7 +38,7 @@ HasMore {K} {T} seen code most tokens =
 
 module _ {N K T S : Type 0} (number : N → ℕ) (most : ℕ) (seen : K → T) (code : K → ℕ)
     (reading : Reading T S) (form : ErrorForm) where
-  -- ---- where tokens that are seen alike are one character
+  -- ---- if tokens with the same view are one character
 
   module _ (once : SeenOnce seen code) where
     one_hex : (i : Input T) (xs ys : List ℕ) (a b : Input T)
@@ -50,7 +50,6 @@ module _ {N K T S : Type 0} (number : N → ℕ) (most : ℕ) (seen : K → T) (
         let P : List T → Type 0 = λ l. Passes reading l i b in
         (ap (λ l. value_in 16 l) one.1, one_end p.passes (subst P (sym one.0) q.passes))
 
-    -- digits that end, and nothing but digits on a cut input
     hex_or_lack : (i : Input T) (digits : List ℕ) (j : Input T)
         → HexDigits seen code reading most i digits j
         → All (IsIn seen code IsHexDigit) i.left.tokens → i.status.cut ≡ true → ⊥
@@ -59,7 +58,6 @@ module _ {N K T S : Type 0} (number : N → ℕ) (most : ℕ) (seen : K → T) (
         p.passes.tokens all p.stops in
         true_is_false (sym cut ∙ ap (λ s. s.cut) (sym p.passes.status) ∙ p.ended none)
 
-    -- digits that stand first, and none
     hex_or_none : (i : Input T) (front : List T) (digits : List ℕ) (rest : List T)
         → i.left.tokens ≡ front ++ rest → AreCharacters seen code front digits
         → AllByRecursion IsHexDigit digits → 0 < length digits
@@ -92,7 +90,6 @@ module _ {N K T S : Type 0} (number : N → ℕ) (most : ℕ) (seen : K → T) (
         (omega (arith, characters_length seen code p.front digits p.chars, p.few, many))
         all is p.stops
 
-    -- What a run may do, without what it answers.
     pub passed_by : (i : Input T) (front : List T) (digits : List ℕ) (j : Input T)
         → Passes reading front i j → AreCharacters seen code front digits
         → AllByRecursion IsHexDigit digits → 0 < length digits → length digits ≤ most
@@ -134,8 +131,8 @@ module _ {N K T S : Type 0} (number : N → ℕ) (most : ℕ) (seen : K → T) (
         absurd (passed_or_more i xs a known
         (more.0, more.1, more.2, more.3, more.4, more.5, more.6))
 
-    -- Hexadecimal digits that the type holds are read as their number, where no such digit stands
-    -- after them, and a cut input has more after them.
+    -- Hexadecimal digits that the type holds are read as their number, if no such digit follows
+    -- them, and partial input has more after them.
     pub hex_uint_must : (front : List T) (digits : List ℕ) (rest : List T) (i : Input T)
         (answer : Answer N) (j : Input T) → AllByRecursion IsHexDigit digits → 0 < length digits
         → length digits ≤ most → AreCharacters seen code front digits

@@ -1,4 +1,4 @@
--- What holds of the runs of hexadecimal numbers.
+-- Properties of the calls of hexadecimal numbers.
 use Rattle.std.specs.Prelude.{◌≡◌, ◌≤◌, ℕ, ⊤, List, [], ◌∷◌, ◌++◌, Some, Err, false, true}
 use Rattle.std.specs.Prelude.{Bool, length, Ok}
 use Rattle.std.specs.List.{All}
@@ -29,7 +29,7 @@ use Rattle.winnow_numbers.specs.HexUint.Known.{hex_uint_by, hex_uint_must, passe
 use Rattle.winnow_numbers.specs.Numeral.Exact.{seen_one}
 use Rattle.winnow_numbers.specs.Numeral.Grammar.{Hexadecimal}
 
--- they leave an end
+-- every call leaves a suffix
 pub hex_uint_ends : {N K T S : Type 0} (number : N → ℕ) (most : ℕ) (seen : K → T)
     (code : K → ℕ) (reading : Reading T S) (form : ErrorForm) (i : Input T) (answer : Answer N)
     (j : Input T) → HexUintRuns number most seen code reading form i answer j
@@ -44,7 +44,7 @@ hex_uint_ends number most seen code reading form i answer j
     (inr (inr (inr (front, t, rest, split, are, many, is, e, same)))) = same_ends reading i j same
 
 module _ {K T L : Type 0} (seen : K → T) (code : K → ℕ) (reading : Reading T L) where
-  -- on a cut input, runs of a final answer are runs on each longer one
+  -- a final result on partial input is also a result on every longer input
   pub hex_uint_stays : {N : Type 0} (number : N → ℕ) (most : ℕ)
       → Stays (HexUintRuns number most seen code reading modal)
   hex_uint_stays number most more flag i answer j is_cut final
@@ -201,7 +201,6 @@ module _ {N K T L : Type 0} (number : N → ℕ) (most : ℕ) (seen : K → T) (
       ap (λ z. z.status) same
 
   module _ (once : SeenOnce seen code) where
-    -- nothing but digits is left of a cut input, or none stands first
     digits_or_none : (tokens : List T) (cut : Bool) → All (IsIn seen code IsHexDigit) tokens
         → cut ≡ true → NoneFirst seen code IsHexDigit tokens → (tokens ≡ [] → cut ≡ false) → ⊥
     digits_or_none [] cut all is none ended = true_is_false (sym is ∙ ended refl)
@@ -209,7 +208,6 @@ module _ {N K T L : Type 0} (number : N → ℕ) (most : ℕ) (seen : K → T) (
         one_first seen code once IsHexDigit t ts (t ∷ ts) refl
         (All-head (IsIn seen code IsHexDigit) t ts all) none
 
-    -- the type holds all that is left, or more is left
     few_or_more : (tokens front : List T) (t : T) (rest : List T) → tokens ≡ front ++ t ∷ rest
         → length tokens ≤ most → length front ≡ most → ⊥
     few_or_more tokens front t rest split few many =

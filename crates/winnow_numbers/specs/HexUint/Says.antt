@@ -1,4 +1,4 @@
--- What parsers of hexadecimal numbers say that they do.
+-- The outcomes of parsers of hexadecimal numbers.
 use Rattle.std.specs.Prelude.{◌≡◌, ◌⊎◌, ◌<◌, ◌≤◌, ⊤, ℕ, true, false, List, [], ◌∷◌, ◌++◌, length}
 use Rattle.std.specs.Prelude.{Some, Ok, Err}
 use Rattle.std.specs.List.{All, AllByRecursion}
@@ -22,8 +22,8 @@ use Rattle.winnow_numbers.specs.HexUint.{HexUintRuns}
 use Rattle.winnow_numbers.specs.HexUint.Laws.{hex_uint_ends, hex_uint_fails, hex_uint_status}
 use Rattle.winnow_numbers.specs.HexUint.Laws.{hex_uint_stays, meet}
 
--- All hexadecimal digits that stand first, at least one and at most those that the type holds;
--- another token follows, or nothing more comes.
+-- The longest prefix of hexadecimal digits, at least one and at most those that the type holds;
+-- another token follows, or no more input comes.
 abbrev pub IsHexadecimal : {N K T : Type 0} → (N → ℕ) → ℕ → (K → T) → (K → ℕ) → N → Case T
 IsHexadecimal {T = T} number most seen code n at tokens rest =
     (front : List T) × (digits : List ℕ) × (tokens ≡ front ++ rest)
@@ -31,19 +31,19 @@ IsHexadecimal {T = T} number most seen code n at tokens rest =
     × (0 < length digits) × (length digits ≤ most) × NoneFirst seen code IsHexDigit rest
     × (rest ≡ [] → at.more ≡ false) × (number n ≡ value_in 16 digits)
 
--- Nothing but such digits, of which the type holds all, and more may come.
+-- Only such digits, which the type holds, and more input may come.
 abbrev pub AreDigitsSoFar : {K T : Type 0} → ℕ → (K → T) → (K → ℕ) → Setting → List T → Type 0
 AreDigitsSoFar most seen code at tokens =
     All (IsIn seen code IsHexDigit) tokens × (length tokens ≤ most) × (at.more ≡ true)
 
--- No such digit stands first; or more of them than the type holds.
+-- The tokens start with no such digit, or with more of them than the type holds.
 abbrev pub HasNoneOrMany : {K T : Type 0} → ℕ → (K → T) → (K → ℕ) → Setting → List T → Type 0
 HasNoneOrMany {T = T} most seen code at tokens =
     (NoneFirst seen code IsHexDigit tokens × (tokens ≡ [] → at.more ≡ false))
     ⊎ ((front : List T) × (t : T) × (rest : List T) × (tokens ≡ front ++ t ∷ rest)
     × All (IsIn seen code IsHexDigit) front × (length front ≡ most) × IsIn seen code IsHexDigit t)
 
--- The number is taken; or more is asked for; or there are no digits, or too many.
+-- The number is taken; or more input is needed; or there are no digits, or too many.
 abbrev pub hex_uint_says : {N K T : Type 0} → (N → ℕ) → ℕ → (K → T) → (K → ℕ) → Says T N
 hex_uint_says number most seen code = record {
   premise = ⊤;

@@ -1,4 +1,4 @@
--- What parsers of numbers read.
+-- The grammars of the parsers of numbers.
 use Rattle.std.specs.Prelude.{◌≡◌, ◌⊎◌, ◌<◌, ℕ, ℤ, pos, neg_ℤ, true, false, List, [], ◌∷◌, ◌++◌}
 use Rattle.std.specs.Prelude.{length, Err, ⊤}
 use Rattle.std.proofs.Common.{refl, sym, ap, subst, inl, inr, ◌∙◌, arith, length-append}
@@ -26,11 +26,10 @@ use Rattle.winnow_numbers.specs.Numeral.Grammar.{Decimal, SignedDecimal}
 use Rattle.winnow_numbers.specs.Numeral.Known.{behind, digits_run, leads_behind, numeral_front}
 use Rattle.winnow_numbers.specs.Numeral.Once.{numeral_or_none, one_numeral}
 
--- tokens that are seen alike are one character
 pub seen_one : {K T : Type 0} (seen : K → T) (code : K → ℕ) → SeesApart seen → SeenOnce seen code
 seen_one seen code apart x y e = ap code (apart x y e)
 
--- a whole input of these tokens
+-- complete input of these tokens
 abbrev whole : {T : Type 0} → List T → Input T
 whole tokens = record { left = at_start tokens; status = no_status }
 

@@ -8,16 +8,16 @@ use Rattle.winnow_numbers.specs.Digits.{AreCharacters, NoneFirst, value_in}
 pub mod Known
 pub mod Signed
 
--- The decimal digits of a number below the bound, of which no '0' is the first but a lone one. No
--- digit stands after them, but after a lone '0'. Values have the numbers `number`.
+-- The decimal digits of a number below the bound, where a '0' is the first only if it is the only
+-- one. No digit follows them, except after a single '0'. Values have the numbers `number`.
 unfoldable pub Decimal : {N K T : Type 0} → (N → ℕ) → ℕ → (K → T) → (K → ℕ) → Grammar T N
 Decimal {T = T} number bound seen code tokens n rest =
     (front : List T) × (digits : List ℕ) × (tokens ≡ front ++ rest)
     × AreCharacters seen code front digits × IsDecimalOf digits (number n)
     × ((digits ≡ 48 ∷ []) ⊎ NoneFirst seen code IsDecDigit rest) × (number n < bound)
 
--- The decimal digits of a number that fits, with '-' before them where it is negative, and with '+'
--- or nothing where it is positive. No digit stands after them, but after a lone '0'.
+-- The decimal digits of a number that fits, after '-' if it is negative, and after '+' or nothing
+-- if it is positive. No digit follows them, except after a single '0'.
 unfoldable pub SignedDecimal : {N K T : Type 0} → (N → ℤ) → (ℤ → Type 0) → (K → T) → (K → ℕ)
     → Grammar T N
 SignedDecimal {T = T} number fits seen code tokens n rest =
@@ -25,8 +25,7 @@ SignedDecimal {T = T} number fits seen code tokens n rest =
     × AreCharacters seen code front (sign ++ digits) × IsSignedDecimalOf sign digits (number n)
     × ((digits ≡ 48 ∷ []) ⊎ NoneFirst seen code IsDecDigit rest) × fits (number n)
 
--- The longest beginning of hexadecimal digits, at least one and no more than these, stands for the
--- number.
+-- The longest prefix of hexadecimal digits, at least one and at most `most`, encodes the number.
 unfoldable pub Hexadecimal : {N K T : Type 0} → (N → ℕ) → ℕ → (K → T) → (K → ℕ) → Grammar T N
 Hexadecimal {T = T} number most seen code tokens n rest =
     (front : List T) × (digits : List ℕ) × (tokens ≡ front ++ rest)

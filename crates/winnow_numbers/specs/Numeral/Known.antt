@@ -1,4 +1,4 @@
--- What is known of a run of numerals: the tokens that it passes, and that they are decimal digits.
+-- Lemmas about a call of numerals: the tokens that it passes, which are decimal digits.
 use Rattle.std.specs.Prelude.{◌≡◌, ◌<◌, ℕ, Bool, true, false, List, [], ◌∷◌, ◌++◌, ◌⊎◌}
 use Rattle.std.proofs.Common.{refl, sym, ap, subst, ◌∙◌, inl, inr, arith, append_assoc}
 use Rattle.std.proofs.lemmas.Bool.{cases_order}
@@ -40,7 +40,7 @@ passes_none reading i j same =
       status = refl;
     })
 
--- the input after some tokens that stand first, with these left
+-- the input after the tokens `front`, with the remaining tokens `rest`
 abbrev pub behind : {T S : Type 0} → Reading T S → List T → List T → Input T → Input T
 behind reading front rest i =
     record {
@@ -126,7 +126,6 @@ module _ {K T S : Type 0} (seen : K → T) (code : K → ℕ) (reading : Reading
         λ more f. absurd (omega (arith, leads.0, same_first (sym e ∙ f))),
       )
 
-  -- After a numeral no digit stands, but after a lone '0'.
   pub digits_stop : (naught : Bool) (i : Input T) (digits : List ℕ) (j : Input T)
       → DigitsRuns seen code reading naught i digits j
       → (digits ≡ 48 ∷ []) ⊎ NoneFirst seen code IsDecDigit j.left.tokens
@@ -134,7 +133,6 @@ module _ {K T S : Type 0} (seen : K → T) (code : K → ℕ) (reading : Reading
   digits_stop naught i digits j
       (inr (front, first, others, e, leads, are, passes, chars, stops, whole)) = inr stops
 
-  -- where no sign may stand, none does
   pub unsigned : (i : Input T) (sign : List ℕ) (a : Input T)
       → SignRuns seen code reading false i sign a → (sign ≡ []) × (a ≡ i)
   unsigned i sign a (inl (x, may, is, passes, e)) = absurd cc

@@ -1,4 +1,4 @@
--- What holds of the runs of numerals.
+-- Properties of the calls of numerals.
 use Rattle.std.specs.Prelude.{◌≡◌, ℕ, Bool, List, [], ◌++◌, ◌∷◌, true}
 use Rattle.std.proofs.Common.{inl, inr, sym, subst, ap, refl, ◌∙◌}
 use Rattle.streams.specs.Input.{Input, IsEndOf, is_end_of_trans, passes_end, with_more}
@@ -36,7 +36,6 @@ module _ {K T S : Type 0} (seen : K → T) (code : K → ℕ) (reading : Reading
   left_ends modal i b j ends same =
       let P : Input T → Type 0 = λ x. IsEndOf reading x i in subst P (sym same) ends
 
-  -- a numeral leaves an end
   pub numeral_ends : (signed : Bool) (i : Input T) (sign digits : List ℕ) (j : Input T)
       → NumeralRuns seen code reading signed i sign digits j → IsEndOf reading j i
   numeral_ends signed i sign digits j (a, first, r) =
@@ -53,14 +52,12 @@ module _ {K T S : Type 0} (seen : K → T) (code : K → ℕ) (reading : Reading
       same_ends reading i j same
 
 module _ {K T L : Type 0} (seen : K → T) (code : K → ℕ) (reading : Reading T L) where
-  -- what does not stand first of some tokens does not where more stand after
   pub none_first_more : (class : ℕ → Type 0) (tokens more : List T) → (tokens ≡ [] → ⊥)
       → NoneFirst seen code class tokens → NoneFirst seen code class (tokens ++ more)
   none_first_more class tokens more some (inl nothing) = absurd (some nothing)
   none_first_more class tokens more some (inr (t, rest, is, other)) =
       inr (t, rest ++ more, ap (λ l. l ++ more) is, other)
 
-  -- some tokens are some where more stand after
   pub more_is_some : (tokens more : List T) → (tokens ≡ [] → ⊥) → tokens ++ more ≡ [] → ⊥
   more_is_some [] more some e = some refl
   more_is_some (t ∷ ts) more some e = absurd (cc)

@@ -1,5 +1,5 @@
--- What is known of the runs of numerals, where tokens that are seen alike are one character: an
--- input has one numeral first, or there is one reason why it has none.
+-- Lemmas about the calls of numerals, if tokens with the same view are one character: an input
+-- starts with one numeral, or there is one reason why it does not.
 use Rattle.std.specs.Prelude.{◌≡◌, ℕ, Bool, true, List, [], ◌∷◌, ◌++◌}
 use Rattle.std.specs.List.{AllByRecursion}
 use Rattle.std.proofs.Common.{refl, sym, ap, subst, ◌∙◌, inl, inr, arith}
@@ -35,7 +35,6 @@ one_end {reading = reading} {front = front} {i = i} {a = a} {b = b} p q =
 leading_digit : (c : ℕ) → IsLeadingDigit c → IsDecDigit c
 leading_digit c is = (omega (arith, is.0), is.1)
 
--- nothing is no token and what follows
 nothing_first : {X P : Type 0} {x : X} {xs tokens : List X} → tokens ≡ [] → tokens ≡ x ∷ xs → P
 nothing_first e f = absurd cc
 
@@ -85,7 +84,6 @@ module _ {K T S : Type 0} (seen : K → T) (code : K → ℕ) (reading : Reading
       let one = first_is front first others (subst P e chars) in
       (one.0, one.1, p.tokens ∙ ap (λ l. l ++ a.left.tokens) one.2, one.3)
 
-  -- a '0' stands first, and so no other digit
   zero_leads : (x : K) (t : T) (first : ℕ) (rest tokens more : List T) → code x ≡ 48
       → tokens ≡ seen x ∷ rest → tokens ≡ t ∷ more → IsOf seen code once t first
       → IsLeadingDigit first → ⊥
@@ -120,7 +118,6 @@ module _ {K T S : Type 0} (seen : K → T) (code : K → ℕ) (reading : Reading
       let Q : List T → Type 0 = λ l. Passes reading l i b in
       (one.1, one_end p (subst Q (sym one.0) q))
 
-  -- One numeral stands first: one sign, the same digits, and one input is left.
   pub one_numeral : (signed : Bool) (i : Input T) (sign other xs ys : List ℕ) (a b : Input T)
       → NumeralRuns seen code reading signed i sign xs a
       → NumeralRuns seen code reading signed i other ys b
@@ -193,7 +190,6 @@ module _ {K T S : Type 0} (seen : K → T) (code : K → ℕ) (reading : Reading
       let P : ℕ → Type 0 = λ c. IsLeadingDigit c in
       other (subst P (once x y (same_first (sym p.tokens ∙ f))) leads)
 
-  -- what stands after the sign of one run stands after that of another
   lacks_there : (signed : Bool) (i m n b : Input T) (sign other : List ℕ)
       → SignRuns seen code reading signed i sign m → SignRuns seen code reading signed i other n
       → LacksDigits seen code reading n b → LacksDigits seen code reading m b
@@ -215,7 +211,6 @@ module _ {K T S : Type 0} (seen : K → T) (code : K → ℕ) (reading : Reading
   cut_there signed i m sign first cut =
       ap (λ s. s.cut) (sign_status seen code reading signed i sign m first) ∙ cut
 
-  -- A numeral stands first, or none does.
   pub numeral_or_none : (form : ErrorForm) (signed : Bool) (i : Input T) (sign digits : List ℕ)
       (j : Input T) (k : Kind) (b : Input T)
       → NumeralRuns seen code reading signed i sign digits j
@@ -230,7 +225,6 @@ module _ {K T S : Type 0} (seen : K → T) (code : K → ℕ) (reading : Reading
       digits_or_none (is_none sign) m digits j r
       (none_there signed i m n sign other first before none)
 
-  -- There is one reason why none does: one kind, and one input is left.
   pub one_miss : (form : ErrorForm) (signed : Bool) (i : Input T) (k l : Kind) (a b : Input T)
       → NoNumeral seen code reading form signed i k a
       → NoNumeral seen code reading form signed i l b → (k ≡ l) × (a ≡ b)

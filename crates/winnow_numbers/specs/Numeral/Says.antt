@@ -18,15 +18,15 @@ use Rattle.winnow_numbers.specs.Numeral.{NoNumeral, NumeralRuns, SignRuns, is_no
 use Rattle.winnow_numbers.specs.Numeral.Known.{sign_status}
 
 module _ {K T : Type 0} (seen : K → T) (code : K → ℕ) where
-  -- Where a sign may stand, the one that stands first; else none is.
+  -- If a sign is allowed, the one at the start. Otherwise no sign.
   abbrev pub HasSign : Bool → List T → List ℕ → List T → Type 0
   HasSign signed tokens sign rest =
       ((x : K) × (signed ≡ true) × IsSign (code x) × (tokens ≡ seen x ∷ rest)
       × (sign ≡ code x ∷ []))
       ⊎ ((signed ≡ true → NoneFirst seen code IsSign tokens) × (sign ≡ []) × (rest ≡ tokens))
 
-  -- Digits stand first: a lone '0', where it may stand; or a digit from 1 to 9 and all digits after
-  -- it, and no more input adds one.
+  -- The tokens start with digits: a single '0', if it is allowed; or a digit from 1 to 9 and all
+  -- digits after it, and more input adds no digit.
   abbrev pub HasDigits : Bool → Setting → List T → List ℕ → List T → Type 0
   HasDigits zero at tokens digits rest =
       ((x : K) × (zero ≡ true) × (code x ≡ 48) × (tokens ≡ seen x ∷ rest) × (digits ≡ 48 ∷ []))
@@ -35,44 +35,45 @@ module _ {K T : Type 0} (seen : K → T) (code : K → ℕ) where
       × AreCharacters seen code front digits × NoneFirst seen code IsDecDigit rest
       × (rest ≡ [] → at.more ≡ false))
 
-  -- There is nothing; or nothing but a digit from 1 to 9, and digits after it, which are left.
+  -- The tokens are empty; or they are only a digit from 1 to 9, and digits after it, which are the
+  -- rest.
   abbrev pub LacksMore : List T → List T → Type 0
   LacksMore tokens rest =
       ((tokens ≡ []) × (rest ≡ tokens))
       ⊎ ((x : K) × IsLeadingDigit (code x) × (tokens ≡ seen x ∷ rest)
       × All (IsIn seen code IsDecDigit) rest)
 
-  -- No digits stand first, and no more input adds one.
+  -- The tokens do not start with digits, and more input adds no digit.
   abbrev pub HasNoDigits : Bool → Setting → List T → Type 0
   HasNoDigits zero at tokens =
       ((tokens ≡ []) × (at.more ≡ false))
       ⊎ ((x : K) × (rest : List T) × (tokens ≡ seen x ∷ rest)
       × (IsLeadingDigit (code x) → ⊥) × (zero ≡ true → code x ≡ 48 → ⊥))
 
-  -- A numeral stands first: a sign, where one may stand, and digits. A '0' has no sign.
+  -- The tokens start with a numeral: a sign, if one is allowed, and digits. A '0' has no sign.
   abbrev pub HasNumeral : Bool → Setting → List T → List ℕ → List ℕ → List T → Type 0
   HasNumeral signed at tokens sign digits rest =
       (mid : List T) × HasSign signed tokens sign mid
       × HasDigits (is_none sign) at mid digits rest
 
-  -- what is left where a numeral is only begun
+  -- the remaining tokens after an incomplete numeral
   abbrev pub left_for : ErrorForm → List T → List T → List T
   left_for plain tokens passed = tokens
   left_for modal tokens passed = passed
 
-  -- A numeral is only begun, and more may come.
+  -- The numeral is incomplete, and more input may come.
   abbrev pub IsBegun : Bool → Case T
   IsBegun signed at tokens place =
       (sign : List ℕ) × (mid : List T) × (passed : List T) × HasSign signed tokens sign mid
       × LacksMore mid passed × (at.more ≡ true) × (place ≡ left_for at.form tokens passed)
 
-  -- None stands first.
+  -- `tokens` does not start with a match.
   abbrev pub HasNone : Bool → Setting → List T → Type 0
   HasNone signed at tokens =
       (sign : List ℕ) × (mid : List T) × HasSign signed tokens sign mid
       × HasNoDigits (is_none sign) at mid
 
-  -- what is done where no numeral stands first
+  -- the outcome if the tokens do not start with a numeral
   abbrev pub NoNumeralDoes : {N : Type 0} → Bool → Does T N
   NoNumeralDoes signed =
       OneCase (LacksAfter (Some 1) (IsBegun signed)) (FailsWhere (HasNone signed))

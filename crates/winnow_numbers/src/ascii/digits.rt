@@ -14,9 +14,9 @@ use streams::stream::StreamIsPartial;
 // The greatest number after which any digit still fits 64 bits.
 const MOST: u64 = 1_844_674_407_370_955_160;
 
-/// Passes the numeral that stands first, with no sign, and answers its number. It may answer none,
-/// and stand anywhere, where there is none, where it has many digits, or where a cut input ends in
-/// it.
+/// Passes the numeral at the start, without a sign, and returns its number. It may return `None`,
+/// and leave the input anywhere, if there is no numeral, if it has many digits, or if partial input
+/// ends in it.
 #[inline(always)]
 pub(crate) fn small_numeral<I: StreamIsPartial + SlicesAsBytes>(input: &mut I) -> Option<u64>
 where
@@ -37,8 +37,8 @@ where
     }
 }
 
-/// How many bytes the digits of the numeral that stands first are, and its number. It may answer
-/// none; nothing is consumed.
+/// Returns the length in bytes of the digits of the numeral at the start, and its number. It may
+/// return `None`. Consumes nothing.
 #[inline(always)]
 fn numeral_left<I: StreamIsPartial + SlicesAsBytes>(input: &mut I) -> Option<(usize, u64)>
 where
@@ -89,8 +89,8 @@ where
     }
 }
 
-/// The value of a decimal digit, and a number above 9 for another character. One comparison tells
-/// which, and the value is at hand.
+/// Returns the value of a decimal digit, and a number above 9 for another character. One comparison
+/// distinguishes these, and the value is then available.
 #[inline(always)]
 fn digit_of(character: char) -> u32
     ensures value { IsDecDigit character → result ≡ character - 48 }

@@ -21,11 +21,11 @@ use streams::stream::{Stream, StreamIsPartial};
 use winnow_core::parser::Parser;
 use winnow_token::token::take_while;
 
-/// A hexadecimal number: all hexadecimal digits that stand first, in either case.
+/// Parses a hexadecimal number: the longest prefix of hexadecimal digits, in either case.
 ///
-/// It backtracks, and consumes nothing, where none stands first, or more than the type holds. On a
-/// cut input with nothing left but digits, at most as many as the type holds, it is incomplete, and
-/// consumes nothing: the need is 1 unit.
+/// Backtracks without consuming input if the input does not start with such a digit, or starts with
+/// more of them than the type holds. If partial input has only digits, possibly none, and at most
+/// as many as the type holds, it is incomplete with a need of 1 unit, and consumes nothing.
 ///
 /// ```
 /// let mut input = "fA;";
@@ -94,8 +94,8 @@ where
     follows
 }
 
-/// Whether a type that is full may yet be followed by another hexadecimal digit, since a cut input
-/// ends after it.
+/// Returns whether another hexadecimal digit may follow those of a type that is full, since partial
+/// input ends after them.
 #[inline(always)]
 fn may_overflow<I: StreamIsPartial>(input: &I, full: bool) -> bool
     ensures { MatchBool result

@@ -29,8 +29,8 @@ pub trait Int: Sized {
     // Whether a number fits.
     ghost fits: { ℤ → Type 0 };
 
-    /// Reads digits, before which a `+` or a `-` may stand, by the type's `FromStr`; `None` exactly
-    /// where the text is something else, or the number does not fit.
+    /// Parses digits, optionally after a `+` or a `-`, by the type's `FromStr`. Returns `None` if
+    /// and only if the text is something else, or the number does not fit.
     fn try_from_dec_int(slice: &str) -> Option<Self>
         ensures { ReadsSigned number fits slice.now result };
 
@@ -148,14 +148,16 @@ impl Int for isize {
     }
 }
 
-/// A decimal signed number: one `0`, or a digit from 1 to 9 and all digits after it, before which a
-/// `+` or a `-` may stand.
+/// Parses a decimal signed number: one `0`, or a digit from 1 to 9 and all digits after it,
+/// optionally after a `+` or a `-`.
 ///
-/// It backtracks, and consumes nothing, where no such digits stand first, or the number does not
-/// fit the type. On a cut input with nothing left after the sign, or that ends in the digits of a
-/// number that does not begin with `0`, it is incomplete, and the input stands after the sign and
-/// the first digit that are there. The need is 1 unit. Under an error type with no mode it
-/// backtracks instead, and consumes nothing.
+/// Backtracks without consuming input if the input does not start with such digits, or if the
+/// number does not fit the type.
+///
+/// It is incomplete on partial input that has nothing after an optional sign, or that ends in the
+/// digits of a number that does not begin with `0`. The input is left after the sign and the first
+/// digit that are there. The need is 1 unit. With an error type without a mode it backtracks
+/// instead, and consumes nothing.
 ///
 /// Known as `i8` to `i128` of `character::complete` in nom.
 ///
@@ -194,9 +196,9 @@ where
     any_int(input)
 }
 
-/// Passes the numeral that stands first, with its sign, and answers its number. It may answer none,
-/// and stand anywhere, where there is none, where it has many digits, or where a cut input ends in
-/// it.
+/// Passes the numeral at the start, with its sign, and returns its number. It may return `None`,
+/// and leave the input anywhere, if there is no numeral, if it has many digits, or if partial input
+/// ends in it.
 #[inline(always)]
 fn small_int<I: StreamIsPartial + SlicesAsBytes>(input: &mut I) -> Option<i64>
 where
@@ -213,8 +215,8 @@ where
     with_sign(sign, number)
 }
 
-/// The number after a sign, or after none. It answers none where that is above `i64::MAX`, or is
-/// 0 after a sign.
+/// Returns the number after a sign, or without one. Returns `None` if that is above `i64::MAX`, or
+/// is 0 after a sign.
 #[inline(always)]
 fn with_sign(sign: Option<char>, number: u64) -> Option<i64>
     ensures { IfSome result (λ z. SignedBy sign number z) }

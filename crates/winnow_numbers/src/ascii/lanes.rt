@@ -16,9 +16,9 @@ const LANES: usize = 16;
 // The place of each lane.
 const PLACES: [u8; LANES] = [0, 1, 2, 3, 4, 5, 6, 7, 8, 9, 10, 11, 12, 13, 14, 15];
 
-/// How many bytes the digits of the numeral that stands first are, and its number. None where
-/// fewer than 16 bytes are there, where no numeral stands first, or where its end is not among
-/// them.
+/// Returns the length in bytes of the digits of the numeral at the start, and its number. Returns
+/// `None` if there are fewer than 16 bytes, if they do not start with a numeral, or if its end is
+/// not in the first 16.
 #[inline(always)]
 pub(crate) fn first_numeral(bytes: &[u8]) -> Option<(usize, u64)>
     ensures { IfSome result (λ found. (digits rest : List ℕ)
@@ -39,7 +39,7 @@ pub(crate) fn first_numeral(bytes: &[u8]) -> Option<(usize, u64)>
     Some((count, number_first(digits, count)))
 }
 
-/// How many lanes stand before the first that is no digit; none where all are digits.
+/// Returns the number of lanes before the first that is not a digit, or `None` if all are digits.
 #[inline(always)]
 fn digits_first(lanes: u8x16) -> Option<usize>
     ensures { IfSome result (λ count. EndsDigits lanes count) }

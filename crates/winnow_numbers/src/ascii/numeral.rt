@@ -14,7 +14,7 @@ use streams::stream::{Stream, StreamIsPartial};
 use winnow_ascii::ascii::digit0;
 use winnow_core::short::short;
 
-/// The slice of the numeral that stands first, with its sign where one may stand.
+/// Takes the numeral at the start, with its sign if one is allowed, and returns its slice.
 #[inline(always)]
 pub(crate) fn take_numeral<I: StreamIsPartial, E: ParserError<I>>(
     input: &mut I,
@@ -50,7 +50,7 @@ where
     }
 }
 
-/// Passes the sign that stands first, where one may stand, and answers whether there is none.
+/// Passes a sign at the start, if one is allowed, and returns whether there is no sign.
 #[inline(always)]
 fn pass_sign<I: Stream>(input: &mut I, signed: bool) -> bool
 where
@@ -68,7 +68,7 @@ where
     }
 }
 
-/// Passes the sign that stands first, and answers it.
+/// Passes a sign at the start, and returns it.
 #[inline(always)]
 pub(crate) fn first_sign<I: Stream>(input: &mut I) -> Option<char>
 where
@@ -92,8 +92,8 @@ where
     }
 }
 
-/// Passes a digit from 1 to 9 and the digits after it, or a zero where it may stand. Where there
-/// are none it stands after what it looked at.
+/// Passes a digit from 1 to 9 and the digits after it, or a zero if it is allowed. Without these
+/// the input is left after the tokens that were tested.
 #[inline(always)]
 fn pass_digits<I: StreamIsPartial, E: ParserError<I>>(input: &mut I, zero: bool) -> Result<(), E>
 where

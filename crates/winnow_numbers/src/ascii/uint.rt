@@ -27,8 +27,8 @@ pub trait Uint: Sized {
     // The least number that does not fit.
     ghost bound: { ℕ };
 
-    /// Reads digits, before which a `+` may stand, by the type's `FromStr`; `None` exactly where
-    /// the text is something else, or the number does not fit.
+    /// Parses digits, optionally after a `+`, by the type's `FromStr`. Returns `None` if and only
+    /// if the text is something else, or the number does not fit.
     fn try_from_dec_uint(slice: &str) -> Option<Self>
         ensures { ReadsUnsigned number bound slice.now result };
 
@@ -146,12 +146,14 @@ impl Uint for usize {
     }
 }
 
-/// A decimal unsigned number: one `0`, or a digit from 1 to 9 and all digits after it.
+/// Parses a decimal unsigned number: one `0`, or a digit from 1 to 9 and all digits after it.
 ///
-/// It backtracks, and consumes nothing, where no digit stands first, or the number does not fit the
-/// type. On a cut input with nothing left it is incomplete, and consumes nothing; on one that ends
-/// in the digits of a number that does not begin with `0` it is incomplete, and the input stands
-/// after the first digit. The need is 1 unit. Under an error type with no mode it backtracks
+/// Backtracks without consuming input if the input does not start with a digit, or if the number
+/// does not fit the type.
+///
+/// On partial input that is empty it is incomplete, and consumes nothing. On partial input that
+/// ends in the digits of a number that does not begin with `0` it is incomplete, and the input is
+/// left after the first digit. The need is 1 unit. With an error type without a mode it backtracks
 /// instead, and consumes nothing.
 ///
 /// Known as `u8` to `u128` of `character::complete` in nom.

@@ -1,4 +1,4 @@
--- What a caller knows of a whole parse that answered errors, or none.
+-- Inversion lemmas about a whole parse that returned errors, or no errors.
 use Rattle.std.specs.Prelude.{◌≡◌, List, [], ◌∷◌, ◌++◌, Option, Some, Ok}
 use Rattle.std.specs.declared.vec.Vec.{Vec}
 use Rattle.std.proofs.Common.{inl, inr, sym, ◌∙◌}
@@ -7,12 +7,10 @@ use Rattle.streams.specs.Kind.{Kind}
 use Rattle.stream_errors.specs.Form.{Answer}
 use Rattle.winnow_recovery.specs.RecoverableParse.{RecoverableParses}
 
--- after others stands one
 one_behind : {R P : Type 0} (earlier : List R) (last : R) → earlier ++ last ∷ [] ≡ [] → P
 one_behind [] last e = absurd (cc)
 one_behind (x ∷ xs) last e = absurd (cc)
 
--- it answered no error: the run succeeded and left nothing
 pub no_error : {I T O R A : Type 0} (view : I → Input T) (kind : R → Kind) (start : Input T)
     (ran : Answer O → Input T → Type 0) (back : I) (output : Option O) (errors : Vec R A)
     → RecoverableParses view kind start ran (Ok (back, output, errors)) → errors.items ≡ []

@@ -1,4 +1,4 @@
--- What recovery leaves.
+-- The input that recovery leaves.
 use Rattle.std.specs.Prelude.{◌≡◌, Bool, Ok, Err}
 use Rattle.std.proofs.Common.{inl, inr, subst, sym}
 use Rattle.streams.specs.Input.{Input, IsEndOf}
@@ -16,7 +16,6 @@ recorded_ends reading x m j k same ends =
     let P : Input _ → Type 0 = λ y. IsEndOf reading y x in
     subst P (sym same) (record { ends = ends.ends; cut = ends.cut })
 
--- where it recovers, an end is left
 pub recovered_ends : {W T L : Type 0} (reading : Reading T L) (must_consume : Bool)
     (recover : Runs W T (Unit {0})) (k : Kind) (w : W) (x : Input T) (v : W) (j : Input T)
     → LeaveEnds reading recover → IsRecovered must_consume recover k w x v j

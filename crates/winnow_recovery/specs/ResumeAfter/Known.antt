@@ -1,4 +1,4 @@
--- What a caller knows of one run of a parser after which one goes on, where it answered.
+-- Inversion lemmas about a successful call of a parser that resumes after an error.
 use Rattle.std.specs.Prelude.{◌≡◌, Some, None, Ok, Err, false, true}
 use Rattle.std.proofs.Common.{inl, inr, refl, subst, sym}
 use Rattle.streams.specs.Equal.{none_is_some, same_some}
@@ -9,7 +9,6 @@ use Rattle.winnow_core.specs.Runs.{Runs}
 use Rattle.winnow_recovery.specs.Recovery.{CanRecover, IsRecovered, Recovery}
 use Rattle.winnow_recovery.specs.ResumeAfter.{ResumeAfterRuns}
 
--- it answered an output: that is the parser's, and the parser that recovers was not run
 pub resume_after_some : {S W T O : Type 0} (run : Runs S T O) (recover : Runs W T (Unit {0}))
     (s : S × W × Recovery) (i : Input T) (o : O) (t : S × W × Recovery) (j : Input T)
     → ResumeAfterRuns run recover s i (Ok (Some o)) t j
@@ -32,7 +31,6 @@ resume_after_some run recover s i o t j (kept, inr (not, inl (p, ran, e), same))
 resume_after_some run recover s i o t j (kept, inr (not, inr (k, ran, e), same)) =
     ok_is_err refl e
 
--- it answered none: the parser failed, and its error was recovered from and recorded
 pub resume_after_none : {S W T O : Type 0} (run : Runs S T O) (recover : Runs W T (Unit {0}))
     (s : S × W × Recovery) (i : Input T) (t : S × W × Recovery) (j : Input T)
     → ResumeAfterRuns run recover s i (Ok None) t j

@@ -1,4 +1,4 @@
--- What holds of the runs of a parser after which one goes on.
+-- Properties of the calls of a parser that resumes after an error.
 use Rattle.std.specs.Prelude.{Bool, Ok, Err}
 use Rattle.std.proofs.Common.{inl, inr}
 use Rattle.streams.specs.Input.{is_end_of_trans}
@@ -24,7 +24,6 @@ resume_ends reading grows run recover ends skips s i answer t j
     (not_recovered_ends reading _ grows recover k s.1 x l t.1 j skips refused)
     (ends s.0 i (Err k) t.0 x ran)
 
--- they leave an end, where those of both parsers do
 pub resume_after_ends : {S W T L O : Type 0} (reading : Reading T L) (run : Runs S T O)
     (recover : Runs W T (Unit {0})) → LeaveEnds reading run → LeaveEnds reading recover
     → LeaveEnds reading (ResumeAfterRuns run recover)

@@ -1,4 +1,4 @@
--- What a caller knows of one run of a parser that is tried again, where it answered.
+-- Inversion lemmas about a successful call of a parser that is retried.
 use Rattle.std.specs.Prelude.{◌≡◌, true}
 use Rattle.streams.specs.Input.{Input}
 use Rattle.stream_errors.specs.Form.{Answer}

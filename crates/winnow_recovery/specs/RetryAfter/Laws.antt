@@ -1,4 +1,4 @@
--- What holds of the runs of a parser that is tried again.
+-- Properties of the calls of a parser that is retried.
 use Rattle.std.specs.Prelude.{Bool, List, [], ◌∷◌, Ok, Err}
 use Rattle.std.specs.List.{FoldsTo}
 use Rattle.std.proofs.Common.{inl, inr, ap, sym}
@@ -45,7 +45,6 @@ retry_ends reading grows run recover ends skips s i answer t j (kinds, u, m, tri
     is_end_of_trans (last_try_ends reading grows run recover ends skips u m answer t j last)
     (tries_end reading run recover ends skips kinds s i u m tries)
 
--- they leave an end, where those of both parsers do
 pub retry_after_ends : {S W T L O : Type 0} (reading : Reading T L) (run : Runs S T O)
     (recover : Runs W T (Unit {0})) → LeaveEnds reading run → LeaveEnds reading recover
     → LeaveEnds reading (RetryAfterRuns run recover)

@@ -1,4 +1,5 @@
--- Outputs within bounds, into an accumulator: what is done before the first, whatever follows.
+-- Outcomes of outputs within bounds, stored in an accumulator: the checks before the first output,
+-- regardless of what follows.
 use Rattle.std.specs.Prelude.{◌≡◌, ◌⊎◌, ◌<◌, ◌≤◌, ℕ, List, Option, Some, Err}
 use Rattle.std.proofs.Common.{refl, subst, inl, inr, arith}
 use Rattle.streams.specs.Input.{Input}
@@ -29,12 +30,12 @@ Bounded {C = C} into bounds inner at tokens y =
     ⊎ ((empty : C) × IsWithin bounds.greatest bounds.least
     × into.starts (capacity_of bounds.least bounds.greatest) empty × inner empty at tokens y))
 
--- Accumulators that hold outputs that are alike.
+-- Accumulators that store equal outputs.
 abbrev pub HeldAlike : {C O : Type 0} → (C → List O → Type 0) → (O → O → Type 0) → C → C → Type 0
 HeldAlike {O = O} holds alike all more =
     (os : List O) × (ps : List O) × holds all os × holds more ps × AlikeLists alike os ps
 
--- outputs that are alike are held by what took them
+-- accumulators that took equal outputs store equal outputs
 pub held_alike : {C O : Type 0} {into : Accumulator C O} {holds : C → List O → Type 0}
     {alike : O → O → Type 0} → Holds into holds → (capacity : Option ℕ) (empty bare : C)
     → into.starts capacity empty → into.starts capacity bare → (os ps : List O) (all more : C)

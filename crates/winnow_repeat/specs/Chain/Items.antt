@@ -36,14 +36,14 @@ abbrev pub IsRefused : {O C : Type 0} → Accumulator C O → C → List O → O
 IsRefused {C = C} into before outputs o =
     (some : C) × Accumulates into.takes before outputs some × into.grows some o
 
--- what comes where the last item took an output: it takes nothing, or it takes some tokens and
--- there is no memory for it
+-- the outcome if the last item returned an output: it consumed no input, or it consumed some and
+-- the allocation for it failed
 abbrev pub last_taken : {T O C U : Type 0} → Accumulator C O → C → List O → O → Comes T U
 last_taken into before outputs o at tokens rest y =
     ((length rest < length tokens → ⊥) × (y ≡ misused at rest))
     ⊎ ((length rest < length tokens) × IsRefused into before outputs o × (y ≡ wants))
 
--- What comes of the item after these outputs, if it is the last.
+-- The outcome of the item after these outputs, if it is the last.
 abbrev pub last_item : {T O C : Type 0} → Accumulator C O → ℕ → C → List O → Next T O C
 last_item into least before outputs = record {
   on_took = last_taken into before outputs;
@@ -61,7 +61,7 @@ ItemsDo does into bounds before =
     Chained (ItemOf does) bounds.greatest (Gives into before)
     (λ outputs. Then does (last_item into bounds.least before outputs))
 
--- ---- laws of a part and what comes of it, with more than one that may come
+-- ---- laws of a child with more than one possible continuation
 
 pub then_meet : {T O U : Type 0} {stable : Type 0} {alike : O → O → Type 0}
     {beside : U → U → Type 0} {does : Does T O} {next also : Next T O U}
@@ -123,7 +123,7 @@ module _ {T O C U : Type 0} (into : Accumulator C O) where
 
 module _ {T O C : Type 0} {stable : Type 0} {alike : O → O → Type 0} {does : Does T O}
     (p : Lawful stable alike does) (into : Accumulator C O) (beside : C → C → Type 0) where
-  -- alike outputs are accumulated into what is alike
+  -- equal outputs give equal accumulators
   abbrev pub Gathers : C → C → Type 0
   Gathers before bare =
       (os ps : List O) (all more : C) → Accumulates into.takes before os all
@@ -189,7 +189,7 @@ module _ {T O C : Type 0} {stable : Type 0} {alike : O → O → Type 0} {does :
         back_stays is more flag tokens place y final (inr (few, e)) =
             inr (few, as_longer more e)
 
-    -- no item that takes something stands where they ended
+    -- no item that consumes input follows the last one
     pub last_stops : (before : C)
         → Stops (ItemOf does) (λ os. Then does (last_item into least before os))
     last_stops before os at tokens y o rest (x, d, c) (e, less) =

@@ -1,4 +1,4 @@
--- What holds of chains of runs.
+-- Laws of consecutive calls.
 use Rattle.std.specs.Prelude.{List, [], ◌∷◌, Ok, Bool}
 use Rattle.std.specs.List.{FoldsTo}
 use Rattle.std.proofs.Common.{ap, sym, subst}
@@ -19,7 +19,7 @@ successes_lead reading run ends (o ∷ os) s i t j (p, ran, rest) =
     is_end_of_trans (successes_lead reading run ends os p.0 p.1 t j rest)
     (ends s i (Ok o) p.0 p.1 ran)
 
--- runs that succeed one after the other lead to an end, where each leaves one
+-- consecutive calls that succeed leave a suffix, if each call does
 pub successes_end : {S T L O : Type 0} (reading : Reading T L) (run : Runs S T O)
     → LeaveEnds reading run → (outputs : List O) (s : S) (i : Input T) (t : S) (j : Input T)
     → Successes run s i outputs t j → IsEndOf reading j i

@@ -1,4 +1,4 @@
--- What chains do with tokens: steps one after the other, and what ends them.
+-- Outcomes of repetitions: consecutive steps, and the outcome after the last.
 use Rattle.std.specs.Prelude.{◌≡◌, ◌⊎◌, ◌<◌, ◌+◌, ℕ, Bool, List, [], ◌∷◌, ◌++◌, length, Option}
 use Rattle.std.specs.Prelude.{Some, None, false, Ok, ⊤}
 use Rattle.std.specs.List.{FoldsTo}
@@ -20,13 +20,14 @@ Step T O = Setting → List T → O → List T → Type 0
 abbrev pub ItemOf : {T O : Type 0} → Does T O → Step T O
 ItemOf does at tokens o rest = does at tokens (took o rest) × (length rest < length tokens)
 
--- What ends a chain of so many outputs at the greatest number, and what ends it before.
+-- The outcome after the last step: `full` if the number of outputs is the greatest number, and
+-- `last` if it is below.
 abbrev pub Ends : {T O U : Type 0} → Option ℕ → (full last : List O → Does T U) → List O → Does T U
 Ends greatest full last outputs at tokens y =
     ((greatest ≡ Some (length outputs)) × full outputs at tokens y)
     ⊎ (IsBelow greatest (length outputs) × last outputs at tokens y)
 
--- Steps one after the other, at most the greatest number, and what ends them.
+-- Consecutive steps, at most `greatest`, and the outcome after the last.
 abbrev pub Chained : {T O U : Type 0} → Step T O → Option ℕ → (full last : List O → Does T U)
     → Does T U
 Chained {T} {O} step greatest full last at tokens y =
@@ -35,14 +36,13 @@ Chained {T} {O} step greatest full last at tokens y =
 
 -- ---- lists of outputs
 
--- As many outputs, of which each is alike to the other that stands at its place.
+-- The lists have the same length, and their elements are equal one by one.
 abbrev pub AlikeLists : {O : Type 0} → (O → O → Type 0) → List O → List O → Type 0
 AlikeLists alike [] [] = ⊤
 AlikeLists alike [] (p ∷ ps) = ⊥
 AlikeLists alike (o ∷ os) [] = ⊥
 AlikeLists alike (o ∷ os) (p ∷ ps) = alike o p × AlikeLists alike os ps
 
--- lists that are alike are of one length
 pub as_long : {O : Type 0} (alike : O → O → Type 0) (os ps : List O) → AlikeLists alike os ps
     → length os ≡ length ps
 as_long alike [] [] like = refl
@@ -67,7 +67,7 @@ below_more None n m less (inr below) = tt
 below_more (Some most) n m less (inr below) =
     let is : m < most = below in omega (arith, less, is)
 
--- ---- what steps and ends owe
+-- ---- requirements of steps and of the last outcome
 
 -- One list of tokens has one step, and that stays where more tokens follow.
 pub record StepLaw {T O : Type 0} (stable : Type 0) (alike : O → O → Type 0) (step : Step T O)
@@ -104,18 +104,18 @@ abbrev pub Meet : {T U : Type 0} → (U → U → Type 0) → Does T U → Does 
 Meet {T} {U} beside does also = (at : Setting) (tokens : List T) (y z : Outcome T U)
     → does at tokens y → also at tokens z → Alike beside y z
 
--- No step stands where a chain ended, unless that wanted memory.
+-- After the last step no further step is possible, unless the outcome is out of memory.
 abbrev pub Stops : {T O U : Type 0} → Step T O → (List O → Does T U) → Type 0
 Stops {T} {O} {U} step last =
     (outputs : List O) (at : Setting) (tokens : List T) (y : Outcome T U) (o : O) (rest : List T)
     → last outputs at tokens y → step at tokens o rest → y ≡ wants
 
--- On a whole input no more is asked for.
+-- On complete input no outcome is incomplete.
 abbrev pub Whole : {T U : Type 0} → Does T U → Type 0
 Whole {T} does = (at : Setting) (tokens : List T) (need : Option ℕ) (place : List T)
     → at.more ≡ false → does at tokens (asks need place) → ⊥
 
--- What is final stays where more tokens follow.
+-- A final outcome is unchanged if more tokens follow.
 abbrev pub Stay : {T U : Type 0} → Type 0 → Does T U → Type 0
 Stay {T} {U} stable does =
     stable → (more : List T) (flag : Bool) (tokens : List T) (y : Outcome T U) → IsFinal y
@@ -138,7 +138,8 @@ steps_stay law is more flag (o ∷ os) tokens mid (rest, d, others) = (
 
 module _ {T O U : Type 0} {stable : Type 0} {alike : O → O → Type 0} {step : Step T O}
     (law : StepLaw stable alike step) (greatest : Option ℕ) where
-  -- a chain of so many outputs ended, by no step
+  -- a repetition ended after `n` steps with the outcome `y`: `n` is the greatest number, or no step
+  -- is possible unless `y` is out of memory
   abbrev Over : Setting → ℕ → List T → Outcome T U → Type 0
   Over at n tokens y =
       (greatest ≡ Some n)
@@ -149,7 +150,8 @@ module _ {T O U : Type 0} {stable : Type 0} {alike : O → O → Type 0} {step :
   within at n tokens y (inl full) = inl full
   within at n tokens y (inr (below, none)) = inr below
 
-  -- it goes on no further than another, unless one wanted memory
+  -- no step is possible where a repetition ended, up to the greatest number, unless the outcome is
+  -- out of memory
   no_step : (at : Setting) (n m : ℕ) (tokens : List T) (y : Outcome T U) (o : O) (rest : List T)
       → n < m → Over at n tokens y → step at tokens o rest
       → (greatest ≡ Some m) ⊎ IsBelow greatest m → y ≡ wants
@@ -157,7 +159,7 @@ module _ {T O U : Type 0} {stable : Type 0} {alike : O → O → Type 0} {step :
       full_is_below greatest n full (below_more greatest n m less fits)
   no_step at n m tokens y o rest less (inr (below, none)) d fits = none o rest d
 
-  -- two chains that ended are alike
+  -- two repetitions of the same tokens have equal outcomes
   chains_meet : (at : Setting) (n a b : ℕ) (os ps : List O) (tokens mid end : List T)
       (y z : Outcome T U) → a ≡ n + length os → b ≡ n + length ps
       → FoldsTo (λ a o b. step at a o b) tokens os mid
@@ -253,7 +255,7 @@ chained_whole step greatest full last fulls lasts at tokens need place is
 
 -- ---- what chains of runs do
 
--- A chain of runs kept the state, and changed nothing of the input but what is left.
+-- Consecutive calls keep the state, and change nothing of the input except the remaining tokens.
 pub record ChainDid {S T O : Type 0} (step : Step T O) (at : Setting) (s : S) (i : Input T)
     (outputs : List O) (t : S) (j : Input T) : Type 0 where
   pub kept : t ≡ s
@@ -269,7 +271,7 @@ chain_at did is = record {
   possible = did.possible ∙ is.possible;
 }
 
--- runs one after the other, of which each is a step
+-- consecutive calls that are steps
 pub steps_did : {S T O : Type 0} (step : Step T O) (ran : S × Input T → O → S × Input T → Type 0)
     (at : Setting) (s : S)
     → ((i : Input T) (o : O) (p : S × Input T) → IsAt at i → ran (s, i) o p
@@ -295,7 +297,7 @@ steps_did step ran at s each (o ∷ os) i u m is (p, r, rest) =
       steps = (p.1.left.tokens, done, then.steps);
     }
 
--- What runs of a part do, in this setting.
+-- The outcomes of calls of a child, in this setting.
 abbrev pub RunsDo : {S T O : Type 0} → Does T O → Runs S T O → Setting → S → Type 0
 RunsDo {S} {T} {O} does run at s =
     (i : Input T) (answer : Answer O) (t : S) (j : Input T) → IsAt at i → run s i answer t j

@@ -1,4 +1,4 @@
--- What holds of the runs that fill a buffer.
+-- Laws of `fill`.
 use Rattle.std.specs.Prelude.{Err}
 use Rattle.std.proofs.Common.{inl, inr}
 use Rattle.streams.specs.Input.{is_end_of_trans, with_more}
@@ -11,7 +11,7 @@ use Rattle.winnow_repeat.specs.Fill.{FillRuns}
 use Rattle.winnow_core.specs.Stable.Grows.{Grows, final_by}
 use Rattle.winnow_core.specs.Stable.Longer.{same_grows}
 
--- they leave an end, where those of the parser do
+-- every call leaves a suffix, if the parser does
 pub fill_ends : {S T L O : Type 0} (reading : Reading T L) (run : Runs S T O)
     → LeaveEnds reading run → LeaveEnds reading (FillRuns run)
 fill_ends reading run ends s i answer t j
@@ -24,7 +24,7 @@ fill_ends reading run ends s i answer t j
     (successes_end reading run ends outputs s.0 i u m chain)
 
 module _ {T : Type 0} {following : Following T} where
-  -- they grow where those of the child do
+  -- stable under longer input, if the child is
   pub fill_grows : {S O : Type 0} (run : Runs S T O) → Grows following run
       → Grows following (FillRuns run)
   fill_grows run child more flag s i answer t j may final

@@ -1,5 +1,5 @@
--- What repetitions read whose outputs are folded into a value: what a repetition into an
--- accumulator does that takes an output by a call of the closure.
+-- The grammar of folds: a fold is a repetition into an accumulator that takes an output by a call
+-- of the closure.
 use Rattle.std.specs.Prelude.{◌≡◌, ◌<◌, List, [], ◌∷◌, length, Ok, Err, None}
 use Rattle.std.specs.List.{FoldsTo}
 use Rattle.std.proofs.Common.{refl, sym, ap, subst, inl, inr, ◌∙◌, arith}

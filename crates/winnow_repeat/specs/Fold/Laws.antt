@@ -1,4 +1,4 @@
--- What holds of the runs of folds.
+-- Laws of folds.
 use Rattle.std.specs.Prelude.{None, Ok, Err, Bool, List, ◌++◌}
 use Rattle.std.proofs.Common.{inl, inr, ap}
 use Rattle.streams.specs.Input.{Input, IsEndOf, is_end_of_trans, with_more}
@@ -18,7 +18,7 @@ use Rattle.winnow_core.specs.Stable.Grows.{MayGrow, Grows, final_by}
 use Rattle.winnow_core.specs.Stable.Longer.{still_fewer, back_grows, same_grows}
 use Rattle.winnow_repeat.specs.Chain.Laws.{chain_grows}
 
--- items leave an end, also where they are folded in
+-- items leave a suffix, also if they are folded
 pub folded_ends : {S Q R T L O : Type 0} (reading : Reading T L)
     (folds : Q → R → O → Answer R → Q → Type 0) (run : Runs S T O) → LeaveEnds reading run
     → LeaveEnds reading (FoldedRuns folds run)
@@ -29,7 +29,7 @@ folded_ends reading folds run ends s i answer t j (inr (inl (o, r, nothing, same
 folded_ends reading folds run ends s i answer t j (inr (inr (o, r, consumes, taken, e))) =
     ends s.0 i (Ok o) t.0 j r
 
--- a fold of items leaves an end, where these do
+-- a fold of items leaves a suffix, if the items do
 pub fold_items_end : {S Q R T L O : Type 0} (reading : Reading T L)
     (folds : Q → R → O → Answer R → Q → Type 0) (run : Runs S T O) (assert_kind : Kind)
     (bounds : Bounds) → LeaveEnds reading run → (s : _) (i : Input T) (answer : Answer R) (t : _)
@@ -69,7 +69,7 @@ fold_one_ends reading starts folds run assert_kind ends s i answer t j
     is_end_of_trans (fold_items_end reading folds run assert_kind (from_to 0 None) ends
     (v, (q, one)) n answer (t.0, t.1.1) j items) (ends s.0 i (Ok o) v n r)
 
--- They leave an end, where items do.
+-- Every call leaves a suffix, if the items do.
 pub ranged_folds_end : {S G Q R T L O : Type 0} (reading : Reading T L)
     (starts : G → R → G → Type 0) (step : Q → R → O → R → Q → Type 0) (run : Runs S T O)
     (assert_kind : Kind) → LeaveEnds reading run
@@ -172,7 +172,7 @@ module _ {T : Type 0} {following : Following T} where
       (t.0, t.1.1) j may final items in
       (inr (empty, within, made, q), last)
 
-  -- they grow where those of the child do
+  -- stable under longer input, if the child is
   fold_one_grows : {S G Q R O : Type 0} (starts : G → R → G → Type 0)
       (folds : Q → R → O → Answer R → Q → Type 0) (run : Runs S T O) (asserted : Kind)
       → Grows following run → Grows following (FoldOneRuns starts folds run asserted)

@@ -1,4 +1,4 @@
--- What folds say that they do: a fold is a repetition into the value.
+-- The specification of folds: a fold is a repetition into the value.
 use Rattle.std.proofs.Common.{ap}
 use Rattle.stream_errors.specs.Form.{assert_kind}
 use Rattle.stream_sets.specs.Range.{bounds_of}

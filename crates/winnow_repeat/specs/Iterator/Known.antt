@@ -1,5 +1,5 @@
--- What a caller knows of the calls of an iterator: its items so far are the outputs of a chain of
--- runs that consume, and the run after them stopped it.
+-- Lemmas for callers about the calls of an iterator: its items so far are the outputs of
+-- consecutive calls that consume input, and the call after them stopped it.
 use Rattle.std.specs.Prelude.{◌≡◌, List, [], ◌∷◌, ◌++◌, Some, None, Ok, Err}
 use Rattle.std.proofs.Common.{sym, subst, inl, inr}
 use Rattle.std.proofs.lemmas.Fn.{FoldsTo-push}
@@ -11,7 +11,8 @@ use Rattle.winnow_repeat.specs.Iterator.{IteratorNext, IteratorState, IteratorSt
 use Rattle.winnow_repeat.specs.Iterator.{done, finish_answer, running, stopped}
 use Rattle.winnow_repeat.specs.Repeat.Known.{Items}
 
--- an item: the iterator went on and goes on, and its parser succeeded and consumed
+-- an item: the iterator is running before and after the call, and its parser succeeded and consumed
+-- input
 pub iterator_item : {S T O : Type 0} (run : Runs S T O) (assert_kind : Kind)
     (s : IteratorState S T) (o : O) (t : IteratorState S T)
     → IteratorNext run assert_kind s (Some o) t
@@ -45,15 +46,15 @@ iterator_more run assert_kind s i outputs u o t chain step =
     FoldsTo-push (λ p x q. IsItem run p x q) (s, i) outputs (u.parser, u.input) o
     (t.parser, t.input) chain told.2
 
--- one that answers an error at last was stopped by it
+-- if `finish` returns an error, it stopped the iterator
 pub finish_failed : (standing : Standing) (k : Kind) → Err k ≡ finish_answer standing
     → standing ≡ stopped k
 finish_failed running k e = absurd (cc)
 finish_failed done k e = absurd (cc)
 finish_failed (stopped l) k e = cc
 
--- one that something stopped and that answers no error at last was stopped by a backtrack: the
--- input went back before that run
+-- if a call stopped the iterator and `finish` returns no error, the call backtracked and the input
+-- was reset
 pub finish_succeeded : {S T O : Type 0} (run : Runs S T O) (assert_kind : Kind)
     (s t : IteratorState S T) → IteratorStops run assert_kind s t
     → Ok tt ≡ finish_answer t.standing

@@ -1,4 +1,4 @@
--- What repetitions read.
+-- The grammar of repetitions.
 use Rattle.std.specs.Prelude.{◌≡◌, ◌⊎◌, ◌≤◌, ◌<◌, ℕ, false, List, [], ◌∷◌, length, Option, None}
 use Rattle.std.specs.Prelude.{Ok, Err}
 use Rattle.std.specs.List.{FoldsTo}
@@ -23,7 +23,7 @@ use Rattle.winnow_repeat.specs.Repeat.{ItemsRun, RangedRuns, RepeatEnds, RepeatO
 use Rattle.winnow_repeat.specs.Repeat.{capacity_of}
 
 module _ {S T O : Type 0} {run : Runs S T O} {g : Grammar T O} {s : S} where
-  -- the items of a chain stand one after the other, and leave the state as it was
+  -- consecutive items match, and do not change the state
   pub chain_stands : IsExact s run g → (outputs : List O) (i : Input T) (u : S) (m : Input T)
       → i.status.cut ≡ false → FoldsTo (λ p o q. IsItem run p o q) (s, i) outputs (u, m)
       → (u ≡ s) × (m.status.cut ≡ false) × Each g i.left.tokens outputs m.left.tokens
@@ -78,7 +78,7 @@ module _ {S T O C : Type 0} {run : Runs S T O} {g : Grammar T O} {s : S} (into :
       let (outputs, m, still, each, ends) = at_end c before i answer t j is ran in
       ends_keep c before outputs m answer t j still ends
 
-  -- items into an accumulator, of which some may have been taken before
+  -- items into an accumulator that may already store some
   pub items_stand : IsExact s run g → IsWithin bounds.greatest bounds.least → (before : C)
       (i : Input T) (o : C) (t : S) (j : Input T) → i.status.cut ≡ false
       → ItemsRun run into asserted bounds before s i (Ok o) t j
@@ -118,7 +118,7 @@ module _ {S T O C : Type 0} {run : Runs S T O} {g : Grammar T O} {s : S} (into :
       stand outputs m whole each
           (inr (inr (inr (inr (p, some, below, r, fewer, taken, grows, e))))) = ok_is_err refl e
 
-  -- they fail as the items do, or for want of memory
+  -- they fail like the items, or with out of memory
   pub items_allowed : {allowed : Kind → Type 0} → IsExact s run g → FailsBy allowed s run
       → TakesTokens g → (Wants into → allowed memory)
       → (before : C) (i : Input T) (k : Kind) (t : S)

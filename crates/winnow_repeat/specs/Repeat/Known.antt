@@ -1,5 +1,5 @@
--- What a caller knows of one run of a repetition that answered: its items, in a chain, and what
--- ended them.
+-- Lemmas for callers about one call of a repetition: its consecutive items, and the call that ended
+-- them.
 use Rattle.std.specs.Prelude.{◌≡◌, ℕ, List, Option, None}
 use Rattle.std.specs.Prelude.{Ok, Err, ◌⊎◌}
 use Rattle.std.specs.List.{FoldsTo}
@@ -36,7 +36,7 @@ pub record RepeatedAll {S T O C : Type 0} (run : Runs S T O) (into : Accumulator
   pub takes : FoldsTo into.takes empty outputs all
   pub back : j ≡ back_at input.left last
 
--- What makes a repetition fail after some items.
+-- The reason why a repetition fails after some items.
 abbrev pub RepeatFailure : {S T O C : Type 0} → Runs S T O → Accumulator C O → Kind → S
     → Input T → Kind → S → Input T → Type 0
 RepeatFailure {S} {T} {O} {C} run into assert_kind u m k t j =

@@ -1,4 +1,4 @@
--- What holds of the runs of repetitions.
+-- Laws of repetitions.
 use Rattle.std.specs.Prelude.{List, [], ◌∷◌, None, Ok, Err, ◌++◌}
 use Rattle.std.specs.List.{FoldsTo}
 use Rattle.std.proofs.Common.{sym, ap, inl, inr}
@@ -17,7 +17,6 @@ use Rattle.winnow_core.specs.Stable.Grows.{Grows, final_by}
 use Rattle.winnow_core.specs.Stable.Longer.{back_grows, same_grows}
 use Rattle.winnow_repeat.specs.Chain.Laws.{chain_grows}
 
--- each run of a chain leaves an end, and so does the chain
 pub chain_ends : {S T L O : Type 0} (reading : Reading T L) (run : Runs S T O)
     → LeaveEnds reading run → (outputs : List O) (s : S) (i : Input T) (t : S) (j : Input T)
     → FoldsTo (λ p o q. IsItem run p o q) (s, i) outputs (t, j) → IsEndOf reading j i
@@ -65,7 +64,7 @@ one_ends reading run into assert_kind ends s i answer t j
 one_ends reading run into assert_kind ends s i answer t j (inr (inr (o, r, grows, e))) =
     ends s i (Ok o) t j r
 
--- repetitions of a number of items leave an end, where these do
+-- bounded repetitions leave a suffix, if the items do
 pub many_ends : {S T L O C : Type 0} (reading : Reading T L) (run : Runs S T O)
     (into : Accumulator C O) (assert_kind : Kind) (bounds : Bounds)
     → LeaveEnds reading run
@@ -86,7 +85,7 @@ repeat_ends reading run into assert_kind bounds ends s i answer t j
 repeat_ends reading run into assert_kind bounds ends s i answer t j (inr (other, r)) =
     many_ends reading run into assert_kind bounds ends s i answer t j r
 
--- they leave an end, where those of the items do
+-- every call leaves a suffix, if the items do
 pub ranged_ends : {S T L O C : Type 0} (reading : Reading T L) (run : Runs S T O)
     (into : Accumulator C O) (assert_kind : Kind) → LeaveEnds reading run
     → LeaveEnds reading (RangedRuns run into assert_kind)
@@ -132,7 +131,7 @@ module _ {T : Type 0} {following : Following T} where
       ended in
       ((outputs, u, with_more m more flag, record { runs = items }, end), last)
 
-  -- they grow where those of the child do
+  -- stable under longer input, if the child is
   one_grows : {S O C : Type 0} (run : Runs S T O) (into : Accumulator C O) (asserted : Kind)
       → Grows following run → Grows following (RepeatOneRuns run into asserted)
   one_grows run into asserted child more flag s i answer t j may final (inl (k, r, e)) =
@@ -163,7 +162,7 @@ module _ {T : Type 0} {following : Following T} where
       items_grow run into asserted bounds empty child more flag s i answer t j may final items in
       (inr (inr (empty, within, starts, others)), last)
 
-  -- they grow where those of the child do
+  -- stable under longer input, if the child is
   pub repeat_grows : {S O C : Type 0} (run : Runs S T O) (into : Accumulator C O)
       (asserted : Kind) → Grows following run → Grows following (RangedRuns run into asserted)
   repeat_grows run into asserted child more flag s i answer t j may final

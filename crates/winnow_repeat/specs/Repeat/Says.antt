@@ -1,4 +1,4 @@
--- What repetitions say that they do.
+-- The specification of repetitions.
 use Rattle.std.specs.Prelude.{◌≡◌, ◌⊎◌, ℕ, Bool, List, ◌∷◌, ◌++◌, Option, None, false, Ok, Err}
 use Rattle.std.proofs.Common.{refl, subst, inl, inr, ◌∙◌}
 use Rattle.streams.specs.Input.{Input}
@@ -22,8 +22,8 @@ use Rattle.winnow_repeat.specs.Chain.Says.{Meet, Stay, Whole, did_beside, did_wi
 use Rattle.winnow_repeat.specs.Repeat.{ItemsRun, RangedRuns, RepeatManyRuns, RepeatOneRuns}
 use Rattle.winnow_repeat.specs.Repeat.{RepeatRuns, capacity_of}
 
--- What comes of the first item in the form `1..`, which may take nothing: others follow it, or
--- there is no memory for it.
+-- The outcome after the first item in the form `1..`, which may consume no input: more items
+-- follow, or the allocation for it fails.
 abbrev pub FirstItem : {T O C : Type 0} → Does T O → Accumulator C O → O → List T → Does T C
 FirstItem {C = C} does into o rest at tokens y =
     ((empty : C) × (one : C) × into.starts None empty × into.takes empty o one
@@ -46,7 +46,7 @@ RepeatDo does into bounds at tokens y =
     ⊎ (((bounds.least ≡ 1) × (bounds.greatest ≡ None) → ⊥)
     × RepeatManyDo does into bounds at tokens y)
 
--- a repetition into an accumulator, of which this is held
+-- a repetition into an accumulator; `holds` specifies what it stores
 abbrev pub repeat_says : {T O C : Type 0} → Accumulator C O → (C → List O → Type 0) → Bounds
     → Says T O → Says T C
 repeat_says into holds bounds p = record {

@@ -1,4 +1,4 @@
--- What repetitions up to a terminator do with tokens.
+-- Outcomes of repetitions up to a terminator.
 use Rattle.std.specs.Prelude.{◌≡◌, ℕ, List, Option, Some}
 use Rattle.stream_sets.specs.Accumulator.{Accumulator}
 use Rattle.stream_sets.specs.Accumulator.Holds.{Accumulates}
@@ -45,7 +45,7 @@ TurnsDo item till into room before =
     (λ os. Then till (where_took (stopped into before os)))
     (λ os. Then till (stop_or_turn item into before os))
 
--- an item before which no terminator is tried: it may take nothing
+-- an item before which the terminator is not tried: it may consume no input
 abbrev pub SomeItem : {T O : Type 0} → Does T O → Step T O
 SomeItem item at tokens o rest = item at tokens (took o rest)
 

@@ -1,4 +1,4 @@
--- What repetitions up to a terminator read.
+-- The grammar of repetitions up to a terminator.
 use Rattle.std.specs.Prelude.{◌≡◌, ◌⊎◌, ◌≤◌, ◌<◌, ◌+◌, ℕ, false, List, [], ◌∷◌, ◌++◌, length}
 use Rattle.std.specs.Prelude.{Option, Some, None, Ok, Err}
 use Rattle.std.specs.List.{FoldsTo}
@@ -53,7 +53,7 @@ room_full (Some most) least n m full all = omega (arith, all, same_some full)
 
 module _ {S W T O D : Type 0} {run : Runs S T O} {till : Runs W T D} {g : Grammar T O}
     {h : Grammar T D} {s : S × W} where
-  -- a turn reads an item where no terminator stands
+  -- a turn matches an item if there is no terminator
   turn_exact : IsExact s.0 run g → IsExact s.1 till h
       → IsExact s (TurnRuns run till) (Turn g h)
   turn_exact c e = record {
@@ -85,7 +85,7 @@ turn_fails e f = record {
 }
 
 module _ {S T O : Type 0} {run : Runs S T O} {g : Grammar T O} {s : S} where
-  -- runs that succeed read items, one after the other
+  -- consecutive calls that succeed match items
   successes_stand : IsExact s run g → (outputs : List O) (i : Input T) (u : S) (m : Input T)
       → i.status.cut ≡ false → FoldsTo (λ p o q. IsSuccess run p o q) (s, i) outputs (u, m)
       → (u ≡ s) × (m.status.cut ≡ false) × Each g i.left.tokens outputs m.left.tokens
@@ -99,13 +99,13 @@ module _ {S T O : Type 0} {run : Runs S T O} {g : Grammar T O} {s : S} where
       let (last, still, each) = successes_stand c os p.1 u m on (subst P same rest) in
       (last, still, (p.1.left.tokens, c.stands i o p.0 p.1 is ran, each))
 
--- The items of a repetition, its terminator, and the accumulator, of which this is held.
+-- The items of a repetition, its terminator, and the accumulator. `holds` specifies what it stores.
 module _ {S W T O D C : Type 0} {run : Runs S T O} {till : Runs W T D} {g : Grammar T O}
     {h : Grammar T D} {s : S × W} (into : Accumulator C O) (asserted : Kind)
     (holds : C → List O → Type 0) (keeps : Holds into holds) (bounds : Bounds)
     (within : IsWithin bounds.greatest bounds.least) (c : IsExact s.0 run g) (f : IsSoft s.0 run)
     (takes : TakesTokens g) (q : IsExact s.1 till h) (border : IsSoft s.1 till) where
-  -- what is read where a run ends from an empty accumulator: what stood, or that none does
+  -- the result with an empty accumulator: a match, or no match
   abbrev Ends : C → Input T → Answer (C × D) → Input T → Type 0
   Ends empty i (Ok both) j =
       (os : List O) × FoldsTo into.takes empty os both.0
@@ -114,7 +114,7 @@ module _ {S W T O D C : Type 0} {run : Runs S T O} {till : Runs W T D} {g : Gram
       (k ≡ memory) ⊎ ((k ≡ backtrack) × ((os : List O) (d : D) (rest : List T)
       → UpTo g h bounds i.left.tokens (os, d) rest → ⊥))
 
-  -- and what is held
+  -- and with the contents of the accumulator
   abbrev Told : Input T → Answer (C × D) → Input T → Type 0
   Told i (Ok both) j =
       (os : List O) × holds both.0 os × UpTo g h bounds i.left.tokens (os, both.1) j.left.tokens
@@ -132,8 +132,8 @@ module _ {S W T O D C : Type 0} {run : Runs S T O} {till : Runs W T D} {g : Gram
   abbrev Keeps : S × W → Input T → Type 0
   Keeps t j = (t ≡ s) × (j.status.cut ≡ false)
 
-  -- after the least items and some turns where no terminator stands, a terminator may stand only
-  -- after more turns, and after an item
+  -- after the least number of items and some turns without a terminator, a terminator can only
+  -- follow after more turns, and after an item
   none_stands : (os ps : List O) (tokens a b : List T) → length os ≡ bounds.least
       → Each g tokens os a → Each (Turn g h) a ps b → NoneStands h b
       → NoneStands g b ⊎ (room_behind bounds.least bounds.greatest ≡ Some (length ps))
@@ -313,7 +313,7 @@ module _ {S W T O D C : Type 0} {run : Runs S T O} {till : Runs W T D} {g : Gram
         | inr (inr (o, few, r, grows, e)) ↦ ok_is_err refl e
       ]
 
--- They fail as the items and the terminator do, or for want of memory.
+-- They fail like the items and the terminator, or with out of memory.
 module _ {S W T O D C : Type 0} {run : Runs S T O} {till : Runs W T D} {g : Grammar T O}
     {h : Grammar T D} {s : S × W} {allowed : Kind → Type 0} (into : Accumulator C O)
     (asserted : Kind) (bounds : Bounds) (within : IsWithin bounds.greatest bounds.least)

@@ -1,4 +1,4 @@
--- What holds of the runs of repetitions until a terminator.
+-- Laws of repetitions up to a terminator.
 use Rattle.std.specs.Prelude.{ℕ, Option, Ok, Err, List, ◌++◌}
 use Rattle.std.proofs.Common.{inl, inr, refl, ap}
 use Rattle.streams.specs.Input.{back_at, is_end_of_trans, with_more}
@@ -16,7 +16,7 @@ use Rattle.winnow_repeat.specs.RepeatTill.{TurnsRun, room_behind, TurnsEnd}
 use Rattle.winnow_core.specs.Stable.Grows.{Grows, final_by}
 use Rattle.winnow_core.specs.Stable.Longer.{same_grows}
 
--- the least items leave an end, where items do
+-- the least number of items leave a suffix, if the items do
 pub least_items_end : {S T L O C : Type 0} (reading : Reading T L) (run : Runs S T O)
     (into : Accumulator C O) (least : ℕ) (empty : C) → LeaveEnds reading run
     → LeaveEnds reading (LeastItemsRun run into least empty)
@@ -33,7 +33,7 @@ least_items_end reading run into least empty ends s i answer t j
     is_end_of_trans (ends u m (Ok o) t j r)
     (successes_end reading run ends outputs s i u m chain)
 
--- a turn leaves an end, where items and terminators do
+-- a turn leaves a suffix, if items and terminators do
 pub turn_ends : {S W T L O D : Type 0} (reading : Reading T L) (run : Runs S T O)
     (till : Runs W T D) → LeaveEnds reading run → LeaveEnds reading till
     → LeaveEnds reading (TurnRuns run till)
@@ -78,7 +78,7 @@ within_ends reading run till into assert_kind bounds ends last s i answer t j
     (room_behind bounds.least bounds.greatest) first ends last (v, s.1) n answer t j turns)
     (least_items_end reading run into bounds.least empty ends s.0 i (Ok first) v n items)
 
--- they leave an end, where items and terminators do
+-- every call leaves a suffix, if items and terminators do
 pub repeat_till_ends : {S W T L O D C : Type 0} (reading : Reading T L) (run : Runs S T O)
     (till : Runs W T D) (into : Accumulator C O) (assert_kind : Kind) → LeaveEnds reading run
     → LeaveEnds reading till → LeaveEnds reading (RangedTillRuns run till into assert_kind)
@@ -172,7 +172,7 @@ module _ {T : Type 0} {following : Following T} where
       still final ended in
       ((outputs, u, with_more m more flag, some, record { runs = items }, taken, end), last)
 
-  -- they grow where those of both parsers do
+  -- stable under longer input, if both parsers are
   pub repeat_till_grows : {S W O D C : Type 0} (run : Runs S T O) (till : Runs W T D)
       (into : Accumulator C O) (asserted : Kind) → Grows following run → Grows following till
       → Grows following (RangedTillRuns run till into asserted)

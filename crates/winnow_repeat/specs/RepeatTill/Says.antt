@@ -1,4 +1,4 @@
--- What repetitions up to a terminator say that they do.
+-- The specification of repetitions up to a terminator.
 use Rattle.std.specs.Prelude.{◌≡◌, ◌⊎◌, ◌<◌, ℕ, List, length, Option, Some, None, Ok, Err}
 use Rattle.std.proofs.Common.{refl, sym, ap, subst, inl, inr, ◌∙◌, arith}
 use Rattle.std.proofs.Math.Nat.{eq-or-lt_of_le}
@@ -30,7 +30,7 @@ use Rattle.winnow_repeat.specs.RepeatTill.Does.{TurnsDo, last_turn, stop_or_turn
 use Rattle.winnow_repeat.specs.RepeatTill.Does.Laws.{repeat_till_law}
 use Rattle.winnow_repeat.specs.RepeatTill.Exact.{three_are}
 
--- a repetition up to a terminator into an accumulator, of which this is held
+-- a repetition up to a terminator, into an accumulator; `holds` specifies what it stores
 abbrev pub repeat_till_says : {T O D C : Type 0} → Accumulator C O → (C → List O → Type 0) → Bounds
     → Says T O → Says T D → Says T (C × D)
 repeat_till_says into holds bounds p q = record {

@@ -13,9 +13,9 @@ use stream_sets::range::Range;
 use streams::stream::Stream;
 use winnow_core::parser::Parser;
 
-/// How a value takes an output, or refuses it.
+/// A fold of outputs into a value that may reject an output.
 pub trait Folding<I: Stream, O, R, E: ParserError<I>> {
-    /// What says why an output was refused.
+    /// The reason for rejecting an output.
     type Refusal;
 
     // Where an output may be folded in.
@@ -29,10 +29,10 @@ pub trait Folding<I: Stream, O, R, E: ParserError<I>> {
     // How a value takes an output, from a state to a state: into a value, or with an error.
     ghost folds: { State → R → O → Answer R → State → Type 0 };
 
-    // The kinds of the errors for a refusal.
+    // The kinds of errors for a reason.
     ghost refuses: { Self.Refusal → Kind → Type 0 };
 
-    /// Folds an output into a value, or says why not.
+    /// Folds an output into a value, or returns the reason for rejecting it.
     fn fold(&mut self, value: R, output: O) -> Result<R, Self::Refusal>
         requires { can_fold self.old }
         ensures again { can_fold self.new }
@@ -41,12 +41,12 @@ pub trait Folding<I: Stream, O, R, E: ParserError<I>> {
             (λ refusal. (k : Kind) → refuses refusal k
             → folds (state self.old) value output (Err k) (state self.new)) };
 
-    /// The error for a refusal, at the place of `input`.
+    /// Returns the error for a reason, at the position of `input`.
     fn error(refusal: Self::Refusal, input: &I) -> E
         ensures { refuses refusal (E.kind result) };
 }
 
-/// Makes a value, and folds as many items into it as a range says.
+/// Creates a value and folds as many items into it as a range allows.
 pub(crate) fn fold_range<
     P: Parser<I, O, E>,
     G: FnMut() -> R,
@@ -71,7 +71,8 @@ pub(crate) fn fold_range<
     fold_many(least, greatest, parser, init, op, input)
 }
 
-/// Makes a value, and folds items into it: at least `least`, to `greatest` if there is a bound.
+/// Creates a value and folds items into it: at least `least`, and at most `greatest` if there is a
+/// bound.
 fn fold_many<
     P: Parser<I, O, E>,
     G: FnMut() -> R,

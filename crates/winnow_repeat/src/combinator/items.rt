@@ -11,7 +11,7 @@ use stream_sets::accumulate::Accumulate;
 use streams::stream::Stream;
 use winnow_core::parser::Parser;
 
-/// Whether the greatest count is below the least.
+/// Returns whether the greatest count is below the least.
 pub fn is_descending(least: usize, greatest: Option<usize>) -> bool
     ensures { MatchBool result ((most : ℕ) × (greatest ≡ Some most) × (most < least))
         (IsWithin greatest least) }

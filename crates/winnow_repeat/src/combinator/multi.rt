@@ -15,15 +15,16 @@ use stream_sets::range::Range;
 use streams::stream::Stream;
 use winnow_core::parser::Parser;
 
-/// Runs `parser` on `input` for each item that is asked for: an item is the output of one run.
+/// Creates an iterator over `input` whose items are the outputs of successive calls of `parser`.
 ///
-/// It is iterated by `&mut`, so that [`finish`](ParserIterator::finish) can be called after it. A
-/// run that backtracks ends it, and the input is back before that run. A run that fails by another
-/// kind ends it, and so does one that consumes nothing, by an assert error; the input stays where
-/// that run left it. From then on it gives `None`, and nothing is run. No memory is taken.
+/// Iterate by `&mut`, so that [`finish`](ParserIterator::finish) can be called afterwards. A call
+/// that backtracks ends the iteration and resets the input to the start of the call. A call that
+/// fails with another kind of error ends it too, as does a call that succeeds without consuming
+/// input, which is an assert error; the input is left where that call left it. From then on the
+/// iterator returns `None` without running `parser`. It does not allocate.
 ///
-/// `finish` answers the error that ended it, and `Ok(())` where a backtrack did or where it could
-/// give more items.
+/// `finish` returns the error that ended the iteration. It returns `Ok(())` after a backtrack, or
+/// if the iterator could yield more items.
 ///
 /// ```
 /// let mut input = "aab";
@@ -51,15 +52,17 @@ where
     }
 }
 
-/// Runs `parser` as many times as `occurrences` says, and puts its outputs into an accumulator:
-/// `()` keeps nothing, a `usize` their number, a `Vec` keeps them in order, a `String` keeps the
-/// text of characters or texts, and a `BTreeMap` keeps pairs by their keys.
+/// Runs `parser` repeatedly, as many times as `occurrences` allows, and collects the outputs in an
+/// accumulator.
 ///
-/// It ends before an item that backtracks, where there are enough, or at the greatest count. An
-/// item that fails too early, or by another kind, is handed on. Each item must consume, else it
-/// is an assert error; only in the form `1..` may the first consume nothing. A greatest count
-/// below the least is an assert error, and nothing is run. Memory is taken by the accumulator
-/// alone.
+/// The accumulator `()` discards the outputs, a `usize` counts them, and a `Vec` stores them in
+/// order. A `String` concatenates characters or texts, and a `BTreeMap` stores pairs by their keys.
+///
+/// It ends before an item that backtracks if there are enough items, or at the greatest count. The
+/// error of an earlier item, or of another kind, is returned unchanged. An item that consumes no
+/// input is an assert error, except for the first item in the form `1..`. If the greatest count is
+/// below the least, it returns an assert error without running `parser`. Only the accumulator
+/// allocates.
 ///
 /// Known as `many0`, `many1`, `many_m_n` and `count` in nom.
 ///
@@ -86,18 +89,22 @@ pub fn repeat<P, I, O, C, E, A>(alloc: A, occurrences: Range, parser: P) -> Repe
     }
 }
 
-/// Runs `parser` until `terminator` succeeds, as many times as `occurrences` says, and puts the
-/// outputs of `parser` into an accumulator: `()` keeps nothing, a `Vec` keeps them in order. It
-/// answers the accumulator and the output of `terminator`, which is consumed too.
+/// Runs `parser` until `terminator` succeeds, as many times as `occurrences` allows, and collects
+/// the outputs of `parser` in an accumulator.
 ///
-/// First the least number of items is read, without a look at `terminator`; these need not
-/// consume. Then `terminator` is tried. Where it backtracks, `parser` is run from the same place,
-/// and must consume, else it is an assert error; and so on. After the greatest number of items a
-/// `terminator` that backtracks is handed on, and the input stays where it left it; so is any other
-/// failure of it, and each failure of `parser`. A greatest count below the least is an assert
-/// error, and nothing is run. Memory is taken by the accumulator alone.
+/// It returns the accumulator and the output of `terminator`, which is consumed too. The
+/// accumulator `()` discards the outputs, and a `Vec` stores them in order.
 ///
-/// Only the forms `0..` and `1..` have no greatest count: of `n..` with another `n` it is the
+/// First it parses the least number of items without trying `terminator`; these items may consume
+/// no input. Then it tries `terminator`. If that backtracks, it runs `parser` from the same
+/// position, and repeats. An item that consumes no input is then an assert error.
+///
+/// After the greatest number of items, a backtrack of `terminator` is returned unchanged, with the
+/// input where `terminator` left it. The same holds for its other errors, and for every error of
+/// `parser`. If the greatest count is below the least, it returns an assert error and runs nothing.
+/// Only the accumulator allocates.
+///
+/// Only the forms `0..` and `1..` have no greatest count; for `n..` with another `n` it is the
 /// greatest `usize`.
 ///
 /// Known as `many_till` in nom.
@@ -129,12 +136,12 @@ pub fn repeat_till<P, G, I, O, D, C, E, A>(
     }
 }
 
-/// Overwrites the elements of `buffer` in order, each by the output of a run of `parser`, and
-/// answers nothing.
+/// Overwrites the elements of `buffer` in order, each with the output of a call of `parser`, and
+/// returns `()`.
 ///
-/// The first error is handed on, and the input stays where that run left it: the elements before
-/// stay overwritten, that one and those after it stay as they were. An empty buffer runs nothing.
-/// An item need not consume. No memory is taken.
+/// The first error is returned unchanged, and the input is left where that call left it. The
+/// elements before it stay overwritten; the others are unchanged. If `buffer` is empty, `parser` is
+/// not run. An item may consume no input. It does not allocate.
 ///
 /// ```
 /// let mut letters = ['x', 'y', 'z'];

@@ -1,4 +1,4 @@
--- What holds of the runs of links.
+-- Laws of links.
 use Rattle.std.specs.Prelude.{Ok, Err, Bool, List, ◌≡◌, ◌⊎◌, false}
 use Rattle.std.proofs.Common.{inl, inr, refl}
 use Rattle.streams.specs.Input.{Input, IsEndOf, is_end_of_trans, with_more}
@@ -17,7 +17,7 @@ use Rattle.winnow_core.specs.Exact.{FailsBy, IsExact}
 use Rattle.winnow_core.specs.InOrder.Exact.{none_behind}
 use Rattle.winnow_core.specs.States.{pair_is}
 
--- a link that fails leaves an end, where separators and elements do
+-- a link that fails leaves a suffix, if separators and elements do
 pub link_fails_end : {S W T L O D : Type 0} (reading : Reading T L) (run : Runs S T O)
     (separator : Runs W T D) → LeaveEnds reading run → LeaveEnds reading separator
     → (s : S × W) (i : Input T) (k : Kind) (t : S × W) (j : Input T)
@@ -61,7 +61,7 @@ module _ {T : Type 0} {following : Following T} where
       let less = still_fewer more m.left.tokens i.left.tokens fewer in
       (inr (d, with_more m more flag, q, less, p), last)
 
-  -- they grow where those of the child do
+  -- stable under longer input, if the child is
   pub link_grows : {S W O D : Type 0} (run : Runs S T O) (separator : Runs W T D)
       → Grows following run → Grows following separator
       → Grows following (LinkRuns run separator)
@@ -74,7 +74,7 @@ module _ {T : Type 0} {following : Following T} where
       let less = still_fewer more m.left.tokens i.left.tokens fewer in
       ((d, with_more m more flag, q, less, p), last)
 
-  -- they grow where those of the child do
+  -- stable under longer input, if the child is
   pub pair_link_grows : {S W O D : Type 0} (run : Runs S T O) (separator : Runs W T D)
       → Grows following run → Grows following separator
       → Grows following (PairLinkRuns run separator)

@@ -1,4 +1,4 @@
--- What elements with separators between them do with tokens.
+-- Outcomes of elements with separators.
 use Rattle.std.specs.Prelude.{◌≡◌, ◌⊎◌, ◌<◌, ℕ, List, length, Some}
 use Rattle.stream_sets.specs.Accumulator.{Accumulator}
 use Rattle.stream_sets.specs.Range.{Bounds, IsBelow}
@@ -26,13 +26,13 @@ PairLinkDoes element separator =
     Then separator (where_took (λ d at tokens mid y.
     Behind (Then element (where_took (λ o. takes (d, o)))) mid at tokens y))
 
--- A separator that takes nothing: no link, and the parser is made wrongly.
+-- A separator that consumes no input: there is no link, and the outcome is an assert error.
 abbrev pub NothingBetween : {T D U : Type 0} → Does T D → Does T U
 NothingBetween {T} {D} separator at tokens y =
     (d : D) × (mid : List T) × separator at tokens (took d mid)
     × (length mid < length tokens → ⊥) × (y ≡ misused at mid)
 
--- What ends the links after some, where there may be one more.
+-- The outcome after some links, if one more is allowed.
 abbrev pub LastLink : {T O D C : Type 0} → Does T O → Does T D → Accumulator C O → ℕ → C → List O
     → Does T C
 LastLink link separator into least before outputs at tokens y =
@@ -52,7 +52,7 @@ abbrev pub LinksAfter : {T O D C : Type 0} → Does T O → Does T D → Accumul
 LinksAfter element separator into bounds =
     LinksDo (LinkDoes element separator) separator into (links_within bounds)
 
--- What comes of the first element, which may take nothing.
+-- The outcome of the first element, which may consume no input.
 abbrev pub first_element : {T O D C : Type 0} → Does T O → Does T D → Accumulator C O → Bounds → C
     → Next T O C
 first_element {C = C} element separator into bounds empty = record {
@@ -69,7 +69,7 @@ first_element {C = C} element separator into bounds empty = record {
   on_asks = asks_on;
 }
 
--- Elements within the bounds: none where none is wanted, or the first and links.
+-- Elements within the bounds: no elements if the greatest number is zero, or the first and links.
 abbrev pub ElementsDo : {T O D C : Type 0} → Does T O → Does T D → Accumulator C O → Bounds → C
     → Does T C
 ElementsDo element separator into bounds empty at tokens y =

@@ -1,4 +1,4 @@
--- What elements with separators between them read.
+-- The grammar of elements with separators.
 use Rattle.std.specs.Prelude.{◌≡◌, ◌⊎◌, ◌≤◌, ◌<◌, ◌+◌, ◌-◌, ℕ, false, List, [], ◌∷◌, length}
 use Rattle.std.specs.Prelude.{Option, Some, None, Ok, Err}
 use Rattle.std.proofs.Common.{refl, sym, ap, subst, inl, inr, ◌∙◌, arith}
@@ -147,14 +147,14 @@ module _ {S W T O D C : Type 0} {run : Runs S T O} {separator : Runs W T D} {g :
         ),
       )
 
-  -- none stand where the first is needed and does not stand
+  -- no list matches if a first element is required and does not match
   none_of_first : (tokens : List T) → NoneStands g tokens → 0 < bounds.least
       → NoneStands (Parted g h bounds) tokens
   unfolding Parted
   none_of_first tokens none some [] rest (same, least, stops) = omega (arith, least, some)
   none_of_first tokens none some (o ∷ os) rest (mid, x, each, enough, stops) = none o mid x
 
-  -- nor where too few links stand after the first
+  -- nor if there are too few links after the first
   too_few : (tokens mid : List T) (o : O) → g tokens o mid → ((ps : List O) (rest : List T)
       → Each (Both (λ d o. o) h g) mid ps rest → length ps < bounds.least - 1)
       → NoneStands (Parted g h bounds) tokens
@@ -200,7 +200,7 @@ module _ {S W T O D C : Type 0} {run : Runs S T O} {separator : Runs W T D} {g :
             )
       ]
 
-  -- they fail as the elements and the separators do, or for want of memory
+  -- they fail like the elements and the separators, or with out of memory
   elements_allowed : {allowed : Kind → Type 0} → FailsBy allowed a run
       → FailsBy allowed b separator → (Wants into → allowed memory) → (empty : C) (i : Input T)
       (k : Kind) (t : S × W) (j : Input T) → i.status.cut ≡ false
@@ -220,7 +220,6 @@ module _ {S W T O D C : Type 0} {run : Runs S T O} {separator : Runs W T D} {g :
       (both_take (λ d o. o) between.unique element.unique (inl takes)) wants one n k t j on
       (links_items one v n (Err k) t j on same links)
 
--- triples of which the parts are the same
 triple_is : {A B X : Type 0} {t s : A × B × X} → t.0 ≡ s.0 → t.1 ≡ s.1 → t.2 ≡ s.2 → t ≡ s
 triple_is {t = t} {s = s} e f g =
     ap (λ x. (x, t.1, t.2)) e ∙ (ap (λ y. (s.0, y, t.2)) f ∙ ap (λ z. (s.0, s.1, z)) g)

@@ -1,5 +1,5 @@
--- What a caller knows of one run of elements with separators that answered: the first element, the
--- links after it in a chain, and what ended them.
+-- Lemmas for callers about one call of `separated`: the first element, the consecutive links after
+-- it, and the call that ended them.
 use Rattle.std.specs.Prelude.{◌≡◌, ◌<◌, ◌≤◌, ◌-◌, ℕ, List, Option, None, Ok, Err, ◌⊎◌}
 use Rattle.std.specs.List.{FoldsTo}
 use Rattle.std.proofs.Common.{refl, subst, inl, inr, arith}

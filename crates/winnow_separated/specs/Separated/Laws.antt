@@ -1,4 +1,4 @@
--- What holds of the runs of elements with separators.
+-- Laws of `separated`.
 use Rattle.std.specs.Prelude.{Ok, Err, Bool, List, ◌++◌}
 use Rattle.std.proofs.Common.{inl, inr, ap}
 use Rattle.streams.specs.Input.{is_end_of_trans, Input, with_more}
@@ -17,7 +17,7 @@ use Rattle.winnow_core.specs.Stable.Grows.{Grows, MayGrow, final_by}
 use Rattle.winnow_repeat.specs.Chain.Laws.{chain_grows}
 use Rattle.winnow_core.specs.Stable.Longer.{back_grows, same_grows}
 
--- links leave an end, where separators and elements do
+-- links leave a suffix, if separators and elements do
 links_end : {S W T L O D C : Type 0} (reading : Reading T L) (run : Runs S T O)
     (separator : Runs W T D) (into : Accumulator C O) (assert_kind : Kind) (bounds : Bounds)
     (before : C) → LeaveEnds reading run → LeaveEnds reading separator
@@ -50,7 +50,7 @@ elements_end reading run separator into assert_kind bounds empty ends between s 
     is_end_of_trans (links_end reading run separator into assert_kind (links_within bounds) one ends
     between (v, s.1) n answer t j links) (ends s.0 i (Ok o) v n r)
 
--- they leave an end, where elements and separators do
+-- every call leaves a suffix, if elements and separators do
 pub separated_ends : {S W T L O D C : Type 0} (reading : Reading T L) (run : Runs S T O)
     (separator : Runs W T D) (into : Accumulator C O) (assert_kind : Kind)
     → LeaveEnds reading run → LeaveEnds reading separator
@@ -134,7 +134,7 @@ module _ {T : Type 0} {following : Following T} where
       (v, s.1) n answer t j still final items in
       (inr (inr (inr (inr (o, v, with_more n more flag, one, some, q, takes, others)))), last)
 
-  -- they grow where those of the element and the separator do
+  -- stable under longer input, if the parsers of elements and separators are
   pub separated_grows : {S W O D C : Type 0} (run : Runs S T O) (separator : Runs W T D)
       (into : Accumulator C O) (asserted : Kind) → Grows following run
       → Grows following separator

@@ -1,4 +1,4 @@
--- What elements with separators between them say that they do.
+-- The specification of `separated`.
 use Rattle.std.specs.Prelude.{◌≡◌, List, Ok, Err}
 use Rattle.std.proofs.Common.{ap, subst, inl, inr, ◌∙◌}
 use Rattle.streams.specs.Input.{Input}
@@ -23,7 +23,7 @@ use Rattle.winnow_separated.specs.Separated.Does.{LinkDoes, LinksDo, first_eleme
 use Rattle.winnow_separated.specs.Separated.Does.Laws.{separated_law}
 use Rattle.winnow_separated.specs.Separated.Does.Runs.{link_each, nothing_did}
 
--- elements into an accumulator, of which this is held
+-- elements into an accumulator; `holds` specifies what it stores
 abbrev pub separated_says : {T O D C : Type 0} → Accumulator C O → (C → List O → Type 0) → Bounds
     → Says T O → Says T D → Says T C
 separated_says into holds bounds p q = record {
@@ -103,7 +103,6 @@ module _ {S W T O D : Type 0} {element : Does T O} {separator : Does T D} {s : S
           done = inr (below, (_, did.done, inr (one, kept, then.done)));
         }
 
--- triples of which the parts are the same
 pub triple_is : {A B X : Type 0} {t s : A × B × X} → ◌≡◌ {A = A × B} (t.0, t.1) (s.0, s.1)
     → t.2 ≡ s.2 → t ≡ s
 triple_is {t = t} {s = s} e f =

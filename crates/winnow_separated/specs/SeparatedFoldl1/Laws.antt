@@ -1,4 +1,4 @@
--- What holds of the runs of elements that are folded to the left.
+-- Laws of `separated_foldl1`.
 use Rattle.std.specs.Prelude.{Ok, Err}
 use Rattle.std.proofs.Common.{inl, inr}
 use Rattle.streams.specs.Input.{Input, IsEndOf, is_end_of_trans, with_more}
@@ -17,7 +17,7 @@ use Rattle.winnow_core.specs.Stable.Longer.{back_grows}
 use Rattle.winnow_separated.specs.Separated.Laws.{nothing_grows}
 use Rattle.winnow_repeat.specs.Chain.Laws.{chain_grows}
 
--- what ends links leaves an end, where separators and elements do
+-- the end of links leaves a suffix, if separators and elements do
 links_end : {S W T L O D : Type 0} (reading : Reading T L) (run : Runs S T O)
     (separator : Runs W T D) (assert_kind : Kind) (value : O) → LeaveEnds reading run
     → LeaveEnds reading separator → (u : S × W) (m : Input T) (answer : Answer O) (t : S × W)
@@ -32,7 +32,7 @@ links_end reading run separator assert_kind value ends between u m answer t j
 links_end reading run separator assert_kind value ends between u m answer t j
     (inr (inr ((d, r, nothing, kept), e))) = between u.1 m (Ok d) t.1 j r
 
--- elements with their links leave an end
+-- elements with their links leave a suffix
 pub foldl1_ends : {S W Q T L O D : Type 0} (reading : Reading T L)
     (step : Q → O → D → O → O → Q → Type 0) (run : Runs S T O) (separator : Runs W T D)
     (assert_kind : Kind) → LeaveEnds reading run → LeaveEnds reading separator
@@ -67,7 +67,7 @@ module _ {T : Type 0} {following : Following T} where
       let (q, last) = nothing_grows separator between more flag u m t j may none in
       (inr (inr (q, e)), last)
 
-  -- they grow where those of the element and the separator do
+  -- stable under longer input, if the parsers of elements and separators are
   pub foldl1_grows : {S W Q O D : Type 0} (step : Q → O → D → O → O → Q → Type 0)
       (run : Runs S T O) (separator : Runs W T D) (asserted : Kind) → Grows following run
       → Grows following separator

@@ -1,4 +1,4 @@
--- What elements with separators between them say that they do, folded to the left.
+-- The specification of `separated_foldl1`.
 use Rattle.std.specs.Prelude.{◌≡◌, List, [], ◌∷◌, None, Ok, Err}
 use Rattle.std.specs.List.{FoldsTo}
 use Rattle.std.proofs.Common.{sym, subst, inl, inr, ◌∙◌, arith}
@@ -41,7 +41,7 @@ join_kept step op = record {
   grows = λ _ _. ⊥;
 }
 
--- Values of elements and separators that are alike.
+-- Values folded from equal elements and separators.
 abbrev pub AlikeJoined : {Q O D : Type 0} → (Q → O → D → O → O → Q → Type 0) → Q
     → (O → O → Type 0) → (D → D → Type 0) → O → O → Type 0
 AlikeJoined {O = O} {D} step op alike between value other =

@@ -1,4 +1,4 @@
--- What holds of the runs of elements that are folded to the right.
+-- Laws of `separated_foldr1`.
 use Rattle.std.specs.Prelude.{None, Ok, Err}
 use Rattle.std.proofs.Common.{inl, inr}
 use Rattle.streams.specs.Input.{is_end_of_trans, with_more}
@@ -15,7 +15,7 @@ use Rattle.winnow_separated.specs.SeparatedFoldr1.{SeparatedFoldr1Runs}
 use Rattle.winnow_core.specs.Stable.Grows.{Grows, final_by}
 use Rattle.winnow_core.specs.Sequence.Grows.{sequence2_grows}
 
--- they leave an end, where elements and separators do
+-- every call leaves a suffix, if elements and separators do
 pub foldr1_ends : {S W Q T L O D : Type 0} (A : Type 0) (reading : Reading T L)
     (step : Q → O → D → O → O → Q → Type 0) (run : Runs S T O) (separator : Runs W T D)
     (assert_kind : Kind) → LeaveEnds reading run → LeaveEnds reading separator
@@ -34,7 +34,7 @@ foldr1_ends A reading step run separator assert_kind ends between s i answer t j
     (Ok all) (t.1, t.0) j links) (ends s.0 i (Ok first) v n r)
 
 module _ {T : Type 0} {following : Following T} where
-  -- they grow where those of the element and the separator do
+  -- stable under longer input, if the parsers of elements and separators are
   pub foldr1_grows : {S W Q O D : Type 0} (A : Type 0) (step : Q → O → D → O → O → Q → Type 0)
       (run : Runs S T O) (separator : Runs W T D) (asserted : Kind) → Grows following run
       → Grows following separator

@@ -1,4 +1,4 @@
--- What elements with separators between them say that they do, folded to the right.
+-- The specification of `separated_foldr1`.
 use Rattle.std.specs.Prelude.{◌≡◌, List, [], ◌∷◌, None, Ok, Err}
 use Rattle.std.specs.declared.vec.Vec.{Vec}
 use Rattle.std.proofs.Common.{refl, ap, subst, inl, inr, ◌∙◌}
@@ -43,7 +43,7 @@ Foldr1Does A step op p q =
     Then p.does (where_took (λ first. and_then (pairs_says A p q).does
     (where_took (λ links. folded A step op first links))))
 
--- Values of elements and separators that are alike.
+-- Values folded from equal elements and separators.
 abbrev pub AlikeFolded : {Q O D : Type 0} → (Q → O → D → O → O → Q → Type 0) → Q
     → (O → O → Type 0) → (D → D → Type 0) → O → O → Type 0
 AlikeFolded {O = O} {D} step op alike between value other =

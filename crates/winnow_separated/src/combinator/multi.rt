@@ -12,15 +12,18 @@ use crate::combinator::impls::{Separated, SeparatedFoldl1, SeparatedFoldr1};
 use std::marker::PhantomData;
 use stream_sets::range::Range;
 
-/// Runs `parser` and `separator` in turns, as many elements as `occurrences` says, and puts the
-/// outputs of `parser` into an accumulator, as [`repeat`](winnow_repeat::combinator::repeat) does.
+/// Runs `parser` and `separator` alternately, for as many elements as `occurrences` allows, and
+/// collects the outputs of `parser` in an accumulator, like
+/// [`repeat`](winnow_repeat::combinator::repeat).
 ///
-/// It ends before a separator that backtracks, or whose element backtracks, where there are enough
-/// elements; before the first element, where that backtracks and none is needed. What fails too
-/// early, or by another kind, is handed on. Each separator must consume, else it is an assert
-/// error, and never the end, also where an assert error backtracks; elements need not. A count of 0
-/// reads nothing. A greatest count below the least is an assert error, and nothing is run. Memory
-/// is taken by the accumulator alone.
+/// If there are enough elements, it ends before a separator that backtracks, or whose element
+/// backtracks. If no element is required, it ends before a first element that backtracks. An
+/// earlier error, or one of another kind, is returned unchanged.
+///
+/// A separator that consumes no input is an assert error. That error never ends the list, even if
+/// assert errors backtrack. Elements may consume no input. If the greatest count is 0, nothing is
+/// run. If the greatest count is below the least, it returns an assert error and runs nothing. Only
+/// the accumulator allocates.
 ///
 /// Known as `separated_list0` and `separated_list1` in nom.
 ///
@@ -50,13 +53,13 @@ pub fn separated<P, S, I, O, D, C, E, A>(
     }
 }
 
-/// Runs `parser` and `separator` in turns, one element or more, and joins them by `op`, nested to
-/// the left: `9-5-2` is `(9-5)-2`.
+/// Runs `parser` and `separator` alternately, for one or more elements, and joins them with `op`,
+/// nested to the left: `9-5-2` is `(9-5)-2`.
 ///
-/// It ends before a separator that backtracks, or whose element backtracks. A first element that
-/// fails, and other failures, are handed on. Each separator must consume, else it is an assert
-/// error, and never the end, also where an assert error backtracks; elements need not. It takes no
-/// memory.
+/// It ends before a separator that backtracks, or whose element backtracks. An error of the first
+/// element, and other errors, are returned unchanged. A separator that consumes no input is an
+/// assert error. That error never ends the list, even if assert errors backtrack. Elements may
+/// consume no input. It does not allocate.
 ///
 /// Known as `chainl1` elsewhere.
 ///
@@ -80,13 +83,13 @@ where
     SeparatedFoldl1::new(parser, separator, op)
 }
 
-/// Runs `parser` and `separator` in turns, one element or more, and joins them by `op`, nested to
-/// the right: `9-5-2` is `9-(5-2)`.
+/// Runs `parser` and `separator` alternately, for one or more elements, and joins them with `op`,
+/// nested to the right: `9-5-2` is `9-(5-2)`.
 ///
-/// It ends before a separator that backtracks, or whose element backtracks. A first element that
-/// fails, and other failures, are handed on. A separator and its element must consume together,
-/// else it is an assert error. The separators and elements after the first are kept in a list,
-/// which takes memory; `op` is called from the last separator on.
+/// It ends before a separator that backtracks, or whose element backtracks. An error of the first
+/// element, and other errors, are returned unchanged. It is an assert error if a separator and its
+/// element together consume no input. The separators and elements after the first are stored in a
+/// list, which allocates; `op` is called from the last separator to the first.
 ///
 /// Known as `chainr1` elsewhere.
 ///

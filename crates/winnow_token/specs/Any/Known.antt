@@ -1,4 +1,4 @@
--- What a caller knows of one run of the parser of one token that answered.
+-- Lemmas for callers about one call of `any`.
 use Rattle.std.specs.Prelude.{◌≡◌, false, [], ◌∷◌, Some, Ok, Err}
 use Rattle.std.proofs.Common.{refl, sym, subst, ◌∙◌, inl, inr}
 use Rattle.streams.specs.Input.{Input, Passes}
@@ -9,7 +9,7 @@ use Rattle.stream_errors.specs.Form.Known.{ok_is_err, same_err, same_ok}
 use Rattle.winnow_core.specs.Short.Known.{short_whole}
 use Rattle.winnow_token.specs.Any.{AnyRuns, NoTokenRuns}
 
--- A whole input of which nothing is left: it stays.
+-- Empty complete input, which is unchanged.
 pub record NoToken {T : Type 0} (i : Input T) (k : Kind) (j : Input T) : Type 0 where
   pub stays : j ≡ i
   pub kind : k ≡ backtrack
@@ -33,7 +33,7 @@ any_ok seen reading form i x j (inl (y, passes, e)) =
     subst P (sym (same_ok refl e)) passes
 any_ok seen reading form i x j (inr (k, nothing, kind, e, same)) = ok_is_err refl e
 
--- an error: nothing is left
+-- an error: no token remains
 pub any_err : {K T S : Type 0} (seen : K → T) (reading : Reading T S) (form : ErrorForm)
     (i : Input T) (k : Kind) (j : Input T) → i.status.cut ≡ false
     → AnyRuns seen reading form i (Err k) j → NoToken i k j

@@ -1,4 +1,4 @@
--- What holds of the runs of one token.
+-- Laws of `any`.
 use Rattle.std.specs.Prelude.{◌≡◌, ⊤, true, Err, List, [], ◌∷◌, false, length}
 use Rattle.std.specs.Prelude.{Some, Ok}
 use Rattle.std.proofs.Common.{inl, inr, sym, ap, ◌∙◌, refl, arith}
@@ -18,21 +18,20 @@ use Rattle.stream_errors.specs.Form.Known.{ok_is_err, same_ok, same_kind}
 use Rattle.winnow_core.specs.Exact.{Backtracks, IsExact}
 use Rattle.winnow_core.specs.Exact.Failed.{short_backtracks}
 
--- it leaves an end
 pub any_ends : {K T L : Type 0} (seen : K → T) (reading : Reading T L) (form : ErrorForm)
     (i : Input T) (answer : Answer K) (j : Input T) → AnyRuns seen reading form i answer j
     → IsEndOf reading j i
 any_ends seen reading form i answer j (inl (x, passes, e)) = passes_end passes
 any_ends seen reading form i answer j (inr (k, none, kind, e, same)) = same_ends reading i j same
 
--- no token is left
+-- no token remains
 pub no_token_final : {T O P : Type 0} (i : Input T) {j : Input T} {answer : Answer O}
     → i.status.cut ≡ true
     → IsFinal answer → NoTokenRuns modal i answer j → P
 no_token_final i is_cut final (k, none, short, e, same) =
     short_final i is_cut short (final_by (Err k) e final)
 
--- on a cut input, runs of a final answer are runs on each longer one
+-- a final result on partial input is also a result on every longer input
 pub any_stays : {K T L : Type 0} (seen : K → T) (reading : Reading T L)
     → Stays (AnyRuns seen reading modal)
 any_stays seen reading more flag i answer j is_cut final (inl (x, passes, e)) =

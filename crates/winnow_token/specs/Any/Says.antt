@@ -1,4 +1,4 @@
--- What the parser of one token says that it does.
+-- The specification of `any`.
 use Rattle.std.specs.Prelude.{◌≡◌, ⊤, [], ◌∷◌, ◌++◌, Some}
 use Rattle.std.proofs.Common.{sym, ap, inl, inr, ◌∙◌}
 use Rattle.streams.specs.Equal.{same_first, same_others}
@@ -21,7 +21,7 @@ use Rattle.winnow_token.specs.Any.Laws.{any_ends, first_of_none, SeenSame}
 abbrev pub IsFirst : {K T : Type 0} → (K → T) → K → Case T
 IsFirst seen k at tokens rest = tokens ≡ seen k ∷ rest
 
--- No token is left: one unit is lacking.
+-- No token remains: one unit is missing.
 abbrev pub LacksToken : {K T : Type 0} → Does T K
 LacksToken = LacksWhere (λ tokens. Some 1) (λ at tokens. tokens ≡ [])
 

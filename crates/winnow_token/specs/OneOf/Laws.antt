@@ -1,4 +1,4 @@
--- What holds of the runs of one token of a set.
+-- Laws of `one_of`.
 use Rattle.std.specs.Prelude.{◌≡◌, Bool, ◌++◌, true, false, ◌∷◌, length, Some, Ok, Err}
 use Rattle.std.proofs.Common.{inl, inr, ap, refl, sym, ◌∙◌, subst, arith}
 use Rattle.streams.specs.Input.{Input, IsEndOf, passes_end}
@@ -21,7 +21,6 @@ use Rattle.stream_errors.specs.Form.Known.{ok_is_err, same_ok, same_kind}
 use Rattle.winnow_core.specs.Exact.{Backtracks, IsExact}
 use Rattle.winnow_core.specs.Exact.Failed.{short_backtracks}
 
--- it leaves an end
 pub one_of_ends : {K T L : Type 0} (seen : K → T) (reading : Reading T L) (form : ErrorForm)
     (member : K → Bool → Type 0) (i : Input T) (answer : Answer K) (j : Input T)
     → OneOfRuns seen reading form member i answer j → IsEndOf reading j i
@@ -31,7 +30,7 @@ one_of_ends seen reading form member i answer j
 one_of_ends seen reading form member i answer j (inr (inr (k, none, kind, e, same))) =
     same_ends reading i j same
 
--- on a cut input, runs of a final answer are runs on each longer one
+-- a final result on partial input is also a result on every longer input
 pub one_of_stays : {K T L : Type 0} (seen : K → T) (reading : Reading T L)
     (member : K → Bool → Type 0) → Stays (OneOfRuns seen reading modal member)
 one_of_stays seen reading member more flag i answer j is_cut final (inl (x, passes, is, e)) =

@@ -1,4 +1,4 @@
--- What the parser of one token of a set says that it does.
+-- The specification of `one_of`.
 use Rattle.std.specs.Prelude.{◌≡◌, ⊤, Bool, true, false, List, ◌∷◌, ◌++◌, Some}
 use Rattle.std.proofs.Common.{refl, sym, ap, inl, inr, ◌∙◌}
 use Rattle.streams.specs.Equal.{same_first, same_others}
@@ -25,7 +25,7 @@ use Rattle.winnow_token.specs.OneOf.Laws.{one_of_ends}
 abbrev pub IsMember : {K T : Type 0} → (K → T) → (K → Bool → Type 0) → K → Case T
 IsMember seen tells k at tokens rest = (tokens ≡ seen k ∷ rest) × tells k true
 
--- The first token is none.
+-- The first token is not a member.
 abbrev pub IsStranger : {K T : Type 0} → (K → T) → (K → Bool → Type 0) → Setting → List T → Type 0
 IsStranger {K} {T} seen tells at tokens =
     (k : K) × (rest : List T) × (tokens ≡ seen k ∷ rest) × tells k false

@@ -1,4 +1,4 @@
--- What holds of the runs of what is left.
+-- Laws of `rest` and `rest_len`.
 use Rattle.std.specs.Prelude.{⊤, [], ◌++◌}
 use Rattle.streams.specs.Input.{Input, IsEndOf, takes_end}
 use Rattle.streams.specs.Reading.{Reading}
@@ -11,7 +11,6 @@ use Rattle.grammars.specs.Grammar.{AllTokens, UnitsLeft}
 use Rattle.stream_errors.specs.Form.Known.{ok_is_err, same_ok}
 use Rattle.winnow_core.specs.Exact.{Backtracks, IsExact}
 
--- it leaves an end
 pub rest_ends : {T L : Type 0} (reading : Reading T L) (i : Input T) (answer : Answer L)
     (j : Input T) → RestRuns reading i answer j → IsEndOf reading j i
 rest_ends reading i answer j (slice, takes, none, e) = takes_end takes

@@ -1,4 +1,4 @@
--- What the parsers of all that is left say that they do.
+-- The specification of `rest` and `rest_len`.
 use Rattle.std.specs.Prelude.{◌≡◌, ⊤, ℕ, []}
 use Rattle.std.proofs.Common.{refl, sym, ◌∙◌}
 use Rattle.streams.specs.Reading.{Reading}

@@ -1,4 +1,4 @@
--- What a caller knows of one run of a take by count that answered.
+-- Lemmas for callers about one call of `take`.
 use Rattle.std.specs.Prelude.{◌≡◌, ℕ, Bool, List, length, Ok}
 use Rattle.std.proofs.Common.{refl, sym, subst, inl, inr}
 use Rattle.streams.specs.Input.{Input, Takes}
@@ -7,7 +7,7 @@ use Rattle.stream_errors.specs.Form.{ErrorForm}
 use Rattle.stream_errors.specs.Form.Known.{ok_is_err, same_ok}
 use Rattle.winnow_token.specs.Take.{TakeRuns}
 
--- that many tokens were taken, and the slice shows them
+-- `count` tokens were taken, and the slice shows them
 pub record TookCount {T S : Type 0} (reading : Reading T S) (count : ℕ) (i : Input T) (slice : S)
     (j : Input T) : Type 0 where
   pub taken : List T

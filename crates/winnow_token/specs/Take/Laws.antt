@@ -1,4 +1,4 @@
--- What holds of the runs of takes by count.
+-- Laws of `take`.
 use Rattle.std.specs.Prelude.{◌≡◌, ℕ, Bool, Err, ◌<◌, List, length, false, [], ◌∷◌, ◌++◌, Ok}
 use Rattle.std.proofs.Common.{inl, inr, sym, ap, subst, ◌∙◌, arith, length-append, refl}
 use Rattle.streams.specs.Input.{Input, IsEndOf, takes_end}
@@ -16,7 +16,7 @@ use Rattle.stream_errors.specs.Form.Known.{ok_is_err, same_ok, same_kind}
 use Rattle.winnow_core.specs.Exact.{Backtracks, IsExact}
 use Rattle.winnow_core.specs.Exact.Failed.{short_backtracks}
 
--- they leave an end
+-- every call leaves a suffix
 pub take_ends : {T L : Type 0} (reading : Reading T L) (form : ErrorForm) (counts : Bool)
     (n : ℕ) (i : Input T) (answer : Answer L) (j : Input T)
     → TakeRuns reading form counts n i answer j → IsEndOf reading j i
@@ -24,7 +24,7 @@ take_ends reading form counts n i answer j (inl (front, slice, count, takes, e))
 take_ends reading form counts n i answer j (inr (k, few, kind, e, same)) =
     same_ends reading i j same
 
--- on a cut input, runs of a final answer are runs on each longer one
+-- a final result on partial input is also a result on every longer input
 pub take_stays : {T L : Type 0} (reading : Reading T L) (counts : Bool) (n : ℕ)
     → Stays (TakeRuns reading modal counts n)
 take_stays reading counts n more flag i answer j is_cut final (inl (front, slice, is, takes, e)) =
@@ -34,7 +34,6 @@ take_stays reading counts n more flag i answer j is_cut final (inr (k, few, shor
 
 -- ---- what it reads
 
--- after beginnings of as many tokens the same is left
 same_behind : {T : Type 0} (f g rest more : List T) → length f ≡ length g → f ++ rest ≡ g ++ more
     → rest ≡ more
 same_behind [] [] rest more n e = e

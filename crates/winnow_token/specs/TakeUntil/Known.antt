@@ -1,4 +1,4 @@
--- What a caller knows of one run of a take up to a literal that answered.
+-- Lemmas for callers about one call of `take_until`.
 use Rattle.std.specs.Prelude.{◌≡◌, ◌<◌, ◌≤◌, ℕ, List, [], ◌∷◌, ◌++◌, length, ◌⊎◌}
 use Rattle.std.specs.Prelude.{Option, None, Ok, Err, false}
 use Rattle.std.specs.List.{All}
@@ -16,12 +16,12 @@ use Rattle.stream_errors.specs.Form.Known.{ok_is_err, same_err, same_ok}
 use Rattle.winnow_core.specs.Short.Known.{short_whole}
 use Rattle.winnow_token.specs.TakeUntil.{TakeUntilRuns}
 
--- nothing that is sought stands in the tokens
+-- no match occurs in the tokens
 abbrev pub StandsNowhere : {T : Type 0} → (List T → Type 0) → List T → Type 0
 StandsNowhere {T} sought tokens =
     (front hit rest : List T) → Stands sought tokens front hit rest → ⊥
 
--- What stands before the first match was taken, enough of it, and the match is left.
+-- At least `least` tokens up to the first match were taken, and the match remains.
 pub record TookBefore {T S : Type 0} (reading : Reading T S) (sought : List T → Type 0)
     (least : ℕ) (i : Input T) (slice : S) (j : Input T) : Type 0 where
   pub taken : List T
@@ -30,7 +30,7 @@ pub record TookBefore {T S : Type 0} (reading : Reading T S) (sought : List T �
   pub rest : List T
   pub left : j.left.tokens ≡ found ++ rest
   pub is : sought found
-  -- no match stands at a lesser place
+  -- no match occurs at a smaller offset
   pub first : (other hit behind : List T) → Stands sought (taken ++ j.left.tokens) other hit behind
       → reading.units taken ≤ reading.units other
   pub enough : least ≤ length taken
@@ -66,8 +66,8 @@ took_before reading form sought least greatest i slice j
 took_before reading form sought least greatest i slice j
     (inr (inr (inr (inr (start, end, m, most, is, le, many, e, same))))) = ok_is_err refl e
 
--- A take with no greatest number, of a whole input, that failed: it stays. Nothing that is sought
--- stands anywhere, or too few tokens before the first match.
+-- A `take_until` without a greatest number failed on complete input, and the input is unchanged: no
+-- match occurs, or too few tokens precede the first one.
 pub record NothingBefore {T S : Type 0} (reading : Reading T S) (sought : List T → Type 0)
     (least : ℕ) (i : Input T) (k : Kind) (j : Input T) : Type 0 where
   pub stays : j ≡ i
@@ -106,7 +106,7 @@ nothing_before reading form sought least i k j whole
 nothing_before reading form sought least i k j whole
     (inr (inr (inr (inr (start, end, m, most, is, le, many, e, same))))) = none_is_some is
 
--- a take of none or more fails only where nothing that is sought stands
+-- in the form `0..` it fails only if no match occurs
 pub nothing_stands : {T S : Type 0} (reading : Reading T S) (sought : List T → Type 0)
     (i : Input T) (k : Kind) (j : Input T) → NothingBefore reading sought 0 i k j
     → StandsNowhere sought i.left.tokens
@@ -114,7 +114,7 @@ nothing_stands reading sought i k j none =
     elim none.why
     [ inl nowhere ↦ nowhere | inr (start, end, m, few) ↦ absurd (omega (arith, few)) ]
 
--- where one token is sought, none of those that were taken is one
+-- if matches are single tokens, no token that was taken is one
 pub none_taken : {T S : Type 0} (reading : Reading T S) (sought : List T → Type 0)
     (taken rest : List T)
     → ((other hit behind : List T) → Stands sought (taken ++ rest) other hit behind
@@ -135,7 +135,7 @@ none_taken {T} reading sought (x ∷ more) rest first =
     let of_other = reading.units_add (x ∷ []) other in
     omega (arith, le, of_more, of_other)))
 
--- and where none stands anywhere, no token is one
+-- and if no match occurs, no token is one
 pub none_there : {T : Type 0} (sought : List T → Type 0) (tokens : List T)
     → StandsNowhere sought tokens → All (λ x. sought (x ∷ []) → ⊥) tokens
 none_there sought [] nowhere = All-nil (λ x. sought (x ∷ []) → ⊥)
@@ -146,7 +146,8 @@ none_there sought (x ∷ more) nowhere =
     nowhere (x ∷ front) hit rest
     (record { splits = ap (λ l. x ∷ l) h.splits; is = h.is })))
 
--- so what holds of each token that is not sought holds of all that were taken, or are there
+-- so a property of all tokens that do not match holds for all tokens that were taken, or that
+-- remain
 pub before_all : {T S : Type 0} (reading : Reading T S) (sought : List T → Type 0)
     (good : T → Type 0) (taken rest : List T) → ((x : T) → (sought (x ∷ []) → ⊥) → good x)
     → ((other hit behind : List T) → Stands sought (taken ++ rest) other hit behind

@@ -1,4 +1,4 @@
--- What holds of the runs of takes up to a literal.
+-- Laws of `take_until`.
 use Rattle.std.specs.Prelude.{List, ◌≡◌, ◌∷◌, ◌++◌, [], ℕ, ◌<◌, ◌≤◌, length, Err, Some, None}
 use Rattle.std.specs.Prelude.{false, Ok}
 use Rattle.std.proofs.Common.{inl, inr, arith, refl, sym, ap, ◌∙◌, append_assoc, subst}
@@ -23,7 +23,7 @@ use Rattle.stream_errors.specs.Form.Known.{ok_is_err, same_ok, same_kind}
 use Rattle.winnow_core.specs.Exact.{Backtracks, IsExact}
 use Rattle.winnow_core.specs.Exact.Failed.{short_backtracks}
 
--- they leave an end
+-- every call leaves a suffix
 pub take_until_ends : {T L : Type 0} (reading : Reading T L) (form : ErrorForm)
     (sought : List T → Type 0) (bounds : Bounds) (i : Input T)
     (answer : Answer L) (j : Input T)
@@ -73,7 +73,7 @@ module _ {T L : Type 0} (reading : Reading T L) (sought : List T → Type 0)
       ∙ ap (λ l. l ++ more) (sym m.stands.splits) ∙ n.stands.splits in
       (n, one_front reading m.front _ n.front _ split (sym m.starts ∙ n.starts))
 
-  -- on a cut input, runs of a final answer are runs on each longer one
+  -- a final result on partial input is also a result on every longer input
   pub take_until_stays : (bounds : Bounds) → Stays (TakeUntilRuns reading modal sought bounds)
   take_until_stays bounds more flag i answer j is_cut final (inl (most, is, below, e, same)) =
       inl (most, is, below, e, same_more more flag same)

@@ -1,4 +1,4 @@
--- What takes up to a literal say that they do.
+-- The specification of `take_until`.
 use Rattle.std.specs.Prelude.{◌≡◌, ◌⊎◌, ◌<◌, ◌≤◌, ◌+◌, ⊤, ℕ, List, ◌++◌, length, Option}
 use Rattle.std.specs.Prelude.{Some, None, Err}
 use Rattle.std.proofs.Common.{refl, sym, ap, subst, inl, inr, ◌∙◌, arith, append_assoc}
@@ -31,21 +31,20 @@ use Rattle.winnow_token.specs.TakeUntil.Known.{StandsNowhere}
 use Rattle.winnow_token.specs.TakeUntil.Laws.{match_more, take_until_ends}
 use Rattle.winnow_token.specs.TakeWhile.Says.{InBounds, bounds_law}
 
--- As many tokens as the bounds say stand before the first match, and a slice shows them.
+-- The number of tokens up to the first match is within the bounds, and a slice shows them.
 abbrev pub StandsBefore : {T L : Type 0} → Reading T L → (List T → Type 0) → Bounds → L → Case T
 StandsBefore {T} reading sought bounds slice at tokens rest =
     (front : List T) × IsBefore sought tokens front rest × (bounds.least ≤ length front)
     × IsWithin bounds.greatest (length front) × reading.shows slice front
 
--- No match stands anywhere; or too few tokens stand before the first, and there is a greatest
--- number.
+-- No match occurs; or too few tokens precede the first match, and there is a greatest number.
 abbrev pub LacksMatch : {T : Type 0} → (List T → Type 0) → Bounds → Setting → List T → Type 0
 LacksMatch {T} sought bounds at tokens =
     StandsNowhere sought tokens
     ⊎ ((front : List T) × (rest : List T) × IsBefore sought tokens front rest
     × (length front < bounds.least) × (most : ℕ) × (bounds.greatest ≡ Some most))
 
--- Too few stand before the first match, and there is no greatest number; or too many do.
+-- Too few tokens precede the first match, and there is no greatest number; or too many do.
 abbrev pub StandsWrongly : {T : Type 0} → (List T → Type 0) → Bounds → Setting → List T → Type 0
 StandsWrongly {T} sought bounds at tokens =
     (front : List T) × (rest : List T) × IsBefore sought tokens front rest
@@ -62,7 +61,7 @@ take_until_says reading sought bounds = record {
   alike = ShowSame reading;
 }
 
--- what stands before the first match does so where more follows
+-- the tokens up to the first match are the same if more follow
 pub before_more : {T L : Type 0} (reading : Reading T L) (sought : List T → Type 0)
     → StaysFirst reading.units sought → (more tokens front rest : List T)
     → IsBefore sought tokens front rest → IsBefore sought (tokens ++ more) front (rest ++ more)

@@ -1,4 +1,4 @@
--- What takes by set read.
+-- The grammar of `take_while`.
 use Rattle.std.specs.Prelude.{◌≡◌, ◌⊎◌, ◌<◌, ◌+◌, ℕ, Bool, false, List, ◌++◌, length, Some, Ok}
 use Rattle.std.specs.Prelude.{Err}
 use Rattle.std.proofs.Common.{refl, sym, ap, subst, inl, inr, ◌∙◌, arith, length-append}
@@ -17,7 +17,6 @@ use Rattle.winnow_core.specs.Exact.{Backtracks, IsExact}
 use Rattle.winnow_core.specs.Runs.{Keeps}
 use Rattle.winnow_token.specs.TakeWhile.{TakeWhileRuns}
 
--- and are as many
 as_many : {T : Type 0} {tokens : List T} (f g : List T) {rest more : List T}
     → tokens ≡ f ++ rest → tokens ≡ g ++ more → rest ≡ more → length f ≡ length g
 as_many f g {rest} {more} a b e = omega (
@@ -28,7 +27,6 @@ as_many f g {rest} {more} a b e = omega (
   ap (λ l. length l) e,
 )
 
--- so the longest beginning of members leaves one rest
 pub longest_unique : {S K T L : Type 0} (reading : Reading T L) (seen : K → T)
     (tells : S → K → Bool → Type 0) (set : S) (bounds : Bounds)
     → TellsOnce (AnswersSeen seen (tells set)) → IsUnique (Longest reading seen tells set bounds)

@@ -1,4 +1,4 @@
--- What holds of the runs of takes of members.
+-- Laws of `take_while`.
 use Rattle.std.specs.Prelude.{◌≡◌, Bool, ℕ, List, ◌++◌, Option, false, true, Err}
 use Rattle.std.proofs.Common.{inl, inr, ap, sym, subst, ◌∙◌, append_assoc, ◌⊎◌}
 use Rattle.streams.specs.Input.{Input, IsEndOf, takes_end}
@@ -13,7 +13,7 @@ use Rattle.stream_sets.specs.Longest.{IsLongest}
 use Rattle.winnow_core.specs.Stable.Grows.{not_whole, Stays, final_by}
 use Rattle.winnow_core.specs.Stable.Longer.{same_more, takes_more}
 
--- they leave an end
+-- every call leaves a suffix
 pub take_while_ends : {T L : Type 0} (reading : Reading T L) (form : ErrorForm)
     (member : T → Bool → Type 0) (bounds : Bounds) (i : Input T)
     (answer : Answer L) (j : Input T)
@@ -54,14 +54,14 @@ longest_more member greatest tokens front rest more ended longest = record {
   ];
 }
 
--- on a cut input it is ended
+-- on partial input the prefix cannot be extended
 pub ended_of : {T : Type 0} (member : T → Bool → Type 0) (greatest : Option ℕ) (front rest : List T)
     {flag : Bool} → flag ≡ true → IsEnded member greatest front rest ⊎ (flag ≡ false)
     → IsEnded member greatest front rest
 ended_of member greatest front rest is_cut (inl ended) = ended
 ended_of member greatest front rest is_cut (inr whole) = not_whole is_cut whole
 
--- on a cut input, runs of a final answer are runs on each longer one
+-- a final result on partial input is also a result on every longer input
 pub take_while_stays : {T L : Type 0} (reading : Reading T L) (member : T → Bool → Type 0)
     (bounds : Bounds) → Stays (TakeWhileRuns reading modal member bounds)
 take_while_stays reading member bounds more flag i answer j is_cut final

@@ -1,4 +1,4 @@
--- What takes by set say that they do.
+-- The specification of `take_while`.
 use Rattle.std.specs.Prelude.{◌≡◌, ◌⊎◌, ◌<◌, ◌≤◌, ◌+◌, ⊤, ℕ, Bool, true, false, List, [], ◌∷◌}
 use Rattle.std.specs.Prelude.{◌++◌, length, Option, Some}
 use Rattle.std.specs.List.{All}
@@ -45,7 +45,7 @@ bounds_law bounds law =
     cases_law misused_law (given_law law) (λ at tokens x y ((most, is, below), e) (within, d).
     absurd (omega (arith, within_is is within, below)))
 
--- It ends there whatever comes, or nothing comes.
+-- More input cannot extend the prefix, or the input is complete.
 abbrev pub IsOver : {T : Type 0} → (T → Bool → Type 0) → Option ℕ → Setting → List T → List T
     → Type 0
 IsOver member greatest at front rest = IsEnded member greatest front rest ⊎ (at.more ≡ false)
@@ -54,7 +54,7 @@ IsOver member greatest at front rest = IsEnded member greatest front rest ⊎ (a
 abbrev pub MayGoOn : {T : Type 0} → (T → Bool → Type 0) → Bounds → Setting → List T → Type 0
 MayGoOn member bounds at tokens = IsOpen member bounds.greatest tokens × (at.more ≡ true)
 
--- The longest beginning of members has enough of them, and a slice shows it.
+-- The longest prefix of members has enough of them, and a slice shows it.
 abbrev pub HasEnough : {T L : Type 0} → Reading T L → (T → Bool → Type 0) → Bounds → L → Case T
 HasEnough {T} reading member bounds slice at tokens rest =
     (front : List T) × IsLongest member bounds.greatest tokens front rest
@@ -67,7 +67,7 @@ HasTooFew {T} member bounds at tokens =
     (front : List T) × (rest : List T) × IsLongest member bounds.greatest tokens front rest
     × IsOver member bounds.greatest at front rest × (length front < bounds.least)
 
--- More is asked for; or the longest beginning of members is taken; or it has too few.
+-- It returns `Incomplete`; or takes the longest prefix of members; or that has too few members.
 abbrev pub TakeWhileDoes : {T L : Type 0} → Reading T L → (T → Bool → Type 0) → Bounds → Does T L
 TakeWhileDoes reading member bounds =
     OneCase
@@ -90,7 +90,6 @@ below_is {n = n} e within =
 
 module _ {T : Type 0} (member : T → Bool → Type 0) (greatest : Option ℕ)
     (once : TellsOnce member) where
-  -- two longest beginnings of members are the same
   one_beginning : {tokens : List T} (f g : List T) {rest more : List T}
       → IsLongest member greatest tokens f rest → IsLongest member greatest tokens g more → f ≡ g
   one_beginning f g {rest} {more} a b =
@@ -119,7 +118,7 @@ module _ {T : Type 0} (member : T → Bool → Type 0) (greatest : Option ℕ)
 
 module _ {T L : Type 0} (reading : Reading T L) (member : T → Bool → Type 0) (bounds : Bounds)
     (once : TellsOnce member) where
-  -- where it may go on it does not end
+  -- a prefix that can be extended is not over
   open_over : (at : Setting) (tokens front rest : List T) → MayGoOn member bounds at tokens
       → IsLongest member bounds.greatest tokens front rest
       → IsOver member bounds.greatest at front rest → ⊥

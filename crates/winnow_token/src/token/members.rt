@@ -59,15 +59,15 @@ impl<T, S: ContainsToken<T>> TokenTest<T> for Outside<'_, S> {
     }
 }
 
-/// How many members stand first, and the offset after them where they end there whatever more
-/// input comes.
+/// The number of members at the start of the input, and the offset after them if more input cannot
+/// extend them.
 #[derive(Clone, Copy)]
 struct Members {
     count: usize,
     end: Option<usize>,
 }
 
-/// Takes the longest beginning of members of `set`.
+/// Takes the longest prefix of members of `set`.
 #[inline(always)]
 pub(crate) fn take_members<S: ContainsToken<I::Token>, I: StreamIsPartial, E: ParserError<I>>(
     input: &mut I,
@@ -87,7 +87,7 @@ pub(crate) fn take_members<S: ContainsToken<I::Token>, I: StreamIsPartial, E: Pa
     }
 }
 
-/// Takes the longest beginning of members, of none or more, or of one or more.
+/// Takes the longest prefix of members, of at least `least` (0 or 1) tokens.
 #[inline(always)]
 fn take_unbounded<S: ContainsToken<I::Token>, I: StreamIsPartial, E: ParserError<I>>(
     input: &mut I,
@@ -105,7 +105,7 @@ fn take_unbounded<S: ContainsToken<I::Token>, I: StreamIsPartial, E: ParserError
     take_found(input, end, is_enough, least)
 }
 
-/// Takes the longest beginning of at most `greatest` members.
+/// Takes the longest prefix of at most `greatest` members.
 #[inline(always)]
 fn take_bounded<S: ContainsToken<I::Token>, I: StreamIsPartial, E: ParserError<I>>(
     input: &mut I,
@@ -126,7 +126,7 @@ fn take_bounded<S: ContainsToken<I::Token>, I: StreamIsPartial, E: ParserError<I
     take_found(input, members.end, least <= members.count, least)
 }
 
-/// Takes what stands before `end`; where that is not known, all of a whole input.
+/// Takes the input up to `end`; if that is unknown, all of complete input.
 #[inline(always)]
 fn take_found<I: StreamIsPartial, E: ParserError<I>>(
     input: &mut I,
@@ -151,7 +151,7 @@ fn take_found<I: StreamIsPartial, E: ParserError<I>>(
     }
 }
 
-/// Counts the members that stand first, up to `greatest`.
+/// Counts the members at the start of the input, up to `greatest`.
 #[inline(always)]
 fn count_members<S: ContainsToken<I::Token>, I: Stream>(
     input: &I,

@@ -13,7 +13,7 @@ use streams::needed::Needed;
 use streams::stream::{Stream, StreamIsPartial};
 use winnow_core::short::short;
 
-/// Takes what stands before the first match of `literal`.
+/// Takes the input up to the first match of `literal`.
 #[inline(always)]
 pub(crate) fn take_before<T: Copy, I: StreamIsPartial + FindSlice<T>, E: ParserError<I>>(
     input: &mut I,
@@ -32,7 +32,7 @@ pub(crate) fn take_before<T: Copy, I: StreamIsPartial + FindSlice<T>, E: ParserE
     }
 }
 
-/// Takes what stands before the first match, of none or more tokens, or of one or more.
+/// Takes the input up to the first match, of at least `least` (0 or 1) tokens.
 #[inline(always)]
 fn take_before_unbounded<T: Copy, I: StreamIsPartial + FindSlice<T>, E: ParserError<I>>(
     input: &mut I,
@@ -56,7 +56,7 @@ fn take_before_unbounded<T: Copy, I: StreamIsPartial + FindSlice<T>, E: ParserEr
     }
 }
 
-/// Takes what stands before the first match, of `least` to `greatest` tokens.
+/// Takes the input up to the first match, of `least` to `greatest` tokens.
 #[inline(always)]
 fn take_before_bounded<T: Copy, I: StreamIsPartial + FindSlice<T>, E: ParserError<I>>(
     input: &mut I,
@@ -85,7 +85,7 @@ fn take_before_bounded<T: Copy, I: StreamIsPartial + FindSlice<T>, E: ParserErro
     }
 }
 
-/// Whether at least `count` tokens stand before `offset`, in units.
+/// Returns whether at least `count` tokens precede `offset`, which is in units.
 #[inline(always)]
 fn is_at_least<I: Stream>(input: &I, count: usize, offset: usize) -> bool
     ensures { SaysAtLeast I.reading.units (I.view input.now).left.tokens count offset result }
@@ -96,7 +96,7 @@ fn is_at_least<I: Stream>(input: &I, count: usize, offset: usize) -> bool
     }
 }
 
-/// Whether at most `count` tokens stand before `offset`, in units.
+/// Returns whether at most `count` tokens precede `offset`, which is in units.
 #[inline(always)]
 fn is_at_most<I: Stream>(input: &I, count: usize, offset: usize) -> bool
     ensures { SaysAtMost I.reading.units (I.view input.now).left.tokens count offset result }

@@ -7,7 +7,6 @@ use Rattle.example_booleans.specs.Booleans.{ByteItem, infix_at, logic_value, not
 use Rattle.example_booleans.specs.Booleans.{operand_at, postfix_at, prefix_at}
 use Rattle.example_booleans.proofs.statements.formula.Goals as goal
 
--- an error backtracks or is out of memory, whatever else is said of it
 soft : {O E : Type 0} (kind : E → Kind) (also : E → Type 0) (result : Result O E)
     → IfErr result (λ e. (kind e ≡ memory) ⊎ ((kind e ≡ backtrack) × also e))
     → IfErr result (λ e. (kind e ≡ memory) ⊎ (kind e ≡ backtrack))

@@ -1,7 +1,7 @@
 use Rattle.std.proofs.Common.{◌+◌}
 use Rattle.examples.proofs.brackets.+fn-read_brackets-item+read_brackets.Given as goal
 
--- brackets call for those of one level less
+-- Each recursive call is one nesting depth lower.
 abbrev pub decreases-item : goal.decreases-item
 decreases-item g l = l.below + l.below + 2
 

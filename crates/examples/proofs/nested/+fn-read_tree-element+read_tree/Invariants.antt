@@ -1,7 +1,7 @@
 use Rattle.std.proofs.Common.{◌+◌}
 use Rattle.examples.proofs.nested.+fn-read_tree-element+read_tree.Given as goal
 
--- a tree calls for trees of one level less
+-- Each recursive call is one nesting depth lower.
 abbrev pub decreases-element : goal.decreases-element
 decreases-element g l = l.below + l.below + 2
 

@@ -1,18 +1,8 @@
-use Rattle.std.specs.Prelude.{◌≡◌}
-use Rattle.winnow.specs.Begun.{AsksExactly}
-use Rattle.winnow.specs.Begun.Words.{Begun}
-use Rattle.winnow.specs.Form.{Answer}
-use Rattle.winnow.specs.Input.{Input}
 use Rattle.winnow.specs.InTurn.{told_by}
 use Rattle.examples.proofs.options.in_brackets.Goals as goal
 
--- what is said of tokens by some words is said by the same words
-asks_by_words : {T O : Type 0} {begun words : Begun T} {i : Input T} {answer : Answer O}
-    → AsksExactly begun i answer → begun ≡ words → AsksExactly words i answer
-asks_by_words {T} {O} {begun} {words} {i} {answer} asks e = rw e at asks
-
 pub returns-clause-reads : goal.returns-clause-reads
-returns-clause-reads g c = told_by c.read_asking.ensures.reads (rw (
+returns-clause-reads g c = told_by c.read_cut.ensures.reads (rw (
   c.delimited.ensures.ignored1,
   c.delimited.ensures.parser,
   c.delimited.ensures.ignored2,
@@ -22,13 +12,15 @@ returns-clause-reads g c = told_by c.read_asking.ensures.reads (rw (
   c.from.ensures,
 ))
 
-pub returns-clause-asks : goal.returns-clause-asks
-returns-clause-asks g c is possible = asks_by_words (c.read_asking.ensures.asks is possible) (rw (
-  c.delimited.ensures.ignored1,
-  c.delimited.ensures.parser,
-  c.delimited.ensures.ignored2,
-  c.separated.ensures.occurrences,
-  c.separated.ensures.parser,
-  c.separated.ensures.separator,
-  c.from.ensures,
-))
+pub returns-clause-tells : goal.returns-clause-tells
+returns-clause-tells g c is =
+    let told = rw (
+      c.delimited.ensures.ignored1,
+      c.delimited.ensures.parser,
+      c.delimited.ensures.ignored2,
+      c.separated.ensures.occurrences,
+      c.separated.ensures.parser,
+      c.separated.ensures.separator,
+      c.from.ensures,
+    ) at c.read_cut.ensures.tells in
+    told (tt, (is, tt), tt)

@@ -10,5 +10,5 @@ returns-in-Ok-clause-value c e =
 
 pub returns-in-Ok-clause-refused : goal.returns-in-Ok-clause-refused
 returns-in-Ok-clause-refused c e =
-    let P : List ℕ → Type 0 = λ text. IsFormulaFault text (Refused c.read.new.out.place) in
+    let P : List ℕ → Type 0 = λ text. IsFormulaFault text (Refused c.read.new.out.error_offset) in
     (c.in-Ok.ensures.cases.1, subst P c.in-Ok.ensures.cases.0 (c.read.ensures.refused e))

@@ -9,7 +9,7 @@ returns-in-Some-clause-item c _ = record {
   rest = _;
   kind = c.kind_of.result;
   is_next = c.in-Some.ensures.found;
-  is_kind = c.kind_of.ensures c.args.levels c.in-Some.ensures.found.longest.is;
+  is_kind = c.kind_of.ensures c.args.max_depth c.in-Some.ensures.found.longest.is;
   is_number = c.number_of.ensures;
   place = next_stands _ _ _ _ _ c.in-Some.ensures.found refl refl;
 }

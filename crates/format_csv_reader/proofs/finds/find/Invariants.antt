@@ -1,4 +1,4 @@
--- What was looked at is of the bytes that are held, and these grew by what was read.
+-- Loop invariant: the extent is of the bytes held, which grew by the bytes read.
 use Rattle.std.proofs.Common.{◌-◌, ◌^◌, length}
 use Rattle.format_csv_records.specs.Extents.{IsOf}
 use Rattle.format_csv_reader.specs.Finds.{IsSmall}

@@ -1,4 +1,4 @@
--- The bytes that are held grew by what was read.
+-- Loop invariant: the bytes held grew by the bytes read.
 use Rattle.std.proofs.Common.{◌-◌, ◌^◌, length}
 use Rattle.format_csv_reader.specs.Held.{Grew}
 use Rattle.format_csv_reader.proofs.mark.fill_to.Given as goal

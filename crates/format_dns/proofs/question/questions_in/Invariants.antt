@@ -2,7 +2,7 @@ use Rattle.std.proofs.Common.{length, ◌≤◌, ◌-◌}
 use Rattle.format_dns.specs.Questions.{IsQuestion, Rows}
 use Rattle.format_dns.proofs.question.questions_in.Given as goal
 
--- the list has what was read so far, and no more than is wanted
+-- the list holds the entries read so far, at most as many as requested
 abbrev pub invariant-loop-alloc : goal.invariant-loop-alloc
 invariant-loop-alloc g l =
     Rows (λ place question. IsQuestion l.fn.message l.fn.pointers place question)

@@ -3,7 +3,7 @@ use Rattle.format_dns.specs.Questions.{Rows}
 use Rattle.format_dns.specs.Records.{IsRecord}
 use Rattle.format_dns.proofs.record.records_in.Given as goal
 
--- the list has what was read so far, and no more than is wanted
+-- the list holds the entries read so far, at most as many as requested
 abbrev pub invariant-loop-section : goal.invariant-loop-section
 invariant-loop-section g l =
     Rows (λ place it. IsRecord l.fn.message l.fn.pointers place it)

@@ -4,7 +4,7 @@ use Rattle.format_json.specs.Layout.{LaidMember, LaidValue}
 use Rattle.format_json_writer.specs.Added.{Adds}
 use Rattle.format_json.proofs.layout.+lay.Given as goal
 
--- an array or an object calls for values of one level less
+-- Measure: the values of an array or an object have one level less.
 abbrev pub decreases-lay_items : goal.decreases-lay_items
 decreases-lay_items g l = 4 * l.level + 5
 

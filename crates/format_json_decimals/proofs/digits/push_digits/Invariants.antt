@@ -1,4 +1,4 @@
--- What is left goes on where the digits that were read end.
+-- Loop invariant: the remaining bytes continue the digits that were read.
 use Rattle.std.proofs.Common.{◌+◌, ◌≤◌, ℕ, List, length}
 use Rattle.format_json_decimals.specs.Reading.{Continues, IsReduced}
 use Rattle.format_json_decimals.proofs.digits.push_digits.Given as goal

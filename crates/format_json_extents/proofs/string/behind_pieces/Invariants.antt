@@ -1,4 +1,4 @@
--- A string goes on from here as from after its first quote.
+-- Loop invariant: the string ends from here where it ends from its first quote.
 use Rattle.std.proofs.Common.{length}
 use Rattle.format_json_extents.proofs.Leading.{Leads}
 use Rattle.format_json_extents.specs.Strings.{IsStringTail}

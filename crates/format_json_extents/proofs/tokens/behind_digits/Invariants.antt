@@ -1,4 +1,4 @@
--- Digits stand before here.
+-- Loop invariant: the bytes before here are digits.
 use Rattle.std.proofs.Common.{length}
 use Rattle.std.specs.List.{All}
 use Rattle.format_json_extents.specs.Number.{IsDigit}

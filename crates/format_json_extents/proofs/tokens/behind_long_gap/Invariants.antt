@@ -1,4 +1,4 @@
--- White space stands before here.
+-- Loop invariant: the bytes before here are whitespace.
 use Rattle.std.proofs.Common.{length}
 use Rattle.std.specs.List.{All}
 use Rattle.format_json_extents.specs.Value.{IsSpace}

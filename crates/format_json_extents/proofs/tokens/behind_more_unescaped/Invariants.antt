@@ -1,4 +1,4 @@
--- Bytes that stand for themselves stand before here.
+-- Loop invariant: the bytes before here are unescaped.
 use Rattle.std.proofs.Common.{length}
 use Rattle.std.specs.List.{All}
 use Rattle.format_json_extents.specs.Strings.{IsUnescaped}

@@ -1,5 +1,5 @@
--- What the pieces so far mean is written, and a string goes on from here as from after its first
--- quote.
+-- Loop invariant: the bytes that the pieces so far denote are written, and the string ends from
+-- here where it ends from its first quote.
 use Rattle.std.proofs.Common.{length}
 use Rattle.format_json_extents.proofs.Leading.{Leads}
 use Rattle.format_json_extents.proofs.Unescaping.{Wrote}

@@ -1,4 +1,4 @@
--- The items go on from here as from after the opening bracket.
+-- Loop invariant: the items end from here where they end from the opening bracket.
 use Rattle.std.proofs.Common.{◌+◌, ◌*◌, length}
 use Rattle.format_json_extents.proofs.Leading.{Leads}
 use Rattle.format_json_extents.specs.Value.{IsItemsTail, IsValue}

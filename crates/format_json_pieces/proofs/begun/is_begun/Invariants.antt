@@ -1,4 +1,4 @@
--- The bytes that are left go on as all of them do.
+-- Loop invariant: `IsBegun` of the remaining bytes is equivalent to that of all bytes.
 use Rattle.std.specs.Prelude.{◌≡◌, ◌↔◌, List, [], length}
 use Rattle.format_json_pieces.proofs.Opened.{kept}
 use Rattle.format_json_pieces.specs.Begun.{IsBegun}

@@ -1,4 +1,5 @@
--- Characters were read that the string holds, and an end of the input is left.
+-- Loop invariant: the string holds the characters that were read, and the rest is a suffix of the
+-- input.
 use Rattle.std.proofs.Common.{length}
 use Rattle.std.specs.Str.{chars}
 use Rattle.winnow.specs.Input.{IsEndOf}

@@ -1,7 +1,7 @@
 use Rattle.std.proofs.Common.{◌+◌}
 use Rattle.format_json_values.proofs.value.+fn-read_value-value+read_value.Given as goal
 
--- a value calls for values of one level less
+-- Measure: the values in a value have one level less.
 abbrev pub decreases-value : goal.decreases-value
 decreases-value g l = l.below + l.below + 2
 

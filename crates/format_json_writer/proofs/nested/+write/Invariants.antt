@@ -4,7 +4,7 @@ use Rattle.format_json_writer.specs.Built.{Behind}
 use Rattle.format_json_writer.specs.Compact.{CompactMember, CompactValue}
 use Rattle.format_json_writer.proofs.nested.+write.Given as goal
 
--- an array or an object calls for values of one level less
+-- Measure: the values of an array or an object have one level less.
 abbrev pub decreases-write_items : goal.decreases-write_items
 decreases-write_items g l = 4 * l.level + 5
 

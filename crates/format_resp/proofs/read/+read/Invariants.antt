@@ -6,14 +6,14 @@ use Rattle.winnow.specs.InTurn.Rows.{RowOf}
 use Rattle.format_resp.specs.Resp.{ReplyText}
 use Rattle.format_resp.proofs.read.+read.Given as goal
 
--- a reply calls for an aggregate of its level, and an aggregate for replies of one level less
+-- a reply calls an aggregate at its own depth, and an aggregate calls replies at a smaller one
 abbrev pub decreases-read_aggregate : goal.decreases-read_aggregate
 decreases-read_aggregate g l = l.level + l.level
 
 abbrev pub decreases-read_reply : goal.decreases-read_reply
 decreases-read_reply g l = l.level + l.level + 1
 
--- that many replies stand after the size
+-- this number of replies follows the size
 abbrev pub invariant-read_aggregate-loop : goal.invariant-read_aggregate-loop
 invariant-read_aggregate-loop g l =
     Stood bytes_reading bytes_follow (First (RowOf (ReplyText l.protocol l.inner) l.counter))

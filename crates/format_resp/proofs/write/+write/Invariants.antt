@@ -4,7 +4,7 @@ use Rattle.format_resp.specs.Written.{Adds, Keeps}
 use Rattle.format_resp.specs.Written.{WrittenText}
 use Rattle.format_resp.proofs.write.+write.Given as goal
 
--- an aggregate calls for elements of one level less, and these for replies of theirs
+-- an aggregate calls elements at a smaller depth, and these call replies at theirs
 abbrev pub decreases-write_elements : goal.decreases-write_elements
 decreases-write_elements g l = 3 * l.level + 3
 

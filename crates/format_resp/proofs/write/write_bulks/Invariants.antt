@@ -2,7 +2,7 @@ use Rattle.std.proofs.Common.{◌≡◌, ◌++◌, drop}
 use Rattle.format_resp.specs.Written.{Keeps, bulks_of}
 use Rattle.format_resp.proofs.write.write_bulks.Given as goal
 
--- what was put and what is left are all
+-- the parts appended and those that remain are all parts
 abbrev pub invariant-loop-part : goal.invariant-loop-part
 invariant-loop-part g l = record {
   told : l.into.items ++ bulks_of (drop l.part-index l.parts)

@@ -12,6 +12,6 @@ invariant-loop-behind g l =
     shadow (Utf8 l.left)
     × ((n : ℕ) × LinesBefore (A-type g.row.A) l.level n (chars l.text) (chars l.left))
 
--- each line but the last takes its line end
+-- each line but the last consumes its line ending
 abbrev pub decreases-loop-behind : goal.decreases-loop-behind
 decreases-loop-behind g l = length (chars l.left)

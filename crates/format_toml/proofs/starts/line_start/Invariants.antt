@@ -5,7 +5,7 @@ use Rattle.format_toml.specs.Expected.{LinesBefore}
 use Rattle.format_toml.specs.contracts.starts.line_start.{A-type}
 use Rattle.format_toml.proofs.starts.line_start.Given as goal
 
--- that many lines stand before what is left
+-- loop invariant: `counter` lines precede the rest
 abbrev pub invariant-loop : goal.invariant-loop
 invariant-loop g l =
     shadow (Utf8 l.left)

@@ -1,7 +1,7 @@
 use Rattle.std.proofs.Common.{◌+◌}
 use Rattle.format_toml.proofs.values.+value.Given as goal
 
--- a value calls for values of one level less
+-- Measure: the values in a value have one level less.
 abbrev pub decreases-read_array-value : goal.decreases-read_array-value
 decreases-read_array-value g l = l.below + l.below + l.below + l.below + l.below + 1
 

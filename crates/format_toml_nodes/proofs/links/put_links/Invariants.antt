@@ -3,7 +3,7 @@ use Rattle.format_toml_nodes.specs.Laying.{Each, Grows, Keeps, most, names_len, 
 use Rattle.format_toml_nodes.proofs.Elements.{LeadsSo}
 use Rattle.format_toml_nodes.proofs.links.put_links.Given as goal
 
--- what is below the places before this one says where it stands
+-- the nodes below the slots before this one have their position
 abbrev pub invariant-loop-parent : goal.invariant-loop-parent
 invariant-loop-parent g l = record {
   small : l.end ≤ most;

@@ -1,4 +1,4 @@
--- What a caller knows over bytes of tokens and takes by set.
+-- Lemmas for callers about single tokens and slices of a set, over bytes.
 use Rattle.std.specs.Prelude.{◌≡◌, ◌≤◌, ℕ, Bool, true, false, List, ◌∷◌, ◌++◌, length, None}
 use Rattle.std.specs.Borrow.{Bor}
 use Rattle.std.specs.List.{All}
@@ -29,14 +29,14 @@ pub token_of_stands : {X K : Type 0} (tells : X → K → Bool → Type 0) (set 
 unfolding TokenOf
 token_of_stands tells set tokens k rest is = is
 
--- and where the first byte is a member it stands
 pub stands_token_of : {X K : Type 0} (tells : X → K → Bool → Type 0) (set : X) (tokens : List K)
     (k : K) (rest : List K) → tells set k true → tokens ≡ k ∷ rest
     → TokenOf (λ t. t) tells set tokens k rest
 unfolding TokenOf
 stands_token_of tells set tokens k rest is e = (is, e)
 
--- Members of a set, at least that many, with none after them: the bytes are those and what is left.
+-- At least `least` members of a set, and no member after them: `tokens` are `front` and then
+-- `rest`.
 pub record IsRun {X K : Type 0} (tells : X → K → Bool → Type 0) (set : X) (least : ℕ)
     (tokens front rest : List K) : Type 0 where
   pub splits : tokens ≡ front ++ rest
@@ -44,7 +44,6 @@ pub record IsRun {X K : Type 0} (tells : X → K → Bool → Type 0) (set : X) 
   pub enough : least ≤ length front
   pub stops : (k : K) (more : List K) → rest ≡ k ∷ more → tells set k false
 
--- what is told of what is seen as itself
 seen_itself : {K : Type 0} (tells : K → Bool → Type 0) (k : K) (b : Bool)
     → AnswersSeen (λ t. t) tells k b → tells k b
 seen_itself {K} tells k b (t, is, told) = let P : K → Type 0 = λ u. tells u b in subst P is told
@@ -68,7 +67,6 @@ longest_stands {X} {K} tells set least tokens slice rest (front, longest, enough
       ];
     })
 
--- and where members stand so, a slice that shows them does
 pub stands_longest : {X K : Type 0} (tells : X → K → Bool → Type 0) (set : X) (least : ℕ)
     (tokens : List K) (slice : Bor (List K)) (rest : List K)
     → IsRun tells set least tokens slice.now rest

@@ -1,4 +1,4 @@
--- What stands before what is sought leaves one rest.
+-- Lemmas: the tokens up to a needle determine the rest.
 use Rattle.std.specs.Prelude.{◌≡◌, ◌⊎◌, ◌≤◌, ◌<◌, ℕ, List, [], ◌∷◌, ◌++◌, length}
 use Rattle.std.specs.Borrow.{Bor}
 use Rattle.std.proofs.Common.{refl, sym, ap, subst, inl, inr, ◌∙◌, arith, length-append}
@@ -29,7 +29,6 @@ longer {T} reading (x ∷ xs) (y ∷ ys) rest more e less =
       reading.units_add (x ∷ []) ys,
     ))
 
--- after beginnings of as many tokens the same is left
 pub same_behind : {T : Type 0} (f g rest more : List T) → length f ≡ length g
     → f ++ rest ≡ g ++ more → rest ≡ more
 same_behind [] [] rest more n e = e
@@ -38,7 +37,6 @@ same_behind (x ∷ f) [] rest more n e = absurd (omega (arith, n))
 same_behind (x ∷ f) (y ∷ g) rest more n e =
     same_behind f g rest more (omega (arith, n)) (same_others e)
 
--- a sought list stands after the front
 pub stands_behind : {T : Type 0} {sought : List T → Type 0} {tokens front rest : List T}
     → IsBefore sought tokens front rest
     → (hit : List T) × (more : List T) × Stands sought tokens front hit more
@@ -46,7 +44,6 @@ stands_behind {front = front} before =
     let (hit, more, is, e) = before.stands in
     (hit, more, record { splits = before.splits ∙ ap (λ l. front ++ l) e; is = is })
 
--- two fronts before the first place are as long
 pub as_long : {T : Type 0} {sought : List T → Type 0} {tokens f g rest more : List T}
     → IsBefore sought tokens f rest → IsBefore sought tokens g more → length f ≡ length g
 as_long {f = f} {g} a b =

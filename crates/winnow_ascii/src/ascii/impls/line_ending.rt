@@ -1,4 +1,4 @@
-//! A line end, with or without a carriage return.
+//! The implementation of `line_ending`.
 ghost use Rattle.std.specs.Prelude.{⊤, ◌<◌, ◌∷◌, []};
 ghost use Rattle.grammars.specs.Grammar.{SpelledBy};
 ghost use Rattle.grammars.specs.Grammar.Searches.{LineEnd};

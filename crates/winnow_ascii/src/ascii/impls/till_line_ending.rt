@@ -1,4 +1,4 @@
-//! What stands before a line end.
+//! The implementation of `till_line_ending`.
 ghost use Rattle.std.specs.Prelude.{⊤};
 ghost use Rattle.grammars.specs.Grammar.Searches.{Line};
 ghost use Rattle.winnow_core.specs.Exact.Allowed.{backs};

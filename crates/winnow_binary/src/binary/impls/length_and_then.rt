@@ -1,4 +1,4 @@
-//! A length, and a parser of that many tokens.
+//! The implementation of `length_and_then`.
 ghost use Rattle.streams.specs.Input.{IsEndOf};
 ghost use Rattle.grammars.specs.Grammar.Lengths.{Inside, SaysOne, Sized, sized_inside_takes};
 ghost use Rattle.stream_errors.specs.Form.{answer_by, modal};
@@ -97,8 +97,7 @@ impl<
     }
 }
 
-/// Runs a parser on that many tokens, which are taken, as an input of their own to which no more
-/// comes.
+/// Takes `count` tokens and runs `parser` on them as complete input.
 #[inline]
 fn parse_taken<P: Parser<I, O, E>, I: StreamIsPartial + UpdateSlice + Copy, O, E: ParserError<I>>(
     count: usize,
@@ -123,7 +122,7 @@ fn parse_taken<P: Parser<I, O, E>, I: StreamIsPartial + UpdateSlice + Copy, O, E
     }
 }
 
-/// Runs a parser, of which an error that asks for more input backtracks.
+/// Runs `parser` and turns `Incomplete` into a backtrack.
 #[inline(always)]
 fn parse_complete<P: Parser<I, O, E>, I: Stream, O, E: ParserError<I>>(
     parser: &mut P,

@@ -1,4 +1,4 @@
-//! A length, and that many items.
+//! The implementation of `length_repeat`.
 ghost use Rattle.grammars.specs.Grammar.Lengths.{SaysOne, Sized, Times, sized_times_takes};
 ghost use Rattle.stream_errors.specs.Form.{assert_kind, modal};
 ghost use Rattle.winnow_core.specs.Exact.Allowed.{fails_as, wanted, softly};

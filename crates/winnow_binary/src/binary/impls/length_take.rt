@@ -1,4 +1,4 @@
-//! A length, and that many tokens.
+//! The implementation of `length_take`.
 ghost use Rattle.grammars.specs.Grammar.{Counted};
 ghost use Rattle.grammars.specs.Grammar.Lengths.{SaysOne, Sized};
 ghost use Rattle.stream_errors.specs.Form.{modal};

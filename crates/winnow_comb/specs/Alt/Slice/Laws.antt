@@ -1,4 +1,4 @@
--- What holds of the runs of choices among the items of an array or a slice.
+-- Laws of `alt` over the items of an array or a slice.
 use Rattle.std.specs.Prelude.{◌≡◌, List, [], ◌∷◌, Err, Bool}
 use Rattle.std.proofs.Common.{refl, inl, inr}
 use Rattle.streams.specs.Input.{Input, Remaining, IsEndOf, back_at, is_end_of_back, is_end_of_trans}
@@ -12,7 +12,7 @@ use Rattle.winnow_comb.specs.Alt.Slice.{AltSliceRuns, Backtracked}
 use Rattle.winnow_core.specs.Stable.Longer.{same_grows}
 use Rattle.winnow_core.specs.Stable.Grows.{Grows, MayGrow}
 
--- Branches that backtracked, each back at the start, leave an end.
+-- Branches that backtracked, each from the start, leave a suffix.
 backtracked_ends : {S T L O : Type 0} (reading : Reading T L) (run : Runs S T O)
     → LeaveEnds reading run
     → (before : List S) (i : Input T) (ran : List S) (j : Input T) (start : Remaining T)
@@ -53,7 +53,7 @@ module _ {T : Type 0} {following : Following T} where
       others in
       ((with_more m more flag, q, rest), last)
 
-  -- they grow where those of the branch do
+  -- stable under longer input, if the branch is
   pub alt_slice_grows : {S O : Type 0} (run : Runs S T O) (asserted : Kind) → Grows following run
       → Grows following (AltSliceRuns run asserted)
   alt_slice_grows run asserted child more flag s i answer t j may final

@@ -1,4 +1,4 @@
--- What a choice among the items of an array or a slice says that it does.
+-- The specification of `alt` over the items of an array or a slice.
 use Rattle.std.specs.Prelude.{◌≡◌, ◌⊎◌, List, [], ◌∷◌}
 use Rattle.std.specs.List.{All}
 use Rattle.std.proofs.Common.{ap, inl, inr, ◌∙◌}

@@ -16,8 +16,8 @@ use stream_errors::parser_error::ParserError;
 use streams::stream::Stream;
 use winnow_core::parser::Parser;
 
-/// Branches that [`alt`](crate::combinator::alt) chooses among: a tuple of one to six parsers, or
-/// an array or a mutable slice of parsers of one type.
+/// The branches of [`alt`](crate::combinator::alt): a tuple of one to six parsers, or an array or a
+/// mutable slice of parsers of one type.
 ///
 /// ```
 /// let mut input = "b";
@@ -34,16 +34,16 @@ pub trait Alt<I: Stream, O, E: ParserError<I>> {
     // The state that they are in.
     ghost state: { Self → State };
 
-    // What the choice means: by the form of the errors, its runs.
+    // The semantics of the choice, by the form of errors.
     ghost meaning: { Meaning State I.Seen O };
 
-    // What the choice says that it does with tokens, from a state.
+    // The specified outcomes of the choice, from a state.
     ghost says: { State → Says I.Seen O };
 
-    // What the choice claims of its runs from a state.
+    // The specification of the choice by grammars, from a state.
     ghost claim: { State → Claim I.Seen O };
 
-    /// Runs the branches in order, each from the start, to the first answer that does not
+    /// Runs the branches in order, each from the start, and returns the first result that is not a
     /// backtrack.
     fn choice(&mut self, input: &mut I) -> Result<O, E>
         requires { can_choose self.old }
@@ -52,13 +52,13 @@ pub trait Alt<I: Stream, O, E: ParserError<I>> {
             (answer_by E.kind result) (state self.new) (I.view input.new) }
         ensures ends { IsEndOf I.reading (I.view input.new) (I.view input.old) };
 
-    // Each run leaves an end of its input.
+    // Every call leaves a suffix of its input.
     ghost leaves_ends: { (form : ErrorForm) → LeaveEnds I.reading (meaning form) };
 
-    // Its runs do what is said.
+    // The semantics satisfy `says`.
     ghost said: { (s : State) → Said (says s) s meaning };
 
-    // Its runs keep what is claimed.
+    // The semantics satisfy `claim`.
     ghost claimed: { (s : State) → Claimed (claim s) s meaning };
 }
 
@@ -109,8 +109,8 @@ impl<A: Alt<I, O, E>, I: Stream, O, E: ParserError<I>> Parser<I, O, E> for AltPa
     }
 }
 
-/// Runs a branch that is not the last one: its answer, or `None` where it backtracks, and then the
-/// input goes back to `start`, where it stands now.
+/// Runs a branch that is not the last and returns its result, or `None` if it backtracks; then the
+/// input is reset to `start`, its current position.
 #[inline(always)]
 pub(crate) fn attempt<I: Stream, O, E: ParserError<I>, P: Parser<I, O, E>>(
     branch: &mut P,

@@ -1,4 +1,4 @@
-//! The parser that takes nothing.
+//! The implementation of `empty`.
 ghost use Rattle.std.specs.Prelude.{⊤, ◌<◌};
 ghost use Rattle.grammars.specs.Grammar.{Nothing};
 ghost use Rattle.winnow_core.specs.Ends.{same_ends};

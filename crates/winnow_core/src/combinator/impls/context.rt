@@ -1,4 +1,4 @@
-//! Errors that are told what was being parsed.
+//! The implementation of `context`.
 ghost use Rattle.std.specs.Prelude.{◌≡◌};
 ghost use Rattle.stream_errors.specs.Form.{modal};
 ghost use Rattle.stream_errors.specs.Given.{Keeping};

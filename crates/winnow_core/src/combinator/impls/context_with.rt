@@ -1,4 +1,4 @@
-//! Errors that are told what was being parsed by a closure.
+//! The implementation of `context_with`.
 ghost use Rattle.std.specs.Iterator.{IsFinite};
 ghost use Rattle.std.specs.Prelude.{◌≡◌};
 ghost use Rattle.stream_errors.specs.Form.{modal};

@@ -1,4 +1,4 @@
-//! Default values in the place of outputs.
+//! The implementation of `default_value`.
 ghost use Rattle.std.specs.Prelude.{◌≡◌};
 ghost use Rattle.grammars.specs.Grammar.{Made};
 ghost use Rattle.grammars.specs.Grammar.Unique.{made_of_takes};

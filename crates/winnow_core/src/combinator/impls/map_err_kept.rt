@@ -20,8 +20,8 @@ use streams::stream::Stream;
 
 /// The parser that [`Stable::map_err_kept`](crate::stable::Stable::map_err_kept) makes.
 ///
-/// It is stable where its child is. [`MapErr`](crate::combinator::impls::MapErr) is not: its
-/// closure may make a failure of a need of more input.
+/// It is stable if its child is. [`MapErr`](crate::combinator::impls::MapErr) is not: its closure
+/// may turn `Incomplete` into a failure.
 ///
 /// ```
 /// let mut digits = Digit1.map_err_kept(|error: ErrMode<EmptyError>| error);

@@ -14,7 +14,7 @@ use stream_errors::fault::ParseFault;
 use stream_errors::parser_error::ParserError;
 use streams::stream::Stream;
 
-/// What is left of an input, and where that began.
+/// The remaining input, and its start.
 #[derive(Drop)]
 pub(crate) struct Unread<I, C> {
     input: I,
@@ -54,7 +54,7 @@ impl<'p, P: Parser<I, O, E>, I: Stream, O, E: ParserError<I>> ParseIter<'p, P, I
 }
 
 impl<'p, P: Parser<I, O, E>, I: Stream, O: Drop, E: ParserError<I>> ParseIter<'p, P, I, O, E> {
-    /// The next item: one run of the parser, where something is left to be read.
+    /// Returns the next item from one call of the parser, if any input is unread.
     fn run(&mut self) -> Option<Result<O, ParseFault<I, E::Inner>>>
         requires callable { P.can_parse (parse_iter_parser self.old) }
         requires reached { IsReached I.reading (parse_iter_standing I.view I.seen self.old) }

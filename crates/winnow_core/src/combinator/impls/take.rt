@@ -1,4 +1,4 @@
-//! The slice that a parser read, in the place of its output.
+//! The implementation of the adapter `take`.
 ghost use Rattle.std.specs.Prelude.{◌≡◌, List, ◌++◌};
 ghost use Rattle.streams.specs.Input.{Ends};
 ghost use Rattle.grammars.specs.Grammar.{Taken};
@@ -84,7 +84,7 @@ impl<F: Parser<I, O, E>, I: Stream, O: Drop, E: ParserError<I>> Parser<I, I::Sli
     }
 }
 
-/// The slice from `start` to where the input stands, and stays.
+/// Returns the slice from `start` to the position of the input, without moving the input.
 #[inline(always)]
 pub(crate) fn slice_from<I: Stream>(start: &I::Checkpoint, input: &mut I) -> I::Slice
     requires { Ends I.reading (I.view input.old).left (I.seen start.now) }

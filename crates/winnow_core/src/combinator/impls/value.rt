@@ -1,4 +1,4 @@
-//! Values in the place of outputs.
+//! The implementation of `value`.
 ghost use Rattle.std.specs.Prelude.{◌≡◌};
 ghost use Rattle.grammars.specs.Grammar.{Made};
 ghost use Rattle.grammars.specs.Grammar.Unique.{made_of_takes};

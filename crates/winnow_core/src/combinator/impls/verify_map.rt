@@ -1,4 +1,4 @@
-//! Outputs made of outputs by a closure that may refuse them.
+//! The implementation of `verify_map`.
 ghost use Rattle.std.specs.Prelude.{◌≡◌};
 ghost use Rattle.grammars.specs.Grammar.{Made};
 ghost use Rattle.grammars.specs.Grammar.Outputs.{RejectsAll};

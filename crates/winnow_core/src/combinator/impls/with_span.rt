@@ -1,4 +1,4 @@
-//! Outputs with the places between which they were read.
+//! The implementation of `with_span`.
 ghost use Rattle.std.specs.Prelude.{◌≡◌};
 ghost use Rattle.grammars.specs.Grammar.{Made};
 ghost use Rattle.grammars.specs.Grammar.Unique.{made_of_takes};

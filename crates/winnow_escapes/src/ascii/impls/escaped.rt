@@ -1,4 +1,4 @@
-//! Text with escapes, and what it stands for.
+//! Text with escapes, and its unescaped value.
 ghost use Rattle.std.specs.Prelude.{◌≡◌, None};
 ghost use Rattle.stream_errors.specs.Form.{assert_kind, incomplete_kind, plain, modal};
 ghost use Rattle.winnow_core.specs.Stable.Grows.{grows, stays};

@@ -1,4 +1,4 @@
--- What a caller knows of numbers by their grammars.
+-- Lemmas about numbers by their grammars.
 use Rattle.std.specs.Prelude.{◌≡◌, ◌⊎◌, ◌≤◌, ◌<◌, ◌^◌, ℕ, List, [], ◌∷◌, ◌++◌}
 use Rattle.std.specs.Fmt.{decimal}
 use Rattle.std.proofs.Common.{refl, sym, ap, subst, inl, inr, ◌∙◌, arith}
@@ -12,12 +12,12 @@ use Rattle.winnow_numbers.specs.Digits.{NoneFirst, value_in}
 use Rattle.winnow_numbers.specs.Digits.Known.{own_characters, same_characters}
 use Rattle.winnow_numbers.specs.Numeral.Grammar.{Decimal}
 
--- no digit stands first
+-- the tokens do not start with a digit
 abbrev pub NoDigitFirst : List ℕ → Type 0
 NoDigitFirst tokens = (d : ℕ) (more : List ℕ) → tokens ≡ d ∷ more → IsDecDigit d → ⊥
 
--- What `{}` writes of a number below the bound is first, and no digit stands after it, but after
--- that of 0.
+-- The tokens start with the output of `{}` for a number below the bound. No digit follows it,
+-- except after that of 0.
 unfoldable pub Written : {N : Type 0} → (N → ℕ) → ℕ → Grammar ℕ N
 Written number bound tokens n rest =
     (tokens ≡ decimal (number n) ++ rest) × ((number n ≡ 0) ⊎ NoDigitFirst rest)

@@ -1,4 +1,4 @@
--- What a caller knows of numbers with a sign by their grammar.
+-- Lemmas about numbers with a sign by their grammar.
 use Rattle.std.specs.Prelude.{◌≡◌, ◌⊎◌, ◌<◌, ◌^◌, ℕ, ℤ, pos, negsuc, neg_ℤ, List, [], ◌∷◌, ◌++◌}
 use Rattle.std.specs.Prelude.{FitsSigned, unsigned_abs, ◌≤◌}
 use mir.Syntax.{Width}
@@ -22,8 +22,8 @@ abbrev pub WithPlus : ℤ → List ℕ → List ℕ → Type 0
 WithPlus z tokens rest =
     (m : ℕ) × (0 < m) × (z ≡ pos m) × (tokens ≡ 43 ∷ (decimal m ++ rest))
 
--- What `{}` writes of a number that fits is first, or that of a positive one after a '+'; and no
--- digit stands after it, but after that of 0.
+-- The tokens start with the output of `{}` for a number that fits, or with that of a positive one
+-- after a '+'. No digit follows it, except after that of 0.
 unfoldable pub SignedWritten : {N : Type 0} → (N → ℤ) → (ℤ → Type 0) → Grammar ℕ N
 SignedWritten number fits tokens n rest =
     ((tokens ≡ signed_decimal (number n) ++ rest) ⊎ WithPlus (number n) tokens rest)

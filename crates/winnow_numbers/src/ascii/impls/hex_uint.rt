@@ -23,7 +23,8 @@ use winnow_core::parser::Parser;
 use winnow_core::stable::Stable;
 
 pub(crate) mod sealed {
-    /// What only this crate can pass to [`max_nibbles`](crate::ascii::impls::HexUint::max_nibbles).
+    /// A value that only this crate can pass to
+    /// [`max_nibbles`](crate::ascii::impls::HexUint::max_nibbles).
     #[derive(Clone, Copy)]
     pub struct SealedMarker;
 }
@@ -44,8 +45,8 @@ pub trait HexUint: Default {
     fn max_nibbles(_marker: SealedMarker) -> usize
         ensures { result ≡ nibbles };
 
-    /// The number times 16, plus a digit. The caller owes a digit below 16, and that the result
-    /// fits.
+    /// Returns the number times 16, plus a digit. The digit must be below 16, and the result must
+    /// fit.
     fn push_nibble(self, nibble: u8) -> Self
         requires digit { nibble < 16 }
         requires fits { 16 * number self + nibble < 16 ^ nibbles }

@@ -1,4 +1,4 @@
-//! Parsers after which one goes on where they could not parse.
+//! Parsers that resume after an error.
 #![tactic(auto, using(streams::specs::Ends::ends_follow))]
 
 ghost use Rattle.std.specs.Prelude.{◌≡◌, true};
@@ -19,17 +19,18 @@ use stream_errors::recoverable::FromRecoverableError;
 use winnow_core::parser::Parser;
 
 /// The parser that
-/// [`RecoveringParser::resume_after`](crate::parser::RecoveringParser::resume_after) makes.
+/// [`RecoveringParser::resume_after`](crate::parser::RecoveringParser::resume_after) returns.
 ///
-/// Over a stream that records errors it runs its parser once, and answers its output in `Some`. An
-/// error that backtracks or cuts leaves the input where it arose, and there the parser that
-/// recovers is run. Where that succeeds, whether it consumes or not, the error is recorded, and
-/// `None` is answered. Where it fails, the input goes back to where the error arose, and that is
-/// answered; where it, or the list of errors, finds no memory, the input goes back there too, and
-/// want of memory is answered. An error for want of more input, or of memory, of the parser itself
-/// is handed on.
+/// Over a stream that records errors it runs its parser once, and returns its output in `Some`. An
+/// error that backtracks or cuts leaves the input where it arose, and the recovering parser is run
+/// there. If that succeeds, whether it consumes or not, the error is recorded, and the output is
+/// `None`.
 ///
-/// Over another stream only the parser is run, and its output answered in `Some`.
+/// If it fails, the input is reset to where the error arose, and that error is returned. If it, or
+/// the list of errors, fails to allocate, the input is reset too, and the error is out of memory.
+/// If the parser itself fails with incomplete or out of memory, that error is returned unchanged.
+///
+/// Over another stream only the parser is run, and its output is returned in `Some`.
 ///
 /// ```
 /// let mut input: Recoverable<&str, EmptyError> = Recoverable::new(alloc, "x,2");

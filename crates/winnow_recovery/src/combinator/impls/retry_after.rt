@@ -19,14 +19,16 @@ use stream_errors::recoverable::FromRecoverableError;
 use winnow_core::parser::Parser;
 
 /// The parser that [`RecoveringParser::retry_after`](crate::parser::RecoveringParser::retry_after)
-/// makes.
+/// returns.
 ///
 /// Over a stream that records errors it tries its parser until that succeeds. A try that backtracks
-/// or cuts leaves the input where it failed, and there the parser that recovers is run. Where that
-/// succeeds and consumes, the error is recorded and the parser tried again. Where it fails, or
-/// consumes nothing, the input goes back to where the error arose, and that is answered; where it,
-/// or the list of errors, finds no memory, the input goes back there too, and out of memory is
-/// answered. An error for want of more input, or of memory, of the parser itself is handed on.
+/// or cuts leaves the input where it failed, and the recovering parser is run there. If that
+/// succeeds and consumes input, the error is recorded and the parser is tried again.
+///
+/// If it fails, or consumes nothing, the input is reset to where the error arose, and that error is
+/// returned. If it, or the list of errors, fails to allocate, the input is reset too, and the error
+/// is out of memory. If the parser itself fails with incomplete or out of memory, that error is
+/// returned unchanged.
 ///
 /// Over another stream only the parser is run.
 ///

@@ -1,4 +1,4 @@
--- What repetitions up to a terminator do is lawful.
+-- Lemmas: outcomes of repetitions up to a terminator are lawful.
 use Rattle.std.specs.Prelude.{◌≡◌, ◌<◌, ℕ, List, [], ◌∷◌, ◌++◌, length, Option, Some}
 use Rattle.std.proofs.Common.{refl, sym, subst, inl, inr}
 use Rattle.stream_sets.specs.Accumulator.{Accumulator}

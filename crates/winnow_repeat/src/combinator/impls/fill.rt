@@ -59,7 +59,7 @@ impl<'b, P: Stable<I, O, E>, I: Stream, O: Drop, E: ParserError<I>> Stable<I, ()
     fn stay() {}
 }
 
-/// Overwrites each element of a buffer by the output of a run.
+/// Overwrites each element of a buffer with the output of a call.
 fn fill_each<P: Parser<I, O, E>, I: Stream, O: Drop, E: ParserError<I>>(
     parser: &mut P,
     buffer: &mut [O],

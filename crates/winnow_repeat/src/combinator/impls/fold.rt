@@ -177,7 +177,7 @@ impl<
     fn stay() {}
 }
 
-/// Folds one item or more: the value to begin with is made after the first.
+/// Folds one or more items: the value is created after the first.
 fn fold_one<
     P: Parser<I, O, E>,
     G: FnMut() -> R,

@@ -39,7 +39,7 @@ pub struct ParserIterator<'i, P, I, O, E> {
 }
 
 impl<'i, P: Parser<I, O, E>, I: Stream, O: Drop, E: ParserError<I>> ParserIterator<'i, P, I, O, E> {
-    /// The next item: one run of the parser, where none has stopped the iterator.
+    /// Returns the next item from one call of the parser, unless the iterator has stopped.
     fn run(&mut self) -> Option<O>
         requires { P.can_parse (iterator_parser self.old) }
         ensures again { P.can_parse (iterator_parser self.new) }
@@ -85,8 +85,10 @@ impl<'i, P: Parser<I, O, E> + Drop, I: Stream, O, E: ParserError<I>> ParserItera
     O,
     E,
 > {
-    /// The error that stopped the iterator, if one did; else `Ok`, also where it gives more items.
-    /// The input is left where the last call left it.
+    /// Returns the error that stopped the iterator, if there is one.
+    ///
+    /// Otherwise it returns `Ok`, also if the iterator could yield more items. The input is left
+    /// where the last call left it.
     pub fn finish(self) -> Result<(), E>
         ensures answer { answer_by E.kind result
             ≡ finish_answer (iterator_standing E.kind self.entry) }

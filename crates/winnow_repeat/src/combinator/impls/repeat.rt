@@ -50,11 +50,11 @@ pub struct Repeat<P, I, O, C, E, A> {
 }
 
 impl<P: Parser<I, O, E>, I: Stream, O, E: ParserError<I>, A: Drop> Repeat<P, I, O, (), E, A> {
-    /// Folds the outputs into a value: `init` makes it, and `op` takes each output in, in order.
+    /// Folds the outputs in order into a value, which `init` creates, with `op`.
     ///
-    /// It ends and fails as the repetition does, and takes no memory. In the form `1..` the value
-    /// is made after the first item, and else first. Known as `fold_many0` and `fold_many1` in
-    /// nom.
+    /// It ends and fails like the repetition, and does not allocate. In the form `1..` the value is
+    /// created after the first item, and otherwise before it. Known as `fold_many0` and
+    /// `fold_many1` in nom.
     ///
     /// ```
     /// let digit = Any.verify_map(|letter: char| letter.to_digit(10));
@@ -75,8 +75,9 @@ impl<P: Parser<I, O, E>, I: Stream, O, E: ParserError<I>, A: Drop> Repeat<P, I, 
         RepeatFold::new(self.occurrences, self.parser, init, op)
     }
 
-    /// As [`fold`](Repeat::fold), but `op` may refuse an output by `None`: then it backtracks, and
-    /// the input stands before the refused item. The value is made first, in each form.
+    /// Like [`fold`](Repeat::fold), but `op` may reject an output by returning `None`. Then it
+    /// backtracks, and the input is left before the rejected item. The value is created first, in
+    /// every form.
     ///
     /// ```
     /// let digit = Any.verify_map(|letter: char| letter.to_digit(10));
@@ -99,8 +100,8 @@ impl<P: Parser<I, O, E>, I: Stream, O, E: ParserError<I>, A: Drop> Repeat<P, I, 
         RepeatVerifyFold::new(self.occurrences, self.parser, init, op)
     }
 
-    /// As [`verify_fold`](Repeat::verify_fold), but `op` says why it refuses an output: its error
-    /// is kept as [`FromExternalError`] says, and backtracks.
+    /// Like [`verify_fold`](Repeat::verify_fold), but `op` returns an error if it rejects an
+    /// output. The error is stored as [`FromExternalError`] specifies, and backtracks.
     ///
     /// ```
     /// let digit = Any.verify_map(|letter: char| letter.to_digit(10));
@@ -209,7 +210,7 @@ impl<
     fn stay() {}
 }
 
-/// Repeats once or more: the accumulator is made after the first item.
+/// Repeats one or more times: the accumulator is created after the first item.
 fn repeat_one<
     P: Parser<I, O, E>,
     I: Stream,

@@ -136,7 +136,7 @@ impl<
     fn stay() {}
 }
 
-/// Reads that many items into an accumulator, and lets them consume nothing.
+/// Parses `least` items into an accumulator. They may consume no input.
 fn least_items<
     P: Parser<I, O, E>,
     I: Stream,
@@ -164,8 +164,8 @@ fn least_items<
     Ok(all)
 }
 
-/// Tries the terminator, and reads an item where that backtracks, again and again: at most `room`
-/// items, into an accumulator.
+/// Tries the terminator, and parses an item if that backtracks, repeatedly: at most `room` items,
+/// into an accumulator.
 fn turns<
     P: Parser<I, O, E>,
     G: Parser<I, D, E>,

@@ -1,4 +1,4 @@
-//! Repetition whose outputs a closure folds into a value, or refuses.
+//! The implementation of `verify_fold`.
 ghost use Rattle.std.specs.Prelude.{◌≡◌};
 ghost use Rattle.stream_errors.specs.Form.{assert_kind, modal};
 ghost use Rattle.stream_sets.specs.declared.range.Range.{Range};
@@ -19,7 +19,7 @@ use streams::stream::Stream;
 use winnow_core::parser::Parser;
 use winnow_core::stable::Stable;
 
-/// A closure that folds each output into a value, or refuses it.
+/// A closure that folds each output into a value, or rejects it.
 #[derive(Drop)]
 pub(crate) struct Verified<H> {
     pub(crate) closure: H,

@@ -1,4 +1,4 @@
--- What elements with separators between them do is lawful.
+-- Lemmas: outcomes of elements with separators are lawful.
 use Rattle.std.specs.Prelude.{◌≡◌, ◌⊎◌, ◌<◌, ℕ, Bool, List, ◌∷◌, ◌++◌, length, Option, [], false}
 use Rattle.std.proofs.Common.{refl, sym, ap, subst, inl, inr, ◌∙◌, arith}
 use Rattle.stream_sets.specs.Accumulator.{Accumulator}
@@ -57,7 +57,7 @@ module _ {T O D : Type 0} {first other : Type 0} {alike : O → O → Type 0}
     );
   })) (λ is. is.1)
 
--- Where a separator takes nothing there is no link behind it.
+-- No link follows a separator that consumes no input.
 abbrev pub NoLink : {T U D : Type 0} → Does T U → Does T D → Type 0
 NoLink {T} {U} {D} link separator =
     (at : Setting) (tokens : List T) (d : D) (mid : List T) (x : Outcome T U)

@@ -1,4 +1,4 @@
--- What runs of links do.
+-- Outcomes of calls of links.
 use Rattle.std.specs.Prelude.{◌≡◌, ◌<◌, length, Ok, Err}
 use Rattle.std.proofs.Common.{refl, ap, inl, inr, ◌∙◌, arith}
 use Rattle.streams.specs.Input.{Input}
@@ -17,7 +17,7 @@ use Rattle.winnow_separated.specs.Separated.Does.{Behind, LinkDoes, NothingBetwe
 module _ {S W T O D : Type 0} {element : Does T O} {separator : Does T D} {s : S × W}
     {meaning : Meaning S T O} {between : Meaning W T D} (part : EachDoes element s.0 meaning)
     (mid : EachDoes separator s.1 between) where
-  -- the separator fails, or the element behind it does what it does
+  -- the separator fails, or the outcome is that of the element after it
   module _ {U : Type 0} (after : D → Does T U) (at : Setting) where
     separator_failed : (i : Input T) (k : Kind) (t : S × W) (j : Input T) → IsAt at i
         → between at.form s.1 i (Err k) t.1 j → t.0 ≡ s.0
@@ -78,7 +78,7 @@ module _ {S W T O D : Type 0} {element : Does T O} {separator : Does T D} {s : S
       did at i (Err k) t j is (inl (r, same)) =
           separator_failed (λ d. Then element (where_took (λ o. takes (d, o)))) at i k t j is r same
 
-  -- a separator that takes nothing
+  -- a separator that consumes no input
   pub nothing_did : {U : Type 0} (at : Setting) (i : Input T) (answer : Answer U) (t : S × W)
       (j : Input T) → IsAt at i → SeparatesNothing (between at.form) s i t j
       → answer ≡ Err (assert_kind at.form)

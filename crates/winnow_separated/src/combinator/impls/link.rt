@@ -15,8 +15,8 @@ pub(crate) struct Link<P, S> {
 }
 
 impl<P, S> Link<P, S> {
-    /// Runs the separator and, where that consumed, the parser of elements: both outputs, or `None`
-    /// where the separator consumed nothing.
+    /// Runs the separator and, if it consumed input, the parser of elements. Returns both outputs,
+    /// or `None` if the separator consumed no input.
     #[inline]
     pub(crate) fn run<I, O, D, E>(&mut self, input: &mut I) -> Result<Option<(D, O)>, E>
     where

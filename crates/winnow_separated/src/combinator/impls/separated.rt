@@ -127,7 +127,8 @@ impl<
     fn stay() {}
 }
 
-/// Reads elements into an accumulator, at least `least` and at most `greatest` if there is a bound.
+/// Parses elements into an accumulator, at least `least`, and at most `greatest` if there is a
+/// bound.
 fn separated_many<
     P: Parser<I, O, E>,
     S: Parser<I, D, E>,
@@ -163,7 +164,7 @@ fn separated_many<
     }
 }
 
-/// Reads the first element and links after it into an accumulator, at least `least` and at most
+/// Parses the first element and links after it into an accumulator, at least `least` and at most
 /// `greatest` elements.
 fn separated_elements<
     P: Parser<I, O, E>,
@@ -217,7 +218,7 @@ fn separated_elements<
     }
 }
 
-/// Reads links into an accumulator, at least `missing` and at most `room`.
+/// Parses links into an accumulator, at least `missing` and at most `room`.
 fn separated_links<
     P: Parser<I, O, E>,
     S: Parser<I, D, E>,

@@ -98,7 +98,7 @@ impl<
     fn stay() {}
 }
 
-/// Joins links to a first element, each as it is read, until one backtracks.
+/// Joins links to a first element, each as it is parsed, until one backtracks.
 fn join_left<
     P: Parser<I, O, E>,
     S: Parser<I, D, E>,

@@ -1,4 +1,4 @@
-//! All that is left.
+//! The implementation of `rest`.
 ghost use Rattle.std.specs.Prelude.{⊤};
 ghost use Rattle.grammars.specs.Grammar.{AllTokens};
 ghost use Rattle.winnow_core.specs.Exact.Allowed.{backs};

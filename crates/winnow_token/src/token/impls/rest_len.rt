@@ -1,4 +1,4 @@
-//! How much is left.
+//! The implementation of `rest_len`.
 ghost use Rattle.std.specs.Prelude.{⊤, ◌<◌, ◌≡◌};
 ghost use Rattle.grammars.specs.Grammar.{UnitsLeft};
 ghost use Rattle.winnow_core.specs.Ends.{same_ends};

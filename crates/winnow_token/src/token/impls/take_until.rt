@@ -1,4 +1,4 @@
-//! Takes of what stands before a literal.
+//! The implementation of `take_until`.
 ghost use Rattle.std.specs.Prelude.{◌<◌, ⊤};
 ghost use Rattle.stream_sets.specs.Range.{bounds_of, IsWithin};
 ghost use Rattle.stream_sets.specs.declared.range.Range.{Range};

@@ -17,7 +17,6 @@ returns-in-Ok-clause-whole c =
       ap (λ i. i.left.tokens) (sym c.new-input.ensures) ∙ read.0,
     )
 
--- that many bytes are missing
 lacking : (bytes : List ℕ) (i j : Input ℕ) (s t : ⊤) (k : Kind) (n : ℕ) → i.left.tokens ≡ bytes
     → i.status.cut ≡ true → FrameMeans s i (Err k) t j
     → ((m : ℕ) → k ≡ incomplete (Some m) → n ≡ m) → Lacks bytes n

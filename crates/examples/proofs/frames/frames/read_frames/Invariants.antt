@@ -1,5 +1,5 @@
--- What was read is the frames so far, and what is held: nothing after a frame, for which there was
--- room. The list of payloads has at least the room that it had.
+-- The bytes that were read are the frames so far, followed by the buffer. The buffer has nothing
+-- after a frame, and had room for it. The list of payloads has at least its original room.
 use Rattle.std.proofs.Common.{◌≡◌, ◌≤◌, ◌<◌, [], map}
 use Rattle.std.specs.Prelude.{vec_capacity}
 use Rattle.examples.specs.Frames.Frame.{ReadsFrames}

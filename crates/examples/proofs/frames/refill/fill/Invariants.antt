@@ -1,4 +1,4 @@
--- What is held is what was, and then what was read.
+-- The buffer holds its old contents, followed by the bytes that were read.
 use Rattle.std.proofs.Common.{◌≡◌, ◌≤◌, ◌-◌, ◌++◌, List, ℕ, length, take}
 use Rattle.std.specs.Io.KnownBytes.{Consumes}
 use Rattle.examples.specs.Frames.Frame.{IsOneAtMost}

@@ -1,4 +1,4 @@
--- What was interrupted read nothing.
+-- Interrupted reads consume no bytes.
 use Rattle.std.proofs.Common.{◌≡◌, [], take, length}
 use Rattle.std.specs.Io.KnownBytes.{Consumes}
 use Rattle.examples.proofs.frames.refill.read_missing.Given as goal

@@ -1,4 +1,4 @@
--- The bytes of the entries so far stand first.
+-- The invariant: the buffer starts with the bytes of the entries so far.
 use Rattle.std.proofs.Common.{◌≡◌, length, map, take}
 use Rattle.readers.specs.Sections.{pair_text}
 use Rattle.exported.specs.Ini.{text_of}

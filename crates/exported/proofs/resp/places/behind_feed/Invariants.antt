@@ -1,4 +1,4 @@
--- What stands after the first line feed is what stands after the first that is left.
+-- The invariant: the first line feed in the remaining bytes is the first line feed in the input.
 use Rattle.std.proofs.Common.{◌≡◌, ◌++◌, ◌∷◌, ℕ, List, length}
 use Rattle.format_resp.specs.Parts.{NoFeed}
 use Rattle.exported.proofs.resp.places.behind_feed.Given as goal

@@ -1,4 +1,4 @@
--- What was found and what is left have the elements of all.
+-- Loop invariant: the element found and the remaining parts have the elements of all parts.
 use Rattle.std.proofs.Common.{List, length, ℕ}
 use Rattle.std.specs.Prelude.{◌↔◌, ◌⊎◌}
 use Rattle.format_http.specs.Bodies.Lists.{HasElement, IsThe, parts_in, parts_of}

@@ -1,4 +1,4 @@
--- What was found and the fields that are left have the elements of all.
+-- Loop invariant: the length found and the remaining fields have the elements of all fields.
 use Rattle.std.proofs.Common.{List, drop, ℕ}
 use Rattle.std.specs.Prelude.{◌↔◌, ◌⊎◌, map}
 use Rattle.format_http.specs.Bodies.Lengths.{HasLength}

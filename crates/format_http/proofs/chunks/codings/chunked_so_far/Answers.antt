@@ -1,9 +1,8 @@
 use Rattle.std.proofs.Common.{ap, arith, sym, ◌∙◌}
 use Rattle.std.proofs.lemmas.Bool.Decides.{nat_tests}
-use Rattle.std.specs.Prelude.{List, ℕ}
-use Rattle.format_http.proofs.ChunksLemmas.Followed.{Follows, IsSame, coded_after, coded_part}
+use Rattle.format_http.proofs.ChunksLemmas.Followed.{coded_after, coded_part}
 use Rattle.format_http.proofs.ChunksLemmas.Followed.{empty_part, one_more}
-use Rattle.format_http.specs.Bodies.Lists.{parts_in, parts_of}
+use Rattle.format_http.specs.Bodies.Lists.{parts_in}
 use Rattle.winnow.specs.Equal.{true_is_false}
 use Rattle.format_http.proofs.chunks.codings.chunked_so_far.Goals as goal
 

@@ -1,4 +1,4 @@
--- What was the last coding so far, and the fields that are left, say what the last one is.
+-- Loop invariant: the last coding so far and the remaining fields determine the last coding.
 use Rattle.std.proofs.Common.{drop}
 use Rattle.std.specs.Prelude.{◌↔◌, map}
 use Rattle.format_http.proofs.ChunksLemmas.Codings.{Last}

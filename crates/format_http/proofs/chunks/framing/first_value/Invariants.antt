@@ -1,4 +1,4 @@
--- What is so of the fields that are left is so of all.
+-- Loop invariant: a property of the remaining fields holds for all fields.
 use Rattle.std.proofs.Common.{List, drop, ℕ}
 use Rattle.std.specs.Prelude.{map}
 use Rattle.format_http.specs.Chunks.Framing.{HasNone, HasValue}

@@ -1,4 +1,4 @@
--- The Host fields so far, and those of what is left, are those of all.
+-- Loop invariant: the Host fields so far and those of the remaining fields are those of all fields.
 use Rattle.std.proofs.Common.{◌+◌, ℕ, drop}
 use Rattle.std.specs.Prelude.{map, ◌≤◌}
 use Rattle.format_http.specs.Chunks.Refusals.{AreHosts}

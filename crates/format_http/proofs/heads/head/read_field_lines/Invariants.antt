@@ -1,4 +1,4 @@
--- Field lines were read, one after the other, and an end of the input is left.
+-- Loop invariant: consecutive field lines were read, and the input is left at a suffix.
 use Rattle.std.proofs.Common.{length}
 use Rattle.winnow.specs.Bytes.{bytes_input, bytes_reading}
 use Rattle.winnow.specs.Input.{IsEndOf}

@@ -2,7 +2,7 @@ use Rattle.std.proofs.Common.{◌≤◌, length}
 use Rattle.format_resp.specs.Extents.{Passed}
 use Rattle.format_resp.proofs.extent.Extent.walk.Given as goal
 
--- what is left is after what is passed
+-- the rest follows the bytes passed
 abbrev pub invariant-parts : goal.invariant-parts
 invariant-parts l =
     (length l.rest ≤ length l.bytes)

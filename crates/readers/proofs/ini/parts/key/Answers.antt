@@ -9,7 +9,7 @@ use Rattle.readers.proofs.PartRuns.{class_denies, class_of_key, class_says, key_
 use Rattle.readers.proofs.PartRuns.{key_of_class, no_front, took_front}
 use Rattle.readers.proofs.ini.parts.key.Goals as goal
 
--- the key that is read is the longest beginning of letters and digits
+-- the key is the longest prefix of letters and digits
 pub from_utf8_unchecked-requires : goal.from_utf8_unchecked-requires
 from_utf8_unchecked-requires c =
     let front =

@@ -1,4 +1,4 @@
--- What is gone from the rest was appended.
+-- The bytes that were removed from the rest were appended.
 use Rattle.std.proofs.Common.{◌≡◌, List, ℕ, ◌++◌}
 use Rattle.std.specs.Io.KnownBytes.{Appends}
 use Rattle.readers.proofs.program.bytes_io.put.Given as goal

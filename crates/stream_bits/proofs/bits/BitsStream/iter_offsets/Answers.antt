@@ -5,7 +5,6 @@ use Rattle.stream_bits.specs.BitList.{bits_of}
 use Rattle.stream_bits.specs.Offsets.{bytes_to_come, bytes_with_offsets, same_from_start}
 use Rattle.stream_bits.proofs.bits.BitsStream.iter_offsets.Goals as goal
 
--- as many bytes are to come as are left
 counted : (units : List ℕ → ℕ) (bytes : List ℕ) (given : List (ℕ × ℕ))
     → given ≡ with_offsets units 0 bytes → length given ≡ length bytes
 counted units bytes given e = ap (λ l. length l) e ∙ length-with_offsets units 0 bytes

@@ -17,7 +17,7 @@ neither true b e = absurd (cc)
 neither false b e = (refl, e)
 
 module _ (answers : ℕ → Bool → Type 0) where
-  -- none of these is one that is sought
+  -- no token of these is one that is searched for
   abbrev Without : List ℕ → Type 0
   Without xs = All (λ x. AnswersSeen (λ t. t) answers x false) xs
 
@@ -32,7 +32,6 @@ module _ (answers : ℕ → Bool → Type 0) where
       (All-more (λ x. AnswersSeen (λ t. t) answers x false) xs i 0 h none
       (get_or xs i 0, refl, not)) e
 
-  -- the first that is sought
   found : (xs : List ℕ) (i : ℕ) → i < length xs → Without (take i xs) → answers (get_or xs i 0) true
       → FindsFirst (AnswersSeen (λ t. t) answers) bytes_reading.units xs (Some i)
   found xs i h none is = (

@@ -1,7 +1,0 @@
-use Rattle.exported.proofs.Refusals.{refused_never}
-use Rattle.exported.proofs.http.exported_http_head_in_pieces.Goals as goal
-
-pub returns-in-Err-Refused-clause-refused : goal.returns-in-Err-Refused-clause-refused
-returns-in-Err-Refused-clause-refused c _ =
-    refused_never c.args.bytes.now c.in-Err-Refused.place
-    (rw c.in-Err-Refused.field-0-is at c.in-Err-Refused.ensures)

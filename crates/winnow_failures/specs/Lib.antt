@@ -1,2 +1,0 @@
--- Written by scripts/registries.py: do not edit.
-pub mod Fails
