@@ -1,16 +1,16 @@
 #!/usr/bin/env python3
-"""Counts what a run of each workload takes:
+"""Counts the instructions and the allocations of each workload:
 
     bench/counts.py [WORDS IN A WORKLOAD'S NAME]      prints a table in Markdown
     bench/counts.py --write                           writes counts.txt
     bench/counts.py --check [WORDS ..]                compares with counts.txt
 
-`run.sh` builds the two programs that it runs, and says how it is called. The table has, of the
-library, nom and the loop by hand, in this order: instructions a byte of the text, by valgrind's
-callgrind, with those of the allocator; requests for memory, by `malloc` and `realloc`; and how many
-bytes they were for, a byte of the text. Other work on the machine changes none of them.
+`run.sh` builds the two programs and calls this script. The table has, for the library, nom and the
+hand-written loop, in this order: instructions per byte of the text, with those of the allocator, by
+valgrind's callgrind; calls of `malloc` and `realloc`; and allocated bytes per byte of the text. Other
+load on the machine does not affect them.
 
-`counts.txt` has the library's instructions in each workload; `measured.py` says what the check is.
+`counts.txt` has the library's instructions in each workload; `measured.py` documents the check.
 """
 import os
 import pathlib
@@ -21,14 +21,14 @@ from measured import check, instructions, requests, said_by, write
 
 HERE = pathlib.Path(__file__).resolve().parent
 PROGRAM = HERE / "target/release/bench"
-# The same program, which counts requests.
+# The same program, built so that it counts allocations.
 COUNTING = HERE / "target/requests/release/bench"
 WRITTEN = HERE / "counts.txt"
-HEAD = "| Workload | instructions a byte | requests for memory | bytes asked for, a byte |"
+HEAD = "| Workload | instructions per byte | allocations | bytes allocated per byte |"
 
 
 def counted(place, name):
-    """The instructions of a run, its requests and their bytes, all but the requests for each byte."""
+    """Returns the instructions per byte of a run, its allocations, and the allocated bytes per byte."""
     words = ["run", str(place), name]
     made, text, _ = instructions([PROGRAM, *words])
     asked, size = requests([COUNTING, *words])
@@ -45,13 +45,13 @@ def row(readers, name):
 
 
 def listed(only):
-    """How many readers each workload has, and its name."""
+    """Returns the number of readers of each workload, and its name."""
     lines = (line.split(" ", 1) for line in said_by([PROGRAM, "list"]).splitlines())
     return [(int(readers), name) for readers, name in lines if only in name]
 
 
 def side_by_side(do, works):
-    """What is done of each, in order, for half as many at a time as there are processors."""
+    """Yields the result of `do` for each workload, in order, with half of the processors."""
     with ThreadPoolExecutor(max(1, (os.cpu_count() or 1) // 2)) as pool:
         yield from pool.map(do, works)
 
@@ -63,7 +63,7 @@ def table(only):
 
 
 def of_library(only):
-    """The library's instructions in each workload."""
+    """Returns the library's instructions in each workload."""
     works = listed(only)
     made = side_by_side(lambda it: instructions([PROGRAM, "run", "0", it[1]])[0], works)
     return {name: count for (_, name), count in zip(works, made)}

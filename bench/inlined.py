@@ -1,5 +1,5 @@
-"""Which functions of Rattle's sources have `#[inline(always)]` or `#[inline(never)]`, by the names
-that the compiler gives them. `unproved.py` needs it: the modules of `rt try` do not say."""
+"""Finds the functions with `#[inline(always)]` or `#[inline(never)]` in Rattle sources, by their names
+in LLVM. `unproved.py` needs them, since the modules of `rt try` have no such attributes."""
 import collections
 import re
 
@@ -12,7 +12,7 @@ WORD = re.compile(r"\s*(?:\w+::)*(\w+)")
 
 
 def behind_generics(text):
-    """What stands behind the generics that a text begins with, if it does."""
+    """Returns the rest of a text after the generics at its start, if there are any."""
     depth = 0
     for at, character in enumerate(text):
         depth += character == "<"
@@ -23,7 +23,7 @@ def behind_generics(text):
 
 
 def named(type_text):
-    """How the name of an impl's type begins."""
+    """Returns a prefix of the name of an impl's type in LLVM."""
     text, before = re.sub(r"'\w+ ?", "", type_text).strip(), ""
     for mark, word in (("&mut ", "MutRef"), ("&", "Ref"), ("[", "Slice")):
         if text.startswith(mark):
@@ -33,7 +33,7 @@ def named(type_text):
 
 
 def owner(header):
-    """How the names of an impl's type and trait begin; the latter is empty where it has none."""
+    """Returns prefixes of the LLVM names of an impl's type and trait, which is empty without a trait."""
     text = behind_generics(re.sub(r"^(?:unsafe )?impl", "", header).strip())
     depth = 0
     for at, character in enumerate(text):
@@ -45,7 +45,7 @@ def owner(header):
 
 
 def functions(lines):
-    """The functions of a file: whose each is, its name, and what its attribute says."""
+    """Yields the functions of a file: the owner, the name, and the argument of `inline`."""
     whose, said, header = ("", ""), "", None
     for line in lines:
         if header is not None:
@@ -67,7 +67,7 @@ def functions(lines):
 
 
 class Inlined:
-    """What the attributes of the functions of some crates say."""
+    """The `inline` attributes of the functions of some crates."""
 
     def __init__(self, crates):
         self.in_module = collections.defaultdict(list)
@@ -83,7 +83,7 @@ class Inlined:
                         self.of_type[name, whose[0], function] = said
 
     def of(self, name):
-        """`always`, `never` or nothing, for a function by its name in a module of LLVM."""
+        """Returns `always`, `never` or "" for a function, by its name in an LLVM module."""
         parts = re.sub(r"::<.*", "", name).split("::")
         if len(parts) < 3:
             return ""

@@ -1,10 +1,10 @@
 #!/usr/bin/env python3
-"""Lays the crate `timed` with all that it stands on into a folder: `bench/lay.py FOLDER`.
+"""Copies the crate `timed` with its dependencies into a folder: `bench/lay.py FOLDER`.
 
-The library is copied by `scripts/vendor`, so that a later run copies, and `rt` proves, only what
-changed since. Beside it stand the readers whose formats are workloads, with what they stand on, and
-`timed`, whose files end in `.rs` here, since a file `.rt` stands only in a crate that `crates.txt`
-names.
+`scripts/vendor` copies the library, so a later run copies only the files that changed, and `rt` proves
+only the crates that changed. The format crates of the workloads and their dependencies are copied next
+to it. The files of `timed` end in `.rs` here, since `.rt` files are only allowed in crates that
+`crates.txt` names.
 """
 import pathlib
 import shutil
@@ -21,7 +21,7 @@ TIMED = f"timed staticlib: winnow format_json_texts {' '.join(READERS)}"
 
 
 def lay(room):
-    """Lays the crates into a folder, and names them in its `crates.txt`."""
+    """Copies the crates into a folder, and creates its `crates.txt`."""
     room.mkdir(parents=True, exist_ok=True)
     vendor = [sys.executable, str(TOP / "scripts/vendor"), "--force", str(room)]
     subprocess.run(vendor, check=True, stdout=subprocess.DEVNULL)

@@ -1,8 +1,8 @@
-"""Compiles a crate's exports with no proof, for `unproved.py` and `bindings/build --unproved`.
+"""Compiles a crate's exports without proofs, for `unproved.py` and `bindings/build --unproved`.
 
-A program that calls each export goes through `rt try`, whose module of LLVM is kept on the way. What
-`rt try` adds to find faults is taken out of it again, the attributes that it leaves out are put in,
-and the toolchain's clang compiles the rest by the flags with which it compiles a proved library.
+`rt try` compiles a program that calls each export, and its LLVM module is saved. The run-time checks of
+`rt try` are removed from the module, and the attributes that it omits are added. Then the toolchain's
+clang compiles it with the flags of a proved library.
 """
 import os
 import pathlib
@@ -16,7 +16,7 @@ sys.path.insert(0, str(pathlib.Path(__file__).resolve().parent.parent / "scripts
 from inlined import Inlined  # noqa: E402
 from toolchain import toolchain  # noqa: E402
 
-# In the place of clang: it keeps the module of the checked run, and stops there.
+# Replaces clang: it saves the module that `rt try` instruments, and stops there.
 CLANG = """#!/bin/sh
 case "$*" in
 *-fsanitize=address*) mv module.bc '{kept}'; exit 1 ;;
@@ -33,7 +33,7 @@ ADDED = re.compile(
     r'  call void @"rattle-(?:llvm-checks|try)::[^"]*"\('
     r"|  call void @llvm\.memset\.p0\.i64\(ptr %r\d+, i8 -86, "
 )
-# How `rt try`, whose code is for each processor, moves lanes: by lane.
+# How `rt try`, whose code runs on every processor, shuffles lanes: one by one.
 MOVED = re.compile(
     r"  (%r\d+) = load <16 x i8>, .*\n  (%r\d+) = load <16 x i8>, .*\n"
     r"  %r\d+ = and <16 x i8> \2, splat \(i8 15\)\n"
@@ -48,7 +48,7 @@ ATTRIBUTES = 'nounwind "probe-stack"="inline-asm" "stack-probe-size"="3072" "tar
 
 
 def keep_module(rt, room, crate, kept):
-    """Has `rt try` make the module of a crate's program, and keeps it as a file."""
+    """Runs `rt try` for a crate's program, and saves its LLVM module in the file `kept`."""
     theirs, ours = pathlib.Path(rt.rtlib.KIT) / "toolchain", room / "toolchain"
     shutil.rmtree(ours, ignore_errors=True)
     (ours / "bin").mkdir(parents=True)
@@ -81,7 +81,7 @@ def keep_module(rt, room, crate, kept):
 
 
 def as_proved(lines, inlined):
-    """The lines of a module without what `rt try` adds, and with the attributes of functions."""
+    """Yields the lines of a module without the checks of `rt try`, and with function attributes."""
     for line in lines:
         if ADDED.match(line):
             continue
@@ -97,7 +97,7 @@ def as_proved(lines, inlined):
 
 
 def with_moves(text):
-    """The module where lanes are moved by one instruction, as from x86-64-v2 on."""
+    """Returns the module with lanes shuffled by one instruction, as in x86-64-v2 and later."""
 
     def moved(found):
         lanes, places, to = found.groups()
@@ -109,8 +109,8 @@ def with_moves(text):
 
 
 def compiled(room, cpu, crate, named):
-    """Compiles a crate in `room`, with the functions of LLVM that name its exports for callers, out of
-    its program `CRATE_program`, which calls each of them; into `room/libCRATE.a`."""
+    """Compiles a crate in `room` into `room/libCRATE.a`, from its program `CRATE_program`, which calls
+    each export. `named` has the LLVM functions with the public names of the exports."""
     rt = toolchain()
     kit = pathlib.Path(rt.rtlib.KIT)
     bin_folder, kept, text = kit / "toolchain/bin", room / "kept.bc", room / "kept.ll"

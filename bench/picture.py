@@ -1,9 +1,9 @@
 #!/usr/bin/env python3
 """Draws a table of ratios: `bench/picture.py < TABLE > docs/benchmarks.svg`.
 
-It reads a table in Markdown, as `bench/run.sh` prints it and `docs/BENCHMARKS.md` has it: a
-workload a row, and its time beside nom 7 in the second column. A bar a row, its number on the
-right, and a line where both take the same time: so it reads without colours, in light and in dark.
+It reads the table in Markdown that `bench/run.sh` prints and `docs/BENCHMARKS.md` contains: each row
+has a workload and the ratio of its time to nom 7's. Each row becomes a bar with its number on the
+right; a line marks equal times. The picture needs no colours, and adapts to light and dark mode.
 """
 import html
 import sys
@@ -25,7 +25,7 @@ text { font: 13px sans-serif; fill: #1f2328; }
 
 
 def rows(text):
-    """The workloads of the first table whose second column is a number, each with this number."""
+    """Returns the rows of the first table with numbers in the second column: workload and number."""
     found = []
     for line in text.splitlines():
         cells = [it.strip() for it in line.strip().strip("|").split("|")]
@@ -46,14 +46,14 @@ def drawn(found):
     one = place(1)
     yield (
         f'<svg xmlns="http://www.w3.org/2000/svg" viewBox="0 0 {LEFT + WIDE + 60} {height}" '
-        f'role="img" aria-label="Time of each workload beside nom 7">'
+        f'role="img" aria-label="Time of each workload compared with nom 7">'
     )
     yield f"<style>{STYLE}</style>"
-    yield '<text class="title" x="10" y="20">Time beside nom 7 (shorter is faster)</text>'
+    yield '<text class="title" x="10" y="20">Time compared with nom 7 (shorter is faster)</text>'
     yield f'<text x="{one}" y="38" text-anchor="middle">1: as nom</text>'
     for at, (name, ratio) in enumerate(found):
         y, label = TOP + ROW * at, html.escape(name.replace("`", ""))
-        # a bar that is no longer than nom's is filled, a longer one is hollow
+        # bars up to nom's time are filled, longer ones are hollow
         kind = "less" if ratio <= 1 else "more"
         end = place(ratio)
         yield (

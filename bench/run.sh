@@ -1,27 +1,28 @@
 #!/usr/bin/env bash
-# Times the library beside nom 7 and loops by hand, and prints a table in Markdown; and another of
-# the instructions and the requests for memory that each takes (`counts.py`).
+# Compares the speed of the library with nom 7 and hand-written loops, and prints a table in Markdown.
+# A second table has their instructions and allocations (`counts.py`).
 #
 #     bench/run.sh [TURNS] [WORDS IN A WORKLOAD'S NAME]
 #     bench/run.sh counts [WORDS IN A WORKLOAD'S NAME]
 #     bench/run.sh counts --write
 #     bench/run.sh check [WORDS IN A WORKLOAD'S NAME]
 #
-# With `counts` it prints the second table alone, which other work on the machine does not change, and
-# with `--write` it writes the library's instructions in each workload to counts.txt instead. With
-# `check` it compares with these, and fails where a workload takes more by a twentieth: that is told by
-# its name and both numbers. With no words, the first table is drawn too, as docs/benchmarks.svg.
+# `counts` prints only the second table, which other load on the machine does not affect. With
+# `--write` it writes the library's instructions in each workload to counts.txt instead. `check`
+# compares with counts.txt, and fails if a workload takes over 5 % more instructions; it prints the
+# name and both numbers. Without words, the first table is also drawn, as docs/benchmarks.svg.
 #
-# It installs Debian's packages of nom 7, memchr and valgrind where they are missing, and cargo
-# where there is none; lays the library with the workloads (`timed/`) above it into a folder of its
-# own; takes what `rt ci` proved of them on this machine, where the kit keeps that; proves and builds
-# the rest there; and builds and runs the program here, offline.
-# BENCH_CPU names the processor that both are built for: x86-64-v2 (Rattle's own choice) or
-# x86-64-v3. BENCH_ROOM names that folder, which keeps what was proved for the next run; it stands
-# outside the repository, whose gate refuses crates in another place than `crates/`.
-# BENCH_UNPROVED=1 builds the library with no proof (`unproved.py`), to try a change in a minute:
-# its code is close to that of a proved build, and need not be the same, so the times of
-# docs/BENCHMARKS.md are of proved builds.
+# It installs the Debian packages of nom 7, memchr and valgrind if they are missing, and cargo if
+# there is none. It copies the library and the workloads (`timed/`) into a folder, reuses the proofs
+# of `rt ci` on this machine if the kit keeps them, and proves and builds the rest there. Then it
+# builds and runs the program here, offline.
+#
+# BENCH_CPU is the target processor of both: x86-64-v2 (Rattle's default) or x86-64-v3. BENCH_ROOM is
+# the folder, which keeps the proofs for the next run. It is outside the repository, since the gate
+# rejects crates outside `crates/`.
+# BENCH_UNPROVED=1 builds the library without proofs (`unproved.py`), to try a change in a minute. Its
+# code is similar to that of a proved build, but may differ, so docs/BENCHMARKS.md has the times of
+# proved builds.
 set -eu -o pipefail
 cd "$(dirname "$0")"
 cpu=${BENCH_CPU:-x86-64-v2}
@@ -42,9 +43,9 @@ if [ -n "${BENCH_UNPROVED:-}" ]; then
     TIMED=$room-unproved
 else
     ./lay.py "$room"
-    # What was kept was proved for the kit's own choice of a processor.
+    # The kept proofs are for the kit's default processor.
     [ "$cpu" != x86-64-v2 ] || ../scripts/kept.py "$room" >&2
-    # The flag is left out for the kit's own choice, so that what is kept for it serves here.
+    # Without the flag for the default processor, so that the kept proofs can be used.
     words=()
     [ "$cpu" = x86-64-v2 ] || words=(--cpu "$cpu")
     (cd "$room/crates/timed" && rt lib "${words[@]}" > /dev/null)
@@ -85,7 +86,7 @@ case "${1:-}" in
         ;;
 esac
 ./target/release/bench "$@" | tee target/table.md
-# A run of all workloads draws its picture too.
+# A run of all workloads also draws the picture.
 [ $# -gt 1 ] || ./picture.py < target/table.md > ../docs/benchmarks.svg
 echo
 ./counts.py "${2:-}" | tee target/counts.md

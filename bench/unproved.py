@@ -1,8 +1,8 @@
 #!/usr/bin/env python3
-"""Builds `timed` with no proof: `bench/unproved.py ROOM CPU`, into ROOM/libtimed.a.
+"""Builds `timed` without proofs into ROOM/libtimed.a: `bench/unproved.py ROOM CPU`.
 
-It is for trying a change before it is proved: `BENCH_UNPROVED=1 bench/run.sh`. A program calls each
-export, and `llvm.py` compiles these out of it.
+It is for trying a change before it is proved: `BENCH_UNPROVED=1 bench/run.sh`. It creates a program that
+calls each export, from which `llvm.py` compiles the exports.
 """
 import pathlib
 import re
@@ -32,20 +32,20 @@ GIVEN = {
     "&'static [u8]": 'b"ab"',
     "&mut Outcome": "&mut out",
 }
-# How the parameters of an export cross: a `Global` takes no place.
+# The LLVM types of an export's parameters. A `Global` is not passed.
 CROSSES = {"Global": [], "&[u8]": ["ptr", "i64"], "&'static [u8]": ["ptr", "i64"]}
 
 
 
 def exports(source):
-    """The exports: the module of each, its name, and the types of its parameters."""
+    """Yields the module, the name and the parameter types of each export."""
     for file in sorted(source.glob("*.rt")):
         for name, given in EXPORT.findall(file.read_text(encoding="utf-8")):
             yield file.stem, name, re.findall(r"\w+: ([^,]+)", given)
 
 
 def lay_program(room):
-    """Lays the workloads as a library into a folder, with a program that calls each."""
+    """Copies the workloads into a folder as a library, with a program that calls each of them."""
     lay(room)
     crates = room / "crates.txt"
     text = crates.read_text(encoding="utf-8").replace("timed staticlib:", "timed:")
@@ -61,7 +61,7 @@ def lay_program(room):
 
 
 def wrappers(source):
-    """Functions of LLVM that call the exports, by their names for callers in C."""
+    """Yields LLVM functions that call the exports, with their names in C."""
     for module, name, types in exports(source):
         kinds = [kind for it in types for kind in CROSSES.get(it, ["ptr"])]
         given = ", ".join(f"{kind} %a{at}" for at, kind in enumerate(kinds))

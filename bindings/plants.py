@@ -1,5 +1,5 @@
-"""The faults that `bindings/plant` plants: in a file, behind some text, a text and what stands in its
-place."""
+"""The bugs that `bindings/plant` seeds. In `file`, the first `old` after the text `behind` is replaced
+by `new`."""
 import collections
 
 Fault = collections.namedtuple("Fault", "file name behind old new")

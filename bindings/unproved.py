@@ -1,7 +1,7 @@
-"""Compiles `exported` with no proof, for `bindings/build --unproved`.
+"""Compiles `exported` without proofs, for `bindings/build --unproved`.
 
-A program that calls each export goes through `rt try`, as the bench does it (`bench/unproved.py`).
-The code is close to that of a proved build, and need not be the same.
+It builds a program that calls each export with `rt try`, like `bench/unproved.py`. The code is similar
+to that of a proved build, but may differ.
 """
 import os
 import pathlib
@@ -35,21 +35,21 @@ LLVM = {"u8": "i8", "u32": "i32", "u64": "i64", "i64": "i64", "usize": "i64"}
 
 
 def below(crate):
-    """The crates that a crate stands on and itself, each with what it names."""
+    """Returns a crate and its dependencies, each with the crates that it names."""
     known = common.crates()
     found = common.below(crate, known)
     return {name: on for name, on in known.items() if name in found}
 
 
 def taken(text):
-    """The structs that a module takes from a crate below `exported`, and hands on."""
+    """Returns the structs that a module re-exports from a dependency of `exported`."""
     lists = re.findall(r"^pub use \w+::\w+::\{?([\w,\s]+)\}?;", text, re.MULTILINE)
     return [name for names in lists for name in re.findall(r"\w+", names)]
 
 
 def modules():
-    """The module of each export and of each struct, by its name, and of each struct that another
-    module has too, by the module and its name."""
+    """Returns the modules of exports and structs by name. Re-exported structs are also listed by the
+    pair of module and name."""
     found = {}
     for file in sorted(SOURCE.glob("**/*.rt")):
         text = file.read_text(encoding="utf-8")
@@ -63,7 +63,7 @@ def modules():
 
 
 def nothing(name, structs, where, module):
-    """A value of a type whose numbers are 0, as this module has it."""
+    """Returns an expression of a type with all numbers 0, for use in this module."""
     if name not in structs:
         return "false" if name == "bool" else "0"
     parts = [(it.name, nothing(it.parts[0], structs, where, module)) for it in structs[name].parts]
@@ -72,7 +72,7 @@ def nothing(name, structs, where, module):
 
 
 def call(export, where, structs):
-    """The lines that call an export."""
+    """Returns the lines that call an export."""
     lines, given = [], []
     module = where[f"exported_{export.name}"]
     source = (SOURCE / f"{module.replace('::', '/')}.rt").read_text(encoding="utf-8")
@@ -96,7 +96,7 @@ def call(export, where, structs):
 
 
 def wrapper(export, where):
-    """The function of LLVM that calls an export, by its name for callers."""
+    """Returns the LLVM function that calls an export, under its public name."""
     kinds = []
     for _, written in export.parts:
         kind, inside = kind_of(written)
@@ -108,7 +108,7 @@ def wrapper(export, where):
 
 
 def lay(room, exports, structs, where):
-    """Lays the crates and the program into a folder."""
+    """Copies the crates into a folder, and creates the program there."""
     lines = below("exported")
     for name in lines:
         copy_crate(name, room / "crates")

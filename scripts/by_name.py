@@ -39,7 +39,7 @@ def rows():
         if not re.match(r"\| \[?`", line) or len(cells) < 2:
             continue
         links = re.findall(r"\]\(\.\./([^)]+/specs/[^)]+)\)", line)
-        for name in re.findall(r"`(\w+)`", cells[0]) if links else ():
+        for name in re.findall(r"`\.?(\w+)`", cells[0]) if links else ():
             found[name] = links
     return found
 

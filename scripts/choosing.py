@@ -1,12 +1,12 @@
-"""The tables of `docs/CHOOSING.md` as tests: a row has a parser, an input, what the parser leaves
-of it, and its answer."""
+"""The tables of `tests/parsers.md` as tests. A row has a parser, its input, the rest of the input,
+and the result."""
 import re
 
 from registry.common import read
 
-HEAD = ["Parser", "Input", "Left", "Answer"]
-# What runs a row: the answer and what is left, and what they should be. Nothing is said of what is
-# left where it is not compared.
+HEAD = ["Parser", "Input", "Rest", "Result"]
+# Runs a row, and returns the result and the rest next to the expected ones. The rest is `None` if
+# it is not compared.
 RUN = (
     "use std::alloc::Global; use std::fmt::Debug; type Ends<I, O> = "
     "(Result<O, ErrMode<EmptyError>>, Option<I>); fn row<I: Stream + PartialEq + Debug, "
@@ -21,17 +21,17 @@ LIST = re.compile(r"\[([^\]]*)\]")
 
 
 def cells(line):
-    """The cells of a row; within one a stroke has a backslash before it."""
+    """The cells of a row; a bar within one is escaped by a backslash."""
     return [it.replace("\\|", "|").strip() for it in re.split(r"(?<!\\)\|", line.strip())[1:-1]]
 
 
 def code(cell):
-    """What a cell has as code: bytes are slices."""
+    """The code of a cell, its byte strings as slices."""
     return TEXT.sub(lambda found: found[0] + ".as_slice()" * bool(found[1]), cell.strip("`"))
 
 
 def answer(cell):
-    """The answer that a cell says: an output, or what is no code, an error."""
+    """The result in a cell: an output if it is code, otherwise an error."""
     if cell == "backtrack":
         return f"Err({BACKTRACK})"
     if cell == "cut":
@@ -40,7 +40,7 @@ def answer(cell):
         missing = 0 if found[1] == "unknown" else found[1]
         return f"Err(ErrMode::Incomplete(Needed::new({missing})))"
     if not re.fullmatch(r"`[^`]+`", cell):
-        raise SystemExit(f"{cell} is no answer")
+        raise SystemExit(f"{cell} is not a result")
     there = '.expect(&rt, "there is memory")'
     text = LIST.sub(lambda found: f"vec![in alloc; {found[1]}]{there}", code(cell))
     text = text.replace("vec![in alloc; ]" + there, "Vec::new(alloc)")
@@ -49,8 +49,8 @@ def answer(cell):
 
 
 def tables(path):
-    """The tables of a page, each with the line of the mark below its head, and a line of code for
-    that line and for each row. Imports that the paragraph above names are taken."""
+    """The tables of a page: the number of the line below the head, and a line of code for that line
+    and for each row, with the imports that the paragraph above names."""
     start, lines, uses = 0, [], ""
     for number, line in enumerate([*read(path).splitlines(), ""], 1):
         if not line.startswith("|"):

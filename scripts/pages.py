@@ -17,7 +17,7 @@ from registry.common import CRATES, TOP, crates, read  # noqa: E402
 
 MOST_WORDS = 2000
 ARCHITECTURE = TOP / "docs/ARCHITECTURE.md"
-# What the page of `winnow` says instead of a long list.
+# The text of the page of `winnow`, instead of a long list.
 ALL = "Depends on every crate of the library."
 LINK = re.compile(r"\]\(([^()\s]+)\)")
 
@@ -45,7 +45,7 @@ def anchors(path):
 
 
 def faults_of_links(path):
-    """The links of a document that lead nowhere, in words."""
+    """The broken links of a document."""
     for number, line in prose(path):
         for link in LINK.findall(re.sub(r"`[^`]*`", "", line)):
             name, _, anchor = link.partition("#")
@@ -59,7 +59,7 @@ def faults_of_links(path):
 
 
 def faults_of_page(name, others):
-    """What is wrong with the page of a crate, in words."""
+    """The errors of the page of a crate."""
     page = CRATES / name / "README.md"
     if not page.is_file():
         yield "1: it is not there"

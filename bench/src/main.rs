@@ -72,7 +72,7 @@ fn hard_search(turns: usize) -> String {
     format!("| up to 39 `a` and a `b`, in a text of `a` | {beside:.2} | | {growth:.2} |")
 }
 
-/// One run of a reader: what `counts.py` counts the instructions of.
+/// Runs a reader once. `counts.py` counts the instructions of this function.
 #[no_mangle]
 #[inline(never)]
 fn counted_run(reader: &Reader, text: &[u8]) -> Outcome {
@@ -99,21 +99,21 @@ fn run_once(name: &str, place: usize) {
     println!("text {}", text.len());
 }
 
-/// Prints the workloads' names, and how many read each.
+/// Prints the names of the workloads, and the number of readers of each.
 fn list() {
     for workload in workloads::all() {
         println!("{} {}", 2 + usize::from(workload.hand.is_some()), workload.name);
     }
 }
 
-/// How many programs ran or waited for a processor, on average over the last minute.
+/// Returns the load average of the last minute.
 fn load() -> String {
     let said = std::fs::read_to_string("/proc/loadavg").unwrap_or_default();
     said.split(' ').next().unwrap_or("unknown").to_string()
 }
 
-/// Times the workloads whose names have a word. The table comes at the end, when it is known how busy
-/// the machine was; what is timed is named as it begins.
+/// Times the workloads whose names contain a word. Prints each name when its workload starts, and the
+/// table at the end, with the load of the machine.
 fn time(turns: usize, only: &str) {
     let begun = load();
     let mut rows = Vec::new();

@@ -1,9 +1,9 @@
-//! The texts that the workloads read: made from a fixed seed, so that each run reads the same.
+//! The inputs of the workloads. They are generated from a fixed seed, so they are always the same.
 mod formats;
 
 pub use formats::*;
 
-/// Numbers that look random, the same ones in each run.
+/// A pseudorandom number generator.
 struct Dice(u64);
 
 impl Dice {
@@ -19,7 +19,7 @@ impl Dice {
     }
 }
 
-/// Parts, until there are at least `size` bytes.
+/// Generates parts until there are at least `size` bytes.
 fn parts(size: usize, mut part: impl FnMut(&mut Dice, &mut Vec<u8>)) -> Vec<u8> {
     let mut dice = Dice(19);
     let mut out = Vec::with_capacity(size + 4096);
@@ -29,7 +29,7 @@ fn parts(size: usize, mut part: impl FnMut(&mut Dice, &mut Vec<u8>)) -> Vec<u8> 
     out
 }
 
-/// An INI document: sections of some pairs, with comments.
+/// Generates an INI document: sections with pairs and comments.
 pub fn document(size: usize) -> Vec<u8> {
     parts(size, |dice, out| {
         out.extend(format!("[part {}]\n", dice.below(1000)).bytes());
@@ -63,7 +63,7 @@ pub fn numbers(size: usize) -> Vec<u8> {
     })
 }
 
-/// Lines of fields with commas between them, without quotes.
+/// Generates lines of comma-separated fields without quotes.
 pub fn fields(size: usize) -> Vec<u8> {
     parts(size, |dice, out| {
         for k in 0..dice.below(12) + 1 {
@@ -77,7 +77,7 @@ pub fn fields(size: usize) -> Vec<u8> {
     })
 }
 
-/// Heads of HTTP requests, of 12 lines each.
+/// Generates heads of HTTP requests with 12 lines each.
 pub fn heads(size: usize) -> Vec<u8> {
     let lines = [
         "Host: www.example.org",
@@ -134,7 +134,7 @@ pub fn words(size: usize) -> Vec<u8> {
     })
 }
 
-/// Bytes, whatever they are.
+/// Generates random bytes.
 pub fn bytes(size: usize) -> Vec<u8> {
     parts(size, |dice, out| out.push(dice.below(256) as u8))
 }
@@ -150,7 +150,7 @@ pub fn records(size: usize) -> Vec<u8> {
     })
 }
 
-/// An expression of digits from 1 to 9 with one of four operators between two.
+/// Generates an expression of digits from 1 to 9, separated by one of four operators.
 pub fn expression(size: usize) -> Vec<u8> {
     let mut all = parts(size, |dice, out| {
         out.push(b'1' + dice.below(9) as u8);

@@ -1,4 +1,4 @@
-//! The workloads: what each reads, and who reads it.
+//! The workloads: their input texts, and their readers.
 use crate::outcome::Outcome;
 use crate::{by_hand, by_nom, library, texts};
 

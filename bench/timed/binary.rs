@@ -16,7 +16,7 @@ use winnow::error::{EmptyError, ErrMode};
 use winnow::prelude::*;
 use winnow::stream::{ByteStream, Range};
 
-/// All the integers that are there.
+/// Parses as many integers as possible.
 fn integers<'i>(
     alloc: Global,
     input: &mut &'i [u8],
@@ -88,7 +88,7 @@ impl<'i> Parser<&'i [u8], Record<'i>, ErrMode<EmptyError>> for RecordReader {
     }
 }
 
-/// All the records that are there.
+/// Parses as many records as possible.
 fn records<'i>(
     alloc: Global,
     input: &mut &'i [u8],
@@ -96,7 +96,7 @@ fn records<'i>(
     repeat(alloc, Range::from(0..), RecordReader).parse_next(input)
 }
 
-/// How many bytes the payloads have, and what their kinds are together.
+/// Returns the sum of the kinds and of the lengths of the payloads.
 fn total(records: &[Record<'_>]) -> u64 {
     let mut sum: u64 = 0;
     for record in records {

@@ -1,5 +1,4 @@
-//! Fields of bits: the first words of headers of the Internet Protocol, version 4 (RFC 791), and
-//! fields that begin in one byte and end in another.
+//! Bit fields: the first words of IPv4 headers (RFC 791), and fields that cross byte boundaries.
 #![tactic(auto, using(winnow::specs::Rules::ends_follow))]
 
 ghost use Rattle.winnow.specs.Input.{IsEndOf};
@@ -62,7 +61,7 @@ fn read_words<I: ByteStream + StreamIsPartial + Copy>(input: &mut I) -> Outcome 
     }
 }
 
-/// Words of four fields: how many they are, and the sum of their fields.
+/// Parses words of four fields. Counts them, and sums their fields.
 #[unsafe(no_mangle)]
 pub extern "C" fn timed_words_of_bits(input: &[u8], out: &mut Outcome) {
     let mut rest = input;
@@ -121,7 +120,7 @@ fn read_wide_words<I: ByteStream + StreamIsPartial + Copy>(input: &mut I) -> Out
     }
 }
 
-/// Words of four fields that cross bytes: how many they are, and the sum of their fields.
+/// Parses words of four fields that cross byte boundaries. Counts them, and sums their fields.
 #[unsafe(no_mangle)]
 pub extern "C" fn timed_wide_words(input: &[u8], out: &mut Outcome) {
     let mut rest = input;

@@ -14,7 +14,7 @@ fn with_values(more: u64, pairs: &[(&str, &str)]) -> u64 {
     sum
 }
 
-/// How many bytes all values have.
+/// Returns the length in bytes of all values.
 #[inline(never)]
 fn value_bytes(sections: &[Section<'_, Global>]) -> u64 {
     let mut sum: u64 = 0;
@@ -24,7 +24,7 @@ fn value_bytes(sections: &[Section<'_, Global>]) -> u64 {
     sum
 }
 
-/// A document: how many sections it has, and how many bytes its values.
+/// Parses a document. Counts its sections, and sums the lengths of its values in bytes.
 #[unsafe(no_mangle)]
 pub extern "C" fn timed_document(alloc: Global, input: &[u8], out: &mut Outcome) {
     *out = Outcome {

@@ -1,4 +1,4 @@
-//! Texts with escapes.
+//! Strings with escapes.
 #![tactic(auto, using(winnow::specs::Rules::ends_follow))]
 
 ghost use Rattle.winnow.specs.Claim.{no_claim, nothing_claimed};
@@ -17,7 +17,7 @@ use winnow::prelude::*;
 use winnow::token::impls::Any;
 use winnow::token::take_until;
 
-/// The character that a backslash and this one stand for.
+/// Returns the character that is escaped as a backslash and `character`.
 fn named(character: char) -> Option<char> {
     match character {
         '"' | '\\' => Some(character),
@@ -53,7 +53,7 @@ fn text<'i>(alloc: Global, input: &mut &'i str) -> Result<String, ErrMode<EmptyE
     }
 }
 
-/// The parser of a text.
+/// The parser of a string.
 #[derive(Clone, Copy, Drop)]
 struct TextReader {
     alloc: Global,
@@ -82,7 +82,7 @@ impl<'i> Parser<&'i str, String, ErrMode<EmptyError>> for TextReader {
     }
 }
 
-/// How many texts there are, and how many bytes they have.
+/// Parses as many strings as possible. Returns their number and their length in bytes.
 fn texts<'i>(alloc: Global, input: &mut &'i str) -> Result<(u64, u64), ErrMode<EmptyError>> {
     repeat(alloc, Range::from(0..), TextReader { alloc })
         .fold(

@@ -1,4 +1,4 @@
-//! Comma separated values, without quotes.
+//! Comma-separated values without quotes.
 #![tactic(auto, using(winnow::specs::Rules::ends_follow))]
 
 ghost use Rattle.winnow.specs.Claim.{no_claim, nothing_claimed};
@@ -81,7 +81,7 @@ impl<'i> Parser<&'i str, Row<'i>, ErrMode<InputError<&'i str>>> for RowReader {
     }
 }
 
-/// All rows that are there.
+/// Parses as many rows as possible.
 fn rows<'i>(
     alloc: Global,
     input: &mut &'i str,
@@ -89,7 +89,7 @@ fn rows<'i>(
     repeat(alloc, Range::from(0..), RowReader { alloc }).parse_next(input)
 }
 
-/// How many rows there are, and how many fields they have.
+/// Returns the number of rows and of their fields.
 fn totals(rows: &[Row<'_>]) -> (u64, u64) {
     let mut count: u64 = 0;
     let mut sum: u64 = 0;
@@ -137,7 +137,7 @@ fn counted<'i>(
     .parse_next(input)
 }
 
-/// How many fields there are.
+/// Counts the fields.
 #[unsafe(no_mangle)]
 pub extern "C" fn timed_fields(alloc: Global, input: &[u8], out: &mut Outcome) {
     let mut rest = input;

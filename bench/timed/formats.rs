@@ -1,5 +1,4 @@
-//! Values of JSON, comma separated values with quotes, and replies of Redis, by the readers of these
-//! formats.
+//! JSON values, CSV with quotes, and Redis replies, with the parsers of these formats.
 
 use crate::outcome::Outcome;
 use format_json_texts::value::Value;
@@ -11,7 +10,7 @@ use format_resp::read::read_reply;
 use format_resp::reply::{Protocol, Reply};
 use winnow::stream::{Partial, Stream};
 
-/// How many bytes a text or a number has.
+/// Returns the length in bytes of a string or a number.
 fn text_bytes(value: &Value<Global>) -> u64 {
     match value {
         Value::Text(text) => text.len() as u64,
@@ -20,7 +19,7 @@ fn text_bytes(value: &Value<Global>) -> u64 {
     }
 }
 
-/// How many bytes the names of members have, and the texts and numbers among their values.
+/// Returns the length in bytes of the names of members, and of strings and numbers in their values.
 fn member_bytes(members: &[(String<Global>, Value<Global>)]) -> u64 {
     let mut sum: u64 = 0;
     for member in members {
@@ -62,7 +61,7 @@ pub extern "C" fn timed_json(alloc: Global, input: &[u8], out: &mut Outcome) {
     }
 }
 
-/// How many bytes the fields of a record have.
+/// Returns the length in bytes of the fields of a record.
 fn field_bytes(record: &Record<Global>) -> u64 {
     let mut sum: u64 = 0;
     for field in record {
@@ -71,7 +70,7 @@ fn field_bytes(record: &Record<Global>) -> u64 {
     sum
 }
 
-/// How many bytes all fields have.
+/// Returns the length in bytes of all fields.
 #[inline(never)]
 fn record_bytes(records: &[Record<Global>]) -> u64 {
     let mut sum: u64 = 0;
@@ -96,7 +95,7 @@ pub extern "C" fn timed_csv(alloc: Global, input: &[u8], out: &mut Outcome) {
     }
 }
 
-/// How many bytes a reply has, if it is bytes.
+/// Returns the length in bytes of a reply, if it is a byte string.
 fn bytes_of(reply: &Reply<&[u8], Global>) -> u64 {
     match reply {
         Reply::Simple(bytes) => bytes.len() as u64,
@@ -106,7 +105,7 @@ fn bytes_of(reply: &Reply<&[u8], Global>) -> u64 {
     }
 }
 
-/// How many bytes a reply has, or the elements of an array.
+/// Returns the length in bytes of a reply, or of the elements of an array.
 fn reply_bytes(reply: &Reply<&[u8], Global>) -> u64 {
     let mut sum: u64 = bytes_of(reply);
     match reply {
@@ -144,7 +143,7 @@ fn read_replies(alloc: Global, input: &mut Partial<&[u8]>) -> Outcome {
     }
 }
 
-/// Replies of Redis: how many they are, and how many bytes they have, or their elements.
+/// Parses Redis replies. Counts them, and sums their lengths in bytes, with those of elements.
 #[unsafe(no_mangle)]
 pub extern "C" fn timed_replies(alloc: Global, input: &[u8], out: &mut Outcome) {
     let mut rest = Partial::new(input);

@@ -47,7 +47,7 @@ impl<I: Stream, E: ParserError<I>> FoldBinary<I, u64, E> for Operator {
     }
 }
 
-/// The operator that a byte is.
+/// Returns the operator of a byte.
 fn operator_of(byte: u8) -> Option<Infix<Operator>> {
     match byte {
         b'+' => Some(Infix::Left(5, Operator::Plus)),

@@ -1,4 +1,4 @@
-//! Workloads of the benchmarks: each is a call of the library, or some, over one text.
+//! The workloads of the benchmarks. Each makes one or more calls of the library over one text.
 #![tactic(auto)]
 
 pub mod binary;

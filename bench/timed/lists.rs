@@ -1,4 +1,4 @@
-//! Numbers by an iterator, and lists of them in a list.
+//! Numbers with an iterator, and lists of lists of numbers.
 
 ghost use Rattle.std.specs.Prelude.{◌≡◌, false};
 
@@ -50,7 +50,7 @@ fn lists<'i>(alloc: Global, input: &mut &'i [u8]) -> Result<Lists, ErrMode<Input
     separated(alloc, Range::from(0..), list, b'\n').parse_next(input)
 }
 
-/// How many numbers all lists have.
+/// Returns the number of numbers in all lists.
 fn numbers(lists: &[Vec<u32, Global>]) -> u64 {
     let mut sum: u64 = 0;
     for list in lists {

@@ -1,4 +1,4 @@
-//! Names of headers, by a set of their bytes.
+//! Header names, with a set of their bytes.
 
 use crate::outcome::Outcome;
 use std::alloc::Global;
@@ -38,7 +38,8 @@ pub extern "C" fn timed_names_by_table(alloc: Global, input: &[u8], out: &mut Ou
     }
 }
 
-/// The same where the set is a tuple of a byte and ranges, the commonest first.
+/// Counts the names that are followed by a colon; the set is a tuple of a byte and ranges, the most
+/// frequent first.
 fn names_by_ranges<'i>(alloc: Global, input: &mut &'i [u8]) -> Result<usize, ErrMode<EmptyError>> {
     let set = (b'a'..=b'z', b'A'..=b'Z', b'-', b'0'..=b'9');
     repeat(
@@ -49,7 +50,7 @@ fn names_by_ranges<'i>(alloc: Global, input: &mut &'i [u8]) -> Result<usize, Err
     .parse_next(input)
 }
 
-/// The same names by ranges.
+/// Parses the same names, with ranges.
 #[unsafe(no_mangle)]
 pub extern "C" fn timed_names_by_ranges(alloc: Global, input: &[u8], out: &mut Outcome) {
     let mut rest = input;

@@ -30,7 +30,7 @@ pub extern "C" fn timed_number_list(alloc: Global, input: &[u8], out: &mut Outco
     }
 }
 
-/// How many numbers there are, and their sum.
+/// Counts and sums numbers.
 fn sum<'i>(
     alloc: Global,
     input: &mut &'i [u8],
@@ -43,7 +43,7 @@ fn sum<'i>(
         .parse_next(input)
 }
 
-/// The sum of numbers.
+/// Sums numbers.
 #[unsafe(no_mangle)]
 pub extern "C" fn timed_number_sum(alloc: Global, input: &[u8], out: &mut Outcome) {
     let mut rest = input;
@@ -59,7 +59,7 @@ pub extern "C" fn timed_number_sum(alloc: Global, input: &[u8], out: &mut Outcom
     }
 }
 
-/// A number and its comma, which may not be there yet.
+/// Parses a number and a comma, which may be incomplete on partial input.
 fn item<I: StreamIsPartial + SlicesAsBytes + Compare<u8>, E: ParserError<I>>(
     input: &mut I,
 ) -> Result<u32, E>

@@ -54,7 +54,7 @@ fn keywords_of_any_case<'i>(
     repeat(alloc, Range::from(0..), terminated(keyword, b' ')).parse_next(input)
 }
 
-/// The same in upper or lower case.
+/// Parses words from six keywords in upper or lower case, each followed by a space.
 #[unsafe(no_mangle)]
 pub extern "C" fn timed_any_case(alloc: Global, input: &[u8], out: &mut Outcome) {
     let mut rest = input;

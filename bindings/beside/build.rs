@@ -1,10 +1,10 @@
-//! Compiles the readers in C and C++, and links them with the libraries that they are of. `CC`, `CXX`
-//! and `AR` name other tools than `cc`, `c++` and `ar`.
+//! Compiles the readers in C and C++, and links them with their libraries. The environment variables
+//! `CC`, `CXX` and `AR` replace `cc`, `c++` and `ar`.
 use std::env;
 use std::path::PathBuf;
 use std::process::Command;
 
-/// The processor that the library is compiled for.
+/// The processor that this library is compiled for.
 const CPU: &str = "-march=x86-64-v2";
 
 fn run(tool: &str, usual: &str, words: &[&str]) {

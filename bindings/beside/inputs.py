@@ -1,9 +1,9 @@
 #!/usr/bin/env python3
-"""Writes the texts that the readers of `bindings/beside` read: `inputs.py FOLDER`.
+"""Generates the inputs of `bindings/beside`: `inputs.py FOLDER`.
 
-Each is made from a fixed seed, so it is the same everywhere. Some are made of one form again and again;
-those of a log, statuses and a table are as long and as mixed as what is met in use. They are made once,
-and again where this script changed.
+Each text is generated from a fixed seed, so it is the same everywhere. Some texts repeat one form; the
+log, the statuses and the table are as long and as varied as real data. They are generated once, and
+again if this script changes.
 """
 import pathlib
 import random
@@ -37,7 +37,7 @@ HEAD = (
 
 
 class Seed:
-    """Numbers and choices from a seed, by the one function that is the same in each Python."""
+    """Numbers and choices from a seed, with the only function that is the same in every Python."""
 
     def __init__(self, seed):
         self.random = random.Random(seed).random
@@ -63,7 +63,7 @@ def items(_):
 
 
 def strings(seed):
-    """An array of paragraphs: nine tenths of the text stand in strings, some with escapes."""
+    """An array of paragraphs: 90 % of the text are strings, some with escapes."""
     lines = []
     for _ in range(2000):
         parts = [seed.words(4 + seed.below(12)) for _ in range(1 + seed.below(8))]
@@ -72,7 +72,7 @@ def strings(seed):
 
 
 def status(seed, indent):
-    """One status with its user, as services of short messages answer it, and its lines."""
+    """One status with its user, similar to the API of a microblog."""
     text = "".join(seed.one(JAPANESE) for _ in range(20 + seed.below(60)))
     number = 505874847260352513 - seed.below(1 << 40)
     name = "".join(seed.one(JAPANESE) for _ in range(3 + seed.below(8)))
@@ -128,19 +128,19 @@ def status(seed, indent):
 
 
 def statuses(seed):
-    """Statuses as a service of short messages answers them, with their spaces and Japanese text."""
+    """Statuses similar to the API of a microblog, with whitespace and Japanese text."""
     lines = ",\n".join(status(seed, "    ") for _ in range(400))
     behind = '\n  ],\n  "search_metadata": {\n    "count": 400\n  }\n}\n'
     return '{\n  "statuses": [\n' + lines + behind
 
 
 def heads(_):
-    """One head of a request, as a browser sends it, again and again."""
+    """The same request head of a browser, repeated."""
     return HEAD * 1000
 
 
 def log(seed):
-    """Heads of requests of a server's log: pages, pictures, calls and searches of five agents."""
+    """Request heads as in a server's log: pages, images, style sheets and searches, of five agents."""
     made = []
     for _ in range(10000):
         path = "/".join(seed.one(WORDS) for _ in range(1 + seed.below(4)))
@@ -169,14 +169,14 @@ def log(seed):
 
 
 def records(_):
-    """Records of comma separated values, a quarter of the fields in quotes."""
+    """CSV records; a quarter of the fields are quoted."""
     return "".join(
         f'{k},item {k},"a ""{k}"", b",{k * 7}.5,,"two\nlines",plain text\n' for k in range(10000)
     )
 
 
 def table(seed):
-    """A table of a million records: numbers, a date, a word or two, and seldom a field in quotes."""
+    """A table of a million records: numbers, a date, one or two words, and few quoted fields."""
     made = []
     for k in range(1000000):
         note = seed.one(WORDS)
@@ -190,7 +190,7 @@ def table(seed):
 
 
 def small(seed):
-    """Replies of Redis as a client meets them that asks for single values."""
+    """Redis replies of a client that requests single values."""
     made = []
     for _ in range(40000):
         kind = seed.below(8)
@@ -223,7 +223,7 @@ def array(_):
 
 
 def settings(seed):
-    """Settings in sections, some with a comment behind them."""
+    """Settings in sections, some followed by a comment."""
     made = []
     for section in range(1000):
         made.append(f"; {seed.words(6)}\n[section {section}]\n")

@@ -1,17 +1,17 @@
 #!/usr/bin/env python3
-"""Measures for `run`, which builds what it calls, and prints a table in Markdown:
+"""Measures the workloads for `run`, and prints a table in Markdown:
 
-    table.py all [TURNS]     instructions, time and requests for memory
-    table.py counts          instructions and requests alone
-    table.py time [TURNS]    time alone
+    table.py all [TURNS]     instructions, time and allocations
+    table.py counts          instructions and allocations
+    table.py time [TURNS]    time
     table.py write           writes the library's instructions to counts.txt
-    table.py check           compares with these (`bench/measured.py`)
+    table.py check           compares with counts.txt (`bench/measured.py`)
 
-Instructions are counted by valgrind's callgrind, of a reader's second run, in a process of its own,
-with those of the allocator and of all libraries that are loaded; requests for memory by what is loaded
-before these (`peers/requests.c`). Times are the best of so many turns, in which all that read one text
-take turns. Behind a number of another reader stands how many times that of it the library takes: of
-instructions, and of time. Below 1 the library takes less.
+The instructions are those of a reader's second call, in its own process, with the allocator and all
+loaded libraries, by valgrind's callgrind. Allocations are counted by a preloaded library
+(`peers/requests.c`). Times are the best of TURNS turns, in which the readers of a text alternate. A
+number of another reader is followed by a ratio: this library's instructions or time divided by that
+reader's. If it is below 1, this library takes less.
 """
 import pathlib
 import re
@@ -31,14 +31,14 @@ SIDE_BY_SIDE = 2
 
 
 def works():
-    """The name of each work, the size of its text, and the names of its readers."""
+    """Yields the name of each workload, the size of its text, and the names of its readers."""
     for line in said_by([PROGRAM, "list"]).splitlines():
         name, file, *readers = line.split("\t")
         yield name, (OUT / "beside/texts" / file).stat().st_size, readers
 
 
 def of_library():
-    """The library's instructions in each work."""
+    """Returns the library's instructions in each workload."""
 
     def counted(at):
         return instructions([PROGRAM, "run", str(at), "0"])[0]
@@ -49,7 +49,7 @@ def of_library():
 
 
 def counts(runs):
-    """The instructions a byte of each run, its requests for memory and their bytes."""
+    """Returns the instructions per byte of each run, its allocations, and the allocated bytes."""
 
     def counted(run):
         words = [PROGRAM, "run", *map(str, run)]
@@ -61,12 +61,12 @@ def counts(runs):
         made = dict(zip(runs, pool.map(counted, runs)))
     for run in runs:
         if made[run][-1] != made[run[0], 0][-1]:
-            sys.exit(f"reader {run[1]} of work {run[0]} differs: {made[run][-1]}")
+            sys.exit(f"reader {run[1]} of workload {run[0]} has another result: {made[run][-1]}")
     return made
 
 
 def times(turns):
-    """The speed of each reader, in megabytes a second."""
+    """Returns the speed of each reader in megabytes per second."""
     speeds = {}
     for line in said_by([PROGRAM, "time", str(turns)]).splitlines():
         work, *numbers = line.split()
@@ -75,7 +75,7 @@ def times(turns):
 
 
 def cell(number, ratio):
-    """A number, and how many times it the library takes, if another reader is told of."""
+    """Formats a number, followed by the ratio for another reader."""
     return f"{number} ({ratio:.2f})" if ratio is not None else number
 
 
@@ -96,7 +96,7 @@ def rows(all_works, counted, timed):
 
 
 def versions():
-    """The versions of the readers, as Debian's packages say them."""
+    """Returns the versions of the readers' Debian packages."""
     packages = re.findall(r"[a-z-]+-dev", (HERE / "run").read_text(encoding="utf-8"))
     words = ["dpkg-query", "-W", "-f", "${source:Package} ${source:Upstream-Version}\n", *packages]
     found = {it.removeprefix("rust-").partition("+")[0] for it in said_by(words).splitlines()}
@@ -112,13 +112,13 @@ def main(what, turns):
     print(f"{versions()}.")
     if timed:
         print(
-            f"Times are the best of {turns} turns on {machine()}, with a load average of {begun} at the"
-            f" begin and {load()} at the end."
+            f"Times are the best of {turns} turns on {machine()}. The load average was {begun} at the"
+            f" start and {load()} at the end."
         )
-    heads = ["Work", "By"]
-    heads += ["Instructions a byte"] if counted else []
-    heads += ["Megabytes a second"] if timed else []
-    heads += ["Requests for memory", "Bytes asked for"] if counted else []
+    heads = ["Workload", "Reader"]
+    heads += ["Instructions per byte"] if counted else []
+    heads += ["Megabytes per second"] if timed else []
+    heads += ["Allocations", "Bytes allocated"] if counted else []
     print(f"\n| {' | '.join(heads)} |\n|{'---|' * len(heads)}")
     for line in rows(all_works, counted, timed):
         print(line)

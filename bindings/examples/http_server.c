@@ -1,9 +1,9 @@
 /*
- * Answers requests of HTTP/1.1 over a connection, and plays a client that sends them in pieces of
- * seven bytes, over a pair of sockets. Run by itself it prints what the client gets.
+ * An HTTP/1.1 server, and a client that sends requests in chunks of seven bytes, over a pair of
+ * sockets. The program prints the responses that the client receives.
  *
- * The server keeps what has come and is not yet read in one buffer. It asks for more where a head
- * is not all there, refuses what begins no head, and bounds what one request may take.
+ * The server keeps its unread input in one buffer. It waits for more input if a head is incomplete,
+ * rejects invalid heads, and limits the size of a request.
  */
 #define _POSIX_C_SOURCE 200809L
 #include <stdbool.h>
@@ -24,7 +24,7 @@ struct connection {
     uint8_t bytes[ROOM];
 };
 
-/* Reads what comes, and says whether there was room for it and anything came. */
+/* Reads the next input. Returns false if the buffer is full, or at the end of the input. */
 static bool more(struct connection *from)
 {
     ssize_t came = read(from->socket, from->bytes + from->length, ROOM - from->length);
@@ -74,7 +74,7 @@ static bool is_name(const uint8_t *bytes, struct pergidau_span at, const char *n
         && !strncasecmp((const char *)bytes + at.offset, name, at.length);
 }
 
-/* The number that the bytes say, of digits alone and no more than there is room for. */
+/* Parses a decimal number. Returns false if it is not all digits, or far larger than `ROOM`. */
 static bool number(const uint8_t *bytes, struct pergidau_span at, size_t *out)
 {
     *out = 0;
@@ -88,7 +88,7 @@ static bool number(const uint8_t *bytes, struct pergidau_span at, size_t *out)
     return at.length > 0;
 }
 
-/* Answers a request whose head was read, and says whether the connection stays. */
+/* Responds to a request whose head is parsed. Returns whether the connection stays open. */
 static bool serve(struct connection *from, const struct pergidau_head *head,
                   const struct pergidau_field *fields)
 {
@@ -132,7 +132,7 @@ static bool serve(struct connection *from, const struct pergidau_head *head,
     return keeps;
 }
 
-/* Answers requests until one of the two ends it. */
+/* Serves requests until the client or the server closes the connection. */
 static void serve_all(struct connection *from)
 {
     for (;;) {
@@ -173,7 +173,7 @@ static void serve_all(struct connection *from)
 }
 
 static const char *const scripts[] = {
-    /* Three requests in a row, the last of which ends it. */
+    /* Consecutive requests; the third closes the connection, so the fourth is ignored. */
     "GET /hello HTTP/1.1\r\nHost: a\r\n\r\n"
     "\r\nPOST /echo HTTP/1.1\r\nHost: a\r\ncontent-length: 14\r\n\r\nGET / HTTP/1.1"
     "GET /none HTTP/1.1\r\nHost: a\r\nConnection: close\r\n\r\n"
@@ -190,7 +190,7 @@ static const char *const scripts[] = {
     "GET /hello HTTP/1.1\r\nHo",
 };
 
-/* Sends a script in pieces, and prints what comes back. */
+/* Sends a script in chunks, and prints the responses. */
 static void play(int socket, const char *script)
 {
     size_t length = strlen(script), came = 0;
@@ -221,7 +221,7 @@ int main(void)
             close(ends[0]);
             serve_all(&from);
             shutdown(ends[1], SHUT_WR);
-            /* What the client still sends is read, so that it gets the last answer. */
+            /* Drains the remaining input, so that the client receives the last response. */
             while (read(ends[1], from.bytes, ROOM) > 0) {
             }
             _exit(0);

@@ -1,7 +1,6 @@
-/* What calls cost on inputs made to cost much: the memory that is held at once and that is asked for,
- * beside the input's length, and the stack. Prints a row for each; it is linked with
- * `-Wl,--wrap=malloc,--wrap=realloc,--wrap=free` and -pthread. Exits with 1 where a row is beyond what
- * the header says. */
+/* Measures calls on worst-case inputs: the peak memory and the allocated memory per byte of input,
+ * and the stack. Prints a table row for each input. Exits with 1 if a row exceeds the header's limit.
+ * Link it with `-Wl,--wrap=malloc,--wrap=realloc,--wrap=free` and -pthread. */
 #include <pthread.h>
 #include <stdbool.h>
 #include <stdio.h>
@@ -26,7 +25,7 @@ static void count(size_t size)
     most_held = held > most_held ? held : most_held;
 }
 
-/* Each block says before itself how long it is. */
+/* Stores the length of each block in front of it. */
 void *__wrap_malloc(size_t size)
 {
     size_t *block = __real_malloc(size + 16);
@@ -47,7 +46,7 @@ void __wrap_free(void *block)
     }
 }
 
-/* A block that grows may be copied: both are held then. */
+/* A reallocation may copy the block, so the old and the new block count at the same time. */
 void *__wrap_realloc(void *block, size_t size)
 {
     void *grown = __wrap_malloc(size);
@@ -71,8 +70,8 @@ static const char *const names[] = {
     "resp_extent", "http_chunked", "text_position", "toml_document",
 };
 
-/* Inputs: a beginning, what is repeated, and an end. The memory is that which the header says a call
- * holds at once at most, in bytes for each byte of input; the stack, in KiB. */
+/* Inputs: a start, a repeated part, and an end. `memory` is the header's limit of the peak memory, in
+ * bytes per byte of input; `stack` is the limit of the stack, in KiB. */
 static const struct {
     enum call call;
     const char *front, *again, *end;
@@ -182,7 +181,7 @@ static enum pergidau_code call(enum call which, size_t max_depth)
     struct pergidau_csv_record_state fields = {0};
     struct pergidau_reply reply;
     struct pergidau_resp_reply_state state = {0};
-    /* With no limits, so that all of the bytes are taken. */
+    /* Without limits, so that all bytes are consumed. */
     struct pergidau_chunked_state chunked = {1, 0, 0, SIZE_MAX, SIZE_MAX, SIZE_MAX, SIZE_MAX};
     struct pergidau_chunked_step step;
     struct pergidau_position position;
@@ -255,7 +254,7 @@ static void *nothing(void *row)
     return row;
 }
 
-/* How much of a stack a thread that runs this wrote to. */
+/* Returns how many bytes of its stack a thread that calls `run` uses. */
 static size_t stack_of(void *(*run)(void *), void *row)
 {
     pthread_t thread;
@@ -297,7 +296,7 @@ int main(void)
 {
     bool wrong = false;
     size_t own = stack_of(nothing, NULL);
-    printf("| Call | Input | Bytes | Ends | Held at once, a byte | Asked for, a byte | Stack |\n");
+    printf("| Call | Input | Bytes | Result | Peak memory per byte | Allocated per byte | Stack |\n");
     for (size_t i = 0; i < sizeof rows / sizeof *rows; i++) {
         make(i);
         size_t stack = stack_of(called, &i) - own;
@@ -310,7 +309,7 @@ int main(void)
         }
         printf("`.. | %zu | %s | %.1f | %.1f | %zu |\n", length, pergidau_message(code), each,
                (double)asked / (double)length, stack);
-        /* An array that has begun has a list with room for some elements. */
+        /* Each open array has a list with an initial capacity. */
         size_t lists = rows[i].memory == 32 && rows[i].stack == 512 ? rows[i].turns << 11 : 0;
         most_held -= most_held < lists ? most_held : lists;
         wrong |= (double)most_held / (double)length > (double)rows[i].memory

@@ -1,6 +1,6 @@
-/* Random inputs at the edges of pages that cannot be read: `fuzz INPUTS [SEED]`. A byte read before
- * or past an input, or written past a buffer, ends the run. What is answered is held against what a
- * caller may rely on. Exits with 1 where it does not hold. */
+/* Random inputs next to pages that cannot be read: `fuzz INPUTS [SEED]`. A read before or after an
+ * input, or a write past a buffer, crashes the program. The results are checked for the properties
+ * that callers rely on. Exits with 1 if one does not hold. */
 #include <stdbool.h>
 #include <stdio.h>
 #include <stdlib.h>
@@ -60,7 +60,7 @@ static void read_json(const uint8_t *bytes, size_t length)
     HOLDS(found <= length);
     HOLDS((value == PERGIDAU_DONE) == (found > 0));
     if (value == PERGIDAU_DONE && check != PERGIDAU_INVALID_UTF8) {
-        /* The value alone is a text, and all of the bytes are one where only space is behind it. */
+        /* The value is a JSON text, and so is the input if and only if only whitespace follows. */
         HOLDS(pergidau_json_check(bytes, found, max_depth) == PERGIDAU_DONE);
         size_t end = found;
         while (end < length && memchr(" \t\r\n", bytes[end], 4)) {
@@ -70,8 +70,8 @@ static void read_json(const uint8_t *bytes, size_t length)
     }
 }
 
-/* Walks through what stands there, and counts what is passed. It ends where the caller's bytes do,
- * or at a closing bracket. */
+/* Counts the values up to a closing bracket or the end of the input. Walks through the values inside
+ * them, too. */
 static size_t walk(const uint8_t *bytes, size_t length, size_t max_depth)
 {
     struct pergidau_json_item item;
@@ -117,7 +117,7 @@ static void read_values(const uint8_t *bytes, size_t length)
     }
 }
 
-/* A buffer of the size that ends where the second room does, with nothing in it yet. */
+/* Returns a buffer of `size` bytes, filled with 0xab, that ends where the second room ends. */
 static void *buffer(size_t size)
 {
     return memset(buffer_room + PAGES * page - size, 0xab, size);
@@ -158,7 +158,7 @@ static void read_document(const uint8_t *bytes, size_t length)
         HOLDS(out.entries == 0 || entries[0].key.length == 0);
     } else {
         HOLDS(code == PERGIDAU_INVALID && out.error_offset <= length);
-        /* What stands before the place is a document. */
+        /* The input up to the error is a document. */
         HOLDS(pergidau_ini_document(bytes, out.error_offset, NULL, 0, NULL, 0, &out)
               != PERGIDAU_INVALID);
     }
@@ -169,7 +169,7 @@ static void read_head(const uint8_t *bytes, size_t length)
     struct pergidau_head out, cut;
     size_t count = below(6);
     size_t size = count * sizeof(struct pergidau_field);
-    /* The last entry ends where the room does. */
+    /* The last entry ends where the room ends. */
     uint8_t *start = buffer_room + PAGES * page - size;
     struct pergidau_field *fields = (struct pergidau_field *)(void *)start;
     enum pergidau_code code = pergidau_http_head(bytes, length, fields, count, &out);
@@ -194,7 +194,7 @@ static void read_head(const uint8_t *bytes, size_t length)
             HOLDS(name.offset + name.length < value.offset);
             HOLDS(i == 0 || fields[i - 1].value.offset < name.offset);
         }
-        /* No shorter beginning is a head, and each can become one. */
+        /* Each proper prefix of a head is an incomplete head. */
         size_t end = below(out.length);
         HOLDS(pergidau_http_head(bytes, end, fields, count, &cut) == PERGIDAU_INVALID);
         HOLDS(pergidau_http_head_partial(bytes, end, fields, count, &cut)
@@ -206,7 +206,7 @@ static void read_head(const uint8_t *bytes, size_t length)
         code = pergidau_http_head_partial(bytes, length, fields, count, &cut);
         HOLDS(code == PERGIDAU_INVALID || code == PERGIDAU_INCOMPLETE);
         HOLDS(out.error_offset == (code == PERGIDAU_INVALID ? cut.error_offset : length));
-        /* What is before the place can become a head, and with the byte there it cannot. */
+        /* The input up to the error is an incomplete head; with the next byte it is invalid. */
         HOLDS(pergidau_http_head_partial(bytes, out.error_offset, fields, count, &cut)
               == PERGIDAU_INCOMPLETE);
         HOLDS(code == PERGIDAU_INCOMPLETE
@@ -215,7 +215,8 @@ static void read_head(const uint8_t *bytes, size_t length)
     }
 }
 
-/* Whether a line end, or a quote and one, makes the bytes begin with a record. */
+/* Whether the bytes start with a record after a line ending is appended, or a quote and a line
+ * ending. */
 static bool may_go_on(const uint8_t *bytes, size_t length, uint32_t line_feeds)
 {
     static const char *ends[] = {"\n", "\r\n", "\"\n", "\"\r\n"};
@@ -241,7 +242,7 @@ static void read_record(const uint8_t *bytes, size_t length)
     uint32_t line_feeds = (uint32_t)below(3);
     size_t most = below(24), count = below(4);
     size_t size = count * sizeof(struct pergidau_span);
-    /* The entries stand behind the bytes, so that too many of these are seen there. */
+    /* The entries follow the text, so that a write past the text is detected. */
     struct pergidau_span *places = buffer(size);
     uint8_t *text = (uint8_t *)memset((uint8_t *)places - most, 0xab, most);
     enum pergidau_code code =
@@ -268,7 +269,7 @@ static void read_record(const uint8_t *bytes, size_t length)
             sum += places[i].length;
         }
         HOLDS(sum == out.text);
-        /* The record alone is one, and what is one in pieces is the same. */
+        /* The record by itself gives the same result, and so does the partial function. */
         HOLDS(pergidau_csv_record(bytes, out.length, line_feeds, text, most, places, count, &cut)
               == PERGIDAU_DONE);
         HOLDS(cut.length == out.length && cut.fields == out.fields && cut.text == out.text);
@@ -303,20 +304,20 @@ static void read_reply(const uint8_t *bytes, size_t length)
     HOLDS(out.length >= 3 && out.length <= length && within(out.span, out.length));
     HOLDS(!memcmp(bytes + out.length - 2, "\r\n", 2));
     HOLDS((out.kind == PERGIDAU_RESP_ARRAY) == (bytes[0] == '*' && bytes[1] != '-'));
-    /* Its elements are replies, one behind the other, and fill its place. */
+    /* Its elements are consecutive replies that fill its span. */
     size_t at = out.span.offset, end = at + out.span.length;
     for (size_t i = 0; i < out.elements; i++) {
         HOLDS(pergidau_resp_reply(bytes + at, end - at, max_depth - 1, &part) == PERGIDAU_DONE);
         at += part.length;
     }
     HOLDS(out.kind != PERGIDAU_RESP_ARRAY || at == end);
-    /* No shorter beginning is a reply, and each can become one. */
+    /* Each proper prefix of a reply is an incomplete reply. */
     size_t cut = below(out.length);
     HOLDS(pergidau_resp_reply(bytes, cut, max_depth, &part) == PERGIDAU_INVALID);
     HOLDS(pergidau_resp_reply_partial(bytes, cut, max_depth, &part) == PERGIDAU_INCOMPLETE);
 }
 
-/* Where a reply ends, by calls in turn and by one, is where it is read to. */
+/* Successive calls find the same end of a reply as one call, and as the function that reads it. */
 static void read_extent(const uint8_t *bytes, size_t length)
 {
     struct pergidau_resp_reply_state state = {0}, once = {0};
@@ -334,8 +335,8 @@ static void read_extent(const uint8_t *bytes, size_t length)
     HOLDS(read != PERGIDAU_DONE || reply.length == end);
 }
 
-/* What a chunked body is, by calls in turn on pieces and by calls on all: what is given out, and where
- * it ends. */
+/* Decodes a chunked body that arrives in chunks, and as a complete input, and compares the output and
+ * the end of the body. */
 static void read_chunked(const uint8_t *bytes, size_t length)
 {
     uint8_t *given[2] = {malloc(length + 1), malloc(length + 1)};

@@ -1,9 +1,9 @@
-/* Random inputs of heads of responses, and of heads of requests and records whose end is found in
- * pieces, for `fuzz.c`. */
+/* Random inputs of response heads, and of request heads and records whose end is found
+ * incrementally, for `fuzz.c`. */
 #ifndef HEADS_FUZZ_H
 #define HEADS_FUZZ_H
 
-/* ---- heads of responses, beside a reader by hand */
+/* ---- response heads, compared with a hand-written parser */
 
 static bool is_digit(uint8_t byte)
 {
@@ -23,16 +23,16 @@ static bool is_value(uint8_t byte)
     return byte == '\t' || (byte >= ' ' && byte != 0x7f);
 }
 
-/* How a reader by hand ends: at a head of so many fields; at a byte with which none goes on; or at the
- * end of the bytes, within one. */
+/* The result of the hand-written parser: a head with `fields` fields, an invalid byte at `at`, or an
+ * incomplete head. */
 struct by_hand {
     enum pergidau_code code;
     size_t at, fields, reason, reason_length;
     unsigned status;
 };
 
-/* One byte at a time, by what is due: the bytes of `form`, where 'd' is a digit; then a reason, the
- * line end, and lines of fields. */
+/* Parses byte by byte: the bytes of `form`, where 'd' is a digit; then a reason, the line ending, and
+ * field lines. */
 static struct by_hand response_by_hand(const uint8_t *bytes, size_t length)
 {
     static const char form[] = "HTTP/d.d ddd";
@@ -97,7 +97,7 @@ static void read_response(const uint8_t *bytes, size_t length)
     struct pergidau_response_head out, cut;
     struct by_hand want = response_by_hand(bytes, length);
     size_t count = below(6), size = count * sizeof(struct pergidau_field);
-    /* The last entry ends where the room does. */
+    /* The last entry ends where the room ends. */
     struct pergidau_field *fields =
         (struct pergidau_field *)(void *)(buffer_room + PAGES * page - size);
     enum pergidau_code code = pergidau_http_response_head(bytes, length, fields, count, &out);
@@ -130,7 +130,7 @@ static void read_response(const uint8_t *bytes, size_t length)
     }
 }
 
-/* ---- where heads of requests and records end, in turn and by one call for all bytes */
+/* ---- the ends of request heads and of records, by successive calls and by one call */
 
 static void read_head_extent(const uint8_t *bytes, size_t length)
 {

@@ -1,18 +1,18 @@
-/* Rows of heads of responses, and of heads of requests and records whose end is found in pieces, for
- * `rows.c`: it has those of heads and of records, which are found here too. */
+/* Tables of response heads, and tests that find the end of request heads and records incrementally.
+ * Included by `rows.c`, which has the tables of request heads and of records. */
 #ifndef HEADS_ROWS_H
 #define HEADS_ROWS_H
 
-/* ---- heads of responses */
+/* ---- response heads */
 
 static const struct {
     const char *text, *reason, *fields[3][2];
     size_t count, rest;
-    /* The numbers of the version, the status code, and where the reason stands. */
+    /* The version, the status code, and the offset of the reason. */
     int major, minor, status;
     size_t offset;
 } responses[] = {
-    /* Of the response of RFC 9110, section 3.9, some fields. */
+    /* The response of RFC 9110, section 3.9, with some of its fields. */
     {"HTTP/1.1 200 OK\r\nDate: Mon, 27 Jul 2009 12:28:53 GMT\r\nServer: Apache\r\n"
      "Content-Length: 51\r\n\r\nHello World!",
      "OK",
@@ -31,7 +31,7 @@ static const struct {
     {"HTTP/0.1 000 \xe9\xff\r\n\r\n", "\xe9\xff", {{0}}, 0, 0, 0, 1, 0, 13},
 };
 
-/* With more behind them these are none either: what begins one, and what cannot go on there. */
+/* Invalid heads: an incomplete head, and bytes that cannot continue it. */
 static const char *no_responses[][2] = {
     {"", "\r\nHTTP/1.1 200 OK\r\n\r\n"},   {"", "GET / HTTP/1.1\r\n\r\n"},
     {"HTTP/", "x.1 200 OK\r\n\r\n"},       {"HTTP/1", "1 200 OK\r\n\r\n"},
@@ -63,14 +63,14 @@ static void test_response(size_t i)
                  text, length, fields, count, &out),
              PERGIDAU_DONE);
         shown(row, text, out.reason, responses[i].reason);
-        same("the reason's place", row, (long long)out.reason.offset,
+        same("the reason's offset", row, (long long)out.reason.offset,
              (long long)responses[i].offset);
         same("the major version", row, out.major, responses[i].major);
         same("the minor version", row, out.minor, responses[i].minor);
         same("the status code", row, out.status, responses[i].status);
         same("the length", row, (long long)out.length, (long long)(length - responses[i].rest));
         same("the fields", row, (long long)out.fields, (long long)count);
-        same("no place", row, (long long)out.error_offset, 0);
+        same("no error offset", row, (long long)out.error_offset, 0);
         for (size_t k = 0; k < count; k++) {
             shown(row, text, fields[k].name, responses[i].fields[k][0]);
             shown(row, text, fields[k].value, responses[i].fields[k][1]);
@@ -79,14 +79,14 @@ static void test_response(size_t i)
     for (size_t room = 0; room < count; room++) {
         same("too small", row, pergidau_http_response_head(text, length, fields, room, &out),
              PERGIDAU_BUFFER_TOO_SMALL);
-        same("wanted", row, (long long)out.fields, (long long)count);
+        same("the required size", row, (long long)out.fields, (long long)count);
     }
     for (size_t end = 0; end + responses[i].rest < length; end++) {
         uint8_t *front = copied(row, end);
-        same("a beginning", row, pergidau_http_response_head(front, end, fields, count, &out),
+        same("a prefix", row, pergidau_http_response_head(front, end, fields, count, &out),
              PERGIDAU_INVALID);
         same("its end", row, (long long)out.error_offset, (long long)end);
-        same("a piece", row,
+        same("partial input", row,
              pergidau_http_response_head_partial(front, end, fields, count, &out),
              PERGIDAU_INCOMPLETE);
         free(front);
@@ -108,13 +108,13 @@ static void test_responses(void)
         size_t length =
             (size_t)snprintf(row, sizeof row, "%s%s", no_responses[i][0], no_responses[i][1]);
         uint8_t *text = copied(row, length);
-        same("no response", row, pergidau_http_response_head(text, length, fields, 4, &out),
+        same("invalid response", row, pergidau_http_response_head(text, length, fields, 4, &out),
              PERGIDAU_INVALID);
-        same("the place", row, (long long)out.error_offset, (long long)place);
-        same("no response", row,
+        same("the error offset", row, (long long)out.error_offset, (long long)place);
+        same("invalid response", row,
              pergidau_http_response_head_partial(text, length, fields, 4, &out),
              PERGIDAU_INVALID);
-        same("the place", row, (long long)out.error_offset, (long long)place);
+        same("the error offset", row, (long long)out.error_offset, (long long)place);
         free(text);
     }
     const uint8_t *bytes = (const uint8_t *)"H";
@@ -135,9 +135,9 @@ static void test_responses(void)
          PERGIDAU_INCOMPLETE);
 }
 
-/* ---- where heads of requests end */
+/* ---- the ends of request heads */
 
-/* Calls in turn, each with so many bytes more: what the last one answers, and writes. */
+/* Makes successive calls, each with `step` more bytes, and returns the last result. */
 static enum pergidau_code head_in_turn(const char *row, size_t length, size_t step, size_t *out)
 {
     struct pergidau_http_head_state state = {0};
@@ -146,7 +146,7 @@ static enum pergidau_code head_in_turn(const char *row, size_t length, size_t st
          have += length - have < step && have < length ? length - have : step) {
         uint8_t *bytes = copied(row, have);
         code = pergidau_http_head_extent(&state, bytes, have, out);
-        same("what was passed", row, (long long)state.passed,
+        same("the scanned bytes", row, (long long)state.passed,
              code == PERGIDAU_INCOMPLETE ? (long long)have : (long long)*out);
         free(bytes);
     }
@@ -163,7 +163,7 @@ static void test_head_extents(void)
             same("a head", row, head_in_turn(row, length, step, &out), PERGIDAU_DONE);
             same("its end", row, (long long)out, (long long)whole);
         }
-        same("a part", row, head_in_turn(row, whole - 1, 1, &out), PERGIDAU_INCOMPLETE);
+        same("partial input", row, head_in_turn(row, whole - 1, 1, &out), PERGIDAU_INCOMPLETE);
         same("no end", row, (long long)out, 0);
     }
     for (size_t i = 0; i < sizeof no_heads / sizeof *no_heads; i++) {
@@ -171,10 +171,10 @@ static void test_head_extents(void)
         size_t place = strlen(no_heads[i][0]);
         size_t length = (size_t)snprintf(row, sizeof row, "%s%s", no_heads[i][0], no_heads[i][1]);
         for (size_t step = 1; step <= length; step++) {
-            same("no head", row, head_in_turn(row, length, step, &out), PERGIDAU_INVALID);
-            same("its place", row, (long long)out, (long long)place);
+            same("invalid head", row, head_in_turn(row, length, step, &out), PERGIDAU_INVALID);
+            same("its error offset", row, (long long)out, (long long)place);
         }
-        same("it begins", row, head_in_turn(row, place, 1, &out), PERGIDAU_INCOMPLETE);
+        same("a prefix", row, head_in_turn(row, place, 1, &out), PERGIDAU_INCOMPLETE);
     }
     struct pergidau_http_head_state state = {0};
     const uint8_t *bytes = (const uint8_t *)"A b HTTP/1.1\r\n\r\n";
@@ -186,12 +186,12 @@ static void test_head_extents(void)
          PERGIDAU_TOO_LONG);
     same("nothing", "head", pergidau_http_head_extent(&state, NULL, 0, &out),
          PERGIDAU_INCOMPLETE);
-    same("a state that went on", "head", pergidau_http_head_extent(&state, bytes, 16, &out),
+    same("a state that continues", "head", pergidau_http_head_extent(&state, bytes, 16, &out),
          PERGIDAU_DONE);
     same("it is done again", "head", pergidau_http_head_extent(&state, bytes, 16, &out),
          PERGIDAU_DONE);
     same("its end", "head", (long long)out, 16);
-    /* Of numbers that no call left, it may say anything, and reads the bytes alone. */
+    /* For an invalid state the result is unspecified, but only the input is read. */
     for (size_t place = 0; place < 20; place++) {
         state = (struct pergidau_http_head_state){SIZE_MAX, place};
         (void)pergidau_http_head_extent(&state, bytes, 16, &out);
@@ -200,9 +200,9 @@ static void test_head_extents(void)
     }
 }
 
-/* ---- where records end */
+/* ---- the ends of records */
 
-/* Calls in turn, each with so many bytes more: what the last one answers, and writes. */
+/* Makes successive calls, each with `step` more bytes, and returns the last result. */
 static enum pergidau_code record_in_turn(const char *row, size_t length, uint32_t line_feeds,
                                          size_t step, struct pergidau_record *out)
 {
@@ -212,7 +212,7 @@ static enum pergidau_code record_in_turn(const char *row, size_t length, uint32_
          have += length - have < step && have < length ? length - have : step) {
         uint8_t *bytes = copied(row, have);
         code = pergidau_csv_record_extent(&state, bytes, have, line_feeds, out);
-        same("no place", row, (long long)out->error_offset,
+        same("no error offset", row, (long long)out->error_offset,
              code == PERGIDAU_INVALID ? (long long)state.passed : 0);
         free(bytes);
     }
@@ -226,7 +226,7 @@ static void test_record_extents(void)
         const char *row = records[i].text;
         uint32_t line_feeds = records[i].line_feeds;
         size_t length = strlen(row), whole = length - records[i].rest, text = 0;
-        /* A record whose line end is wanting is none as yet. */
+        /* A record without its line ending is incomplete. */
         bool ended = whole > 0 && row[whole - 1] == '\n';
         for (size_t k = 0; k < records[i].count; k++) {
             text += strlen(records[i].fields[k]);
@@ -239,7 +239,7 @@ static void test_record_extents(void)
             same("its text", row, (long long)out.text, ended ? (long long)text : 0);
             same("its length", row, (long long)out.length, ended ? (long long)whole : 0);
         }
-        same("a part", row, record_in_turn(row, whole - 1, line_feeds, 1, &out),
+        same("partial input", row, record_in_turn(row, whole - 1, line_feeds, 1, &out),
              PERGIDAU_INCOMPLETE);
     }
     for (size_t i = 0; i < sizeof no_records / sizeof *no_records; i++) {
@@ -247,12 +247,12 @@ static void test_record_extents(void)
         uint32_t line_feeds = no_records[i].line_feeds;
         size_t length = strlen(row), begins = no_records[i].begins;
         for (size_t step = 1; step <= length; step++) {
-            same("no record", row, record_in_turn(row, length, line_feeds, step, &out),
+            same("invalid record", row, record_in_turn(row, length, line_feeds, step, &out),
                  begins < length ? PERGIDAU_INVALID : PERGIDAU_INCOMPLETE);
-            same("its place", row, (long long)out.error_offset,
+            same("its error offset", row, (long long)out.error_offset,
                  begins < length ? (long long)begins : 0);
         }
-        same("it begins", row, record_in_turn(row, begins, line_feeds, 1, &out),
+        same("a prefix", row, record_in_turn(row, begins, line_feeds, 1, &out),
              PERGIDAU_INCOMPLETE);
     }
     struct pergidau_csv_record_state state = {0};
@@ -265,10 +265,10 @@ static void test_record_extents(void)
          PERGIDAU_TOO_LONG);
     same("nothing", "record", pergidau_csv_record_extent(&state, NULL, 0, 0, &out),
          PERGIDAU_INCOMPLETE);
-    same("a state that went on", "record", pergidau_csv_record_extent(&state, bytes, 6, 0, &out),
+    same("a state that continues", "record", pergidau_csv_record_extent(&state, bytes, 6, 0, &out),
          PERGIDAU_DONE);
     same("its fields", "record", (long long)out.fields, 2);
-    /* Of numbers that no call left, it may say anything, and reads the bytes alone. */
+    /* For an invalid state the result is unspecified, but only the input is read. */
     for (size_t place = 0; place < 8; place++) {
         state = (struct pergidau_csv_record_state){0, SIZE_MAX, SIZE_MAX, place};
         (void)pergidau_csv_record_extent(&state, bytes, 6, 0, &out);

@@ -1,5 +1,5 @@
-/* Random bytes for what tells entries of INI in any dialect, held against a reader written here
- * from what the header says. `fuzz.c` includes it behind what it uses. */
+/* Compares the INI reader, in any dialect, with a parser that follows the header's documentation, on
+ * random bytes. Included by `fuzz.c`, after the helpers that it uses. */
 
 static bool is_blank(uint8_t byte)
 {
@@ -31,7 +31,7 @@ static bool is_one(size_t dialect, size_t first, uint8_t byte, char a, char b)
     return ((dialect & first) && byte == a) || ((dialect & (first << 1)) && byte == b);
 }
 
-/* The bytes between two places without the blanks at both ends. */
+/* Returns the span between two offsets without the blanks at both ends. */
 static struct pergidau_span without_blanks(const uint8_t *bytes, size_t from, size_t to)
 {
     while (from < to && is_blank(bytes[from])) {
@@ -43,14 +43,14 @@ static struct pergidau_span without_blanks(const uint8_t *bytes, size_t from, si
     return (struct pergidau_span){from, to - from};
 }
 
-/* What the lines before say for the next one: whether a section has begun, and the blanks before
- * the pair that it may go on, or less than none. */
+/* The state after a line: whether a section has begun, and the indentation of the pair that the next
+ * line may continue, or a negative number if there is no such pair. */
 struct before {
     bool section;
     long blanks;
 };
 
-/* A section or a pair: what stands there, between two places. */
+/* Parses the section header or the pair in the span `text`. */
 static enum pergidau_code own_by_hand(const uint8_t *bytes, struct pergidau_span text,
                                       size_t dialect, struct before *before,
                                       struct pergidau_ini_entry *out)
@@ -91,7 +91,7 @@ static enum pergidau_code own_by_hand(const uint8_t *bytes, struct pergidau_span
     return PERGIDAU_DONE;
 }
 
-/* The next entry from a place on, which is then behind its line. */
+/* Parses the next entry from offset `*at` on, and moves the offset after its line. */
 static enum pergidau_code next_by_hand(const uint8_t *bytes, size_t length, size_t dialect,
                                        size_t *at, struct before *before,
                                        struct pergidau_ini_entry *out)
@@ -166,7 +166,7 @@ static void read_ini(const uint8_t *bytes, size_t length)
         HOLDS(!memcmp(&out, &want, sizeof out));
         HOLDS(ours.offset == at || at == 3);
     } while (code == PERGIDAU_DONE);
-    /* A state that is none. */
+    /* A state that may be invalid. */
     struct pergidau_ini_state other = {below(length + 3), below(3), below(3), below(5)};
     code = pergidau_ini_next(&other, bytes, length, dialect, &out);
     HOLDS(code != PERGIDAU_DONE || (within(out.key, length) && within(out.value, length)));

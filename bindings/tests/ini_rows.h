@@ -1,5 +1,5 @@
-/* Rows of INI files of any dialect, entry by entry: included by rows.c. What is wanted of rows in
- * the dialect of Python is what its configparser has. */
+/* Tables of INI files of any dialect, entry by entry: included by rows.c. In the dialect of Python
+ * the expected results are those of its configparser. */
 
 enum {
     PYTHON = PERGIDAU_INI_DIALECT_PYTHON,
@@ -7,7 +7,7 @@ enum {
     LENIENT = PERGIDAU_INI_DIALECT_LENIENT,
 };
 
-/* Entries, each with a vertical bar behind it; then how the last call ended, where, and why. */
+/* Entries, each followed by a vertical bar; and the code, offset and error of the last call. */
 static const struct {
     size_t dialect;
     const char *text, *entries;
@@ -42,7 +42,7 @@ static const struct {
     {DESKTOP, "[s]\na:b\n", "[s]|", PERGIDAU_INVALID, 4, PERGIDAU_INI_ERROR_MISSING_DELIMITER},
     {LENIENT, "a # b\nc = d;e ;f\n[s] ;g\n", "a|c=d;e|[s]|", PERGIDAU_END, 0, 0},
     {LENIENT, "a = b\n  c\n", "a=b|c|", PERGIDAU_END, 0, 0},
-    /* Each flag by itself, and what else a sum may have. */
+    /* Each flag by itself, and sums with other bits. */
     {PERGIDAU_INI_DIALECT_COLON, "[s]\na=b:c\n", "[s]|a=b=c|", PERGIDAU_END, 0, 0},
     {PERGIDAU_INI_DIALECT_EQUALS, "[s]\na:b=c\n", "[s]|a:b=c|", PERGIDAU_END, 0, 0},
     {0, "[s]\na:b=c\n#=d\n", "[s]|a=b=c|#=d|", PERGIDAU_END, 0, 0},
@@ -60,7 +60,7 @@ static const struct {
     {PYTHON | 1024, "[s]\na=b\n", "[s]|a=b|", PERGIDAU_END, 0, 0},
 };
 
-/* Puts an entry behind others. */
+/* Appends an entry. */
 static char *put_entry(char *into, const char *text, const struct pergidau_ini_entry *entry)
 {
     int key = (int)entry->key.length, value = (int)entry->value.length;
@@ -90,12 +90,12 @@ static void test_lines_of_ini(void)
         while ((code = pergidau_ini_next(&state, bytes, length, lines_of_ini[i].dialect, &entry))
                == PERGIDAU_DONE) {
             end = put_entry(end, (const char *)bytes, &entry);
-            same("no place", text, (long long)(entry.error_offset + entry.error), 0);
+            same("no error offset", text, (long long)(entry.error_offset + entry.error), 0);
         }
         same("the entries", text, strcmp(found, lines_of_ini[i].entries), 0);
         for (int again = 0; again < 2; again++) {
             same("the end", text, code, lines_of_ini[i].code);
-            same("the place", text, (long long)entry.error_offset,
+            same("the error offset", text, (long long)entry.error_offset,
                  (long long)lines_of_ini[i].place);
             same("the error", text, (long long)entry.error, (long long)lines_of_ini[i].error);
             same("no text", text, (long long)(entry.key.length + entry.value.length), 0);
@@ -105,7 +105,7 @@ static void test_lines_of_ini(void)
     }
 }
 
-/* Where texts stand that come twice in a line, and the state between calls. */
+/* The offsets of texts that occur twice in a line, and the state between calls. */
 static void test_places_of_ini(void)
 {
     const uint8_t *bytes = (const uint8_t *)"[[]\n  a = a\n    a\n";
@@ -113,16 +113,16 @@ static void test_places_of_ini(void)
     struct pergidau_ini_entry entry;
     pergidau_ini_next(&state, bytes, 18, PYTHON, &entry);
     same("a name", "[[]", (long long)entry.key.offset, 1);
-    same("what is read", "[[]", (long long)state.offset, 4);
+    same("the offset", "[[]", (long long)state.offset, 4);
     same("a section", "[[]", (long long)state.section, 1);
     same("no pair", "[[]", (long long)state.pair, 0);
     pergidau_ini_next(&state, bytes, 18, PYTHON, &entry);
     same("a key", "a = a", (long long)entry.key.offset, 6);
     same("a value", "a = a", (long long)entry.value.offset, 10);
     same("a pair", "a = a", (long long)state.pair, 1);
-    same("its blanks", "a = a", (long long)state.indent, 2);
+    same("its indentation", "a = a", (long long)state.indent, 2);
     pergidau_ini_next(&state, bytes, 18, PYTHON, &entry);
-    same("a line more", "a", (long long)entry.value.offset, 16);
+    same("a continuation line", "a", (long long)entry.value.offset, 16);
     same("the end", "a", pergidau_ini_next(&state, bytes, 18, PYTHON, &entry), PERGIDAU_END);
     state.offset = 19;
     same("past the end", "a", pergidau_ini_next(&state, bytes, 18, PYTHON, &entry), PERGIDAU_END);

@@ -1,4 +1,4 @@
-/* Random inputs, and rooms at the edges of pages that cannot be read, for `fuzz.c`. */
+/* Random inputs, and memory next to pages that cannot be read, for `fuzz.c`. */
 #ifndef INPUTS_H
 #define INPUTS_H
 
@@ -10,7 +10,7 @@
 enum { PAGES = 2 };
 
 static size_t page;
-/* Two rooms, each between two pages that cannot be read: for the input, and for the buffers. */
+/* Two memory regions, each between two pages that cannot be read: for the input and for buffers. */
 static uint8_t *input_room, *buffer_room;
 static uint64_t state;
 
@@ -68,7 +68,7 @@ enum { SEEDS = sizeof seeds / sizeof *seeds };
 
 static const char wanted[] = "0123456789+-*/%^!= \t\r\n:;,\"\\[]{}$eEntfu.GETHTTP/1.\xff\xc3\x80";
 
-/* Fills the bytes: at random, or from parts of seeds, some of whose bytes are turned. */
+/* Fills the bytes at random, or from parts of seeds with some bytes changed. */
 static size_t fill(uint8_t *bytes, size_t most)
 {
     size_t length = 0, parts = 1 + below(3);

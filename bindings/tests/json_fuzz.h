@@ -1,7 +1,7 @@
-/* Random bytes for what tells steps, strings and integers of JSON, held against readers written here.
- * `fuzz.c` includes it behind what it uses. */
+/* Compares the readers of JSON steps, strings and integers with parsers written here, on random
+ * bytes. Included by `fuzz.c`, after the helpers that it uses. */
 
-/* Whether four hexadecimal digits stand there, and what they mean. */
+/* Parses four hexadecimal digits at `at` into `unit`, and returns whether they are there. */
 static bool is_digits(const uint8_t *bytes, size_t length, size_t at, uint32_t *unit)
 {
     *unit = 0;
@@ -16,7 +16,7 @@ static bool is_digits(const uint8_t *bytes, size_t length, size_t at, uint32_t *
     return true;
 }
 
-/* Puts a character as UTF-8, and tells how many bytes it has. */
+/* Writes a character as UTF-8, and returns its length in bytes. */
 static size_t put_character(uint8_t *out, uint32_t code)
 {
     if (code < 0x80) {
@@ -31,8 +31,8 @@ static size_t put_character(uint8_t *out, uint32_t code)
     return more + 1;
 }
 
-/* The text of the string of JSON that stands first, its escapes undone, by RFC 8259 (section 7):
- * how many bytes the string has, or 0 where none stands there, and at `size` those of the text. */
+/* Decodes the JSON string at the start of the input (RFC 8259, section 7) into `out`, and stores the
+ * length of the decoded text in `size`. Returns the length of the string, or 0 if it is invalid. */
 static size_t string_by_hand(const uint8_t *bytes, size_t length, uint8_t *out, size_t *size)
 {
     static const char marks[] = "\"\\/bfnrt", meant[] = "\"\\/\b\f\n\r\t";
@@ -92,8 +92,8 @@ static void read_string(const uint8_t *bytes, size_t length)
     }
 }
 
-/* The longest number of RFC 8259 (section 6) that stands first: its bytes, and how many of them are
- * the integer before a fraction and an exponent. */
+/* Returns the length of the longest number (RFC 8259, section 6) at the start of the input, and stores
+ * its length without fraction and exponent in `whole`. */
 static size_t number_by_hand(const uint8_t *bytes, size_t length, size_t *whole)
 {
     size_t at = length > 0 && bytes[0] == '-', end, more;
@@ -146,7 +146,7 @@ static void read_integer(const uint8_t *bytes, size_t length)
     HOLDS(found == (is_integer ? (minus ? (int64_t)(0 - size) : (int64_t)size) : 0));
 }
 
-/* The items that calls in turn tell of a text, through all levels. */
+/* Counts the items that successive calls return for a text, at all depths. */
 static size_t items(const uint8_t *bytes, size_t length, size_t max_depth)
 {
     struct pergidau_json_item item;
@@ -163,7 +163,7 @@ static size_t items(const uint8_t *bytes, size_t length, size_t max_depth)
     return count;
 }
 
-/* The steps of a text are its items, each once, with brackets that open and close. */
+/* Checks that the steps of a text are its items, each once, and that its brackets are balanced. */
 static void read_steps(const uint8_t *bytes, size_t length)
 {
     size_t max_depth = below(8), left = length, count = 0, open = 0;
@@ -188,7 +188,7 @@ static void read_steps(const uint8_t *bytes, size_t length)
     HOLDS(!is_text || (code == PERGIDAU_END && open == 0 && count == items(bytes, length, max_depth)));
 }
 
-/* From each byte on at which a string or a number may begin. */
+/* Reads a string or a number at each byte where one may begin. */
 static void read_tokens(const uint8_t *bytes, size_t length)
 {
     read_steps(bytes, length);

@@ -1,5 +1,5 @@
-/* Rows of what a text of JSON says, step by step: included by rows.c. The wanted texts are those of
- * Python's json. */
+/* Tables of JSON texts, step by step: included by rows.c. The expected texts are those of Python's
+ * json. */
 
 static const struct {
     const char *text, *steps;
@@ -13,7 +13,7 @@ static const struct {
     {"\"\\\"\\u003a\"", "\"\\\"\\u003a\" "},
 };
 
-/* The steps of a text, each with its bytes where it is a name, a string or a number. */
+/* Formats the steps of a text. Names, strings and numbers include their bytes. */
 static void walk_steps(const uint8_t *bytes, size_t length, char *into)
 {
     static const char *const marks[] = {
@@ -30,7 +30,7 @@ static void walk_steps(const uint8_t *bytes, size_t length, char *into)
     }
     same("the end of steps", (const char *)bytes, pergidau_json_step(bytes, length, &item),
          PERGIDAU_END);
-    same("what is told of the end", "a text", item.kind == 0 && item.span.length == 0, 1);
+    same("the item at the end", "a text", item.kind == 0 && item.span.length == 0, 1);
 }
 
 static void test_steps(void)
@@ -44,8 +44,8 @@ static void test_steps(void)
         same("steps", stepped[i].text, strcmp(found, stepped[i].steps), 0);
         free(text);
     }
-    same("no step", "x", pergidau_json_step((const uint8_t *)",x", 2, &item), PERGIDAU_INVALID);
-    same("no step", ", ,", pergidau_json_step((const uint8_t *)", ,", 3, &item), PERGIDAU_INVALID);
+    same("invalid step", "x", pergidau_json_step((const uint8_t *)",x", 2, &item), PERGIDAU_INVALID);
+    same("invalid step", ", ,", pergidau_json_step((const uint8_t *)", ,", 3, &item), PERGIDAU_INVALID);
     same("null", "step", pergidau_json_step(NULL, 1, &item), PERGIDAU_NULL);
     same("null", "step", pergidau_json_step((const uint8_t *)"1", 1, NULL), PERGIDAU_NULL);
     same("too long", "step",
@@ -94,7 +94,7 @@ static void test_string(size_t i)
         same("the text's length", row, (long long)out.text, (long long)most);
         same("the string's length", row, (long long)out.length, (long long)strings[i].length);
         same("the text", row, fits ? memcmp(buffer, strings[i].text, most) : 0, 0);
-        same("what stands behind it", row, room > most ? buffer[most] : 0xab, 0xab);
+        same("the byte after it", row, room > most ? buffer[most] : 0xab, 0xab);
         free(buffer);
     }
     free(bytes);
@@ -111,7 +111,7 @@ static void test_strings(void)
     for (size_t i = 0; i < sizeof no_strings / sizeof *no_strings; i++) {
         size_t length = strlen(no_strings[i]);
         uint8_t *bytes = copied(no_strings[i], length);
-        same("no string", no_strings[i],
+        same("invalid string", no_strings[i],
              pergidau_json_string(bytes, length, buffer, sizeof buffer, &out), PERGIDAU_INVALID);
         same("its lengths", no_strings[i], (long long)(out.text + out.length), 0);
         free(bytes);

@@ -1,10 +1,10 @@
-/* Times how a long reply of Redis is found that comes in pieces: an array of bulk strings, of 2.7
- * megabytes in pieces of 1,460 bytes, as packets have.
+/* Times a long reply of Redis that arrives in chunks: an array of bulk strings, of 2.7 megabytes, in
+ * chunks of 1,460 bytes, the payload of a packet.
  *
- *     pieces         by pergidau_resp_extent, and one call that reads the reply
- *     pieces all     and beside it by pergidau_resp_reply_partial alone, which takes a while
+ *     pieces         with pergidau_resp_extent, then one call that reads the reply
+ *     pieces all     also with pergidau_resp_reply_partial only, which is slow
  *
- * Exits with 1 where the end that is found is another. */
+ * Exits with 1 if the end of the reply is wrong. */
 #include <stdio.h>
 #include <stdlib.h>
 #include <string.h>
@@ -21,7 +21,7 @@ static double now(void)
     return (double)time.tv_sec + (double)time.tv_nsec / 1e9;
 }
 
-/* The array: its first line, and so many strings of 20 bytes. */
+/* Returns the array: its first line, and `ELEMENTS` strings of 20 bytes. */
 static char *made(size_t *length)
 {
     char *text = malloc(32 + 28 * (size_t)ELEMENTS);

@@ -1,4 +1,4 @@
-/* Rows of the readers' tests, and wrong use, from C. Exits with 1 where a row differs. */
+/* Tables of the readers' tests, and invalid arguments, from C. Exits with 1 if a row differs. */
 #include <stdbool.h>
 #include <stdio.h>
 #include <stdlib.h>
@@ -16,7 +16,7 @@ static void same(const char *what, const char *row, long long got, long long wan
     }
 }
 
-/* A copy of exactly these bytes, so that a byte past them is seen. */
+/* Copies exactly these bytes, so that a read past them is detected. */
 static uint8_t *copied(const char *text, size_t length)
 {
     uint8_t *bytes = malloc(length ? length : 1);
@@ -72,7 +72,7 @@ static void test_formulas(void)
         same("calc_value", formulas[i].text, pergidau_calc_value(text, length, &out),
              formulas[i].code);
         same("the value", formulas[i].text, out.value, formulas[i].value);
-        same("the place", formulas[i].text, (long long)out.error_offset,
+        same("the error offset", formulas[i].text, (long long)out.error_offset,
              (long long)formulas[i].place);
         free(text);
     }
@@ -103,11 +103,11 @@ static void test_pairs(void)
         bool done = lines[i].code == PERGIDAU_DONE;
         same("ini_pair", lines[i].line, pergidau_ini_pair(line, length, &out), lines[i].code);
         same("the key", lines[i].line, (long long)out.key.length, (long long)lines[i].key);
-        same("the key's place", lines[i].line, (long long)out.key.offset, 0);
+        same("the key's offset", lines[i].line, (long long)out.key.offset, 0);
         same("the value", lines[i].line, (long long)out.value.length, (long long)lines[i].value);
-        same("the value's place", lines[i].line, (long long)out.value.offset,
+        same("the value's offset", lines[i].line, (long long)out.value.offset,
              done ? (long long)lines[i].key + 1 : 0);
-        same("the place", lines[i].line, (long long)out.error_offset, (long long)lines[i].place);
+        same("the error offset", lines[i].line, (long long)out.error_offset, (long long)lines[i].place);
         free(line);
     }
 }
@@ -151,7 +151,7 @@ static void test_json(void)
         same("the length", texts[i].text, (long long)out, (long long)texts[i].length);
         free(text);
     }
-    /* As many levels as may be asked for, and one more. */
+    /* The maximum depth, and one more. */
     size_t most = PERGIDAU_MAX_DEPTH;
     uint8_t *deep = malloc(2 * most + 2);
     if (deep == NULL) {
@@ -173,7 +173,7 @@ static void shown(const char *row, const uint8_t *bytes, struct pergidau_span pl
     same(want, row, is, true);
 }
 
-/* What a walk through a text passes, each with its kind's letter, and a comma behind each. */
+/* The values of a text in order, each with the letter of its kind, and followed by a comma. */
 static const struct {
     size_t max_depth;
     const char *text, *walk;
@@ -188,7 +188,7 @@ static const struct {
     {9, "[1,]", NULL},
 };
 
-/* Walks through what stands there, by the pattern of a caller, and writes what is passed. */
+/* Walks through the values of the input as callers do, and formats them. */
 static char *walk(const uint8_t *bytes, size_t length, size_t max_depth, char *into)
 {
     static const char letters[] = "nftdsao";
@@ -260,7 +260,7 @@ static void test_walks(void)
         same("json_next", nexts[i].bytes,
              pergidau_json_next(bytes, length, nexts[i].max_depth, &item), nexts[i].code);
         same("the kind", nexts[i].bytes, (long long)item.kind, (long long)nexts[i].kind);
-        same("the place", nexts[i].bytes, (long long)item.span.offset,
+        same("the error offset", nexts[i].bytes, (long long)item.span.offset,
              (long long)nexts[i].offset);
         same("the length", nexts[i].bytes, (long long)item.span.length,
              (long long)nexts[i].length);
@@ -296,7 +296,7 @@ static const struct {
     {"[a]\nx\n", PERGIDAU_INVALID, {{0}}, 0, 4},
     {"[a]\nx=1\n [b", PERGIDAU_INVALID, {{0}}, 0, 9},
     {"[a]\nx=\xff", PERGIDAU_INVALID, {{0}}, 0, 4},
-    /* Its first 8 bytes are a document, but not where they stand: the pair goes to its line's end. */
+    /* The first 8 bytes are a document, but here the pair extends to the end of its line. */
     {"[a]\nx=ab\xff\n", PERGIDAU_INVALID, {{0}}, 0, 4},
 };
 
@@ -319,26 +319,26 @@ static void test_document(size_t i)
          documents[i].code);
     same("the entries", row, (long long)out.entries, (long long)count);
     same("the bytes", row, (long long)out.text, (long long)bytes);
-    same("the place", row, (long long)out.error_offset, (long long)documents[i].place);
+    same("the error offset", row, (long long)out.error_offset, (long long)documents[i].place);
     for (size_t k = 0; k < count; k++) {
         shown(row, text, entries[k].key, documents[i].entries[k][0]);
         shown(row, text, entries[k].value, documents[i].entries[k][1]);
-        same("the key's place", row, (long long)entries[k].key.offset, (long long)sum);
+        same("the key's offset", row, (long long)entries[k].key.offset, (long long)sum);
         sum += entries[k].key.length;
-        same("the value's place", row, (long long)entries[k].value.offset, (long long)sum);
+        same("the value's offset", row, (long long)entries[k].value.offset, (long long)sum);
         sum += entries[k].value.length;
     }
     if (count > 0) {
         same("no entry", row,
              pergidau_ini_document(input, length, text, bytes, entries, count - 1, &out),
              PERGIDAU_BUFFER_TOO_SMALL);
-        same("wanted entries", row, (long long)out.entries, (long long)count);
+        same("required entries", row, (long long)out.entries, (long long)count);
     }
     if (bytes > 0) {
         same("no byte", row,
              pergidau_ini_document(input, length, text, bytes - 1, entries, count, &out),
              PERGIDAU_BUFFER_TOO_SMALL);
-        same("wanted bytes", row, (long long)out.text, (long long)bytes);
+        same("required bytes", row, (long long)out.text, (long long)bytes);
     }
     free(entries);
     free(text);
@@ -381,7 +381,7 @@ static const char hello[] = "GET /hello.txt HTTP/1.1\r\nUser-Agent: curl/7.64.1\
 static const struct {
     const char *text, *method, *target, *fields[3][2];
     size_t count, rest;
-    /* The numbers of the version. */
+    /* The version. */
     int major, minor;
 } heads[] = {
     {hello,
@@ -414,7 +414,7 @@ static const struct {
      1},
 };
 
-/* With more behind them these are no heads either: what begins one, and what cannot go on there. */
+/* Invalid heads: an incomplete head, and bytes that cannot continue it. */
 static const char *no_heads[][2] = {
     {"", "\r\nA b HTTP/1.1\r\n\r\n"},     {"A ", " b HTTP/1.1\r\n\r\n"},
     {"A b HTTP/1.1", "\n\n"},             {"A b HTTP/1.1\r\n", "\n"},
@@ -454,18 +454,18 @@ static void test_heads(void)
                 shown(row, text, fields[k].value, heads[i].fields[k][1]);
             }
         }
-        /* Each buffer that is too small, and each beginning. */
+        /* Each buffer that is too small, and each proper prefix. */
         for (size_t room = 0; room < count; room++) {
             same("too small", row, pergidau_http_head(text, length, fields, room, &out),
                  PERGIDAU_BUFFER_TOO_SMALL);
-            same("wanted", row, (long long)out.fields, (long long)count);
+            same("the required size", row, (long long)out.fields, (long long)count);
         }
         for (size_t end = 0; end + heads[i].rest < length; end++) {
             uint8_t *front = copied(row, end);
-            same("a beginning", row, pergidau_http_head(front, end, fields, count, &out),
+            same("a prefix", row, pergidau_http_head(front, end, fields, count, &out),
                  PERGIDAU_INVALID);
             same("its end", row, (long long)out.error_offset, (long long)end);
-            same("a piece", row, pergidau_http_head_partial(front, end, fields, count, &out),
+            same("partial input", row, pergidau_http_head_partial(front, end, fields, count, &out),
                  PERGIDAU_INCOMPLETE);
             free(front);
         }
@@ -478,18 +478,18 @@ static void test_heads(void)
         size_t place = strlen(no_heads[i][0]);
         size_t length = (size_t)snprintf(row, sizeof row, "%s%s", no_heads[i][0], no_heads[i][1]);
         uint8_t *text = copied(row, length);
-        same("no head", row, pergidau_http_head(text, length, fields, 4, &out), PERGIDAU_INVALID);
-        same("the place", row, (long long)out.error_offset, (long long)place);
-        same("no head", row, pergidau_http_head_partial(text, length, fields, 4, &out),
+        same("invalid head", row, pergidau_http_head(text, length, fields, 4, &out), PERGIDAU_INVALID);
+        same("the error offset", row, (long long)out.error_offset, (long long)place);
+        same("invalid head", row, pergidau_http_head_partial(text, length, fields, 4, &out),
              PERGIDAU_INVALID);
-        same("the place", row, (long long)out.error_offset, (long long)place);
+        same("the error offset", row, (long long)out.error_offset, (long long)place);
         free(text);
     }
 }
 
 enum { MOST_CSV = 4 };
 
-/* Of line feeds alone, and of carriage returns and line feeds. */
+/* Records that end with a line feed, and records that end with CRLF. */
 static const struct {
     const char *text;
     uint32_t line_feeds;
@@ -506,8 +506,8 @@ static const struct {
     {",,\"\",", 1, {"", "", "", ""}, 4, 0},
 };
 
-/* With a line end behind them these are no records either; and how many of their bytes can begin
- * one: in pieces they are refused at the next, and that is the place of each refusal. */
+/* Texts that are not records, even with a line ending after them. Their first `begins` bytes can begin
+ * a record; the next byte is the error, also for the partial function. */
 static const struct {
     const char *text;
     uint32_t line_feeds;
@@ -538,28 +538,28 @@ static void test_record(size_t i)
     same("the length", row, (long long)out.length, (long long)(length - records[i].rest));
     same("the fields", row, (long long)out.fields, (long long)count);
     same("the bytes", row, (long long)out.text, (long long)bytes);
-    same("no place", row, (long long)out.error_offset, 0);
+    same("no error offset", row, (long long)out.error_offset, 0);
     for (size_t k = 0; k < count; k++) {
         shown(row, text, places[k], records[i].fields[k]);
-        same("the place", row, (long long)places[k].offset, (long long)sum);
+        same("the error offset", row, (long long)places[k].offset, (long long)sum);
         sum += places[k].length;
     }
     same("no entry", row,
          pergidau_csv_record(input, length, line_feeds, text, bytes, places, count - 1, &out),
          PERGIDAU_BUFFER_TOO_SMALL);
-    same("wanted entries", row, (long long)out.fields, (long long)count);
+    same("required entries", row, (long long)out.fields, (long long)count);
     if (bytes > 0) {
         same("no byte", row,
              pergidau_csv_record(input, length, line_feeds, text, bytes - 1, places, count, &out),
              PERGIDAU_BUFFER_TOO_SMALL);
-        same("wanted bytes", row, (long long)out.text, (long long)bytes);
+        same("required bytes", row, (long long)out.text, (long long)bytes);
     }
-    /* In pieces it is one once its line end is there. */
+    /* The partial function returns the record once its line ending is there. */
     size_t end = length - records[i].rest;
     bool ended = end > 0 && input[end - 1] == '\n';
     for (size_t room = 0; room <= end; room++) {
         uint8_t *piece = copied(row, room);
-        same("a piece", row,
+        same("partial input", row,
              pergidau_csv_record_partial(piece, room, line_feeds, text, bytes, places, count,
                                            &out),
              ended && room == end ? PERGIDAU_DONE : PERGIDAU_INCOMPLETE);
@@ -583,19 +583,19 @@ static void test_records(void)
         uint32_t line_feeds = no_records[i].line_feeds;
         size_t length = strlen(row);
         uint8_t *input = copied(row, length);
-        same("no record", row,
+        same("invalid record", row,
              pergidau_csv_record(input, length, line_feeds, text, sizeof text, places, MOST_CSV,
                                  &out),
              PERGIDAU_INVALID);
-        same("the place", row, (long long)out.error_offset, (long long)no_records[i].begins);
+        same("the error offset", row, (long long)out.error_offset, (long long)no_records[i].begins);
         free(input);
         for (size_t room = 0; room <= length; room++) {
             uint8_t *piece = copied(row, room);
-            same("no record of a piece", row,
+            same("invalid partial record", row,
                  pergidau_csv_record_partial(piece, room, line_feeds, text, sizeof text, places,
                                                MOST_CSV, &out),
                  room > no_records[i].begins ? PERGIDAU_INVALID : PERGIDAU_INCOMPLETE);
-            same("the place in a piece", row, (long long)out.error_offset,
+            same("the error offset on partial input", row, (long long)out.error_offset,
                  room > no_records[i].begins ? (long long)no_records[i].begins : 0);
             free(piece);
         }
@@ -627,7 +627,7 @@ static const struct {
     {"*1\r\n*1\r\n+a\r\n+b\r\n", 2, PERGIDAU_RESP_ARRAY, 0, 1, "*1\r\n+a\r\n", 4},
 };
 
-/* With more behind them these are no replies of no level either. */
+/* Invalid replies at depth 0, whatever bytes follow them. */
 static const char *no_replies[] = {"x",       ":1a\r\n", "$+1\r\na\r\n",   "$-2\r\n",
                                    "+a\rb", "+a\n",    "$1\r\nab\r\n", "*1\r\n:1\r\n"};
 
@@ -640,7 +640,7 @@ static void test_replies(void)
         for (size_t end = 0; end <= length; end++) {
             bool whole = end >= length - replies[i].rest;
             uint8_t *bytes = copied(row, end);
-            same("a piece", row, pergidau_resp_reply_partial(bytes, end, max_depth, &out),
+            same("partial input", row, pergidau_resp_reply_partial(bytes, end, max_depth, &out),
                  whole ? PERGIDAU_DONE : PERGIDAU_INCOMPLETE);
             same("resp_reply", row, pergidau_resp_reply(bytes, end, max_depth, &out),
                  whole ? PERGIDAU_DONE : PERGIDAU_INVALID);
@@ -655,7 +655,7 @@ static void test_replies(void)
             free(bytes);
         }
         if (max_depth > 0) {
-            same("fewer levels", row,
+            same("a smaller depth limit", row,
                  pergidau_resp_reply((const uint8_t *)row, length, max_depth - 1, &out),
                  PERGIDAU_INVALID);
         }
@@ -663,13 +663,13 @@ static void test_replies(void)
     for (size_t i = 0; i < sizeof no_replies / sizeof *no_replies; i++) {
         size_t length = strlen(no_replies[i]);
         uint8_t *bytes = copied(no_replies[i], length);
-        same("no reply", no_replies[i], pergidau_resp_reply(bytes, length, 0, &out),
+        same("invalid reply", no_replies[i], pergidau_resp_reply(bytes, length, 0, &out),
              PERGIDAU_INVALID);
-        same("no reply", no_replies[i], pergidau_resp_reply_partial(bytes, length, 0, &out),
+        same("invalid reply", no_replies[i], pergidau_resp_reply_partial(bytes, length, 0, &out),
              PERGIDAU_INVALID);
         free(bytes);
     }
-    /* As many arrays in one another as may be asked for. */
+    /* Arrays that are nested up to the maximum depth. */
     size_t most = PERGIDAU_MAX_DEPTH;
     uint8_t *deep = malloc(4 * most + 3);
     if (deep == NULL) {
@@ -695,7 +695,7 @@ static void test_replies(void)
     same("nothing", "reply", pergidau_resp_reply_partial(NULL, 0, 0, &out), PERGIDAU_INCOMPLETE);
 }
 
-/* Calls in turn, each with so many bytes more: where the reply ends, or what the last one answers. */
+/* Makes successive calls, each with `step` more bytes, and returns the last result. */
 static enum pergidau_code extent_in_pieces(const char *row, size_t length, size_t step, size_t *end)
 {
     struct pergidau_resp_reply_state state = {0};
@@ -709,7 +709,7 @@ static enum pergidau_code extent_in_pieces(const char *row, size_t length, size_
     return code;
 }
 
-/* These are no replies, of any level, and how many of their bytes can begin one. */
+/* Invalid replies at any depth. Their first `begins` bytes can begin a reply. */
 static const struct {
     const char *bytes;
     size_t begins;
@@ -732,10 +732,10 @@ static void test_extents(void)
         for (size_t cut = 0; cut < whole; cut++) {
             struct pergidau_resp_reply_state state = {0};
             uint8_t *bytes = copied(row, cut);
-            same("a part", row, pergidau_resp_extent(&state, bytes, cut, &end),
+            same("partial input", row, pergidau_resp_extent(&state, bytes, cut, &end),
                  PERGIDAU_INCOMPLETE);
             same("no end", row, (long long)end, 0);
-            same("a part again", row, pergidau_resp_extent(&state, bytes, cut, &end),
+            same("partial input again", row, pergidau_resp_extent(&state, bytes, cut, &end),
                  PERGIDAU_INCOMPLETE);
             free(bytes);
         }
@@ -744,13 +744,13 @@ static void test_extents(void)
         const char *row = no_extents[i].bytes;
         size_t length = strlen(row), begins = no_extents[i].begins;
         for (size_t step = 1; step <= length; step++) {
-            same("no extent", row, extent_in_pieces(row, length, step, &end), PERGIDAU_INVALID);
+            same("invalid reply", row, extent_in_pieces(row, length, step, &end), PERGIDAU_INVALID);
             same("no end", row, (long long)end, 0);
         }
-        same("it begins", row, extent_in_pieces(row, begins, 1, &end), PERGIDAU_INCOMPLETE);
-        same("it is refused", row, extent_in_pieces(row, begins + 1, 1, &end), PERGIDAU_INVALID);
+        same("a prefix", row, extent_in_pieces(row, begins, 1, &end), PERGIDAU_INCOMPLETE);
+        same("it is rejected", row, extent_in_pieces(row, begins + 1, 1, &end), PERGIDAU_INVALID);
     }
-    /* More replies are due than 64 bits count: two arrays of as many as a size may say. */
+    /* More replies are expected than 64 bits can count: nested arrays of the maximum size. */
     const char *many = "*2\r\n*9223372036854775807\r\n*9223372036854775807\r\n"
                        "*9223372036854775807\r\n:1\r\n";
     for (size_t step = 1; step <= strlen(many); step++) {
@@ -760,9 +760,9 @@ static void test_extents(void)
     struct pergidau_resp_reply_state state = {0};
     same("an extent", many, pergidau_resp_extent(&state, (const uint8_t *)many, strlen(many), &end),
          PERGIDAU_INCOMPLETE);
-    /* One, two and three times 2^63 - 1 were due, and the lines of five are passed. */
-    same("what is due", many, (long long)state.high, 1);
-    same("what is due", many, (long long)(state.low >> 1), (1LL << 62) - 3);
+    /* Three times 2^63 - 1 elements were announced, and five lines are consumed. */
+    same("expected replies", many, (long long)state.high, 1);
+    same("expected replies", many, (long long)(state.low >> 1), (1LL << 62) - 3);
     const uint8_t *bytes = (const uint8_t *)"+\r\n";
     same("null", "state", pergidau_resp_extent(NULL, bytes, 3, &end), PERGIDAU_NULL);
     same("null", "extent", pergidau_resp_extent(&state, NULL, 1, &end), PERGIDAU_NULL);
@@ -771,9 +771,9 @@ static void test_extents(void)
          pergidau_resp_extent(&state, bytes, (size_t)PTRDIFF_MAX + 1, &end), PERGIDAU_TOO_LONG);
     state = (struct pergidau_resp_reply_state){0};
     same("nothing", "extent", pergidau_resp_extent(&state, NULL, 0, &end), PERGIDAU_INCOMPLETE);
-    same("a state that went on", "extent", pergidau_resp_extent(&state, bytes, 3, &end),
+    same("a state that continues", "extent", pergidau_resp_extent(&state, bytes, 3, &end),
          PERGIDAU_DONE);
-    /* Of numbers that no call left, it may say anything, and reads the bytes alone. */
+    /* For an invalid state the result is unspecified, but only the input is read. */
     state = (struct pergidau_resp_reply_state){SIZE_MAX, SIZE_MAX, SIZE_MAX,
                                           SIZE_MAX, SIZE_MAX, SIZE_MAX};
     (void)pergidau_resp_extent(&state, bytes, 3, &end);
@@ -781,8 +781,8 @@ static void test_extents(void)
     (void)pergidau_resp_extent(&state, bytes, 3, &end);
 }
 
-/* A chunked body by calls in turn, of pieces of so many bytes: what it gives out, data and then
- * trailers, and where the last call ends. */
+/* The result of decoding a chunked body by successive calls: its content, its trailers, and the result
+ * of the last call. */
 struct decoded {
     char content[64], trailers[64];
     size_t data, fields, taken;
@@ -832,7 +832,8 @@ static const struct {
     {"0\r\nA:\r\nLong-Name:\t v w \r\n\r\n\r\n", "", "A:\r\nLong-Name:\t v w \r\n", 2},
 };
 
-/* These are none, how many of their bytes can begin one, and why the next is refused. */
+/* Invalid bodies. Their first `begins` bytes can begin a body; `error` is why the next byte is
+ * invalid. */
 static const struct {
     const char *bytes;
     size_t begins;
@@ -854,11 +855,11 @@ static void test_limits(void)
     struct decoded made = decode(state, line, strlen(line), 1);
     same("its limit", line, made.code, PERGIDAU_INVALID);
     same("the limit", line, (long long)made.error, PERGIDAU_CHUNKED_ERROR_SIZE_LINE_TOO_LONG);
-    same("the place", line, (long long)made.taken, 3);
+    same("the error offset", line, (long long)made.taken, 3);
     made = decode(state, fields, strlen(fields), 4);
     same("its limit", fields, made.code, PERGIDAU_INVALID);
     same("the limit", fields, (long long)made.error, PERGIDAU_CHUNKED_ERROR_TRAILERS_TOO_LONG);
-    same("the place", fields, (long long)made.taken, 5);
+    same("the error offset", fields, (long long)made.taken, 5);
 }
 
 static void test_bodies(void)
@@ -876,7 +877,7 @@ static void test_bodies(void)
         }
         for (size_t cut = 0; cut < whole; cut++) {
             struct decoded made = decode(zeros, row, cut, 3);
-            same("a part", row, made.code, PERGIDAU_INCOMPLETE);
+            same("partial input", row, made.code, PERGIDAU_INCOMPLETE);
             same("it is taken", row, (long long)made.taken, (long long)cut);
         }
     }
@@ -884,8 +885,8 @@ static void test_bodies(void)
         const char *row = no_bodies[i].bytes;
         for (size_t piece = 1; piece <= strlen(row); piece++) {
             struct decoded made = decode(zeros, row, strlen(row), piece);
-            same("no body", row, made.code, PERGIDAU_INVALID);
-            same("the place", row, (long long)made.taken, (long long)no_bodies[i].begins);
+            same("invalid body", row, made.code, PERGIDAU_INVALID);
+            same("the error offset", row, (long long)made.taken, (long long)no_bodies[i].begins);
             same("why", row, (long long)made.error, no_bodies[i].error);
         }
     }
@@ -899,11 +900,11 @@ static void test_bodies(void)
     same("too long", "body", pergidau_http_chunked(&state, bytes, (size_t)PTRDIFF_MAX + 1, &step),
          PERGIDAU_TOO_LONG);
     same("nothing", "body", pergidau_http_chunked(&state, NULL, 0, &step), PERGIDAU_INCOMPLETE);
-    same("a state that went on", "body", pergidau_http_chunked(&state, bytes, 5, &step),
+    same("a state that continues", "body", pergidau_http_chunked(&state, bytes, 5, &step),
          PERGIDAU_END);
     same("it ends again", "body", pergidau_http_chunked(&state, bytes, 5, &step), PERGIDAU_END);
     same("nothing is taken", "body", (long long)step.taken, 0);
-    /* Of numbers that no call left, it may say anything, and reads the bytes alone. */
+    /* For an invalid state the result is unspecified, but only the input is read. */
     for (size_t place = 0; place < 12; place++) {
         for (size_t within = 0; within < 12; within++) {
             state = (struct pergidau_chunked_state){place, within, UINT64_MAX, 1, 1, 0, 0};
@@ -962,7 +963,7 @@ static void test_wrong_records(void)
          PERGIDAU_INCOMPLETE);
 }
 
-/* What no caller owes: it is refused, and nothing is read or written. */
+/* Invalid arguments: an error is returned, and nothing is read or written. */
 static void test_wrong_use(void)
 {
     const uint8_t *bytes = (const uint8_t *)"1";
@@ -997,13 +998,13 @@ static void test_wrong_use(void)
     same("no room", "head",
          pergidau_http_head((const uint8_t *)hello, sizeof hello - 1, NULL, 0, &head),
          PERGIDAU_BUFFER_TOO_SMALL);
-    same("wanted", "head", (long long)head.fields, 3);
+    same("the required size", "head", (long long)head.fields, 3);
     same("nothing", "head", pergidau_http_head_partial(NULL, 0, NULL, 0, &head),
          PERGIDAU_INCOMPLETE);
     test_wrong_records();
 }
 
-/* What the library says of itself, and of each code. */
+/* The version of the library, whether it is proved, and the message of each code. */
 static void test_library(void)
 {
     char version[32];
@@ -1036,9 +1037,9 @@ static void test_library(void)
     same("kinds", "JSON", PERGIDAU_JSON_OBJECT, 6);
     same("kinds", "RESP", PERGIDAU_RESP_NULL_ARRAY, 6);
     same("kinds", "a chunked body", PERGIDAU_CHUNKED_TRAILERS, 1);
-    same("faults", "a chunked body", PERGIDAU_CHUNKED_ERROR_TRAILERS_TOO_LONG, 6);
+    same("errors", "a chunked body", PERGIDAU_CHUNKED_ERROR_TRAILERS_TOO_LONG, 6);
     same("kinds", "INI", PERGIDAU_INI_MORE, 3);
-    same("faults", "INI", PERGIDAU_INI_ERROR_MISSING_DELIMITER, 5);
+    same("errors", "INI", PERGIDAU_INI_ERROR_MISSING_DELIMITER, 5);
     struct pergidau_json_item item;
     struct pergidau_reply reply;
     same("the size of a kind", "JSON", sizeof item.kind, sizeof(size_t));

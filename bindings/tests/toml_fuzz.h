@@ -1,7 +1,7 @@
-/* Random bytes for documents of TOML: the nodes are held against what a caller may rely on. `fuzz.c`
- * includes it behind what it uses. */
+/* Checks the properties of the nodes of TOML documents that callers rely on, on random bytes. Included
+ * by `fuzz.c`, after the helpers that it uses. */
 
-/* What a node says of those round it, and of its texts. */
+/* Checks the links of a node to its neighbours, and the spans of its texts. */
 static void look_at_node(const uint8_t *bytes, size_t length, size_t number,
                          const struct pergidau_toml_node *nodes, size_t count, size_t text)
 {
@@ -24,7 +24,7 @@ static void look_at_node(const uint8_t *bytes, size_t length, size_t number,
     }
 }
 
-/* Each node but the first is the first in one or the next beside one, once. */
+/* Checks that each node except the first is the first child or the next sibling of exactly one node. */
 static void look_at_joins(const uint8_t *bytes, size_t length,
                           const struct pergidau_toml_node *nodes, size_t count)
 {

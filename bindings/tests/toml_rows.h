@@ -1,8 +1,8 @@
-/* Rows of documents of TOML: included by rows.c. The wanted values are those of Python's tomllib, and
- * of the examples of the standard. */
+/* Tables of TOML documents: included by rows.c. The expected values are those of Python's tomllib, and
+ * of the examples in the standard. */
 
-/* Documents, and what they say: tables in braces, arrays in brackets, a float behind `~`, a date and a
- * time as numbers. */
+/* Documents and their contents: tables in braces, arrays in brackets, floats after `~`, dates and times
+ * as numbers. */
 static const struct {
     const char *text, *said;
 } documents_of_toml[] = {
@@ -90,8 +90,8 @@ static char *say_value(char *into, const struct toml *it, const struct pergidau_
     return kind == PERGIDAU_TOML_OFFSET_DATE_TIME ? into + sprintf(into, " %d", value->offset) : into;
 }
 
-/* What a document says, by a walk with a loop: down to the first node in one, else to the next beside
- * it or beside one that it is in. */
+/* Formats a document with a loop: from each node to its first child, otherwise to its next sibling,
+ * otherwise to the next sibling of an ancestor. */
 static void say_document(char *into, const struct toml *it)
 {
     size_t number = 0;
@@ -151,12 +151,12 @@ static void test_toml_buffers(const char *text, const struct toml *whole)
         enum pergidau_code code =
             read_toml(text, 8, few ? bytes - 1 : bytes, few ? nodes : nodes - 1, &it);
         same("too small", text, code, PERGIDAU_BUFFER_TOO_SMALL);
-        same("nodes that are wanted", text, (long long)it.found.nodes, (long long)nodes);
-        same("bytes that are wanted", text, (long long)it.found.text, (long long)bytes);
+        same("required nodes", text, (long long)it.found.nodes, (long long)nodes);
+        same("required bytes", text, (long long)it.found.text, (long long)bytes);
         same("the buffers", text, it.text[0] == 0x5a && it.nodes[0].parent == it.nodes[0].first, 1);
     }
     same("just enough", text, read_toml(text, 8, bytes, nodes, &it), PERGIDAU_DONE);
-    same("the byte behind", text, bytes == MOST_TEXT_OF_TOML || it.text[bytes] == 0x5a, 1);
+    same("the byte after it", text, bytes == MOST_TEXT_OF_TOML || it.text[bytes] == 0x5a, 1);
 }
 
 static void test_toml(void)
@@ -170,27 +170,27 @@ static void test_toml(void)
         if (code == PERGIDAU_DONE) {
             say_document(said, &it);
             if (strcmp(said, documents_of_toml[i].said) != 0) {
-                printf("%s is said as %s\n", text, said);
+                printf("%s: found %s\n", text, said);
                 wrong = 1;
             }
-            same("the place", text, it.found.error_offset == 0 && it.found.error == 0, 1);
+            same("the error offset", text, it.found.error_offset == 0 && it.found.error == 0, 1);
             test_toml_buffers(text, &it);
         }
     }
     for (size_t i = 0; i < sizeof refused_of_toml / sizeof *refused_of_toml; i++) {
         const char *text = refused_of_toml[i].text;
-        same("no document", text, read_toml(text, 8, 0, 0, &it), PERGIDAU_INVALID);
-        same("the place", text, (long long)it.found.error_offset,
+        same("invalid document", text, read_toml(text, 8, 0, 0, &it), PERGIDAU_INVALID);
+        same("the error offset", text, (long long)it.found.error_offset,
              (long long)refused_of_toml[i].place);
         same("the error", text, (long long)it.found.error, (long long)refused_of_toml[i].error);
         same("the nodes", text, it.found.nodes == 0 && it.found.text == 0, 1);
     }
-    same("no text", "a = '\\xe9'", read_toml("a = '\xe9'", 8, 0, 0, &it), PERGIDAU_INVALID_UTF8);
-    same("the place", "a = '\\xe9'", (long long)it.found.error_offset, 5);
-    same("levels", "[[]]", read_toml("a = [[]]", 1, 64, 8, &it), PERGIDAU_INVALID);
-    same("levels", "[[]]", read_toml("a = [[]]", 2, 64, 8, &it), PERGIDAU_DONE);
-    same("levels", "512", read_toml("a = 1", 512, 64, 8, &it), PERGIDAU_DONE);
-    same("levels", "513", read_toml("a = 1", 513, 64, 8, &it), PERGIDAU_MAX_DEPTH_TOO_LARGE);
+    same("invalid UTF-8", "a = '\\xe9'", read_toml("a = '\xe9'", 8, 0, 0, &it), PERGIDAU_INVALID_UTF8);
+    same("the error offset", "a = '\\xe9'", (long long)it.found.error_offset, 5);
+    same("the depth limit", "[[]]", read_toml("a = [[]]", 1, 64, 8, &it), PERGIDAU_INVALID);
+    same("the depth limit", "[[]]", read_toml("a = [[]]", 2, 64, 8, &it), PERGIDAU_DONE);
+    same("the depth limit", "512", read_toml("a = 1", 512, 64, 8, &it), PERGIDAU_DONE);
+    same("the depth limit", "513", read_toml("a = 1", 513, 64, 8, &it), PERGIDAU_MAX_DEPTH_TOO_LARGE);
     const uint8_t *a = (const uint8_t *)"a=1";
     same("null", "bytes", pergidau_toml_document(NULL, 3, 1, NULL, 0, NULL, 0, &it.found),
          PERGIDAU_NULL);

@@ -1,6 +1,6 @@
-"""The index of all public items, `docs/API.md`, and the API reference, `docs/api/`, which git does
-not keep: a page a module, or more where it is long, and an index. There each item has its
-signature, its documentation, and the names of its clauses."""
+"""The index of all public items, `docs/API.md`, and the API reference, `docs/api/`, which is not in
+git: one or more pages per module, and an index. On the pages each item has its signature, its
+documentation and the names of its clauses."""
 import re
 import textwrap
 
@@ -12,22 +12,22 @@ from registry.parsers import header, sentence
 
 INDEX, FOLDER = TOP / "docs/API.md", TOP / "docs/api"
 WIDTH = 100
-# What stands in the crate `winnow` as a whole module of another crate.
+# The modules of the crate `winnow` that are modules of another crate.
 MODULES = {"token": ("winnow_token", ["token"]), "binary::bits": ("winnow_bits", ["bits"])}
-# Where the links of a comment lead, as a line below it says.
+# The target of a link, as given below a comment.
 LED = re.compile(r"^\[`([^`]*)`\]: ([\w:]+)$")
 LINK = re.compile(r"\[`([^`]*)`\](?:\(([\w:]+)\))?(?!\()")
 
 
 def facade():
-    """The items of each module of winnow's: those of its file, by the crates they stand in."""
+    """The items of each module of the crate `winnow`, from the crates that define them."""
     found = {}
     for path in sorted((FACADE / "src").rglob("*.rt")):
         name = "::".join(path.relative_to(FACADE / "src").with_suffix("").parts)
         uses = module("winnow", path)[2]
         places = [(uses[it], it) for it in sorted(uses, key=in_order)]
         items = [find(of.partition("::")[0], of.split("::")[1:], it) for of, it in places]
-        # What is no item is a module, which stands below.
+        # Names that are not items are modules, which come later.
         found["" if name == "lib" else name] = [it for it in items if it]
     for name, (crate, modules) in MODULES.items():
         for inner, more in (("", []), ("::impls", ["impls"])):
@@ -39,7 +39,7 @@ def facade():
 
 
 class Reference:
-    """What stands where: of each item its page, its modules and its anchor."""
+    """The page, the modules and the anchor of each item."""
 
     def __init__(self):
         self.modules, self.pages, self.place, self.said = facade(), {}, {}, []
@@ -60,7 +60,7 @@ class Reference:
             self.add(*page)
 
     def add(self, stem, title, of, names):
-        """Adds a page where there is something to stand on it."""
+        """Adds a page if it has items."""
         items = [*self.chosen(stem, of, names.split())]
         if not items:
             return
@@ -73,24 +73,24 @@ class Reference:
             known[anchor] = again + 1
 
     def others(self):
-        """Pages for what no page names."""
+        """Pages for the items that no page names."""
         for name in self.modules:
             stem = name.replace("::", "_") or "winnow"
             yield f"{stem}_others", f"More of winnow::{name}".rstrip(":"), name, "*"
 
     def below(self, item, stem):
-        """What an item has that stands on this page with a heading of its own."""
+        """The members of an item with their own headings on this page."""
         own = [it for it in item.inside if it.kind != "part"]
         return [it for it in own if self.place.get(id(it)) == stem]
 
     def methods(self, item):
-        """What the blocks of a type without a trait have."""
+        """The members in the inherent `impl` blocks of a type."""
         own = [it for it in self.blocks if not it.trait and it.crate == item.crate]
         own = [it for it in own if re.match(r"\w+", it.type)[0] == item.name]
         return [method for it in own for method in it.inside]
 
     def chosen(self, stem, of, names):
-        """The items of a page, each with its place."""
+        """The items of a page, whose pages it records."""
         for name in names:
             if name == "*":
                 kept = {it for *_, other in PAGES for it in other.split()}
@@ -110,7 +110,7 @@ class Reference:
                 yield item
 
     def named(self, of, name):
-        """The item of a name, or the method: of this module, else of the first that has one."""
+        """The item or method of a name, in this module or else in the first that has it."""
         owner, _, method = name.partition("::")
         for module_name in [of, *self.modules]:
             for item in self.modules.get(module_name, ()):
@@ -127,16 +127,16 @@ class Reference:
         stem = self.place[id(item)]
         return f"[{label}]({'' if stem == near else f'{stem}.md'}#{anchor})"
 
-    def of_parser(self, crate, name):
-        """The link of a parser's name from `docs/`, to its file."""
+    def of_parser(self, crate, name, dot=""):
+        """A parser's name, linked from `docs/` to its file; that of a method begins with a dot."""
         whole = [it for it, _ in self.all.values() if it.crate == crate]
         for item in [*whole, *(inner for it in whole for inner in it.inside)]:
             if item.name == name and item.kind in ("fn", "method"):
-                return file_link(item, f"`{name}`")
-        return f"`{name}`"
+                return file_link(item, f"`{dot}{name}`")
+        return f"`{dot}{name}`"
 
     def meant(self, item, target):
-        """The item that a link in the documentation of another one means."""
+        """The target of a link in the documentation of an item."""
         *before, name = target.split("::")
         whole = [it for it, _ in self.all.values()]
         every = [*whole, *(inner for it in whole for inner in it.inside)]
@@ -145,12 +145,12 @@ class Reference:
         crate = before[0] if before and before[0] in below_winnow() else item.crate
         if before:
             found = [it for it in found if it.owner == owner]
-        # Of those that are as near, that which stands last.
+        # Of equally near ones, the last.
         near = [(it.crate == crate, it.path == item.path, not it.owner) for it in found]
         return found[max(range(len(found)), key=lambda at: (near[at], at))] if found else None
 
     def linked(self, item, text, stem):
-        """A line of documentation, its links led to the items' anchors."""
+        """A line of documentation, with links to the items' anchors."""
 
         told = dict(it.groups() for it in map(LED.match, item.doc) if it)
 
@@ -165,7 +165,7 @@ class Reference:
         return LINK.sub(led, text)
 
     def prose(self, item, stem):
-        """The documentation of an item, its examples marked as code."""
+        """The documentation of an item, with examples marked as code."""
         inside, lines = False, []
         text = "\n".join(it for it in item.doc if not LED.match(it))
         for part in re.split(r"(^```[^\n]*$)", text, flags=re.MULTILINE):
@@ -177,7 +177,7 @@ class Reference:
         return "".join(lines).strip() + "\n"
 
     def example(self, item, stem):
-        """The example of the struct that a call makes, where the call has none of its own."""
+        """The example of the struct that a call returns, if the call has no example."""
         made = re.search(r"\) -> (\w+)", item.signature)
         is_own = made and made[1] == item.owner
         if item.kind != "method" or not made or is_own or "```" in item.doc:
@@ -202,16 +202,16 @@ class Reference:
         return wrapped(f"{said}In {file}.")
 
     def is_law(self, item):
-        """Whether an item is a law, whose contract is what it says."""
+        """Whether an item is a law; its contract is its statement."""
         return "laws" in self.all.get(id(item), (None, []))[1]
 
     def is_shown(self, type_):
-        """Whether a type that implements a trait is one that users name."""
+        """Whether users name a type that implements a trait."""
         name = re.match(r"\w+", type_)
         return not name or not re.match(r"[A-Z]\w\w", name[0]) or name[0] in self.names
 
     def implementors(self, item):
-        """The types that implement a trait, and what is said of each."""
+        """The types that implement a trait, with the comments of the blocks."""
         own = [it for it in self.blocks if self.is_shown(it.type)]
         own = [it for it in own if it.trait.partition("<")[0].split("::")[-1] == item.name]
         plain = sorted((self.shown(it) for it in own if not it.doc), key=in_order)
@@ -223,7 +223,7 @@ class Reference:
         return text + told
 
     def shown(self, block):
-        """A type that implements a trait; of a parameter, with what is asked of it."""
+        """A type that implements a trait; for a parameter, with its bounds."""
         text = " ".join(block.type.split()).replace("< ", "<").replace(", >", ">")
         if re.fullmatch(r"[A-Z]\d?", text) and text not in self.names:
             return " ".join(block.head.split()).replace("< ", "<").replace(", >", ">")
@@ -240,7 +240,7 @@ class Reference:
         return wrapped(f"Implements {told}.") if names else ""
 
     def section(self, item, stem, level):
-        """What a page says of an item."""
+        """The section of an item on a page."""
         text = f"{'#' * level} {self.title(item)}\n\n"
         where = self.all.get(id(item), (None, []))[1]
         others = [it for it in where if it != self.list[stem][1]]
@@ -272,25 +272,26 @@ class Reference:
         return text.rstrip() + "\n"
 
     def rows(self, item, link):
-        """The lines of an item in the index, and of what it has."""
+        """The lines of an item in the index, and of its members."""
         inner = [it for it in item.inside if it.kind not in ("part", "type")]
         for it in [item, *inner]:
-            head = "law" if self.is_law(it) else f"`{line_of(it.signature)}`"
-            cells = [link(it, f"`{self.title(it)}`"), head, sentence_of(it.doc)]
-            yield "| " + " | ".join(cell.replace("|", "\\|") for cell in cells) + " |\n"
+            about = re.split(r"[:;] ", sentence_of(it.doc))[0].removesuffix(".")
+            yield f"- {link(it, f'`{self.title(it)}`')}{': ' * bool(about)}{about}\n"
 
     def index(self, head, link):
-        """A line for each item, by the modules of the crate `winnow`."""
+        """A line for each item, by the modules of `winnow`; structs of parsers share one."""
         text, done = head, set()
         for name in sorted(self.modules, key=lambda it: (it == "prelude", "impls" in it, it)):
             items = [it for it in self.modules[name] if id(it) not in done]
             done.update(id(it) for it in items)
-            again = [it for it in self.modules[name] if it not in items]
             text += f"\n## winnow{'::' * bool(name)}{name}\n\n{about_of(name)}\n\n"
-            links = ", ".join(link(it, f"`{it.name}`") for it in again)
-            text += f"Also {links}.\n\n" if again else ""
-            text += "| Item | Signature | Is |\n|---|---|---|\n" if items else ""
-            text += "".join(line for it in items for line in self.rows(it, link))
+            again = [it for it in self.modules[name] if it not in items]
+            structs = [it for it in items if name.endswith("impls") and it.kind == "struct"]
+            for before, several in (("Also", again), ("Structs:", structs)):
+                links = ", ".join(link(it, f"`{it.name}`") for it in several)
+                text += f"{before} {links}.\n\n" if several else ""
+            others = [it for it in items if it not in structs]
+            text += "".join(line for it in others for line in self.rows(it, link))
         return re.sub(r"\n\n\n+", "\n\n", text).rstrip() + "\n"
 
 
@@ -298,33 +299,25 @@ ABOUT_INDEX = f"""<!-- {HEAD} -->
 
 # Index
 
-Each public item of the crate `winnow`, by its modules. The file that is linked has its documentation
-with examples, and its contract; the definitions that clauses name stand in `specs/` of the same
-crate. Tables by purpose stand in [PARSERS.md](PARSERS.md). The modules `impls`, which stand last,
-have the structs of parsers, each of which stands for its parser wherever one is passed.
+The public items of the crate `winnow`, by module. Each is linked to its file, which has its
+signature, documentation and contract. [PARSERS.md](PARSERS.md) lists parsers by purpose. The
+modules `impls`, at the end, have the structs of the parsers: pass the struct `Alpha1` where a parser
+is expected.
 
-`python3 scripts/api.py` writes all of this into pages, `docs/api/`: documentation, signatures, the
-names of clauses, and what implements each trait.
+`python3 scripts/api.py` generates reference pages with signatures, documentation and clauses in
+`docs/api/`.
 """
 ABOUT_PAGES = """# API reference
 
-Each public item of the crate `winnow`, by its modules: its signature, its documentation with
-examples, and the names of the clauses of its contract, which stands in the file that is linked. A
-law has its contract with it. The definitions that clauses name stand in `specs/` of the same crate.
-Tables by purpose stand in [PARSERS.md](../PARSERS.md). The modules `impls` stand last.
+The public items of the crate `winnow`, by module, with signatures, documentation, examples and the
+names of their clauses. The linked file has the contract; a law is shown with it. Clauses use
+definitions in `specs/` of the same crate. [PARSERS.md](../PARSERS.md) lists parsers by purpose.
 """
 
 
 def file_link(item, label):
     """A link to the file of an item from `docs/`."""
     return f"[{label}](../{item.path.relative_to(TOP)})"
-
-
-def line_of(signature):
-    """A signature in one line, without what stands in braces."""
-    line = " ".join(signature.partition("{")[0].split()).removeprefix("pub ").rstrip(", ")
-    line = line.replace("/* private fields */", "..")
-    return re.sub(r"(?<=[<(]) |,? (?=[)>])|,(?= *$)", "", line)
 
 
 def sentence_of(doc):
@@ -339,7 +332,7 @@ def wrapped(text):
 
 
 def about_of(name):
-    """What the head of a module says of it."""
+    """The text at the head of a module."""
     of, inner = name.removesuffix("::impls"), name.endswith("::impls")
     if of in MODULES:
         crate, modules = MODULES[of]

@@ -8,12 +8,12 @@ from registry.common import items_of, read, write
 FACADE = CRATES / "winnow"
 # The laws of one parser each, which a caller proves of its own composition in a line.
 OF_A_PARSER = "_over_a_complete_stream"
-# The modules of which the items stand in other modules: where they stand.
+# The modules whose items are in other modules, with their paths.
 PLACES = {"error": ("stream_errors", "*"), "laws": ("", "laws/**/*")}
 
 
 def modules_of(crate, module):
-    """The files of a crate, each by its module's name, whose items stand in a module of winnow's."""
+    """The files of a crate whose items are in a module of the crate `winnow`, by module name."""
     src = CRATES / crate / "src"
     only, pattern = PLACES.get(module, ("", ""))
     files = [src / f"{module}.rt"] if not only else []
@@ -25,7 +25,7 @@ def modules_of(crate, module):
 
 
 def write_module(path):
-    """A module of winnow's: by hand above the mark, and then the items of its name in each crate."""
+    """Writes a module: its handwritten part, and the items of its name in each crate."""
     module = "/".join(path.relative_to(FACADE / "src").with_suffix("").parts)
     text = by_hand(path, "//")
     known = set(re.findall(r"\w+", " ".join(re.findall(r"^pub use [^;]*;", text, re.MULTILINE))))
@@ -45,8 +45,8 @@ def title(crate):
 
 
 def write_specs():
-    """What the clauses of the library cite: each module of the crates' specs, but those that the
-    part by hand names, as by another name or as no concern of callers."""
+    """Writes the specs that clauses cite: each module of the crates' specs, except those that the
+    handwritten part names."""
     path = FACADE / "specs/Lib.antt"
     text = by_hand(path, "--")
     lines = []

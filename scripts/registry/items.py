@@ -6,7 +6,7 @@ from dataclasses import dataclass, field
 
 from registry.common import CRATES, closing, read
 
-# What is no structure: comments, texts, characters.
+# Comments, strings and characters.
 QUIET = re.compile(
     r"//[^\n]*|b?\"(?:\\.|[^\"\\])*\""
     r"|b?'(?:\\(?:x[0-9a-fA-F]{2}|u\{[^}]*\}|.)|[^'\\\n])'",
@@ -37,7 +37,7 @@ class Item:
 
 @dataclass
 class Block:
-    """An `impl` block: the trait, if there is one, the type, and what it has."""
+    """An `impl` block: the trait, if any, the type, and the members."""
 
     trait: str
     type: str
@@ -48,12 +48,12 @@ class Block:
 
 
 def quiet(text):
-    """A text with spaces in the place of what has no structure."""
+    """A text with comments and strings replaced by spaces."""
     return QUIET.sub(lambda found: re.sub(r"[^\n]", " ", found[0]), text)
 
 
 def closed(plain, at):
-    """Where the bracket that opens at `at` is closed."""
+    """The position after the bracket that closes the one at `at`."""
     depth = 0
     for found in re.compile(r"[()\[\]{}]").finditer(plain, at):
         depth += 1 if found[0] in "([{" else -1
@@ -63,7 +63,7 @@ def closed(plain, at):
 
 
 def head_of(plain, at):
-    """The clauses of the item at `at`, each with its place, and where its head ends."""
+    """The clauses of the item at `at`, with their positions, and the end of its head."""
     clauses, depth, place = [], 0, at
     while found := CLAUSE.search(plain, place):
         sign, place = found[0], found.end()
@@ -185,7 +185,7 @@ def members(item, text, plain, head):
 
 @functools.cache
 def module(crate, path):
-    """The public items of a file by name, its blocks, and what it makes public of others."""
+    """The public items of a file by name, its blocks, and its `pub use`."""
     text = read(path)
     plain = quiet(text)
     items, blocks, uses = {}, [], {}
@@ -249,6 +249,6 @@ def find(crate, modules, name):
     if name in uses:
         first, *others = uses[name].split("::")
         return find(crate if first == "crate" else first, others, name)
-    # A macro stands at the root of its crate, wherever it is written.
+    # A macro is at the root of its crate, wherever it is written.
     macros = [module(crate, it)[0].get(name) for it in sources(crate)]
     return next((it for it in macros if it and it.kind == "macro"), None)

@@ -1,23 +1,22 @@
-"""The pages of the API reference, in order: of each its file, its title, its module, and the items
-that stand on it. `*` stands for the items of its module that no page names, `@winnow_core` for
-those that are defined in that crate and stand on no page before, and `Parser::map` for a method
-that stands on another page than its trait."""
+"""The pages of the API reference, in order: file, title, module and items. `*` means the items of
+the module that no page names, `@winnow_core` those of that crate that no earlier page has, and
+`Parser::map` a method on another page than its trait."""
 
 ADAPTERS = """Parser::map Parser::value Parser::default_value Parser::void Parser::output_into
 Parser::parse_to Parser::take Parser::with_taken Parser::span Parser::with_span"""
 
 PAGES = [
-    ("parser", "Parsers, and how they are run", "", "Parser Func ModalParser *"),
-    ("parser_outputs", "Calls of a parser: another output", "", ADAPTERS),
+    ("parser", "Parsers, and how to call them", "", "Parser Func ModalParser *"),
+    ("parser_outputs", "Adapters: converting the output", "", ADAPTERS),
     (
         "parser_tests",
-        "Calls of a parser: outputs that are tested or read on",
+        "Adapters: checking the output, or parsing it further",
         "",
         "Parser::verify Parser::verify_map Parser::try_map Parser::flat_map Parser::and_then",
     ),
     (
         "parser_errors",
-        "Calls of a parser: errors, and recovery from them",
+        "Adapters: errors and recovery",
         "",
         "Parser::context Parser::context_with Parser::map_err Parser::err_into "
         "Parser::complete_err RecoveringParser RecoverableParser NoMemory",
@@ -26,11 +25,11 @@ PAGES = [
     ("ascii", "Numbers as text", "ascii", "dec_uint dec_int hex_uint Uint Int HexUint"),
     (
         "ascii_text",
-        "Text with escapes, line ends, and literals without regard to case",
+        "Text with escapes, line endings, and caseless literals",
         "ascii",
         "escaped take_escaped Caseless crlf newline line_ending till_line_ending tab",
     ),
-    ("ascii_classes", "Classes of ASCII", "ascii", "*"),
+    ("ascii_classes", "ASCII classes", "ascii", "*"),
     (
         "combinator",
         "Sequence, choice, and the end of the input",
@@ -59,18 +58,18 @@ PAGES = [
     ),
     (
         "binary",
-        "Integers of a chosen order, and data after its length",
+        "Integers of a given byte order, and length-prefixed data",
         "binary",
         "length_take length_and_then length_repeat Endianness u8 u16 u24 u32 u64 u128 i8 i16 i24 "
         "i32 i64 i128",
     ),
     (
         "binary_big_endian",
-        "Integers whose highest byte stands first",
+        "Big-endian integers",
         "binary",
         "be_u8 be_u16 be_u24 be_u32 be_u64 be_u128 be_i8 be_i16 be_i24 be_i32 be_i64 be_i128",
     ),
-    ("binary_little_endian", "Integers whose lowest byte stands first", "binary", "*"),
+    ("binary_little_endian", "Little-endian integers", "binary", "*"),
     ("bits", "Bits", "binary::bits", "* Bits BitOffsets"),
     ("stream", "Streams", "stream", "Stream StreamIsPartial Location UpdateSlice"),
     (
@@ -91,25 +90,25 @@ PAGES = [
         "stream",
         "Range ContainsToken Pred ByteSet AsChar Accumulate",
     ),
-    ("stream_parts", "What is compared, searched for and converted", "stream", "*"),
+    ("stream_parts", "Comparisons, searches and conversions", "stream", "*"),
     (
         "error",
-        "Errors, and what parsers ask of them",
+        "Errors, and their traits",
         "error",
         "ErrMode Needed ModalError ParserError ParseFault ParseError",
     ),
     (
         "error_making",
-        "Errors that are made of others",
+        "Errors made from other errors",
         "error",
         "AddContext FromExternalError OrNoMemory ErrorConvert ConvertInput FromRecoverableError",
     ),
-    ("error_types", "Types of errors", "error", "*"),
-    ("stable", "Input in pieces, and answers for good", "stable", "*"),
-    ("exact", "Functions as parsers by a grammar", "exact", "*"),
-    ("decided", "Answers for good", "decided", "*"),
+    ("error_types", "Error types", "error", "*"),
+    ("stable", "Partial input", "stable", "*"),
+    ("exact", "Functions as parsers with a grammar", "exact", "*"),
+    ("decided", "Final results", "decided", "*"),
     ("laws", "Laws of all parsers and streams", "laws", "@winnow_core"),
-    ("laws_meanings", "Laws of compositions", "laws", "@winnow_meanings"),
+    ("laws_meanings", "Laws of compositions", "laws", "@winnow_laws"),
     (
         "laws_parsers",
         "Laws of tokens, text, numbers and bits",
@@ -124,7 +123,7 @@ PAGES = [
     ),
     ("laws_expressions", "Laws of expressions", "laws", "@winnow_expression_trees"),
     ("laws_combinators", "Laws of combinators", "laws", "*"),
-    ("impls_token", "Structs of the parsers of tokens", "token::impls", "*"),
+    ("impls_token", "Structs of token parsers", "token::impls", "*"),
     ("impls_ascii", "Structs of the parsers of text", "ascii::impls", "*"),
     (
         "impls_combinator",
@@ -142,20 +141,20 @@ PAGES = [
     ),
     (
         "impls_errors",
-        "Structs of the calls of a parser: errors, and recovery",
+        "Structs of adapters: errors and recovery",
         "combinator::impls",
         "CompleteErr Context ContextWith ErrInto MapErr MapErrKept ResumeAfter RetryAfter",
     ),
-    ("impls_calls", "Structs of the other calls of a parser", "combinator::impls", "*"),
+    ("impls_calls", "Structs of other adapters", "combinator::impls", "*"),
     (
         "impls_big_endian",
-        "Structs of integers whose highest byte stands first",
+        "Structs of big-endian integers",
         "binary::impls",
         "BeI8 BeI16 BeI24 BeI32 BeI64 BeI128 BeU8 BeU16 BeU24 BeU32 BeU64 BeU128",
     ),
     (
         "impls_little_endian",
-        "Structs of integers whose lowest byte stands first",
+        "Structs of little-endian integers",
         "binary::impls",
         "LeI8 LeI16 LeI24 LeI32 LeI64 LeI128 LeU8 LeU16 LeU24 LeU32 LeU64 LeU128",
     ),
@@ -163,8 +162,8 @@ PAGES = [
     ("impls_bits", "Structs of the parsers of bits", "binary::bits::impls", "*"),
 ]
 
-# What holds of all items of a page.
-CALLED = "Where the parser fails that a method is called on, its error is the answer, and the input"
+# Notes for all items of a page.
+CALLED = "If the parser fails that a method is called on, its error is returned, and the input"
 NOTES = {
     "parser_outputs": f"{CALLED} stays where it left it.",
     "parser_tests": f"{CALLED} stays where it left it.",

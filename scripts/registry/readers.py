@@ -55,8 +55,7 @@ READERS = [
     ("INI", "readers", "no", "exactly"),
     ("formulas", "format_calculator", "no", "exactly"),
 ]
-# What README.md says of formats: the crates of their readers, and what is proved, in the words that
-# it explains.
+# The table of README.md: formats, their crates, and the proved properties, in its words.
 BRIEF = [
     ("CSV (RFC 4180)", ["format_csv", "format_csv_records"], "exactly; first, incremental"),
     ("DNS", ["format_dns"], "messages"),

@@ -3,7 +3,7 @@ use example_callers::outcomes::{time_in_pieces, time_of_bytes};
 use std::process::Abort;
 use winnow::Parser;
 use winnow::ascii::impls::Digit1;
-use winnow::error::{EmptyError, ErrMode, Needed};
+use winnow::error::{EmptyError, ErrMode, Needed, ParseFault};
 use winnow::stream::Partial;
 
 #[test]
@@ -49,4 +49,16 @@ fn digits_by_outcome(rt: HostRuntime) {
     let digits: Result<&[u8], ErrMode<EmptyError>> = Digit1.read_outcome(&mut input);
     assert_eq!(rt; digits, Ok(b"12".as_slice()));
     assert_eq!(rt; input, b";".as_slice());
+}
+
+#[test]
+fn digits_of_all_bytes_by_outcome(rt: HostRuntime) {
+    let digits: Result<&[u8], ParseFault<&[u8], EmptyError>> =
+        Parser::<_, _, ErrMode<EmptyError>>::parse_outcome(&mut Digit1, b"12".as_slice());
+    assert!(rt; matches!(digits, Ok(found) if found == b"12".as_slice()));
+    for (text, offset) in [(b"12;3".as_slice(), 2), (b";", 0), (b"", 0)] {
+        let fault: Result<&[u8], ParseFault<&[u8], EmptyError>> =
+            Parser::<_, _, ErrMode<EmptyError>>::parse_outcome(&mut Digit1, text);
+        assert!(rt; matches!(fault, Err(ParseFault::Refused(it)) if it.offset() == offset));
+    }
 }

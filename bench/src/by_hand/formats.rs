@@ -1,4 +1,4 @@
-//! Values of JSON, comma separated values with quotes, replies of Redis, and texts with escapes.
+//! JSON values, CSV with quotes, Redis replies, and strings with escapes.
 use crate::outcome::Outcome;
 use memchr::{memchr, memchr2};
 use std::str::from_utf8;
@@ -116,7 +116,7 @@ impl Json<'_> {
         }
     }
 
-    /// Items between marks, the first of which is read.
+    /// Parses items separated by commas, with the byte before them and the byte `end` after them.
     fn items<T>(&mut self, end: u8, item: impl Fn(&mut Self) -> Option<T>) -> Option<Vec<T>> {
         let mut all = Vec::new();
         self.at += 1;

@@ -1,4 +1,4 @@
-//! Values of JSON, comma separated values with quotes, and replies of Redis.
+//! JSON values, CSV with quotes, and Redis replies.
 use super::{count, In};
 use crate::outcome::Outcome;
 use nom::branch::alt;
@@ -121,7 +121,7 @@ pub fn json(s: &[u8]) -> Outcome {
     Outcome { count: values.len() as u64, sum: sum.sum(), left: 0 }
 }
 
-// ---- comma separated values with quotes
+// ---- CSV with quotes
 
 fn quoted(i: In<'_>) -> IResult<In<'_>, Vec<u8>> {
     let part = alt((is_not("\""), value(&b"\""[..], tag("\"\""))));
@@ -149,7 +149,7 @@ pub fn csv(s: &[u8]) -> Outcome {
     })
 }
 
-// ---- replies of Redis
+// ---- Redis replies
 
 enum Reply<'i> {
     Simple(In<'i>),
@@ -165,7 +165,7 @@ fn line(i: In<'_>) -> IResult<In<'_>, In<'_>> {
     terminated(take_until("\r\n"), crlf)(i)
 }
 
-/// A size; none for -1.
+/// Parses a size; -1 gives `None`.
 fn size(i: In<'_>) -> IResult<In<'_>, Option<usize>> {
     map_res(terminated(integer, crlf), |size| match size {
         -1 => Ok(None),

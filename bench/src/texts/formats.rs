@@ -1,4 +1,4 @@
-//! Texts of JSON, of comma separated values with quotes, of replies of Redis, and with escapes.
+//! JSON, CSV with quotes, Redis replies, and strings with escapes.
 use super::{parts, Dice};
 
 /// Some words.
@@ -71,7 +71,7 @@ pub fn csv(size: usize) -> Vec<u8> {
     })
 }
 
-/// A bulk string of some bytes, or the null one.
+/// Appends a bulk string, or the null bulk string.
 fn bulk(dice: &mut Dice, out: &mut Vec<u8>) {
     if dice.below(10) == 0 {
         return out.extend(b"$-1\r\n");
@@ -82,7 +82,7 @@ fn bulk(dice: &mut Dice, out: &mut Vec<u8>) {
     out.extend(b"\r\n");
 }
 
-/// Replies of Redis: lines, integers, bulk strings and arrays of these.
+/// Generates Redis replies: simple strings, integers, bulk strings, and arrays of these.
 pub fn replies(size: usize) -> Vec<u8> {
     parts(size, |dice, out| match dice.below(8) {
         0 => out.extend(b"+OK\r\n"),

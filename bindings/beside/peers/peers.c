@@ -1,5 +1,5 @@
-/* Readers by libraries of C that do the same work: cJSON, http_parser, libcsv, hiredis and inih. Each
- * is called as its own documentation has it. What is refused adds nothing, so its sum is another. */
+/* Readers with C libraries: cJSON, http_parser, libcsv, hiredis and inih, each called as its
+ * documentation recommends. Rejected input adds nothing, so the sum differs. */
 #define _GNU_SOURCE
 #include <csv.h>
 #include <dlfcn.h>
@@ -11,7 +11,7 @@
 
 #include "peers.h"
 
-/* How many requests for memory there were, and for how many bytes, where requests.c is loaded. */
+/* Stores the number of allocations and their bytes. Returns 0 if requests.c is not loaded. */
 int requests_so_far(uint64_t *requests, uint64_t *bytes)
 {
     void (*said)(uint64_t *, uint64_t *) = dlsym(RTLD_DEFAULT, "requests_counted");
@@ -21,7 +21,7 @@ int requests_so_far(uint64_t *requests, uint64_t *bytes)
     return said != NULL;
 }
 
-/* The kinds of values are numbered as in pergidau.h, from 1 on. */
+/* Numbers the kinds of values as in pergidau.h, from 1 on. */
 static uint64_t kind_of(const cJSON *value)
 {
     switch (value->type & 0xff) {
@@ -66,7 +66,7 @@ static int on_head(http_parser *parser)
     return 0;
 }
 
-/* Heads by http_parser, which is given so many bytes at a time. */
+/* Parses heads with http_parser, in chunks of `piece` bytes. */
 static void heads_by_pieces(const char *text, size_t length, size_t piece, struct outcome *out)
 {
     http_parser_settings settings;
@@ -137,8 +137,8 @@ static void count_replies(const redisReply *reply, struct outcome *out)
     }
 }
 
-/* Replies by hiredis, which is given so many bytes at a time: its own buffer is of 16 KiB, and what it
- * read of a longer one it moves again and again. */
+/* Parses replies with hiredis, in chunks of `piece` bytes. Its buffer has 16 KiB; it moves consumed
+ * bytes of a longer one repeatedly. */
 static void replies_by_pieces(const char *text, size_t length, size_t piece, struct outcome *out)
 {
     redisReader *reader = redisReaderCreate();
@@ -167,7 +167,7 @@ PEER(replies_in_pieces_by_hiredis)
     replies_by_pieces(text, length, 1460, out);
 }
 
-/* What hiredis makes of a reply where its caller keeps none: it counts. */
+/* Callbacks that count hiredis' replies without storing them. */
 static void *told(const redisReadTask *task, uint64_t sum)
 {
     struct outcome *out = task->privdata;

@@ -1,6 +1,6 @@
-/* Readers of JSON by libraries of C++: rapidjson, whose headers are compiled here, and simdjson, which
- * takes the vectors that the processor has. Neither has text escaped in it compared: kinds and levels
- * of values are, numbered as in pergidau.h, from 1 on. */
+/* JSON readers with C++ libraries: rapidjson, whose headers are compiled here, and simdjson, which
+ * uses the vector instructions of the processor. The kinds, numbered as in pergidau.h from 1 on, and
+ * depths of values are compared, but not their texts. */
 #define RAPIDJSON_SSE42
 #include <rapidjson/document.h>
 #include <rapidjson/reader.h>
@@ -66,8 +66,7 @@ void count_values(simdjson::dom::element value, uint64_t depth, outcome &out)
     out.sum += kind * depth;
 }
 
-/* A value of a text that is read as it is asked for: of a document or one in it. It throws where what
- * is asked for is refused. */
+/* Counts a document or a value in it, with the on-demand parser. Throws if the value is invalid. */
 template <typename Value> void count_on_demand(Value &&value, uint64_t depth, outcome &out)
 {
     using simdjson::ondemand::json_type;
@@ -100,7 +99,7 @@ template <typename Value> void count_on_demand(Value &&value, uint64_t depth, ou
     out.sum += kind * depth;
 }
 
-/* The parser is kept, with its room, as simdjson's documentation advises. */
+/* The parser and its buffers are reused, as simdjson's documentation recommends. */
 simdjson::dom::parser &kept()
 {
     static simdjson::dom::parser parser;

@@ -1,4 +1,4 @@
-/* What a reader found: of all that read one text it is the same. src/main.rs says what is counted. */
+/* The result of a reader. It is the same for all readers of a text; the modules in src/ document it. */
 #ifndef PEERS_H
 #define PEERS_H
 
@@ -10,7 +10,7 @@ struct outcome {
     uint64_t sum;
 };
 
-/* A reader of so many bytes, behind which 64 stand that are 0. */
+/* A reader of `length` bytes, which are followed by 64 zero bytes. */
 #define PEER(name) void name(const char *text, size_t length, struct outcome *out)
 
 #endif

@@ -1,5 +1,5 @@
-/* Counts the requests for memory of a program and of all libraries that it loads, where it is loaded
- * before them (LD_PRELOAD): each function asks the C library's own. */
+/* Counts the allocations of a program and of all its libraries, if it is preloaded (LD_PRELOAD). Each
+ * function calls the C library's own. */
 #include <errno.h>
 #include <stddef.h>
 #include <stdint.h>

@@ -1,5 +1,4 @@
-//! Readers of comma separated values: each field is counted; its length, and 1 for each record, are
-//! added.
+//! CSV readers. Each field is counted; the sum is of the lengths of the fields, and 1 for each record.
 use crate::text::{Outcome, Text};
 use pergidau::csv::{record, LineEnd};
 use pergidau::Span;

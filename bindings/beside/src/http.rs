@@ -1,5 +1,5 @@
-//! Readers of heads of requests: each head is counted, and the lengths of its target and of the names
-//! and values of its fields are added.
+//! Readers of request heads. Each head is counted; the sum is of the lengths of the target and of the
+//! names and values of the fields.
 use crate::text::{Outcome, Text};
 use pergidau::http::{self, Field};
 use pergidau::Error;

@@ -1,10 +1,10 @@
-//! Readers of settings: each pair is counted, and the lengths of its key and its value are added.
+//! INI readers. Each pair is counted; the sum is of the lengths of the keys and values.
 use crate::text::{Outcome, Text};
 use pergidau::ini::{document, Entry};
 use std::cell::RefCell;
 
 thread_local! {
-    /// Room for the bytes and the places of a document, which a caller keeps from one to the next.
+    /// Buffers for the text and the entries of a document, which callers reuse.
     static ROOM: RefCell<(Vec<u8>, Vec<Entry>)> =
         RefCell::new((vec![0; 1 << 20], vec![Entry::default(); 1 << 16]));
 }

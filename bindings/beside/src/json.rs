@@ -1,5 +1,5 @@
-//! Readers of JSON. A check counts 1 for a text that is right. Of values each is counted, and its kind,
-//! from 1 on as `pergidau.h` numbers them, is added so often as it stands deep.
+//! JSON readers. A check counts 1 for a valid text. The other readers count each value; the sum is of
+//! the kinds, numbered as in `pergidau.h` from 1 on, multiplied by the depths of the values.
 use crate::text::{Outcome, Text};
 use pergidau::json::{self, Kind, Step, Value};
 

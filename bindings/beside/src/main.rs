@@ -32,8 +32,8 @@ fn text_of(work: &Work) -> Text {
     Text::read(&PathBuf::from(folder).join(work.file))
 }
 
-/// Has all readers of a work read its text, and a text that is no longer right where it is checked as a
-/// whole, and sees that they agree.
+/// Checks that all readers of a workload return the same result for its text. If the text is checked as
+/// a whole, they must also reject the first half of it.
 fn compare(work: &Work, text: &Text) {
     let damaged = Text::of(&text.bytes()[..text.bytes().len() / 2]);
     let outcomes = |text| work.readers.iter().map(|(_, read)| read(text)).collect::<Vec<Outcome>>();

@@ -40,10 +40,10 @@ peers!(
     values_on_demand_by_simdjson,
 );
 
-/// How many requests for memory there were, and for how many bytes, where these are counted.
+/// Returns the number of allocations and of allocated bytes, if they are counted.
 pub fn requests_so_far() -> Option<(u64, u64)> {
     let (mut requests, mut bytes) = (0, 0);
-    // SAFETY: the two are live, and nothing else is touched.
+    // SAFETY: both pointers are those of live variables, and nothing else is written.
     let counted = unsafe { linked::requests_so_far(&mut requests, &mut bytes) };
     (counted != 0).then_some((requests, bytes))
 }

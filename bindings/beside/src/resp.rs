@@ -1,5 +1,5 @@
-//! Readers of replies of Redis: each reply is counted, those in arrays too, and integers and the lengths
-//! of strings are added.
+//! Readers of Redis replies. Each reply is counted, also inside arrays; the sum is of the integers and
+//! of the lengths of the strings.
 use crate::text::{Outcome, Text};
 use pergidau::resp::{self, Extent, Reply};
 

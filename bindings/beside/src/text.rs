@@ -41,7 +41,7 @@ pub struct Outcome {
 }
 
 impl Outcome {
-    /// One more part, which adds so much.
+    /// Counts one more part, and adds `sum`.
     pub fn add(&mut self, sum: usize) {
         self.count += 1;
         self.sum = self.sum.wrapping_add(sum as u64);

@@ -4,7 +4,7 @@ ghost use Rattle.std.specs.Prelude.{⊤};
 ghost use Rattle.grammars.specs.Grammar.Known.{Byte};
 ghost use Rattle.streams.specs.Bytes.{bytes_input, bytes_reading};
 ghost use Rattle.winnow_core.specs.Exact.{Reads};
-ghost use Rattle.winnow_exact.specs.Rule.{CallsRead};
+ghost use Rattle.winnow_grammar.specs.Rule.{CallsRead};
 ghost use Rattle.example_booleans.specs.Booleans.{IsEnded, IsFormula, empty_kind};
 ghost use Rattle.example_booleans.specs.Booleans.Laws.{formula_takes, formula_unique};
 
@@ -16,7 +16,7 @@ use stream_errors::parser_error::ParserError;
 use streams::stream::Stream;
 use winnow_comb::combinator::terminated;
 use winnow_core::parser::Parser;
-use winnow_exact::rule::Rule;
+use winnow_grammar::rule::Rule;
 
 /// The name of what [`formula`] reads.
 #[derive(Clone, Copy, Drop)]

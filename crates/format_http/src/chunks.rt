@@ -1,12 +1,13 @@
-//! The size line of a chunk of HTTP/1.1 (RFC 9112, sections 7.1 and 7.1.1) by the rules of the
-//! standard; and why a server must refuse a request, by the head
-//! that `format_http::heads` reads.
+//! The size line of an HTTP/1.1 chunk (RFC 9112, sections 7.1 and 7.1.1), and the reasons why a
+//! server must reject a request, given the head that `format_http::heads` parses.
 //!
-//! Where this differs from the standard: the value of an extension is given as it stands, with the
-//! quotes and backslashes of a quoted string; the line end is a carriage return and a line feed,
-//! and no line feed alone; the data of a chunk, which is as many bytes as the size says, and its
-//! line end, are for the caller to take, and so is the trailer section after the last chunk
-//! (section 7.1.2).
+//! Differences from the standard:
+//!
+//! - The value of an extension is returned unchanged, with the quotes and backslashes of a quoted
+//!   string.
+//! - The line ending is CRLF; a line feed without a carriage return is an error.
+//! - The caller must parse the data of a chunk (as many bytes as its size) and the line ending
+//!   after it, and the trailer section after the last chunk (section 7.1.2).
 pub(crate) mod codings;
 pub(crate) mod framing;
 pub mod laws;

@@ -33,7 +33,7 @@ pub use Rattle.winnow_core.specs.Take as TakeAdapter
 pub use Rattle.winnow_core.specs.Laws as ParserLaws
 pub use Rattle.winnow_token.specs.Literal as LiteralParser
 pub use Rattle.winnow_expression.specs.Grammar as OperatorGrammar
-pub use Rattle.winnow_meanings.specs.Laws as MeaningLaws
+pub use Rattle.winnow_laws.specs.Laws as MeaningLaws
 pub use Rattle.winnow_expression_trees.specs.Reading as ReadingOfParts
 pub use Rattle.winnow_expression_trees.specs.Value as ValueOfTree
 -- Modules that only proofs of these crates cite:
@@ -268,19 +268,19 @@ pub use Rattle.winnow_escapes.specs.Controls
 pub use Rattle.winnow_escapes.specs.Escaped
 pub use Rattle.winnow_escapes.specs.TakeEscaped
 -- The semantics of parsers: the law of each call, and the semantics of compositions.
-pub use Rattle.winnow_meanings.specs.Compositions
-pub use Rattle.winnow_meanings.specs.Memory
+pub use Rattle.winnow_laws.specs.Compositions
+pub use Rattle.winnow_laws.specs.Memory
 -- The basis of parsers that are specified by grammars: functions as parsers, incremental input, and
 -- results of successive calls.
-pub use Rattle.winnow_exact.specs.Back
-pub use Rattle.winnow_exact.specs.Cut
-pub use Rattle.winnow_exact.specs.ForGood
-pub use Rattle.winnow_exact.specs.InTurn
-pub use Rattle.winnow_exact.specs.Longer
-pub use Rattle.winnow_exact.specs.Read
-pub use Rattle.winnow_exact.specs.Rule
-pub use Rattle.winnow_exact.specs.RulePieces
-pub use Rattle.winnow_exact.specs.RunByRun
-pub use Rattle.winnow_exact.specs.Spans
-pub use Rattle.winnow_exact.specs.Steps
-pub use Rattle.winnow_exact.specs.Told
+pub use Rattle.winnow_grammar.specs.Back
+pub use Rattle.winnow_grammar.specs.Cut
+pub use Rattle.winnow_grammar.specs.ForGood
+pub use Rattle.winnow_grammar.specs.InTurn
+pub use Rattle.winnow_grammar.specs.Longer
+pub use Rattle.winnow_grammar.specs.Read
+pub use Rattle.winnow_grammar.specs.Rule
+pub use Rattle.winnow_grammar.specs.RulePieces
+pub use Rattle.winnow_grammar.specs.RunByRun
+pub use Rattle.winnow_grammar.specs.Spans
+pub use Rattle.winnow_grammar.specs.Steps
+pub use Rattle.winnow_grammar.specs.Told

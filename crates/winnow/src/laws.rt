@@ -28,7 +28,6 @@ pub use winnow_escapes::laws::{
     escaped_bytes_and_the_rest_are_the_input, escaped_text_and_the_rest_are_the_input,
     the_escaped_slice_and_the_rest_are_the_input,
 };
-pub use winnow_exact::laws::a_decided_answer_stays_on_longer_inputs;
 pub use winnow_expression_trees::laws::parts::{
     a_byte_consumes, a_choice_consumes, a_decided_part_is_stateless, a_value_consumes,
 };
@@ -36,16 +35,17 @@ pub use winnow_expression_trees::laws::{
     Likeness, at_most_one_tree_keeps_the_powers, expression_reads_the_one_tree,
     no_tree_where_an_assert_rule_refuses,
 };
+pub use winnow_grammar::laws::a_decided_answer_stays_on_longer_inputs;
 pub use winnow_integers::laws::little_endian_is_big_endian_of_the_reversed_bytes;
-pub use winnow_meanings::laws::compositions::{
+pub use winnow_laws::laws::compositions::{
     DigitsUpTo, InBytes, Outputs, Signed, SignedBetween, SignedList, SignedOutput,
     a_list_of_separated_sequences_means_its_derivation,
     a_repetition_of_sequences_means_its_derivation,
     a_sequence_of_an_option_and_a_choice_means_its_derivation,
     items_up_to_a_byte_mean_their_derivation, tokens_between_two_bytes_mean_their_derivation,
 };
-pub use winnow_meanings::laws::each_call_ends_as_its_derivation;
-pub use winnow_meanings::laws::memory::{
+pub use winnow_laws::laws::each_call_ends_as_its_derivation;
+pub use winnow_laws::laws::memory::{
     a_choice_never_hides_want_of_memory, a_choice_of_an_array_never_hides_want_of_memory,
     a_repetition_never_hides_want_of_memory, a_separated_list_never_hides_want_of_memory,
     a_sequence_never_hides_want_of_memory, an_option_never_hides_want_of_memory,

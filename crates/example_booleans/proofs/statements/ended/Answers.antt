@@ -1,6 +1,6 @@
 use Rattle.std.proofs.Common.{rules}
-use Rattle.winnow_exact.specs.Read.{reads_by}
-use Rattle.winnow_exact.specs.Rule.{reads_as_rule, run_as}
+use Rattle.winnow_grammar.specs.Read.{reads_by}
+use Rattle.winnow_grammar.specs.Rule.{reads_as_rule, run_as}
 use Rattle.example_booleans.proofs.statements.ended.Given as given
 use Rattle.example_booleans.proofs.statements.ended.Goals as goal
 

@@ -1,0 +1,265 @@
+-- Rules with functions that parse incremental input. As a parser, such a function has the results
+-- that its grammar allows, on the input and on every longer one.
+use Rattle.std.specs.Prelude.{◌≡◌, ◌⊎◌, ⊤, Bool, true, false, List, [], ◌∷◌, ◌++◌}
+use Rattle.std.specs.Prelude.{Result, Ok, Err}
+use Rattle.std.specs.Prelude.{◌<◌, ◌≤◌, length}
+use Rattle.std.specs.Char.{IsScalar}
+use Rattle.std.proofs.Common.{refl, sym, ap, subst, inl, inr, ◌∙◌, append_assoc, append-nil}
+use Rattle.std.proofs.Common.{arith, length-append}
+use Rattle.std.proofs.lemmas.List.Elements.{All-append}
+use Rattle.streams.specs.Bytes.{bytes_follow}
+use Rattle.streams.specs.Following.{Following, Follows}
+use Rattle.streams.specs.Input.{Input, IsEndOf, with_more}
+use Rattle.streams.specs.Kind.{Kind, backtrack, incomplete, memory}
+use Rattle.streams.specs.Reading.{Reading}
+use Rattle.streams.specs.Text.{text_follows}
+use Rattle.stream_errors.specs.Form.{Answer, answer_by}
+use Rattle.winnow_core.specs.Exact.{FailsBy, IsExact}
+use Rattle.winnow_core.specs.Exact.Allowed.{Allowed, back_allowed, memory_allowed}
+use Rattle.winnow_core.specs.Stable.{IsFinal, IsStable}
+use Rattle.grammars.specs.Grammar.{Grammar, IsUnique, NoneStands}
+use Rattle.winnow_grammar.specs.Cut.{ReadsCut, ReadsOrAsks}
+use Rattle.winnow_grammar.specs.declared.by_pieces.ByPieces.{ByPieces}
+
+-- the name of what is read
+abbrev pub pieces_rule : {N F : Type 0} → ByPieces N F → N
+pieces_rule p = p.rule
+
+-- the function that reads it
+abbrev pub pieces_run : {N F : Type 0} → ByPieces N F → F
+pieces_run p = p.run
+
+-- Every call of the function has a result in terms of the grammar, on complete and on partial
+-- input, and does not change the function.
+pub record CallsReadOrAsk {F I T L O E : Type 0} (reading : Reading T L) (following : Following T)
+    (view : I → Input T) (kind : E → Kind) (called : F → I → Result O E → F → I → Type 0)
+    (grammar : Grammar T O) (f : F) : Type 0 where
+  pub kept : (x : I) (r : Result O E) (g : F) (y : I) → called f x r g y → g ≡ f
+  pub reads : (x : I) (r : Result O E) (g : F) (y : I) → called f x r g y
+      → ReadsOrAsks reading following kind grammar (view x) r (view y)
+
+-- the same for the function after a call
+pub asks_again : {F I T L O E : Type 0} (reading : Reading T L) (following : Following T)
+    (view : I → Input T) (kind : E → Kind) (called : F → I → Result O E → F → I → Type 0)
+    (grammar : Grammar T O) (f : F) (x : I) (r : Result O E) (g : F) (y : I)
+    → CallsReadOrAsk reading following view kind called grammar f → called f x r g y
+    → CallsReadOrAsk reading following view kind called grammar g
+asks_again reading following view kind called grammar f x r g y reads call =
+    subst (CallsReadOrAsk reading following view kind called grammar)
+    (sym (reads.kept x r g y call)) reads
+
+-- ---- what may come in several pieces
+
+-- If two chunks may follow a list in sequence, so may their concatenation.
+pub record Joins {T : Type 0} (following : Following T) : Type 0 where
+  pub join : (left more behind : List T) → following.can_follow left more
+      → following.can_follow (left ++ more) behind → following.can_follow left (more ++ behind)
+
+-- this holds for bytes
+pub bytes_join : Joins bytes_follow
+bytes_join = record {
+  join = λ left more behind f g. record {
+    known = All-append (λ b. b < 256) more behind f.known g.known;
+    fits = omega (arith, g.fits, length-append left more, length-append more behind);
+  };
+}
+
+-- of text
+pub text_joins : Joins text_follows
+text_joins = record {
+  join = λ left more behind f g. All-append IsScalar more behind f g;
+}
+
+-- These lists may follow in sequence.
+pub AllFollow : {T : Type 0} → Following T → List T → List (List T) → Type 0
+AllFollow following left [] = ⊤
+AllFollow following left (more ∷ others) =
+    following.can_follow left more × AllFollow following (left ++ more) others
+
+-- the lists, joined
+pub joined : {T : Type 0} → List (List T) → List T
+joined [] = []
+joined (more ∷ others) = more ++ joined others
+
+-- chunks that may follow in sequence may follow as one
+all_follow : {T : Type 0} {following : Following T} → Joins following → (left more : List T)
+    (others : List (List T)) → following.can_follow left more
+    → AllFollow following (left ++ more) others
+    → following.can_follow left (more ++ joined others)
+unfolding joined AllFollow
+all_follow {following = following} joins left more [] first all =
+    let P : List _ → Type 0 = λ l. following.can_follow left l in
+    subst P (sym (append-nil more)) first
+all_follow {following = following} joins left more (next ∷ others) first (second, all) =
+    let P : List _ → Type 0 = λ l. following.can_follow left l in
+    let Q : List _ → Type 0 = λ l. AllFollow following l others in
+    subst P (append_assoc more next (joined others))
+    (all_follow joins left (more ++ next) others (joins.join left more next first second)
+    (subst Q (append_assoc left more next) all))
+
+-- ---- the runs that a grammar allows
+
+-- A final result in terms of the grammar: the output matches and leaves this rest; or the error is
+-- a backtrack, and the tokens do not start with a match.
+abbrev pub Tells : {T O : Type 0} → Grammar T O → List T → Answer O → List T → Type 0
+Tells grammar tokens (Ok o) rest = grammar tokens o rest
+Tells grammar tokens (Err k) rest = (k ≡ backtrack) × NoneStands grammar tokens
+
+-- A result on complete input: such a result, or out of memory.
+abbrev pub TellsWhole : {T O : Type 0} → Grammar T O → List T → Answer O → List T → Type 0
+TellsWhole grammar tokens (Ok o) rest = grammar tokens o rest
+TellsWhole grammar tokens (Err k) rest =
+    (k ≡ memory) ⊎ ((k ≡ backtrack) × NoneStands grammar tokens)
+
+-- A call that the grammar allows. It leaves a suffix of its input. On complete input its result
+-- agrees with the grammar. On partial input it is incomplete, out of memory, or agrees with the
+-- grammar for every continuation that completes the input, in any number of chunks.
+pub record RunsInPieces {T L O : Type 0} (reading : Reading T L) (following : Following T)
+    (grammar : Grammar T O) (i : Input T) (answer : Answer O) (j : Input T) : Type 0 where
+  pub ends : IsEndOf reading j i
+  pub whole : i.status.cut ≡ false → TellsWhole grammar i.left.tokens answer j.left.tokens
+  pub cut : i.status.cut ≡ true → IsFinal answer → (more : List T) (others : List (List T))
+      → Follows following i.left more → AllFollow following (i.left.tokens ++ more) others
+      → Tells grammar (i.left.tokens ++ (more ++ joined others)) answer
+      (j.left.tokens ++ (more ++ joined others))
+
+-- those of a rule, which stays as it is
+abbrev pub PiecesRuns : {N T L O : Type 0} → Reading T L → Following T → (N → Grammar T O) → N
+    → Input T → Answer O → N → Input T → Type 0
+PiecesRuns reading following grammar s i answer t j =
+    RunsInPieces reading following (grammar s) i answer j × (t ≡ s)
+
+-- ---- a call is such a run
+
+-- the result of a call on complete input
+whole_told : {T L O E : Type 0} {reading : Reading T L} {following : Following T}
+    {kind : E → Kind} {grammar : Grammar T O} (i : Input T) (r : Result O E) (j : Input T)
+    → ReadsOrAsks reading following kind grammar i r j → i.status.cut ≡ false
+    → TellsWhole grammar i.left.tokens (answer_by kind r) j.left.tokens
+whole_told i (Ok o) j told is = told.whole.stands is
+whole_told i (Err e) j told is = told.whole.none is
+
+final_none : (P : Type 0) {Q : Type 0} (k : Kind) → IsFinal {O = P} (Err k)
+    → (k ≡ memory) ⊎ (((need : _) × (k ≡ incomplete need)) ⊎ Q) → Q
+final_none P k final (inl is) =
+    let R : Kind → Type 0 = λ l. IsFinal {O = P} (Err l) in absurd (subst R is final)
+final_none P k final (inr (inl (need, is))) =
+    let R : Kind → Type 0 = λ l. IsFinal {O = P} (Err l) in absurd (subst R is final)
+final_none P k final (inr (inr q)) = q
+
+-- and on partial input
+cut_told : {T O E : Type 0} {following : Following T} {kind : E → Kind} {grammar : Grammar T O}
+    (i : Input T) (r : Result O E) (j : Input T) → ReadsCut following kind grammar i r j
+    → IsFinal (answer_by kind r) → (more : List T) → Follows following i.left more
+    → Tells grammar (i.left.tokens ++ more) (answer_by kind r) (j.left.tokens ++ more)
+cut_told i (Ok o) j told final more follows = told.stands more follows
+cut_told {O = O} {kind = kind} i (Err e) j told final more follows =
+    final_none O (kind e) final told.none more follows
+
+pub call_runs : {T L O E : Type 0} {reading : Reading T L} {following : Following T}
+    {kind : E → Kind} {grammar : Grammar T O} → Joins following → (i : Input T)
+    (r : Result O E) (j : Input T) → ReadsOrAsks reading following kind grammar i r j
+    → RunsInPieces reading following grammar i (answer_by kind r) j
+call_runs joins i r j told = record {
+  ends = told.whole.ends;
+  whole = λ is. whole_told i r j told is;
+  cut = λ is final more others follows all.
+      cut_told i r j (told.cut is) final (more ++ joined others) (record {
+        possible = follows.possible;
+        tokens = all_follow joins i.left.tokens more others follows.tokens all;
+      });
+}
+
+-- ---- the laws of a parser
+
+module _ {N T L O : Type 0} (reading : Reading T L) (following : Following T)
+    (grammar : N → Grammar T O) where
+  -- a result for equal lists of tokens
+  moved : (s : N) (answer : Answer O) {tokens these rest others : List T} → tokens ≡ these
+      → rest ≡ others → Tells (grammar s) tokens answer rest
+      → Tells (grammar s) these answer others
+  moved s answer {tokens} {these} {rest} {others} e d told =
+      let P : List T → Type 0 = λ l. Tells (grammar s) l answer rest in
+      let Q : List T → Type 0 = λ l. Tells (grammar s) these answer l in
+      subst Q d (subst P e told)
+
+  -- a final result is also a result on complete input
+  wholly : (s : N) (answer : Answer O) (tokens rest : List T)
+      → Tells (grammar s) tokens answer rest → TellsWhole (grammar s) tokens answer rest
+  wholly s (Ok o) tokens rest told = told
+  wholly s (Err k) tokens rest told = inr told
+
+  -- a suffix of an input is a suffix if the same tokens are added to both
+  ends_more : (more : List T) (flag : Bool) (i j : Input T) → IsEndOf reading j i
+      → IsEndOf reading (with_more j more flag) (with_more i more flag)
+  ends_more more flag i j e = record {
+    ends = record {
+      dropped = e.ends.dropped;
+      tokens = ap (λ l. l ++ more) e.ends.tokens
+          ∙ append_assoc e.ends.dropped j.left.tokens more;
+      place = e.ends.place;
+      possible = e.ends.possible;
+    };
+    cut = refl;
+  }
+
+  pub pieces_stay : IsStable following (PiecesRuns reading following grammar)
+  unfolding joined AllFollow
+  pieces_stay more flag s i answer t j is_cut follows final (r, same) = (
+    record {
+      ends = ends_more more flag i j r.ends;
+      whole = λ is. wholly s answer (i.left.tokens ++ more) (j.left.tokens ++ more)
+          (moved s answer (ap (λ l. i.left.tokens ++ l) (append-nil more))
+          (ap (λ l. j.left.tokens ++ l) (append-nil more)) (r.cut is_cut final more [] follows tt));
+      cut = λ is last next others behind all.
+          moved s answer
+          (sym (append_assoc i.left.tokens more (next ++ joined others)))
+          (sym (append_assoc j.left.tokens more (next ++ joined others)))
+          (r.cut is_cut final more (next ∷ others) follows (behind.tokens, all));
+    },
+    same,
+  )
+
+  pub pieces_exact : (s : N) → IsUnique (grammar s)
+      → IsExact s (PiecesRuns reading following grammar) (grammar s)
+  pieces_exact s unique = record {
+    kept = λ i answer t j is (r, same). (same, r.ends.cut ∙ is);
+    stands = λ i o t j is (r, same). r.whole is;
+    none = λ i k t j is (r, same). elim (r.whole is) [
+      | inl m ↦ inl m
+      | inr (b, nothing) ↦ inr nothing
+    ];
+    unique = unique;
+  }
+
+  pub pieces_fail : {b : Type 0} (s : N)
+      → FailsBy (Allowed b ⊥) s (PiecesRuns reading following grammar)
+  pieces_fail s = record {
+    fails = λ i k t j is (r, same). elim (r.whole is) [
+      | inl m ↦ memory_allowed (λ never. never) m
+      | inr (b, nothing) ↦ back_allowed b
+    ];
+  }
+
+-- ---- a parser that is a rule and its function
+
+-- a property of the function is a property of the parser that calls it
+pub pieces_run_as : {N F : Type 0} {p q : ByPieces N F} {f : F} (P : F → Type 0) → p ≡ q
+    → pieces_run q ≡ f → P f → P (pieces_run p)
+pieces_run_as P same run is = subst P (sym (ap (λ x. pieces_run x) same ∙ run)) is
+
+-- and its calls satisfy the grammar of the parser's rule
+pub asked_as_rule : {N F I T L O E : Type 0} {reading : Reading T L} {following : Following T}
+    {view : I → Input T} {kind : E → Kind} {called : F → I → Result O E → F → I → Type 0}
+    (grammar : N → Grammar T O) {p q : ByPieces N F} {n : N} {f : F} → p ≡ q
+    → pieces_rule q ≡ n → pieces_run q ≡ f
+    → CallsReadOrAsk reading following view kind called (grammar n) f
+    → CallsReadOrAsk reading following view kind called (grammar (pieces_rule p)) (pieces_run p)
+asked_as_rule {N} {F} {I} {T} {L} {O} {E} {reading} {following} {view} {kind} {called} grammar
+    {p} {q} {n} {f} same rule run is =
+    let P : N → Type 0 =
+    λ m. CallsReadOrAsk reading following view kind called (grammar m) f in
+    let Q : F → Type 0 =
+    λ h. CallsReadOrAsk reading following view kind called (grammar (pieces_rule p)) h in
+    subst Q (sym (ap (λ x. pieces_run x) same ∙ run))
+    (subst P (sym (ap (λ x. pieces_rule x) same ∙ rule)) is)

@@ -1,0 +1,36 @@
+//! Parsers of incremental input whose results on a chunk are final.
+ghost use Rattle.std.specs.Prelude.{◌≡◌, true};
+ghost use Rattle.stream_errors.specs.Form.{answer_by, modal};
+ghost use Rattle.winnow_grammar.specs.ForGood.{IsForGood};
+
+use crate::laws::a_decided_answer_stays_on_longer_inputs;
+use stream_errors::parser_error::ParserError;
+use streams::stream::Stream;
+use winnow_core::parser::Parser;
+use winnow_core::stable::Stable;
+
+/// Like `parse_next` on partial input, for a stable parser whose result is a function of state and
+/// input.
+///
+/// If the result is neither `Incomplete` nor out of memory, every longer input has an equal result,
+/// and leaves the rest followed by the added tokens. Requires errors with a mode, and partial
+/// input.
+#[inline(always)]
+pub fn parse_for_good<P: Stable<I, O, E>, I: Stream, O, E: ParserError<I>>(
+    parser: &mut P,
+    input: &mut I,
+) -> Result<O, E>
+    requires callable { P.can_parse parser.old }
+    requires premise { (P.claim (P.state parser.old)).decides }
+    requires modal { E.form ≡ modal }
+    requires is_cut { (I.view input.old).status.cut ≡ true }
+    ensures again { P.can_parse parser.new }
+    ensures ran { P.meaning E.form (P.state parser.old) (I.view input.old)
+        (answer_by E.kind result) (P.state parser.new) (I.view input.new) }
+    ensures for_good { IsForGood I.following (P.state parser.old) (P.meaning E.form)
+        (P.claim (P.state parser.old)).alike (I.view input.old) (answer_by E.kind result)
+        (I.view input.new) }
+{
+    a_decided_answer_stays_on_longer_inputs::<P, I, O, E>();
+    parser.parse_next(input)
+}

@@ -1,0 +1,105 @@
+//! Rules: functions as parsers, specified by a grammar.
+ghost use Rattle.std.specs.Fn.{CalledAtMut};
+ghost use Rattle.std.specs.Prelude.{◌≡◌, ⊤};
+ghost use Rattle.grammars.specs.Grammar.{Grammar, IsUnique, TakesTokens};
+ghost use Rattle.winnow_grammar.specs.Rule.{by_rule, by_run};
+ghost use Rattle.winnow_grammar.specs.Rule.{ByRuns, CallsRead, CallsSpared, by_exact, by_fails};
+ghost use Rattle.winnow_grammar.specs.RulePieces.{pieces_rule, pieces_run};
+ghost use Rattle.winnow_core.specs.Says.{nothing_done, nothing_said};
+
+use crate::by_pieces::ByPieces;
+use stream_errors::parser_error::ParserError;
+use streams::stream::Stream;
+use winnow_core::parser::Parser;
+
+/// The name of a grammar: a value that has one.
+pub trait Rule<I: Stream, O>: Sized {
+    // The grammar of the rule.
+    ghost grammar: { Self → Grammar I.Seen O };
+
+    // When what is read takes tokens.
+    ghost consumes: { Self → Type 0 };
+
+    /// Does nothing.
+    #[inline(always)]
+    fn name() {}
+
+    // The rest after a match is a suffix of the tokens, and the tokens determine it.
+    ghost unique: { (r : Self) → IsUnique (grammar r) };
+
+    // Every match consumes tokens.
+    ghost takes: { (r : Self) → consumes r → TakesTokens (grammar r) };
+
+    /// Returns a parser that calls a function whose contract has this grammar.
+    #[inline(always)]
+    final fn by<F>(self, run: F) -> By<Self, F>
+        ensures rule { by_rule result ≡ self }
+        ensures run { by_run result ≡ run }
+    {
+        By { rule: self, run }
+    }
+
+    /// Like [`by`](Rule::by), for a function whose contract also covers partial input. The parser
+    /// is stable, so [`read_cut`](crate::pieces::ReadsPieces::read_cut) accepts it, and its
+    /// combinations.
+    ///
+    /// To call it, chunks that may follow in sequence must be allowed to follow as one (`Joins`).
+    /// This holds for bytes and for text.
+    #[inline(always)]
+    final fn by_pieces<F>(self, run: F) -> ByPieces<Self, F>
+        ensures rule { pieces_rule result ≡ self }
+        ensures run { pieces_run result ≡ run }
+    {
+        ByPieces::new(self, run)
+    }
+}
+
+/// The parser that [`Rule::by`] makes.
+#[derive(Clone, Copy, Drop)]
+pub struct By<N, F> {
+    rule: N,
+    run: F,
+}
+
+impl<N: Rule<I, O>, F: FnMut(&mut I) -> Result<O, E>, I: Stream, O, E: ParserError<I>> Parser<
+    I,
+    O,
+    E,
+> for By<N, F> {
+    ghost can_parse = { λ s. F.IsAlwaysCallable s.run
+        × CallsRead I.reading I.view E.kind (CalledAtMut F.FnMut) (N.grammar s.rule) s.run };
+
+    ghost State = { N × F };
+
+    ghost state = { λ s. (s.rule, s.run) };
+
+    ghost meaning = { λ _. ByRuns I.reading I.view E.kind (CalledAtMut F.FnMut) };
+
+    ghost says = { λ _. nothing_said };
+
+    ghost claim = { λ s. record {
+      premise = CallsRead I.reading I.view E.kind (CalledAtMut F.FnMut) (N.grammar s.0) s.1;
+      backtracks = ⊤;
+      spares_memory = CallsSpared I.view E.kind (CalledAtMut F.FnMut) s.1;
+      consumes = N.consumes s.0;
+      grammar = N.grammar s.0;
+      decides = ⊥;
+      alike = λ o p. o ≡ p;
+    } };
+
+    ghost leaves_ends = { λ form s i answer t j r. r.0.1 };
+
+    ghost said = { λ _. nothing_done };
+
+    ghost claimed = { λ s. record {
+      exact = λ form is. by_exact s is (N.unique s.0);
+      fails = λ form is. by_fails s is;
+      takes = λ is some. N.takes s.0 some;
+      decided = λ form never. absurd never;
+    } };
+
+    #[inline(always)]
+    fn parse_next(&mut self, input: &mut I) -> Result<O, E> {
+        (self.run)(input)
+    }
+}
