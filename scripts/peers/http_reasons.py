@@ -37,6 +37,14 @@ ROWS = {
         REQUEST, "POST / HTTP/1.1\r\nContent-Length: 1\r\nContent-Length: 1\r\n\r\n", "yyn"),
     "Content-Length as a list": (
         REQUEST, "POST / HTTP/1.1\r\nContent-Length: 42, 42\r\n\r\n", "yyn"),
+    "an empty element of Content-Length": (
+        REQUEST, "POST / HTTP/1.1\r\nContent-Length: 4,\r\n\r\n", "nyn"),
+    "chunked twice, in a request": (
+        REQUEST, "POST / HTTP/1.1\r\nTransfer-Encoding: chunked, chunked\r\n\r\n", "nyn"),
+    "chunked with a parameter before another coding": (
+        REQUEST, "POST / HTTP/1.1\r\nTransfer-Encoding: chunked;a=b, chunked\r\n\r\n", "nyy"),
+    "chunked before another coding, in a response": (
+        RESPONSE, "HTTP/1.1 200 OK\r\nTransfer-Encoding: chunked, gzip\r\n\r\n", "nyy"),
     "a tab after Content-Length": (
         REQUEST, "POST / HTTP/1.1\r\nContent-Length: 1\t\r\n\r\n", "yyn"),
     "Transfer-Encoding without a coding": (
@@ -62,6 +70,13 @@ def lengths_of(text):
 def codings_of(text):
     """Returns the values of the Transfer-Encoding fields."""
     return [value for name, value in fields_of(text) if name == b"transfer-encoding"]
+
+
+def follows_chunked(text):
+    """Returns whether a coding comes after `chunked`."""
+    codings = [it.strip(b" \t") for it in b",".join(codings_of(text)).split(b",")]
+    before = [it for it in codings if it][:-1]
+    return any(re.match(rb"(?i)chunked([; \t]|$)", it) for it in before)
 
 
 def words(text):
@@ -115,6 +130,7 @@ OLD_CODING = {
     "Transfer-Encoding before version 1.1": lambda text:
         bool(codings_of(text)) and version_of(text) < b"1.1",
     "Transfer-Encoding without a coding": lambda text: b"" in codings_of(text),
+    "chunked before another coding": follows_chunked,
 }
 LLHTTP_TAKES = {
     REQUEST: EMPTY_LINES | OLD_CODING | {

@@ -25,6 +25,8 @@ const BESIDE: Answer = Err(FramingFault::LengthBesideCoding);
 
 const NOT_CHUNKED: Answer = Err(FramingFault::NotChunked);
 
+const NOT_LAST: Answer = Err(FramingFault::ChunkedNotLast);
+
 const BEFORE: Answer = Err(FramingFault::CodingBeforeVersion);
 
 /// Field lines of an HTTP/1.1 message, and the body lengths of a request and of a response to GET
@@ -36,7 +38,6 @@ const FIELDS: &[(&[u8], Answer, Answer)] = &[
     (b"content-LENGTH: 3495\r\n", Ok(BodyLength::Length(3495)), Ok(BodyLength::Length(3495))),
     (b"Content-Length: 42, 42\r\n", Ok(BodyLength::Length(42)), Ok(BodyLength::Length(42))),
     (b"Content-Length:42,42 ,\t42\r\nX: y\r\nContent-Length: 42\r\n", Ok(BodyLength::Length(42)), Ok(BodyLength::Length(42))),
-    (b"Content-Length: ,42,,\r\nContent-Length:\r\n", Ok(BodyLength::Length(42)), Ok(BodyLength::Length(42))),
     (b"Content-Length: 007\r\n", Ok(BodyLength::Length(7)), Ok(BodyLength::Length(7))),
     (b"Content-Length: 18446744073709551615\r\n", Ok(BodyLength::Length(u64::MAX)), Ok(BodyLength::Length(u64::MAX))),
     (b"Content-Length: 00018446744073709551615\r\n", Ok(BodyLength::Length(u64::MAX)), Ok(BodyLength::Length(u64::MAX))),
@@ -48,9 +49,21 @@ const FIELDS: &[(&[u8], Answer, Answer)] = &[
     (b"Content-Length: 42\r\nContent-Length: 43\r\n", DIFFER, DIFFER),
     (b"Content-Length: 42\r\nContent-Length: 42, a\r\n", DIFFER, DIFFER),
     (b"Content-Length: a, b\r\n", DIFFER, DIFFER),
+    (b"Content-Length: ,4\r\n", DIFFER, DIFFER),
+    (b"Content-Length: 4,\r\n", DIFFER, DIFFER),
+    (b"Content-Length: 4,,4\r\n", DIFFER, DIFFER),
+    (b"Content-Length: 4, ,4\r\n", DIFFER, DIFFER),
+    (b"Content-Length: 4,\t\r\n", DIFFER, DIFFER),
+    (b"Content-Length: ,42,,\r\nContent-Length:\r\n", DIFFER, DIFFER),
+    (b"Content-Length: 4\r\nContent-Length:\r\n", DIFFER, DIFFER),
+    (b"Content-Length:\r\nContent-Length: 4\r\n", DIFFER, DIFFER),
+    (b"Content-Length: 4;4\r\n", NUMBER, NUMBER),
     (b"Content-Length:\r\n", NUMBER, NUMBER),
     (b"Content-Length: ,\t,\r\n", NUMBER, NUMBER),
+    (b"Content-Length: ,\r\nContent-Length:\r\n", NUMBER, NUMBER),
     (b"Content-Length: +42\r\n", NUMBER, NUMBER),
+    (b"Content-Length: +4\r\n", NUMBER, NUMBER),
+    (b"Content-Length: 4 4\r\n", NUMBER, NUMBER),
     (b"Content-Length: -1\r\n", NUMBER, NUMBER),
     (b"Content-Length: 0x2a\r\n", NUMBER, NUMBER),
     (b"Content-Length: 4 2\r\n", NUMBER, NUMBER),
@@ -59,14 +72,32 @@ const FIELDS: &[(&[u8], Answer, Answer)] = &[
     (b"Transfer-Encoding: chunked\r\n", CHUNKED, CHUNKED),
     (b"transfer-encoding: gzip ,\tCHUNKED,\r\n", CHUNKED, CHUNKED),
     (b"Transfer-Encoding: gzip\r\nTransfer-Encoding: chunked\r\n", CHUNKED, CHUNKED),
-    (b"Transfer-Encoding: chunked, gzip\r\n", NOT_CHUNKED, CLOSE),
-    (b"Transfer-Encoding: chunked\r\nTransfer-Encoding: gzip\r\n", NOT_CHUNKED, CLOSE),
+    (b"Transfer-Encoding: gzip, chunked\r\n", CHUNKED, CHUNKED),
+    (b"Transfer-Encoding: ,chunked\r\nTransfer-Encoding: ,\r\n", CHUNKED, CHUNKED),
+    (b"Transfer-Encoding: xchunked, chunkedx, chunk, chunked\r\n", CHUNKED, CHUNKED),
+    (b"Transfer-Encoding: chunked\r\nX: chunked\r\nTE: chunked\r\n", CHUNKED, CHUNKED),
+    (b"Transfer-Encoding: chunked, chunked\r\n", NOT_LAST, NOT_LAST),
+    (b"Transfer-Encoding: chunked,\t,CHUNKED\r\n", NOT_LAST, NOT_LAST),
+    (b"Transfer-Encoding: chunked\r\nTransfer-Encoding: chunked\r\n", NOT_LAST, NOT_LAST),
+    (b"transfer-encoding: Chunked\r\nX: y\r\nTransfer-Encoding:\r\nTRANSFER-ENCODING: ,chunked\r\n", NOT_LAST, NOT_LAST),
+    (b"Transfer-Encoding: gzip, chunked\r\nTransfer-Encoding: chunked\r\n", NOT_LAST, NOT_LAST),
+    (b"Transfer-Encoding: chunked, gzip\r\n", NOT_LAST, NOT_LAST),
+    (b"Transfer-Encoding: chunked, gzip, chunked\r\n", NOT_LAST, NOT_LAST),
+    (b"Transfer-Encoding: chunked\r\nTransfer-Encoding: gzip\r\n", NOT_LAST, NOT_LAST),
+    (b"Transfer-Encoding: chunked, xchunked\r\n", NOT_LAST, NOT_LAST),
+    (b"Transfer-Encoding: chunked, identity\r\n", NOT_LAST, NOT_LAST),
+    (b"Transfer-Encoding: chunked;a=b, chunked\r\n", NOT_LAST, NOT_LAST),
+    (b"Transfer-Encoding: chunked\t;a, chunked\r\n", NOT_LAST, NOT_LAST),
+    (b"Transfer-Encoding: chunked, chunked;a=b\r\n", NOT_LAST, NOT_LAST),
+    (b"Transfer-Encoding: a;b=\"c, chunked, d\", chunked\r\n", NOT_LAST, NOT_LAST),
+    (b"Transfer-Encoding: a;b=\"c, d\", chunked\r\n", CHUNKED, CHUNKED),
     (b"Transfer-Encoding: gzip\r\n", NOT_CHUNKED, CLOSE),
     (b"Transfer-Encoding: xchunked\r\n", NOT_CHUNKED, CLOSE),
     (b"Transfer-Encoding: chunked;a=b\r\n", NOT_CHUNKED, CLOSE),
     (b"Transfer-Encoding:\r\n", NOT_CHUNKED, CLOSE),
     (b"Content-Length: 4\r\nTransfer-Encoding: chunked\r\n", BESIDE, BESIDE),
     (b"Transfer-Encoding: gzip\r\ncontent-length: a, b\r\n", BESIDE, BESIDE),
+    (b"Transfer-Encoding: chunked, chunked\r\nContent-Length: 4\r\n", BESIDE, BESIDE),
 ];
 
 /// The method of a request, the status of the response to it, and the body length of the response

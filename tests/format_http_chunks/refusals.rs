@@ -28,6 +28,8 @@ const BESIDE: Option<Refusal> = Some(Refusal::LengthBesideCoding);
 
 const NOT_CHUNKED: Option<Refusal> = Some(Refusal::NotChunked);
 
+const NOT_LAST: Option<Refusal> = Some(Refusal::ChunkedNotLast);
+
 const DIFFER: Option<Refusal> = Some(Refusal::LengthsDiffer);
 
 const NO_NUMBER: Option<Refusal> = Some(Refusal::LengthIsNoNumber);
@@ -50,6 +52,9 @@ const FRAMINGS: &[(&[u8], Option<Refusal>)] = &[
     (b"Content-Length: -1\r\n", NO_NUMBER),
     (b"Content-Length: 0x2a\r\n", NO_NUMBER),
     (b"Content-Length: 4 2\r\n", NO_NUMBER),
+    (b"Content-Length: ,4\r\n", NO_NUMBER),
+    (b"Content-Length: 4,\r\n", NO_NUMBER),
+    (b"Content-Length: 4,,4\r\n", NO_NUMBER),
     (b"Content-Length: a\r\nContent-Length: a\r\n", NO_NUMBER),
     (b"Transfer-Encoding: chunked\r\n", None),
     (b"Transfer-Encoding: gzip, chunked\r\n", None),
@@ -59,8 +64,12 @@ const FRAMINGS: &[(&[u8], Option<Refusal>)] = &[
     (b"Transfer-Encoding: ,chunked, ,\r\nTransfer-Encoding: ,\r\n", None),
     (b"Transfer-Encoding: a;b=\"c, d\", chunked\r\n", None),
     (b"Transfer-Encoding: gzip\r\n", NOT_CHUNKED),
-    (b"Transfer-Encoding: chunked, gzip\r\n", NOT_CHUNKED),
-    (b"Transfer-Encoding: chunked\r\nX: y\r\nTransfer-Encoding: gzip\r\n", NOT_CHUNKED),
+    (b"Transfer-Encoding: chunked, chunked\r\n", NOT_LAST),
+    (b"Transfer-Encoding: chunked\r\nX: y\r\ntransfer-encoding: CHUNKED\r\n", NOT_LAST),
+    (b"Transfer-Encoding: chunked, gzip\r\n", NOT_LAST),
+    (b"Transfer-Encoding: chunked, gzip, chunked\r\n", NOT_LAST),
+    (b"Transfer-Encoding: chunked ; a=b, chunked\r\n", NOT_LAST),
+    (b"Transfer-Encoding: chunked\r\nX: y\r\nTransfer-Encoding: gzip\r\n", NOT_LAST),
     (b"Transfer-Encoding: identity\r\n", NOT_CHUNKED),
     (b"Transfer-Encoding: xchunked\r\n", NOT_CHUNKED),
     (b"Transfer-Encoding: x chunked\r\n", NOT_CHUNKED),

@@ -7,10 +7,13 @@
 //! - Transfer-Encoding together with Content-Length is rejected, in requests and in responses; the
 //!   standard says that it ought to be handled as an error (rule 3). So is Transfer-Encoding in a
 //!   message of a version before 1.1 (section 6.1).
+//! - `chunked` before another coding, or twice, is rejected, in requests and in responses (section
+//!   6.1). Codings are separated at commas, including commas in quoted strings.
 //! - Content-Length fields that are a list of one repeated numeral, such as `42, 42`, have its
-//!   value (rule 5). `42, 042` are two different numerals.
+//!   value (rule 5). `42, 042` are two different numerals. `,42` and `42,` are rejected: an empty
+//!   element differs from a numeral (RFC 9110, section 8.6).
 //! - A length that does not fit in 64 bits is rejected.
 pub mod framing;
 pub mod laws;
 mod lengths;
-mod lists;
+pub(crate) mod lists;

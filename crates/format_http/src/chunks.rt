@@ -8,6 +8,7 @@
 //! - The line ending is CRLF; a line feed without a carriage return is an error.
 //! - The caller must parse the data of a chunk (as many bytes as its size) and the line ending
 //!   after it, and the trailer section after the last chunk (section 7.1.2).
+pub(crate) mod codings;
 pub(crate) mod framing;
 pub mod laws;
 mod lines;

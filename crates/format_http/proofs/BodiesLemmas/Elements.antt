@@ -1,7 +1,7 @@
 -- Lemmas about the element in a part of a list.
 use Rattle.std.specs.Prelude.{◌≡◌, ◌<◌, ◌++◌, ℕ, List, [], ◌∷◌, length}
 use Rattle.std.specs.List.{All}
-use Rattle.std.proofs.Common.{refl, sym, ap, subst, ◌∙◌, arith, append_assoc}
+use Rattle.std.proofs.Common.{refl, sym, ap, subst, ◌∙◌, arith, append_assoc, length-append}
 use Rattle.std.proofs.lemmas.List.Elements.{All-append, All-cons, All-head, All-nil, All-tail}
 use Rattle.winnow.specs.Equal.{same_first, same_others}
 use Rattle.format_http.specs.Bodies.Lists.{IsElement}
@@ -44,12 +44,35 @@ one_beginning (w ∷ b) e s (v ∷ c) f t same all each some more bare bald =
     one_beginning b e s c f t (same_others same) (All-tail IsWhite w b all)
     (All-tail IsWhite v c each) some more bare bald
 
--- a part has at most one element
+-- a part with the empty element is white space alone
+white_part : (part : List ℕ) → IsElement [] part → All IsWhite part
+white_part part x =
+    subst (λ l. All IsWhite l) (sym x.splits)
+    (All-append IsWhite x.before x.behind x.white_before x.white_behind)
+
+-- white space alone has no element but the empty one
+no_element : (e part : List ℕ) → All IsWhite part → IsElement e part → 0 < length e → ⊥
+no_element e part all x some =
+    by x.before e some x.ends_bare (subst (λ l. All IsWhite l) x.splits all)
+  where
+    by : (before e : List ℕ) → 0 < length e → EndsBare e
+        → All IsWhite (before ++ (e ++ x.behind)) → ⊥
+    by [] [] some bare all = omega (arith, some)
+    by [] (h ∷ e) some bare all = ends_white h e (all_front IsWhite (h ∷ e) x.behind all) bare
+    by (w ∷ before) e some bare all =
+        by before e some bare (All-tail IsWhite w (before ++ (e ++ x.behind)) all)
+
+-- a part has one element
 pub one_element : (e f part : List ℕ) → IsElement e part → IsElement f part → e ≡ f
-one_element e f part x y =
-    one_end e x.behind f y.behind (one_beginning x.before e x.behind y.before f y.behind
-    (sym x.splits ∙ y.splits) x.white_before y.white_before x.some y.some x.begins_bare
-    y.begins_bare) x.white_behind y.white_behind x.ends_bare y.ends_bare
+one_element [] [] part x y = refl
+one_element [] (h ∷ f) part x y =
+    absurd (no_element (h ∷ f) part (white_part part x) y (omega arith))
+one_element (h ∷ e) [] part x y =
+    absurd (no_element (h ∷ e) part (white_part part y) x (omega arith))
+one_element (h ∷ e) (g ∷ f) part x y =
+    one_end (h ∷ e) x.behind (g ∷ f) y.behind (one_beginning x.before (h ∷ e) x.behind y.before
+    (g ∷ f) y.behind (sym x.splits ∙ y.splits) x.white_before y.white_before (omega arith)
+    (omega arith) x.begins_bare y.begins_bare) x.white_behind y.white_behind x.ends_bare y.ends_bare
 
 -- White space was taken off the beginning so far.
 pub record IsDropped (left part : List ℕ) : Type 0 where
@@ -80,7 +103,6 @@ found_element b more left part (v ∷ value) is e not trimmed = record {
   before = is.before;
   behind = trimmed.behind;
   splits = is.splits ∙ ap (λ l. is.before ++ l) trimmed.splits;
-  some = omega arith;
   white_before = is.white;
   white_behind = trimmed.white_behind;
   begins_bare = λ c front f white.
@@ -88,18 +110,23 @@ found_element b more left part (v ∷ value) is e not trimmed = record {
   ends_bare = trimmed.ends_bare;
 }
 
-pub no_element : (e part : List ℕ) → All IsWhite part → IsElement e part → ⊥
-no_element e part all x = by x.before e x.some x.ends_bare (subst (λ l. All IsWhite l) x.splits all)
-  where
-    by : (before e : List ℕ) → 0 < length e → EndsBare e
-        → All IsWhite (before ++ (e ++ x.behind)) → ⊥
-    by [] [] some bare all = omega (arith, some)
-    by [] (h ∷ e) some bare all = ends_white h e (all_front IsWhite (h ∷ e) x.behind all) bare
-    by (w ∷ before) e some bare all =
-        by before e some bare (All-tail IsWhite w (before ++ (e ++ x.behind)) all)
-
-pub all_dropped : (left part : List ℕ) → IsDropped left part → length left ≡ 0 → All IsWhite part
+all_dropped : (left part : List ℕ) → IsDropped left part → length left ≡ 0 → All IsWhite part
 all_dropped [] part is none =
     subst (λ l. All IsWhite l) (sym is.splits)
     (All-append IsWhite is.before [] is.white (All-nil IsWhite))
 all_dropped (x ∷ left) part is none = absurd (omega (arith, none))
+
+-- what is left of white space alone is the element
+pub empty_element : (left part : List ℕ) → IsDropped left part → length left ≡ 0
+    → IsElement left part
+empty_element [] part is none = record {
+  before = [];
+  behind = part;
+  splits = refl;
+  white_before = All-nil IsWhite;
+  white_behind = all_dropped [] part is none;
+  begins_bare = λ b more e white. omega (arith, ap (λ l. length l) e);
+  ends_bare = λ b front e white.
+      omega (arith, ap (λ l. length l) e, length-append front (b ∷ []));
+}
+empty_element (x ∷ left) part is none = absurd (omega (arith, none))

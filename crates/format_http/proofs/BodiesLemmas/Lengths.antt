@@ -15,10 +15,10 @@ pub both_ways : {P Q R : Type 0} → (P ↔ Q) → (Q ↔ R) → P ↔ R
 both_ways x y = ((λ p. y.0 (x.0 p)), (λ r. x.1 (y.1 r)))
 
 -- the element of a part is one of the whole
-pub part_has : (other : Option (Bor (List ℕ))) (part : List ℕ) (parts whole : List (List ℕ))
-    (text : List ℕ) → whole ≡ part ∷ parts → (IsElement text part ↔ IsThe other text)
-    → IsThe other text → HasElement text whole
-part_has other part parts whole text e is x =
+pub part_has : (element part : List ℕ) (parts whole : List (List ℕ)) (text : List ℕ)
+    → whole ≡ part ∷ parts → (IsElement text part ↔ element ≡ text) → element ≡ text
+    → HasElement text whole
+part_has element part parts whole text e is x =
     let P : List (List ℕ) → Type 0 = λ l. HasElement text l in subst P (sym e) (inl (is.1 x))
 
 -- one field more

@@ -24,7 +24,6 @@ use Rattle.format_http.proofs.OneLemmas.Heads.{field_line_longer}
 use Rattle.format_http.proofs.OneLemmas.Values.{all_value, field_line_some, regroup}
 use Rattle.format_http_chunked.specs.Bodies as body
 use Rattle.format_http_chunked.specs.Words.{Byte, Many, Times}
-use Rattle.format_http_chunked.specs.Words as words
 use Rattle.winnow.specs.AsChar.{IsHexDigit, IsSpace}
 use Rattle.winnow.specs.Digits.{value_in}
 use Rattle.winnow.specs.Digits.Known.{value_is}

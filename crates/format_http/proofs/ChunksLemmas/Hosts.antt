@@ -5,6 +5,7 @@ use Rattle.std.proofs.lemmas.List.{drop_all, drop_more}
 use Rattle.std.specs.Prelude.{Option, Some, None}
 use Rattle.format_http.specs.Chunks.Refusals.{AreHosts, IsFault, IsHost, IsRefusal, MayHave}
 use Rattle.format_http.specs.declared.chunks.refusals.Refusal.{Refusal}
+use Rattle.format_http.specs.declared.chunks.refusals.Refusal.TheVariants.{ChunkedNotLast}
 use Rattle.format_http.specs.declared.chunks.refusals.Refusal.TheVariants.{LengthBesideCoding}
 use Rattle.format_http.specs.declared.chunks.refusals.Refusal.TheVariants.{LengthIsNoNumber}
 use Rattle.format_http.specs.declared.chunks.refusals.Refusal.TheVariants.{LengthsDiffer}
@@ -45,6 +46,7 @@ fault_refused line hosts fields None may fault = (may, fault)
 fault_refused line hosts fields (Some NoHost) may fault = absurd fault
 fault_refused line hosts fields (Some ManyHosts) may fault = absurd fault
 fault_refused line hosts fields (Some LengthBesideCoding) may fault = (may, fault)
+fault_refused line hosts fields (Some ChunkedNotLast) may fault = (may, fault)
 fault_refused line hosts fields (Some NotChunked) may fault = (may, fault)
 fault_refused line hosts fields (Some LengthsDiffer) may fault = (may, fault)
 fault_refused line hosts fields (Some LengthIsNoNumber) may fault = (may, fault)

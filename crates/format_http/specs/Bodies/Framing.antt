@@ -1,6 +1,7 @@
 -- How long the body of a message is (RFC 9112, section 6.3), by the rules of the standard in order.
 use Rattle.std.specs.Prelude.{◌≡◌, ◌<◌, ◌≤◌, ◌⊎◌, ◌^◌, ℕ, List, Result, Ok, Err, codes}
 use Rattle.format_http.specs.Bodies.Lengths.{AreOne, IsLength}
+use Rattle.format_http.specs.Chunks.Codings.{ChunkedIsFollowed}
 use Rattle.format_http.specs.Chunks.Framing.{EndChunked, HasOne, IsNumber, content_length}
 use Rattle.format_http.specs.Chunks.Framing.{transfer_encoding}
 use Rattle.format_http.specs.Heads.Head.{Pair}
@@ -10,6 +11,7 @@ use Rattle.format_http.specs.declared.bodies.framing.BodyLength.TheVariants.{Chu
 use Rattle.format_http.specs.declared.bodies.framing.BodyLength.TheVariants.{NoBody, Tunnel}
 use Rattle.format_http.specs.declared.bodies.framing.BodyLength.TheVariants.{UntilClose}
 use Rattle.format_http.specs.declared.bodies.framing.FramingFault.{FramingFault}
+use Rattle.format_http.specs.declared.bodies.framing.FramingFault.TheVariants.{ChunkedNotLast}
 use Rattle.format_http.specs.declared.bodies.framing.FramingFault.TheVariants.{CodingBeforeVersion}
 use Rattle.format_http.specs.declared.bodies.framing.FramingFault.TheVariants.{LengthBesideCoding}
 use Rattle.format_http.specs.declared.bodies.framing.FramingFault.TheVariants.{LengthIsNoNumber}
@@ -56,18 +58,21 @@ IsBefore major minor = (major < 1) ⊎ ((major ≡ 1) × (minor < 1))
 -- 4. A Transfer-Encoding header field is present.
 abbrev pub IsCodedLength : Message → List Pair → Answer → Type 0
 IsCodedLength message fields answer =
+    -- section 6.1: the chunked transfer coding is applied twice, or is not the last of the codings
+    Rule (ChunkedIsFollowed fields) (answer ≡ Err ChunkedNotLast)
     -- the chunked transfer coding is the final encoding
-    Rule (EndChunked fields) (answer ≡ Ok Chunked)
+    (Rule (EndChunked fields) (answer ≡ Ok Chunked)
     -- it is not, in a response
     (Rule (IsResponse message) (answer ≡ Ok UntilClose)
     -- it is not, in a request
-    (answer ≡ Err NotChunked))
+    (answer ≡ Err NotChunked)))
 
 -- The length is this number, which 64 bits hold or not.
 abbrev pub IsNumbered : ℕ → Answer → Type 0
 IsNumbered n answer = Rule (n < 2 ^ 64) (answer ≡ Ok (Length n)) (answer ≡ Err LengthTooLarge)
 
--- All values in the list are the same: they are the numeral of a number, or invalid.
+-- All values in the list are the same: they are the numeral of a number, or invalid. Empty values
+-- are invalid.
 abbrev pub IsSameLength : List Pair → Answer → Type 0
 IsSameLength fields answer =
     ((n : ℕ) × IsLength fields n × IsNumbered n answer)

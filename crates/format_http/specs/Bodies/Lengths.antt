@@ -7,7 +7,8 @@ use Rattle.format_http.specs.Heads.Head.{Pair}
 use Rattle.winnow.specs.Digits.{value_in}
 
 -- One of the elements of the Content-Length fields is this text. All fields of the name are one
--- list.
+-- list. Empty elements count, so that those of `,4` are different: the value is 1*DIGIT, or one
+-- numeral repeated (RFC 9110, section 8.6), which has no empty elements.
 abbrev pub HasLength : List ℕ → List Pair → Type 0
 HasLength text [] = ⊥
 HasLength text (field ∷ fields) =

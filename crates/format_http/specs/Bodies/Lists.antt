@@ -1,6 +1,5 @@
 -- Lists in the values of fields (RFC 9110, section 5.6.1): elements with commas between them.
-use Rattle.std.specs.Prelude.{◌≡◌, ◌==◌, ◌<◌, ◌⊎◌, ◌++◌, ℕ, List, [], ◌∷◌, length, Option, Some}
-use Rattle.std.specs.Prelude.{None}
+use Rattle.std.specs.Prelude.{◌≡◌, ◌==◌, ◌⊎◌, ◌++◌, ℕ, List, [], ◌∷◌, Option, Some, None}
 use Rattle.std.specs.Borrow.{Bor}
 use Rattle.std.specs.List.{All, slice_split}
 use Rattle.format_http.specs.Heads.Bytes.{IsWhite}
@@ -10,20 +9,18 @@ use Rattle.format_http.specs.Heads.FieldLine.{BeginsBare, EndsBare}
 abbrev pub parts_of : List ℕ → List (List ℕ)
 parts_of = slice_split (λ b. b == 44)
 
--- `IsElement element part`: the part of a list is `element`, of at least one byte, surrounded only
--- by whitespace, which does not belong to it.
+-- `IsElement element part`: the part of a list is `element`, surrounded only by whitespace, which
+-- does not belong to it. The element is empty if the part is only whitespace.
 pub record IsElement (element part : List ℕ) : Type 0 where
   pub before : List ℕ
   pub behind : List ℕ
   pub splits : part ≡ before ++ (element ++ behind)
-  pub some : 0 < length element
   pub white_before : All IsWhite before
   pub white_behind : All IsWhite behind
   pub begins_bare : BeginsBare element
   pub ends_bare : EndsBare element
 
--- `HasElement element parts`: one of the parts has this element. Parts of only whitespace have no
--- element, and are skipped.
+-- `HasElement element parts`: one of the parts has this element, which may be empty.
 abbrev pub HasElement : List ℕ → List (List ℕ) → Type 0
 HasElement element [] = ⊥
 HasElement element (part ∷ parts) = IsElement element part ⊎ HasElement element parts

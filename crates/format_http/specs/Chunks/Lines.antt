@@ -6,7 +6,6 @@ use Rattle.std.specs.Prelude.{◌≡◌, ◌≤◌, ◌⊎◌, ℕ, List, Option
 use Rattle.std.specs.declared.vec.Vec.{Vec}
 use Rattle.format_http.specs.Heads.Bytes.{IsBetween, IsTokenByte, IsValueByte}
 use Rattle.winnow.specs.AsChar.{IsHexDigit, IsSpace}
-use Rattle.winnow.specs.Begun.Words as Words
 use Rattle.winnow.specs.Range.{from_to}
 use Rattle.winnow.specs.Reading.{Reading}
 use Rattle.winnow.specs.Grammar.{Both, Class, Either, Gathered, Grammar, InClass, Many, Optional}

@@ -3,10 +3,12 @@
 use Rattle.std.specs.Prelude.{◌≡◌, ◌<◌, ◌≤◌, ◌⊎◌, ℕ, List, [], ◌∷◌, map, Option, Some, None}
 use Rattle.std.specs.Prelude.{suc}
 use Rattle.std.specs.Char.{to_ascii_lowercase}
+use Rattle.format_http.specs.Chunks.Codings.{ChunkedIsFollowed}
 use Rattle.format_http.specs.Chunks.Framing.{EndChunked, HasNone, HasOne, HasValue, HaveValue}
 use Rattle.format_http.specs.Chunks.Framing.{IsNumber}
 use Rattle.format_http.specs.Chunks.Framing.{content_length, transfer_encoding}
 use Rattle.format_http.specs.declared.chunks.refusals.Refusal.{Refusal}
+use Rattle.format_http.specs.declared.chunks.refusals.Refusal.TheVariants.{ChunkedNotLast}
 use Rattle.format_http.specs.declared.chunks.refusals.Refusal.TheVariants.{LengthBesideCoding}
 use Rattle.format_http.specs.declared.chunks.refusals.Refusal.TheVariants.{LengthIsNoNumber}
 use Rattle.format_http.specs.declared.chunks.refusals.Refusal.TheVariants.{LengthsDiffer}
@@ -39,17 +41,18 @@ abbrev pub IsHostRefusal : RequestLine → ℕ → Option Refusal → Type 0
 IsHostRefusal line hosts (Some NoHost) = NeedsHost line × (hosts ≡ 0)
 IsHostRefusal line hosts (Some ManyHosts) = 1 < hosts
 IsHostRefusal line hosts (Some LengthBesideCoding) = ⊥
+IsHostRefusal line hosts (Some ChunkedNotLast) = ⊥
 IsHostRefusal line hosts (Some NotChunked) = ⊥
 IsHostRefusal line hosts (Some LengthsDiffer) = ⊥
 IsHostRefusal line hosts (Some LengthIsNoNumber) = ⊥
 IsHostRefusal line hosts None = MayHave line hosts
 
--- No field is a length, and none a coding; or the last coding is `chunked`, and none is a length;
--- or all lengths are one number, and none is a coding.
+-- No field is a length, and none a coding; or the last coding is `chunked`, no other is, and no
+-- field is a length; or all lengths are one number, and none is a coding.
 abbrev pub IsFramed : List Pair → Type 0
 IsFramed fields =
     (HasNone content_length fields × HasNone transfer_encoding fields)
-    ⊎ ((HasNone content_length fields × EndChunked fields)
+    ⊎ ((HasNone content_length fields × EndChunked fields × (ChunkedIsFollowed fields → ⊥))
     ⊎ (HasNone transfer_encoding fields × (length : List ℕ)
     × HasValue content_length length fields × HaveValue content_length length fields
     × IsNumber length))
@@ -60,8 +63,10 @@ IsFault fields (Some NoHost) = ⊥
 IsFault fields (Some ManyHosts) = ⊥
 IsFault fields (Some LengthBesideCoding) =
     HasOne content_length fields × HasOne transfer_encoding fields
+IsFault fields (Some ChunkedNotLast) = HasNone content_length fields × ChunkedIsFollowed fields
 IsFault fields (Some NotChunked) =
-    HasNone content_length fields × HasOne transfer_encoding fields × (EndChunked fields → ⊥)
+    HasNone content_length fields × HasOne transfer_encoding fields
+    × (ChunkedIsFollowed fields → ⊥) × (EndChunked fields → ⊥)
 IsFault fields (Some LengthsDiffer) =
     HasNone transfer_encoding fields
     × ((length : List ℕ) → HaveValue content_length length fields → ⊥)
@@ -77,6 +82,8 @@ IsRefusal line hosts fields (Some NoHost) = NeedsHost line × (hosts ≡ 0)
 IsRefusal line hosts fields (Some ManyHosts) = 1 < hosts
 IsRefusal line hosts fields (Some LengthBesideCoding) =
     MayHave line hosts × IsFault fields (Some LengthBesideCoding)
+IsRefusal line hosts fields (Some ChunkedNotLast) =
+    MayHave line hosts × IsFault fields (Some ChunkedNotLast)
 IsRefusal line hosts fields (Some NotChunked) =
     MayHave line hosts × IsFault fields (Some NotChunked)
 IsRefusal line hosts fields (Some LengthsDiffer) =

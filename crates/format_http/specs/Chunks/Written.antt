@@ -1,5 +1,8 @@
 -- Proofs that the parsers' grammar matches exactly the encodings.
 use Rattle.std.specs.Prelude.{◌≡◌, ◌≤◌, ◌⊎◌, ℕ, List, [], ◌∷◌, ◌++◌, Option, Some, None, ⊤}
+use Rattle.std.specs.Prelude.{Result, Ok, Err}
+use Rattle.std.specs.Borrow.{Bor}
+use Rattle.std.specs.Result.{IsErrAnd}
 use Rattle.std.specs.List.{AllByRecursion}
 use Rattle.std.proofs.Common.{refl, sym, ap, subst, inl, inr, ◌∙◌, arith, append_assoc}
 use Rattle.std.proofs.lemmas.List.Elements.{recursion_from_All}
@@ -289,8 +292,9 @@ module _ {A : Type 0} where
       → Reads reading kind (First SizeLineText) i r j
   unfolding First MadeText
   line_failed (Ok line) is f = absurd is
-  line_failed {reading = reading} {kind} {i} {j} (Err y) is f =
-      let P : _ → Type 0 = λ x. Reads reading kind (First SizeLineText) i (Err x) j in
+  line_failed {E} {reading} {kind} {i} {j} (Err y) is f =
+      let P : E → Type 0 =
+      λ x. Reads reading kind (First (SizeLineText {A = A})) i (Err x) j in
       subst P (sym is) (err_as f (λ tokens line rest (front, (parts, a, means), e).
       let Q : List ℕ → Type 0 = λ l. Line counted_reading (λ b. b) Byte l parts rest in
       (parts, subst Q (sym e) (line_of.back parts front rest a tt))))

@@ -10,6 +10,7 @@ ghost use Rattle.format_http.specs.declared.bodies.framing.Message.TheVariants.{
 ghost use Rattle.std.specs.Prelude.{◌↔◌, IsTrue, map};
 
 use crate::bodies::lengths::declared_length;
+use crate::chunks::codings::chunked_is_followed;
 use crate::chunks::framing::{end_chunked, first_value};
 use crate::heads::field_line::Field;
 use crate::heads::head::Head;
@@ -75,13 +76,16 @@ pub enum FramingFault {
     /// A message has both a Transfer-Encoding and a Content-Length field, by which two recipients
     /// may take different bytes for its body (rule 3).
     LengthBesideCoding,
+    /// A transfer coding comes after `chunked`, possibly `chunked` again (section 6.1).
+    ChunkedNotLast,
     /// The last transfer coding of a request is not `chunked`, or its Transfer-Encoding fields have
     /// none (rule 4).
     NotChunked,
     /// Two elements of the Content-Length fields are not the same text (rule 5), be it in zeros
-    /// before a number.
+    /// before a number, or because one of them is empty, as in `42,`.
     LengthsDiffer,
-    /// The only element of the Content-Length fields is not a number, or they have none (rule 5).
+    /// The only element of the Content-Length fields is not a number, for example if it is empty
+    /// (rule 5).
     LengthIsNoNumber,
     /// The length is 2<sup>64</sup> or more.
     LengthTooLarge,
@@ -132,6 +136,9 @@ fn has(fields: &[Field<'_>], name: &[u8]) -> bool
 fn coded_length(message: Message<'_>, fields: &[Field<'_>]) -> Result<BodyLength, FramingFault>
     ensures { IsCodedLength message.entry (map pair fields.now) result }
 {
+    if chunked_is_followed(fields) {
+        return Err(FramingFault::ChunkedNotLast);
+    }
     if end_chunked(fields) {
         return Ok(BodyLength::Chunked);
     }
@@ -158,16 +165,19 @@ fn undeclared_length(message: Message<'_>) -> Result<BodyLength, FramingFault>
 /// 2. A response of status 2xx to CONNECT makes the connection a tunnel.
 /// 3. A Transfer-Encoding field in a version before 1.1, or together with a Content-Length field,
 ///    is an error.
-/// 4. If the last transfer coding is `chunked`, the body is chunks. If it is another, a request is
-///    rejected, and the body of a response ends with the connection.
+/// 4. A coding after `chunked`, including `chunked` again, is an error (section 6.1). If the last
+///    transfer coding is `chunked`, the body is chunks. If it is another, a request is rejected,
+///    and the body of a response ends with the connection.
 /// 5. Content-Length fields must consist of one numeral, possibly repeated, in a list or in several
-///    fields.
+///    fields. Empty elements are not allowed.
 /// 6. Its number is the length.
 /// 7. With neither field a request has no body.
 /// 8. With neither field the body of a response ends with the connection.
 ///
-/// Names of fields and of codings are compared ignoring ASCII case. Codings before the last one are
-/// not examined. It does not allocate; the time is linear in the lengths of the fields.
+/// Names of fields and of codings are compared ignoring ASCII case. Codings other than `chunked`
+/// are not distinguished. `chunked` with parameters counts as `chunked` if another coding comes
+/// after it; as the last coding it is a different one. It does not allocate; the time is linear in
+/// the lengths of the fields.
 ///
 /// ```
 /// use format_http::bodies::framing::{BodyLength, FramingFault, Message, body_length};
@@ -182,6 +192,8 @@ fn undeclared_length(message: Message<'_>) -> Result<BodyLength, FramingFault>
 /// let coding = Field { name: b"Transfer-Encoding", value: b"chunked" };
 /// let both = body_length(Message::Request, 1, 1, [coding, length].as_slice());
 /// assert!(rt; both == Err(FramingFault::LengthBesideCoding));
+/// let twice = body_length(Message::Request, 1, 1, [coding, coding].as_slice());
+/// assert!(rt; twice == Err(FramingFault::ChunkedNotLast));
 /// ```
 pub fn body_length(
     message: Message<'_>,

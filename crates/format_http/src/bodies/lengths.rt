@@ -27,27 +27,22 @@ fn decimal(digits: &[u8]) -> Option<u64>
     Some(number)
 }
 
-/// Returns the text if both are equal or only one is present.
-fn one_of<'i>(
-    found: Option<&'i [u8]>,
-    other: Option<&'i [u8]>,
-) -> Result<Option<&'i [u8]>, FramingFault>
+/// Returns the second text if the first is the same or missing.
+fn one_of<'i>(found: Option<&'i [u8]>, other: &'i [u8]) -> Result<Option<&'i [u8]>, FramingFault>
     ensures one { IfOk result (λ one. (text : List ℕ)
-        → (IsThe found.entry text ⊎ IsThe other.entry text) ↔ IsThe one text) }
+        → (IsThe found.entry text ⊎ other.now ≡ text) ↔ IsThe one text) }
     ensures many { IfErr result (λ fault. (fault ≡ LengthsDiffer)
-        × (text : List ℕ) × (more : List ℕ) × IsThe found.entry text × IsThe other.entry more
-        × (text ≡ more → ⊥)) }
+        × (text : List ℕ) × IsThe found.entry text × (text ≡ other.now → ⊥)) }
 {
-    match (found, other) {
-        (Some(text), Some(more)) => {
-            if is_same(text, more) {
+    match found {
+        Some(text) => {
+            if is_same(text, other) {
                 Ok(found)
             } else {
                 Err(FramingFault::LengthsDiffer)
             }
         }
-        (Some(_), None) => Ok(found),
-        (None, _) => Ok(other),
+        None => Ok(Some(other)),
     }
 }
 

@@ -1,7 +1,7 @@
 //! Lists in the values of fields (RFC 9110, section 5.6.1): elements with commas between them.
 #![tactic(auto)]
 
-ghost use Rattle.format_http.specs.Bodies.Lists.{IsElement, IsThe, parts_in, parts_of};
+ghost use Rattle.format_http.specs.Bodies.Lists.{IsElement, parts_in, parts_of};
 ghost use Rattle.std.specs.Prelude.{◌≡◌, ◌==◌, ◌↔◌, ◌∷◌, List, position, ℕ};
 
 use crate::heads::field_line::trimmed;
@@ -24,17 +24,16 @@ pub(crate) fn next_part<'i>(list: &'i [u8]) -> (&'i [u8], Option<&'i [u8]>)
     }
 }
 
-/// Returns the element in a part of a list, without the surrounding whitespace, or `None` if the
-/// part is only whitespace.
-pub(crate) fn element_of<'i>(part: &'i [u8]) -> Option<&'i [u8]>
-    ensures { (element : List ℕ) → IsElement element part.now ↔ IsThe result element }
+/// Returns the element in a part of a list, without the surrounding whitespace. It may be empty.
+pub(crate) fn element_of<'i>(part: &'i [u8]) -> &'i [u8]
+    ensures { (element : List ℕ) → IsElement element part.now ↔ result.now ≡ element }
 {
     let mut left = part;
     'white: while let Some((first, more)) = left.split_first() {
         if *first != b' ' && *first != b'\t' {
-            return Some(trimmed(left));
+            return trimmed(left);
         }
         left = more;
     }
-    None
+    left
 }

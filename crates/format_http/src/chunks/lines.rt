@@ -28,7 +28,7 @@ where
     requires seen { SeesApart I.seen_as }
     requires behind { P.can_parse behind × (P.claim (P.state behind)).premise
         × (P.claim (P.state behind)).backtracks }
-    ensures reads { Reads I.reading E.kind
+    ensures { Reads I.reading E.kind
         (Ended I.reading I.seen_as (Literally I.reading I.spells (λ s _. s))
         (P.claim (P.state behind)).grammar) (I.view input.old) result (I.view input.new) }
 {
@@ -49,7 +49,7 @@ where
     requires seen { SeesApart I.seen_as }
     requires value { P.can_parse value × (P.claim (P.state value)).premise
         × (P.claim (P.state value)).backtracks }
-    ensures reads { Reads I.reading E.kind
+    ensures { Reads I.reading E.kind
         (Ended I.reading I.seen_as (Literally I.reading I.spells (λ s _. s))
         (Extensions I.reading I.seen_as (Literally I.reading I.spells (λ s _. s))
         (P.claim (P.state value)).grammar)) (I.view input.old) result (I.view input.new) }
@@ -74,7 +74,7 @@ where
     requires seen { SeesApart I.seen_as }
     requires text { P.can_parse text × (P.claim (P.state text)).premise
         × (P.claim (P.state text)).backtracks }
-    ensures reads { Reads I.reading E.kind
+    ensures { Reads I.reading E.kind
         (Ended I.reading I.seen_as (Literally I.reading I.spells (λ s _. s))
         (Extensions I.reading I.seen_as (Literally I.reading I.spells (λ s _. s))
         (TextOrToken I.reading I.seen_as (Literally I.reading I.spells (λ s _. s))
@@ -99,7 +99,7 @@ where
     E: ParserError<I>,
     A: Allocator + Copy,
     requires seen { SeesApart I.seen_as }
-    ensures reads { Reads I.reading E.kind (Line I.reading I.seen_as
+    ensures { Reads I.reading E.kind (Line I.reading I.seen_as
         (Literally I.reading I.spells (λ s _. s))) (I.view input.old) result (I.view input.new) }
 {
     let byte = alt((one_of(QuotedBytes), preceded(b'\\', one_of(ValueBytes))));

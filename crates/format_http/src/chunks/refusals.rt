@@ -4,17 +4,19 @@
 //! Whitespace between the name of a field and its colon (RFC 9112, section 5.1), and a carriage
 //! return in a name or a value (section 2.2), do not occur in a head that
 //! [`read_head`](crate::heads::head::read_head) reads, by the [laws](crate::heads::laws) of field
-//! lines: it backtracks there. The value of a Host field is not examined, nor are codings before
-//! the last one: a server responds to unknown ones with status 501 (section 6.1). A transfer coding
-//! in a request of HTTP/1.0, after which a server closes the connection, is not rejected either.
+//! lines: it backtracks there. The value of a Host field is not examined, and codings other than
+//! `chunked` are not distinguished: a server responds to unknown ones with status 501 (section
+//! 6.1). A transfer coding in a request of HTTP/1.0, after which a server closes the connection, is
+//! not rejected either.
 #![tactic(auto)]
 
-ghost use Rattle.format_http.specs.Chunks.Framing.{HasNone, HasValue, content_length};
+ghost use Rattle.format_http.specs.Chunks.Framing.{HasNone, HasOne, HasValue, content_length};
 ghost use Rattle.format_http.specs.Chunks.Framing.{transfer_encoding};
 ghost use Rattle.format_http.specs.Chunks.Refusals.{AreHosts, IsFault, IsHostRefusal, IsRefusal};
 ghost use Rattle.format_http.specs.Heads.Head.{pair};
 ghost use Rattle.std.specs.Prelude.{ℕ, map};
 
+use crate::chunks::codings::chunked_is_followed;
 use crate::chunks::framing::{end_chunked, first_value, have_value, is_number};
 use crate::heads::field_line::Field;
 use crate::heads::head::Head;
@@ -39,6 +41,9 @@ pub enum Refusal {
     /// A request has both a Content-Length and a Transfer-Encoding field, by which two servers may
     /// take different bytes for its body (sections 6.1 and 6.3).
     LengthBesideCoding,
+    /// A coding of the Transfer-Encoding fields comes after `chunked`, possibly `chunked` again
+    /// (section 6.1).
+    ChunkedNotLast,
     /// The last coding of the Transfer-Encoding fields is not `chunked`, or they have none, so that
     /// the end of the body is unknown (section 6.3).
     NotChunked,
@@ -92,6 +97,21 @@ fn length_refusal(fields: &[Field<'_>], length: &[u8]) -> Option<Refusal>
     None
 }
 
+/// Returns the reason to reject a request without a length because of its codings.
+fn coding_refusal(fields: &[Field<'_>]) -> Option<Refusal>
+    requires none { HasNone content_length (map pair fields.now) }
+    requires some { HasOne transfer_encoding (map pair fields.now) }
+    ensures { IsFault (map pair fields.now) result }
+{
+    if chunked_is_followed(fields) {
+        return Some(Refusal::ChunkedNotLast);
+    }
+    if !end_chunked(fields) {
+        return Some(Refusal::NotChunked);
+    }
+    None
+}
+
 /// Returns the reason to reject a request because of the fields that determine the end of its body.
 fn framing_refusal(fields: &[Field<'_>]) -> Option<Refusal>
     ensures { IsFault (map pair fields.now) result }
@@ -102,13 +122,7 @@ fn framing_refusal(fields: &[Field<'_>]) -> Option<Refusal>
         (None, None) => None,
         (Some(length), None) => length_refusal(fields, length),
         (Some(_), Some(_)) => Some(Refusal::LengthBesideCoding),
-        (None, Some(_)) => {
-            if end_chunked(fields) {
-                None
-            } else {
-                Some(Refusal::NotChunked)
-            }
-        }
+        (None, Some(_)) => coding_refusal(fields),
     }
 }
 
@@ -118,13 +132,15 @@ fn framing_refusal(fields: &[Field<'_>]) -> Option<Refusal>
 /// - The request has more than one Host field, or none although its version is 1.1 or a later 1.x
 ///   (RFC 9112, section 3.2).
 /// - It has a length in addition to a transfer coding.
+/// - A transfer coding comes after `chunked` (section 6.1).
 /// - Its last transfer coding is not `chunked`.
 /// - Its lengths differ, or the length is not a number (section 6.3).
 ///
 /// Names of fields and of codings are compared ignoring ASCII case. All fields of one name count as
-/// one list. Empty elements are skipped, and `chunked` with parameters is a different coding.
-/// Fields that are not lists of codings, for example with an unclosed quote, are not detected:
-/// their last coding is the text after the last comma.
+/// one list. Empty codings are skipped. `chunked` with parameters counts as `chunked` if another
+/// coding comes after it; as the last coding it is a different one. Codings are separated at
+/// commas, including commas in quoted strings. Fields that are not lists of codings, for example
+/// with an unclosed quote, are not detected.
 ///
 /// ```
 /// use format_http::chunks::refusals::{Refusal, refusal_of};

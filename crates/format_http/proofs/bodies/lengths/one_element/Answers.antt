@@ -1,4 +1,4 @@
-use Rattle.std.proofs.Common.{inl, inr, subst, sym}
+use Rattle.std.proofs.Common.{inl, inr, refl, subst, sym}
 use Rattle.std.specs.Borrow.{Bor}
 use Rattle.std.specs.Prelude.{List, Option, ℕ}
 use Rattle.format_http.proofs.BodiesLemmas.Lengths.{part_has}
@@ -7,13 +7,14 @@ use Rattle.format_http.proofs.bodies.lengths.one_element.Goals as goal
 
 pub returns-in-Err-clause-many : goal.returns-in-Err-clause-many
 returns-in-Err-clause-many c =
-    let (is, text, more, one, other, differ) = c.in-Err.ensures.many in
+    let (is, text, one, differ) = c.in-Err.ensures.many in
+    let more = c.element_of.result.now in
     let P : Option (Bor (List ℕ)) → Type 0 = λ o. HasElement more (parts_in o) in (
       is,
       text,
       more,
       (c.parts.invariant text).0 (inl one),
       (c.parts.invariant more).0 (inr (subst P (sym c.in-Some.is)
-          (part_has _ _ _ _ more c.next_part.ensures (c.element_of.ensures more) other))),
+          (part_has _ _ _ _ more c.next_part.ensures (c.element_of.ensures more) refl))),
       differ,
     )

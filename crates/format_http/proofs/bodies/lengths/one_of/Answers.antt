@@ -7,14 +7,10 @@ use Rattle.format_http.proofs.bodies.lengths.one_of.Goals as goal
 
 pub returns-else-is_same-clause-many : goal.returns-else-is_same-clause-many
 returns-else-is_same-clause-many c =
-    let text = c.in-Some-Some.text.now in
-    let more = c.in-Some-Some.more.now in
-    let P : Option (Bor (List ℕ)) → Type 0 = λ o. IsThe o text in
-    let Q : Option (Bor (List ℕ)) → Type 0 = λ o. IsThe o more in (
+    let text = c.in-Some.text.now in
+    let P : Option (Bor (List ℕ)) → Type 0 = λ o. IsThe o text in (
       refl,
       text,
-      more,
-      subst P (sym c.in-Some-Some.is-0) refl,
-      subst Q (sym c.in-Some-Some.is-1) refl,
+      subst P (sym c.in-Some.is) refl,
       λ e. true_is_false (sym (c.if-is_same.ensures.1 e)),
     )

@@ -1,6 +1,6 @@
 use Rattle.std.proofs.Common.{arith, inl, inr, subst}
-use Rattle.format_http.proofs.BodiesLemmas.Elements.{all_dropped, found_element, more_dropped}
-use Rattle.format_http.proofs.BodiesLemmas.Elements.{no_element, none_dropped, one_element}
+use Rattle.format_http.proofs.BodiesLemmas.Elements.{empty_element, found_element, more_dropped}
+use Rattle.format_http.proofs.BodiesLemmas.Elements.{none_dropped, one_element}
 use Rattle.format_http.specs.Bodies.Lists.{IsElement}
 use Rattle.format_http.proofs.bodies.lists.element_of.Goals as goal
 use Rattle.format_http.proofs.bodies.lists.element_of.Goals.{
@@ -33,8 +33,11 @@ white-preserved c =
 
 pub returns : goal.returns
 returns c =
+    let part = c.args.part.now in
+    let left = c.white.left.now in
+    let found : IsElement left part =
+    empty_element left part c.white.invariant c.in_default.ensures.cases in
     λ element. (
-      λ is. no_element element c.args.part.now (all_dropped c.white.left.now c.args.part.now
-          c.white.invariant c.in_default.ensures.cases) is,
-      λ never. absurd never,
+      λ is. one_element left element part found is,
+      λ same. subst (λ l. IsElement l part) same found,
     )

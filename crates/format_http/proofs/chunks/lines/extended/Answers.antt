@@ -7,7 +7,7 @@ returns g c =
     let token =
     run_is g.I.Stream.seen_as IsTokenByte c.take_while-token.result.set g.I.Stream.reading 1 in
     let list = rw (c.repeat.ensures.occurrences, c.repeat.ensures.parser, c.from-2.ensures)
-    at c.ended.ensures.reads in
+    at c.ended.ensures in
     let name = rw (
       c.preceded-name.ensures.ignored,
       c.preceded-name.ensures.parser,

@@ -5,7 +5,7 @@ use Rattle.format_http.specs.Chunks.Read.{one_is}
 use Rattle.format_http.proofs.chunks.lines.line.Goals as goal
 
 pub returns : goal.returns
-returns g c = reads_by c.quoted.ensures.reads (rw (
+returns g c = reads_by c.quoted.ensures (rw (
   c.repeat-text.ensures.occurrences,
   c.repeat-text.ensures.parser,
   c.from.ensures,

@@ -4,7 +4,7 @@ use Rattle.format_http.specs.Chunks.Read.{run_is}
 use Rattle.format_http.proofs.chunks.lines.quoted.Goals as goal
 
 pub returns : goal.returns
-returns g c = reads_by c.extended.ensures.reads (rw (
+returns g c = reads_by c.extended.ensures (rw (
   c.alt.ensures,
   c.take_while-token.ensures.occurrences,
   c.from.ensures,
