@@ -1,6 +1,6 @@
 use Rattle.std.proofs.Common.{inl, inr, refl}
 use Rattle.format_toml.specs.Integers.{by_letter, by_no_letter, zero_ends}
-use Rattle.format_toml.proofs.integers.behind_zero.Goals as goal
+use Rattle.format_toml.proofs.integers.after_zero.Goals as goal
 
 pub returns-in_default : goal.returns-in_default
 returns-in_default c = zero_ends c.args.text.now c.in_default.ensures.cases

@@ -2,8 +2,8 @@ use Rattle.std.proofs.Common.{inl, inr}
 use Rattle.format_toml_tree.specs.Dates.{FindsTime, IsDelimiter}
 use Rattle.format_toml_tree.specs.DateTimeParts.{behind_local, behind_none, behind_nothing}
 use Rattle.format_toml_tree.specs.DateTimeParts.{behind_offset, behind_other, timed_digits}
-use Rattle.format_toml_tree.proofs.date_times.behind_date.Goals as goal
-use Rattle.format_toml_tree.proofs.date_times.behind_date.Goals.{
+use Rattle.format_toml_tree.proofs.date_times.after_date.Goals as goal
+use Rattle.format_toml_tree.proofs.date_times.after_date.Goals.{
   else-delimiter-ne84-via-then-delimiter-ne84+then-delimiter-ne116+else-delimiter-ne32,
   else-delimiter-ne84-via-then-delimiter-ne84+else-delimiter-ne116,
   else-delimiter-ne84-via-else-delimiter-ne84,

@@ -1,6 +1,6 @@
 -- Lemmas about the position and the contents of a `Fault`.
 use Rattle.std.specs.Prelude.{◌≡◌, ◌⊎◌, ◌-◌, ℕ, List, [], ◌++◌, Option, Some, length, take}
-use Rattle.std.specs.Prelude.{IfOk, Result, Err, Ok}
+use Rattle.std.specs.Prelude.{Err, IfOk, Ok, Result}
 use Rattle.std.specs.Borrow.{Bor}
 use Rattle.std.specs.Str.{IsCharBoundary, IsUtf8, chars, encode_utf8_all}
 use Rattle.std.specs.declared.vec.Vec.{Vec}
@@ -15,7 +15,7 @@ use Rattle.format_toml.specs.Toml.{DocumentText}
 use Rattle.format_toml.specs.declared.expected.Lack.{Lack}
 use Rattle.format_toml_document.specs.Fault.{IsAfter, IsDocument, IsLack}
 use Rattle.format_toml_document.specs.Fault.{IsLocation}
-use Rattle.format_toml_document.specs.Fault.{IsRefusal, Tells}
+use Rattle.format_toml_document.specs.Fault.{IsErrorOf, IsRefusal}
 use Rattle.format_toml_document.specs.declared.fault.Fault.{Fault}
 use Rattle.format_toml_document.specs.declared.fault.Fault.TheVariants as faults
 use Rattle.format_toml_document.specs.declared.fault.Location.{Location}
@@ -76,7 +76,7 @@ module _ (A : Type 0) (level : ℕ) (text : List ℕ) where
       → DocumentText level lines (chars text)
       → ((n : ℕ) (why : Refusal) → fault ≡ built.Refused n why
       → Gives (empty, []) 0 lines.items (Err (n, why)))
-      → IsRefusal A level text fault told → Tells A level text told
+      → IsRefusal A level text fault told → IsErrorOf A level text told
   lines_told lines fault (faults.Refused at why) stands refused (n, is, rest, before, after) =
       (lines, stands, (n, refused n why is, (rest, before, after)))
   lines_told lines fault (faults.Unexpected at expected) stands refused never = absurd never
@@ -92,7 +92,7 @@ module _ (A : Type 0) (level : ℕ) (text : List ℕ) where
   document_told bytes (Err fault) utf8 e stands = tt
 
   pub document_faults : (tree : Tree A) (fault : Fault) → IsUtf8 text
-      → IsDocument A level text tree → Tells A level text fault
+      → IsDocument A level text tree → IsErrorOf A level text fault
       → (fault ≡ faults.OutOfMemory)
       ⊎ ((at : Location) × (why : Refusal) × (fault ≡ faults.Refused at why))
   document_faults tree (faults.Unexpected at expected) utf8 (lines, stands, given) told =
