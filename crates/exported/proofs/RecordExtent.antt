@@ -1,7 +1,7 @@
 -- Lemmas about successive calls for the end of a record.
 use Rattle.std.specs.Prelude.{◌≡◌, ◌++◌, ℕ, List, [], Option, None, Some, Result, Ok, Err}
-use Rattle.std.proofs.Common.{inr, refl, sym, subst}
-use Rattle.format_csv_records.specs.Extents.{IsOf, IsTold}
+use Rattle.std.proofs.Common.{inr, refl, subst, sym}
+use Rattle.format_csv_records.specs.Extents.{IsOf, RecordResult}
 use Rattle.format_csv_records.specs.Refused.{IsRefused}
 use Rattle.format_csv_records.specs.declared.buffers.RecordSize.{RecordSize}
 use Rattle.format_csv_records.specs.declared.dialect.Dialect.{Dialect}
@@ -18,7 +18,7 @@ use Rattle.exported.proofs.Turns.{calls_from_nothing}
 
 module _ (d : Dialect) (old new : RecordExtent) (bytes : List ℕ)
     (answer : Result (Option RecordSize) RecordFault) (before after : CsvRecordState) (code : ℕ)
-    (out : Record) (told : IsOf d old bytes → IsTold d bytes answer)
+    (out : Record) (told : IsOf d old bytes → RecordResult d bytes answer)
     (kept : IsOf d old bytes → (more : List ℕ) → IsOf d new (bytes ++ more))
     (was : old ≡ record_extent_of before) (is : record_extent_of after ≡ new)
     (ends : code ≡ done → (size : RecordSize) × (answer ≡ Ok (Some size)) × Tells out size)
@@ -27,7 +27,7 @@ module _ (d : Dialect) (old new : RecordExtent) (bytes : List ℕ)
     → (fault : RecordFault) × (answer ≡ Err fault) × (out.error_offset ≡ fault.offset)) where
   tells_of : IsOf d old bytes → TellsRecord d bytes code out after
   tells_of it =
-      let Q : Result (Option RecordSize) RecordFault → Type 0 = λ a. IsTold d bytes a in
+      let Q : Result (Option RecordSize) RecordFault → Type 0 = λ a. RecordResult d bytes a in
       record {
         ends = λ e.
             let (size, at, counts) = ends e in

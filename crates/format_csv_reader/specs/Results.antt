@@ -1,11 +1,11 @@
 -- The result of a call of a reader, in terms of the bytes held and read, and of all bytes of the
 -- source.
 use Rattle.std.specs.Prelude.{◌≡◌, ◌⊎◌, ◌+◌, ◌-◌, ◌^◌, ℕ, List, [], ◌++◌, length, min, ⊤, Bool}
-use Rattle.std.specs.Prelude.{true, false, Option, Some, None, Result, Ok, Err}
+use Rattle.std.specs.Prelude.{Err, None, Ok, Option, Result, Some, false, true}
 use Rattle.std.specs.Io.KnownBytes.{Consumes, IsAtEnd}
 use Rattle.format_csv_records.specs.Buffers.{IsForGood}
 use Rattle.format_csv_records.specs.Dialects.{IsRecord}
-use Rattle.format_csv_records.specs.Early.{BeginsNone}
+use Rattle.format_csv_records.specs.Early.{IsPrefixOfNone}
 use Rattle.format_csv_records.specs.Refused.{IsRefused}
 use Rattle.format_csv_records.specs.declared.dialect.Dialect.{Dialect}
 use Rattle.format_csv_records.specs.declared.read.RecordFault.{RecordFault}
@@ -41,7 +41,7 @@ IsAnswer d bytes IsOver start (Ok false) fields rest =
     (bytes ≡ []) × (rest ≡ []) × (fields ≡ []) × IsOver
 IsAnswer d bytes IsOver start (Err (Refused fault)) fields rest =
     ((at : RecordFault) × IsRefused d bytes at × IsFaultAt start at fault
-    × (BeginsNone d bytes ⊎ IsOver)) × (rest ≡ bytes) × (fields ≡ [])
+    × (IsPrefixOfNone d bytes ⊎ IsOver)) × (rest ≡ bytes) × (fields ≡ [])
 IsAnswer d bytes IsOver start (Err (Failed error)) fields rest =
     WantsMore d bytes × (rest ≡ bytes) × (fields ≡ [])
 IsAnswer d bytes IsOver start (Err OutOfMemory) fields rest = (rest ≡ bytes) × (fields ≡ [])
