@@ -1,5 +1,5 @@
 use Rattle.format_resp.proofs.BulkEnds.{end_none, end_return}
-use Rattle.format_resp.proofs.extent.behind_end.Goals as goal
+use Rattle.format_resp.proofs.extent.skip_line_ending.Goals as goal
 
 pub returns-in-None-clause-told : goal.returns-in-None-clause-told
 returns-in-None-clause-told c = end_none c.args.bytes.now c.in-None.ensures.cases

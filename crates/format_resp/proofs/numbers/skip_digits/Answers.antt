@@ -1,7 +1,7 @@
-use Rattle.std.proofs.Common.{refl, inl, inr}
+use Rattle.std.proofs.Common.{inl, inr, refl}
 use Rattle.format_resp.proofs.LeafTexts.{not_wanting}
 use Rattle.format_resp.proofs.NumberTexts.{digits_none, digits_there}
-use Rattle.format_resp.proofs.numbers.behind_digits.Goals as goal
+use Rattle.format_resp.proofs.numbers.skip_digits.Goals as goal
 
 pub returns-in-Ok : goal.returns-in-Ok
 returns-in-Ok c =
