@@ -18,9 +18,9 @@ abbrev pub BeginsWith : List ℕ → Header → Type 0
 BeginsWith message header = IsHeader header (take 12 message) []
 
 -- the contract of a message's header
-abbrev pub HeaderTold : List ℕ → Result Header MessageFault → Type 0
-HeaderTold message (Ok header) = BeginsWith message header
-HeaderTold message (Err fault) =
+abbrev pub HeaderResult : List ℕ → Result Header MessageFault → Type 0
+HeaderResult message (Ok header) = BeginsWith message header
+HeaderResult message (Err fault) =
     (fault ≡ record { section = section.Header; entry = 0; why = Ends 0 }) × (length message < 12)
 
 module _ (message : List ℕ) (pointers : ℕ) where
@@ -92,8 +92,8 @@ module _ (message : List ℕ) (pointers : ℕ) where
 
   -- The contract of a message: it is the one at the start of the bytes; or memory allocation failed
   -- for an entry; or an entry is invalid, and the bytes do not start with a message.
-  abbrev pub MessageTold : {A : Type 0} → Result (Message A) MessageFault → Type 0
-  MessageTold (Ok it) = IsMessage it
-  MessageTold {A} (Err fault) =
+  abbrev pub MessageResult : {A : Type 0} → Result (Message A) MessageFault → Type 0
+  MessageResult (Ok it) = IsMessage it
+  MessageResult {A} (Err fault) =
       WantsMessage A fault
       ⊎ (HasNoMessage A fault × ((it : Message A) → IsMessage it → ⊥))

@@ -63,10 +63,10 @@ NoEnding tokens place fault =
     ((fault ≡ Ends place) × IsCut tokens) ⊎ ((fault ≡ Reserved place) × IsReserved tokens)
 
 -- the contract of an ending, for bytes that do not start with a label
-abbrev pub EndingTold : List ℕ → ℕ → Result Ending Fault → Type 0
-EndingTold tokens place (Ok Root) = IsRoot tokens
-EndingTold tokens place (Ok (Pointer to)) = IsPointer tokens to
-EndingTold tokens place (Err fault) = NoEnding tokens place fault
+abbrev pub EndingResult : List ℕ → ℕ → Result Ending Fault → Type 0
+EndingResult tokens place (Ok Root) = IsRoot tokens
+EndingResult tokens place (Ok (Pointer to)) = IsPointer tokens to
+EndingResult tokens place (Err fault) = NoEnding tokens place fault
 
 -- The labels are followed by the root, which ends a name; or by a pointer to an offset before these
 -- labels, and the name consists of these labels and the ones at that offset.
@@ -144,5 +144,5 @@ module _ (message : List ℕ) where
       → octets labels ≤ room → ⊥))
 
   -- The same contract for any name: it has at most 255 octets, including the octet of the root.
-  abbrev pub NameTold : {A : Type 0} → ℕ → ℕ → Result (Name A) Fault → Type 0
-  NameTold pointers = NameWithin pointers 254
+  abbrev pub NameResult : {A : Type 0} → ℕ → ℕ → Result (Name A) Fault → Type 0
+  NameResult pointers = NameWithin pointers 254
