@@ -5,12 +5,12 @@ use Rattle.format_http_chunked.specs.declared.decoder.Fault.{Fault}
 use Rattle.format_http_chunked.specs.declared.decoder.Step.{Step}
 
 -- The output is at the end of the consumed bytes: the rest follows it.
-abbrev pub Stands : List ℕ → List ℕ → Result Step Fault → Type 0
-Stands bytes rest said =
+abbrev pub OutputBeforeRest : List ℕ → List ℕ → Result Step Fault → Type 0
+OutputBeforeRest bytes rest said =
     (before : List ℕ) × (bytes ≡ before ++ (content_of said ++ (trailers_of said ++ rest)))
 
 -- likewise for a part of a call
-abbrev pub PartStands : List ℕ → List ℕ → Result (Option Step) Fault → Type 0
-PartStands bytes rest (Ok (Some said)) = Stands bytes rest (Ok said)
-PartStands bytes rest (Ok None) = (before : List ℕ) × (bytes ≡ before ++ rest)
-PartStands bytes rest (Err why) = Stands bytes rest (Err why)
+abbrev pub PartBeforeRest : List ℕ → List ℕ → Result (Option Step) Fault → Type 0
+PartBeforeRest bytes rest (Ok (Some said)) = OutputBeforeRest bytes rest (Ok said)
+PartBeforeRest bytes rest (Ok None) = (before : List ℕ) × (bytes ≡ before ++ rest)
+PartBeforeRest bytes rest (Err why) = OutputBeforeRest bytes rest (Err why)

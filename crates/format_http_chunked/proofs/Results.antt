@@ -1,14 +1,14 @@
 -- The results of a decoder for all bytes so far, from its results for the bytes of one call.
 use Rattle.std.specs.Prelude.{◌≡◌, ◌≤◌, ◌↔◌, ◌^◌, ◌+◌, ◌++◌, ℕ, List, [], ◌∷◌, length, Result}
-use Rattle.std.specs.Prelude.{Ok, Err}
+use Rattle.std.specs.Prelude.{Err, Ok}
 use Rattle.std.proofs.Common.{refl, sym, subst, ap, ◌∙◌, append_assoc, arith}
 use Rattle.std.proofs.Common.{length-append}
 use Rattle.std.proofs.lemmas.List.{append-nil}
 use Rattle.format_http_chunked.proofs.Begun.{can_go_on, must_go_on}
 use Rattle.format_http_chunked.specs.Bodies.{IsBody}
-use Rattle.format_http_chunked.specs.Decoded.{IsAnswer, IsAt, IsBegun, IsNone, IsRefusal}
+use Rattle.format_http_chunked.specs.Decoded.{IsAnswer, IsAt, IsBodyPrefix, IsNone, IsRefusal}
 use Rattle.format_http_chunked.specs.Dues.{IsDue}
-use Rattle.format_http_chunked.specs.Steps.{GoesOn, IsFault, IsNever, IsSaid, IsTooLarge}
+use Rattle.format_http_chunked.specs.Steps.{IsFault, IsNever, IsSaid, IsTooLarge, IsViableByte}
 use Rattle.format_http_chunked.specs.declared.decoder.Decoder.{Decoder}
 use Rattle.format_http_chunked.specs.declared.decoder.Fault.{Fault}
 use Rattle.format_http_chunked.specs.declared.decoder.Fault.TheVariants as fault
@@ -58,7 +58,7 @@ module _ (front given fields : List ℕ) where
 
   module _ (at : Place) (is : IsAt at front given fields) where
     -- some more bytes make it a body
-    begun : IsBegun front given fields
+    begun : IsBodyPrefix front given fields
     begun =
         let (content, trailers, bytes, x) = can_go_on at in (
           content,
@@ -75,7 +75,7 @@ module _ (front given fields : List ℕ) where
         (subst P (append_assoc front (b ∷ []) more) x) in
         never left others more y
 
-    some_goes_on : (b : ℕ) → GoesOn at b → IsNone (front ++ b ∷ []) → ⊥
+    some_goes_on : (b : ℕ) → IsViableByte at b → IsNone (front ++ b ∷ []) → ⊥
     some_goes_on b (content, trailers, more, x) none =
         let P : List ℕ → Type 0 = λ l. IsBody (given ++ content) (fields ++ trailers) l in
         none (given ++ content) (fields ++ trailers) more
