@@ -13,7 +13,7 @@ use Rattle.winnow.specs.Grammar.{Counted, Gathered, Grammar, IsUnique, Many, Non
 use Rattle.winnow.specs.Grammar.{TokenOf}
 use Rattle.winnow.specs.Grammar.Known.{slice_for}
 use Rattle.winnow.specs.Grammar.Lengths.{SaysOne, Sized, same_beginnings}
-use Rattle.format_dns.specs.Names.{GoesNot, GoesOn, IsCut}
+use Rattle.format_dns.specs.Names.{IsCut, IsNameEnding, IsNoNameEnding}
 use Rattle.format_dns.specs.Names.{IsLabel, IsPointer, IsRoot, IsSized, Label}
 use Rattle.format_dns.specs.Names.{EndingResult, NoEnding}
 use Rattle.format_dns.specs.declared.fault.Fault.{Fault}
@@ -148,7 +148,8 @@ pub goes_one : {others : ℕ → List Label → Type 0} {faults : ℕ → ℕ �
     → ((end to : ℕ) (fault : Fault) (more : List Label) → faults end to fault
     → others to more → ⊥) → (start end : ℕ) (rest : List ℕ) (fault : Fault)
     (here : List Label) (after : ℕ) (labels : List Label) (behind : ℕ)
-    → GoesNot faults start end rest fault → GoesOn others start here after rest labels behind → ⊥
+    → IsNoNameEnding faults start end rest fault
+    → IsNameEnding others start here after rest labels behind → ⊥
 goes_one below start end rest fault here after labels behind (inl none) (inl (root, a, b)) =
     ending_root none root
 goes_one below start end rest fault here after labels behind (inl none)

@@ -1,9 +1,9 @@
 -- Lemmas about the continuations of a language after its first bytes, and about bytes that cannot
 -- continue it.
 use Rattle.std.proofs.Common.{◌≡◌, ◌∙◌, ◌<◌, ◌++◌, ◌∷◌, [], ap, ℕ, List, length, take, drop}
-use Rattle.std.proofs.Common.{sym, subst, arith, inl, inr, refl, append_assoc}
-use Rattle.std.proofs.lemmas.List.{take-append-drop, append-nil, length-take}
-use Rattle.std.proofs.lemmas.List.Elements.{All-head, All-nil, All-cons, All-tail}
+use Rattle.std.proofs.Common.{append_assoc, arith, inl, inr, refl, subst, sym}
+use Rattle.std.proofs.lemmas.List.{append-nil, length-take, take-append-drop}
+use Rattle.std.proofs.lemmas.List.Elements.{All-cons, All-head, All-nil, All-tail}
 use Rattle.std.specs.List.{All}
 use Rattle.format_http_places.specs.Grammar.{Byte, Differs, Language, NoneAt, OneOf, Run, SomeOf}
 use Rattle.format_http_places.specs.Grammar.{Stops, Text, Unended}
@@ -18,8 +18,8 @@ others_same x y xs ys e = cc
 pub not_empty : (y : ℕ) (ys : List ℕ) → [] ≡ y ∷ ys → ⊥
 not_empty y ys e = cc
 
--- `Behind L front K`: after `front`, the language `L` continues as `K`
-pub record Behind (L : List ℕ → List ℕ → Type 0) (front : List ℕ)
+-- `EquivalentAfter L front K`: after `front`, the language `L` continues as `K`
+pub record EquivalentAfter (L : List ℕ → List ℕ → Type 0) (front : List ℕ)
     (K : List ℕ → List ℕ → Type 0) : Type 0 where
   pub there : (more rest : List ℕ) → K more rest → L (front ++ more) rest
   pub back : (more rest : List ℕ) → L (front ++ more) rest → K more rest
@@ -35,11 +35,11 @@ abbrev pub NoneFirst : Language → List ℕ → Type 0
 NoneFirst K [] = (rest : List ℕ) → K [] rest → ⊥
 NoneFirst K (b ∷ bs) = (more rest : List ℕ) → K (b ∷ more) rest → ⊥
 
-pub behind_none : (L : Language) → Behind L [] L
+pub behind_none : (L : Language) → EquivalentAfter L [] L
 behind_none L = record { there = λ more rest it. it; back = λ more rest it. it }
 
-pub behind_both : (L K M : Language) (front after : List ℕ) → Behind L front K
-    → Behind K after M → Behind L (front ++ after) M
+pub behind_both : (L K M : Language) (front after : List ℕ) → EquivalentAfter L front K
+    → EquivalentAfter K after M → EquivalentAfter L (front ++ after) M
 behind_both L K M front after one two = record {
   there = λ more rest it.
       let P : List ℕ → Type 0 = λ l. L l rest in
@@ -51,7 +51,7 @@ behind_both L K M front after one two = record {
       (subst P (append_assoc front after more) it));
 }
 
-pub behind_byte : (b : ℕ) (K : Language) → Behind (Byte b K) (b ∷ []) K
+pub behind_byte : (b : ℕ) (K : Language) → EquivalentAfter (Byte b K) (b ∷ []) K
 unfolding Byte
 behind_byte b K = record {
   there = λ more rest it. (more, refl, it);
@@ -60,7 +60,8 @@ behind_byte b K = record {
       subst P (sym (others_same b b more it.0 it.1)) it.2;
 }
 
-pub behind_one : (P : ℕ → Type 0) (b : ℕ) (K : Language) → P b → Behind (OneOf P K) (b ∷ []) K
+pub behind_one : (P : ℕ → Type 0) (b : ℕ) (K : Language) → P b
+    → EquivalentAfter (OneOf P K) (b ∷ []) K
 unfolding OneOf
 behind_one P b K is = record {
   there = λ more rest it. (b, more, refl, is, it);
@@ -71,7 +72,7 @@ behind_one P b K is = record {
 
 -- one more byte of a run
 run_one : (P : ℕ → Type 0) (c b : ℕ) (K : Language) → P b → (P c → ⊥)
-    → Behind (Run P c K) (b ∷ []) (Run P c K)
+    → EquivalentAfter (Run P c K) (b ∷ []) (Run P c K)
 unfolding Run
 run_one P c b K is not = record {
   there = λ more rest it.
@@ -86,7 +87,8 @@ run_one P c b K is not = record {
         (run, behind, others_same b x more (run ++ c ∷ behind) e, All-tail P x run all, it)
 
 -- the end of a run
-run_end : (P : ℕ → Type 0) (c : ℕ) (K : Language) → (P c → ⊥) → Behind (Run P c K) (c ∷ []) K
+run_end : (P : ℕ → Type 0) (c : ℕ) (K : Language) → (P c → ⊥)
+    → EquivalentAfter (Run P c K) (c ∷ []) K
 unfolding Run
 run_end P c K not = record {
   there = λ more rest it. ([], more, refl, All-nil P, it);
@@ -102,7 +104,7 @@ run_end P c K not = record {
         (subst P (sym (first_same c x more (run ++ c ∷ behind) e)) (All-head P x run all)))
 
 pub behind_run : (P : ℕ → Type 0) (c : ℕ) (K : Language) (run : List ℕ) → All P run → (P c → ⊥)
-    → Behind (Run P c K) run (Run P c K)
+    → EquivalentAfter (Run P c K) run (Run P c K)
 behind_run P c K [] all not = behind_none (Run P c K)
 behind_run P c K (b ∷ run) all not =
     behind_both (Run P c K) (Run P c K) (Run P c K) (b ∷ []) run
@@ -110,13 +112,13 @@ behind_run P c K (b ∷ run) all not =
     (behind_run P c K run (All-tail P b run all) not)
 
 pub behind_run_end : (P : ℕ → Type 0) (c : ℕ) (K : Language) (run : List ℕ) → All P run
-    → (P c → ⊥) → Behind (Run P c K) (run ++ c ∷ []) K
+    → (P c → ⊥) → EquivalentAfter (Run P c K) (run ++ c ∷ []) K
 behind_run_end P c K run all not = behind_both (Run P c K) (Run P c K) K run (c ∷ [])
     (behind_run P c K run all not) (run_end P c K not)
 
 -- within one or more
 pub behind_some : (P : ℕ → Type 0) (c : ℕ) (K : Language) (run : List ℕ) → All P run → (P c → ⊥)
-    → 0 < length run → Behind (SomeOf P c K) run (Run P c K)
+    → 0 < length run → EquivalentAfter (SomeOf P c K) run (Run P c K)
 behind_some P c K [] all not some = absurd (omega (arith, some))
 behind_some P c K (b ∷ run) all not some =
     behind_both (SomeOf P c K) (Run P c K) (Run P c K) (b ∷ []) run
@@ -124,13 +126,13 @@ behind_some P c K (b ∷ run) all not some =
     (behind_run P c K run (All-tail P b run all) not)
 
 pub behind_some_end : (P : ℕ → Type 0) (c : ℕ) (K : Language) (run : List ℕ) → All P run
-    → (P c → ⊥) → 0 < length run → Behind (SomeOf P c K) (run ++ c ∷ []) K
+    → (P c → ⊥) → 0 < length run → EquivalentAfter (SomeOf P c K) (run ++ c ∷ []) K
 behind_some_end P c K run all not some =
     behind_both (SomeOf P c K) (Run P c K) K run (c ∷ [])
     (behind_some P c K run all not some) (run_end P c K not)
 
 pub behind_text : (front text : List ℕ) (K : Language)
-    → Behind (Text (front ++ text) K) front (Text text K)
+    → EquivalentAfter (Text (front ++ text) K) front (Text text K)
 behind_text [] text K = behind_none (Text text K)
 behind_text (b ∷ front) text K =
     behind_both (Byte b (Text (front ++ text) K)) (Text (front ++ text) K) (Text text K) (b ∷ [])
@@ -156,7 +158,7 @@ live_text (b ∷ bs) K it = live_byte b (Text bs K) (live_text bs K it)
 
 -- ---- bytes that cannot continue a language
 
-none_at : (L K : Language) (front back : List ℕ) → Behind L front K → NoneFirst K back
+none_at : (L K : Language) (front back : List ℕ) → EquivalentAfter L front K → NoneFirst K back
     → NoneAt L front back
 none_at L K front [] behind none = λ rest it.
     let P : List ℕ → Type 0 = λ l. L l rest in
@@ -164,7 +166,7 @@ none_at L K front [] behind none = λ rest it.
 none_at L K front (b ∷ bs) behind none = λ more rest it.
     none more rest (behind.back (b ∷ more) rest it)
 
-pub stops_at : (L K : Language) (bytes front back : List ℕ) (left : ℕ) → Behind L front K
+pub stops_at : (L K : Language) (bytes front back : List ℕ) (left : ℕ) → EquivalentAfter L front K
     → Live K → NoneFirst K back → bytes ≡ front ++ back → left ≡ length back
     → Stops L bytes left
 stops_at L K bytes front back left behind live none splits size = record {
@@ -177,7 +179,7 @@ stops_at L K bytes front back left behind live none splits size = record {
   none = none_at L K front back behind none;
 }
 
-none_behind : (L K : Language) (front before back : List ℕ) → Behind L front K
+none_behind : (L K : Language) (front before back : List ℕ) → EquivalentAfter L front K
     → NoneAt K before back → NoneAt L (front ++ before) back
 none_behind L K front before [] behind none = λ rest it.
     none rest (behind.back before rest it)
@@ -187,7 +189,8 @@ none_behind L K front before (b ∷ bs) behind none = λ more rest it.
     (subst P (append_assoc front before (b ∷ more)) it))
 
 -- if the continuation stops, so does the language
-pub stops_behind : (L K : Language) (bytes front rest : List ℕ) (left : ℕ) → Behind L front K
+pub stops_behind : (L K : Language) (bytes front rest : List ℕ) (left : ℕ)
+    → EquivalentAfter L front K
     → bytes ≡ front ++ rest → Stops K rest left → Stops L bytes left
 stops_behind L K bytes front rest left behind splits it =
     let P : List ℕ → Type 0 = λ l. L l [] in record {
