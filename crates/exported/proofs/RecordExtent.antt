@@ -13,7 +13,7 @@ use Rattle.exported.specs.CsvExtent.{RecordCalls, TellsRecord, nothing, record_e
 use Rattle.exported.specs.Turns.{all_of}
 use Rattle.exported.specs.declared.csv.Record.{Record}
 use Rattle.exported.specs.declared.csv.extent.CsvRecordState.{CsvRecordState}
-use Rattle.exported.proofs.Records.{Tells, wanted}
+use Rattle.exported.proofs.Records.{HasCounts, wanted}
 use Rattle.exported.proofs.Turns.{calls_from_nothing}
 
 module _ (d : Dialect) (old new : RecordExtent) (bytes : List ℕ)
@@ -21,7 +21,7 @@ module _ (d : Dialect) (old new : RecordExtent) (bytes : List ℕ)
     (out : Record) (told : IsOf d old bytes → RecordResult d bytes answer)
     (kept : IsOf d old bytes → (more : List ℕ) → IsOf d new (bytes ++ more))
     (was : old ≡ record_extent_of before) (is : record_extent_of after ≡ new)
-    (ends : code ≡ done → (size : RecordSize) × (answer ≡ Ok (Some size)) × Tells out size)
+    (ends : code ≡ done → (size : RecordSize) × (answer ≡ Ok (Some size)) × HasCounts out size)
     (wants : code ≡ incomplete → answer ≡ Ok None)
     (never : code ≡ invalid
     → (fault : RecordFault) × (answer ≡ Err fault) × (out.error_offset ≡ fault.offset)) where

@@ -21,14 +21,14 @@ use Rattle.exported.specs.Span.{span_of}
 use Rattle.exported.specs.declared.csv.Record.{Record}
 use Rattle.exported.specs.declared.span.Span.{Span}
 
--- `Tells found size`: `found` has the counts of `size`.
-abbrev pub Tells : Record → RecordSize → Type 0
-Tells found size = (found.fields ≡ size.fields) × (found.text ≡ size.text)
+-- `HasCounts found size`: `found` has the counts of `size`.
+abbrev pub HasCounts : Record → RecordSize → Type 0
+HasCounts found size = (found.fields ≡ size.fields) × (found.text ≡ size.text)
     × (found.length ≡ size.length)
 
 counts : (begins : List ℕ → List (List ℕ) → List ℕ → Type 0) (d : Dialect) (input : List ℕ)
     (fields : List (List ℕ)) (size : RecordSize) (found : Record) → SizedAs d input fields size
-    → Tells found size → begins input fields (drop size.length input)
+    → HasCounts found size → begins input fields (drop size.length input)
     → CountsRecord begins input found fields
 counts begins d input fields size found it (count, total, end) is = record {
   rest = drop size.length input;
@@ -47,7 +47,7 @@ open_still A B true it is = cc
 open_still A B false it is = it
 
 pub wanted : (d : Dialect) (input : List ℕ) (size : RecordSize) (found : Record)
-    → Tells found size → size.ended ≡ true → IsSized d input size
+    → HasCounts found size → size.ended ≡ true → IsSized d input size
     → WantsRecord (IsForGood d) input found
 wanted d input size found tells is (fields, it) = (
   fields,
@@ -56,7 +56,7 @@ wanted d input size found tells is (fields, it) = (
 )
 
 module _ (d : Dialect) (line_feeds : ℕ) (same : d ≡ dialect_of line_feeds) (input : List ℕ) where
-  module _ (size : RecordSize) (found : Record) (tells : Tells found size) where
+  module _ (size : RecordSize) (found : Record) (tells : HasCounts found size) where
     pub shown_for_good : size.ended ≡ true → (text : List ℕ) (places : List Span)
         → ShowsFields span_of d input size text places
         → ShowsRecord (IsForGood (dialect_of line_feeds)) input found text places

@@ -1,7 +1,7 @@
 -- The invariant: the first line feed in the remaining bytes is the first line feed in the input.
 use Rattle.std.proofs.Common.{◌≡◌, ◌++◌, ◌∷◌, ℕ, List, length}
 use Rattle.format_resp.specs.Parts.{NoFeed}
-use Rattle.exported.proofs.resp.places.behind_feed.Given as goal
+use Rattle.exported.proofs.resp.places.skip_line.Given as goal
 
 abbrev pub invariant-bytes : goal.invariant-bytes
 invariant-bytes l = (line behind : List ℕ) → NoFeed line → l.bytes ≡ line ++ 10 ∷ behind

@@ -1,6 +1,6 @@
 use Rattle.std.proofs.Common.{rules}
 use Rattle.exported.proofs.Replies.{feed_first, feed_more}
-use Rattle.exported.proofs.resp.places.behind_feed.Goals as goal
+use Rattle.exported.proofs.resp.places.skip_line.Goals as goal
 
 pub bytes-init : goal.bytes-init
 bytes-init c = λ line behind none e. (line, none, e)
