@@ -3,7 +3,7 @@ use std::process::Abort;
 use format_csv_records::dialect::{Dialect, LineEnds};
 use format_csv_records::read::{RecordError, RecordFault, Refusal, read_record_into};
 use format_csv_records::record::ByteRecord;
-use format_csv_records::records::{Records, behind_mark, column_of, field_of};
+use format_csv_records::records::{Records, skip_mark, column_of, field_of};
 
 pub fn dialect(delimiter: u8, ends: LineEnds, rt: &impl Abort) -> Dialect {
     match Dialect::new(delimiter, b'"', ends) {
@@ -105,13 +105,13 @@ fn either_line_end_at_each_record_anew(rt: HostRuntime) {
 #[test]
 fn a_header_and_its_names(rt: HostRuntime) {
     let bytes = b"\xef\xbb\xbfname,size,name\nx,1,y\nz\n".as_slice();
-    let rest = match behind_mark(bytes) {
+    let rest = match skip_mark(bytes) {
         Some(rest) => rest,
         None => bytes,
     };
     assert_eq!(rt; bytes.len() - rest.len(), 3);
-    assert!(rt; behind_mark(rest).is_none());
-    assert!(rt; behind_mark(b"\xef\xbb".as_slice()).is_none());
+    assert!(rt; skip_mark(rest).is_none());
+    assert!(rt; skip_mark(b"\xef\xbb".as_slice()).is_none());
     let alloc = rt.alloc();
     let (mut header, mut fields) = (ByteRecord::new(alloc), ByteRecord::new(alloc));
     let mut records = Records::new(dialect(b',', LineEnds::Lf, &rt), rest);

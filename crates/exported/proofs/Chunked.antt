@@ -1,11 +1,11 @@
 -- Lemmas about the results of calls for chunked bodies, and of successive calls.
 use Rattle.std.specs.Prelude.{◌≡◌, ◌+◌, ◌++◌, ℕ, List, [], ◌∷◌, length, take, Result}
-use Rattle.std.proofs.Common.{ap, append_assoc, append-nil, arith, length-append, refl, subst, sym}
+use Rattle.std.proofs.Common.{ap, append-nil, append_assoc, arith, length-append, refl, subst, sym}
 use Rattle.std.proofs.Common.{◌∙◌}
-use Rattle.format_http_chunked.proofs.Told.{begins}
+use Rattle.format_http_chunked.proofs.Results.{begins}
 use Rattle.format_http_chunked.specs.Decoded.{IsAnswer, IsAt, content_of, trailers_of}
 use Rattle.format_http_chunked.specs.Room.{Spends}
-use Rattle.format_http_chunked.specs.Stands.{Stands}
+use Rattle.format_http_chunked.specs.Outputs.{OutputBeforeRest}
 use Rattle.format_http_chunked.specs.State.{decoder_of}
 use Rattle.format_http_chunked.specs.declared.decoder.Decoder.{Decoder}
 use Rattle.format_http_chunked.specs.declared.decoder.Fault.{Fault}
@@ -38,7 +38,8 @@ tells old new before after bytes rest said code out was is taken writes spends a
 
 -- ---- places
 
-pub taken_before : (bytes rest : List ℕ) (said : Result Step Fault) → Stands bytes rest said
+pub taken_before : (bytes rest : List ℕ) (said : Result Step Fault)
+    → OutputBeforeRest bytes rest said
     → (before : List ℕ) × (bytes ≡ before ++ rest)
 taken_before bytes rest said (before, e) =
     let given = content_of said in

@@ -1,6 +1,6 @@
 -- Lemmas about the results of calls for INI documents, and of successive calls.
 use Rattle.std.specs.Prelude.{◌≡◌, ◌<◌, ◌++◌, ℕ, List, [], ◌∷◌, drop}
-use Rattle.std.specs.Prelude.{Option, Some, None, Result, Ok, Err}
+use Rattle.std.specs.Prelude.{Err, None, Ok, Option, Result, Some}
 use Rattle.std.proofs.Common.{ap, append_assoc, arith, inl, inr, length-drop, subst, sym}
 use Rattle.std.proofs.Common.{◌∙◌}
 use Rattle.std.specs.Str.{IsUtf8}
@@ -46,12 +46,12 @@ abbrev pub SoFar : ℕ → List ℕ → List Said → Reading → Type 0
 SoFar dialect bytes said from = (lines : List ℕ) × BehindMark bytes lines
     × ReadsLines (dialect_of dialect) start lines said from.state (drop from.offset bytes)
 
--- `Stands dialect bytes said state`: `SoFar` holds for each position that `state` represents.
-abbrev pub Stands : ℕ → List ℕ → List Said → IniState → Type 0
-Stands dialect bytes said state =
+-- `IsReadSoFar dialect bytes said state`: `SoFar` holds for each position that `state` represents.
+abbrev pub IsReadSoFar : ℕ → List ℕ → List Said → IniState → Type 0
+IsReadSoFar dialect bytes said state =
     (from : Reading) → IsFrom state bytes from → SoFar dialect bytes said from
 
-stands_first : (dialect : ℕ) (bytes : List ℕ) → Stands dialect bytes [] zeros
+stands_first : (dialect : ℕ) (bytes : List ℕ) → IsReadSoFar dialect bytes [] zeros
 stands_first dialect bytes from (inl (z, (mark, within, is))) =
     let left = drop from.offset bytes in
     let P : State → Type 0 = λ s. ReadsLines (dialect_of dialect) start left [] s left in
@@ -99,8 +99,8 @@ more_by dialect bytes said from new (Err (stops.Refused reason)) out next (code,
 
 stands_more : (dialect : ℕ) (bytes : List ℕ) (said : List Said) (state next : IniState)
     (out : IniEntry) (tells : TellsEntry dialect state next bytes done out)
-    → Stands dialect bytes said state
-    → Stands dialect bytes (said ++ said_by tells.answer) next
+    → IsReadSoFar dialect bytes said state
+    → IsReadSoFar dialect bytes (said ++ said_by tells.answer) next
 stands_more dialect bytes said state next out tells here from is =
     let (more, there) = more_by dialect bytes said tells.from (reading_at next) tells.answer out
     tells.next tells.writes (here tells.from tells.begins) in
@@ -111,18 +111,18 @@ stands_more dialect bytes said state next out tells here from is =
     ]
 
 turn_by_turn : (dialect : ℕ) (bytes : List ℕ) (outs : List IniEntry) (state last : IniState)
-    (before said : List Said) → Stands dialect bytes before state
+    (before said : List Said) → IsReadSoFar dialect bytes before state
     → EntriesInTurn dialect bytes state outs said last
-    → Stands dialect bytes (before ++ said) last
+    → IsReadSoFar dialect bytes (before ++ said) last
 unfolding EntriesInTurn
 turn_by_turn dialect bytes [] state last before said here (same, none) =
-    let P : IniState → Type 0 = λ s. Stands dialect bytes (before ++ said) s in
-    let Q : List Said → Type 0 = λ l. Stands dialect bytes l state in
+    let P : IniState → Type 0 = λ s. IsReadSoFar dialect bytes (before ++ said) s in
+    let Q : List Said → Type 0 = λ l. IsReadSoFar dialect bytes l state in
     subst P same (subst Q (sym (append-nil before) ∙ ap (λ l. before ++ l) (sym none)) here)
 turn_by_turn dialect bytes (out ∷ outs) state last before said here
     (next, tells, others, e, again) =
     let one = said_by tells.answer in
-    let Q : List Said → Type 0 = λ l. Stands dialect bytes l last in
+    let Q : List Said → Type 0 = λ l. IsReadSoFar dialect bytes l last in
     subst Q (append_assoc before one others ∙ ap (λ l. before ++ l) (sym e))
     (turn_by_turn dialect bytes outs next last (before ++ one) others
     (stands_more dialect bytes before state next out tells here) again)
@@ -190,7 +190,7 @@ no_text_by dialect bytes said from new (Err (stops.Refused reason)) out next (co
 module _ (dialect : ℕ) (bytes : List ℕ) (outs : List IniEntry) (said : List Said)
     (state next : IniState) (out : IniEntry)
     (turns : EntriesInTurn dialect bytes zeros outs said state) where
-  here : Stands dialect bytes said state
+  here : IsReadSoFar dialect bytes said state
   here = turn_by_turn dialect bytes outs zeros state [] said (stands_first dialect bytes) turns
 
   pub whole : TellsEntry dialect state next bytes end out

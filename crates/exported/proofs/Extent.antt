@@ -1,8 +1,8 @@
 -- Lemmas about successive calls for the end of a reply.
 use Rattle.std.specs.Prelude.{◌≡◌, ◌++◌, ℕ, List, [], Option, None, Some, Result, Ok, Err}
 use Rattle.std.specs.Prelude.{IfOk, OnOk}
-use Rattle.std.proofs.Common.{refl, sym, subst, arith}
-use Rattle.format_resp.specs.Extents.{IsOf, IsTold, IsWanting}
+use Rattle.std.proofs.Common.{arith, refl, subst, sym}
+use Rattle.format_resp.specs.Extents.{IsOf, IsWanting, ReplyResult}
 use Rattle.format_resp.specs.declared.extent.Extent.{Extent}
 use Rattle.format_resp.specs.declared.extent.Refused.{Refused}
 use Rattle.format_resp.proofs.Passing.{none_passed}
@@ -15,7 +15,7 @@ use Rattle.exported.proofs.Turns.{calls_from_nothing}
 -- ---- one call, from the specification of the extent
 
 module _ (old new : Extent) (bytes : List ℕ) (answer : Result (Option ℕ) Refused)
-    (told : IsOf old bytes → IsTold bytes answer)
+    (told : IsOf old bytes → ReplyResult bytes answer)
     (kept : OnOk answer (IsOf old bytes → (more : List ℕ) → IsOf new (bytes ++ more)))
     (wants : IsOf old bytes → IfOk answer (IsWanting new bytes))
     (before after : RespReplyState) (was : old ≡ extent_of before) (is : extent_of after ≡ new)
@@ -31,9 +31,9 @@ module _ (old new : Extent) (bytes : List ℕ) (answer : Result (Option ℕ) Ref
       let Q : Extent → Type 0 = λ x. IsOf x (bytes ++ more) in
       subst Q (sym is) (subst P e kept it_was more)
 
-  it_tells : (inside : Option ℕ) → answer ≡ Ok inside → IsTold bytes (Ok inside)
+  it_tells : (inside : Option ℕ) → answer ≡ Ok inside → ReplyResult bytes (Ok inside)
   it_tells inside e =
-      let P : Result (Option ℕ) Refused → Type 0 = λ a. IsTold bytes a in
+      let P : Result (Option ℕ) Refused → Type 0 = λ a. ReplyResult bytes a in
       subst P e (told it_was)
 
   it_wants : (inside : Option ℕ) → answer ≡ Ok inside
@@ -46,7 +46,7 @@ module _ (old new : Extent) (bytes : List ℕ) (answer : Result (Option ℕ) Ref
   pub tells_end : (inside : Option ℕ) (count : ℕ) → answer ≡ Ok inside → inside ≡ Some count
       → TellsEnd bytes done count after
   tells_end inside count e some =
-      let P : Option ℕ → Type 0 = λ o. IsTold bytes (Ok o) in
+      let P : Option ℕ → Type 0 = λ o. ReplyResult bytes (Ok o) in
       record {
         ends = λ _. subst P some (it_tells inside e);
         wants = λ other. absurd (omega (arith, other));
@@ -57,7 +57,7 @@ module _ (old new : Extent) (bytes : List ℕ) (answer : Result (Option ℕ) Ref
   pub tells_wants : (inside : Option ℕ) (count : ℕ) → answer ≡ Ok inside → inside ≡ None
       → TellsEnd bytes incomplete count after
   tells_wants inside count e none =
-      let P : Option ℕ → Type 0 = λ o. IsTold bytes (Ok o) in
+      let P : Option ℕ → Type 0 = λ o. ReplyResult bytes (Ok o) in
       let Q : Option ℕ → Type 0 = λ o. IsWanting (extent_of after) bytes o in
       record {
         ends = λ other. absurd (omega (arith, other));
@@ -69,7 +69,7 @@ module _ (old new : Extent) (bytes : List ℕ) (answer : Result (Option ℕ) Ref
   pub tells_never : (why : Refused) (count : ℕ) → answer ≡ Err why
       → TellsEnd bytes invalid count after
   tells_never why count e =
-      let P : Result (Option ℕ) Refused → Type 0 = λ a. IsTold bytes a in
+      let P : Result (Option ℕ) Refused → Type 0 = λ a. ReplyResult bytes a in
       record {
         ends = λ other. absurd (omega (arith, other));
         wants = λ other. absurd (omega (arith, other));

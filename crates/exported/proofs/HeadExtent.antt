@@ -1,7 +1,7 @@
 -- Lemmas about successive calls for the end of the head of a request.
 use Rattle.std.specs.Prelude.{◌≡◌, ◌++◌, ℕ, List, [], Option, None, Some, Result, Ok, Err}
-use Rattle.std.proofs.Common.{refl, sym, subst}
-use Rattle.format_http_places.specs.Extents.{IsOf, IsTold}
+use Rattle.std.proofs.Common.{refl, subst, sym}
+use Rattle.format_http_places.specs.Extents.{HeadResult, IsOf}
 use Rattle.format_http_places.specs.declared.extent.HeadExtent.{HeadExtent}
 use Rattle.format_http_places.specs.declared.extent.Refused.{Refused}
 use Rattle.format_http_places.proofs.Extents.{of_none}
@@ -13,7 +13,7 @@ use Rattle.exported.proofs.Turns.{calls_from_nothing}
 
 pub tells_head : (old new : HeadExtent) (bytes : List ℕ) (answer : Result (Option ℕ) Refused)
     (before after : HttpHeadState) (code out : ℕ)
-    → (IsOf old bytes → IsTold bytes answer)
+    → (IsOf old bytes → HeadResult bytes answer)
     → (IsOf old bytes → (more : List ℕ) → IsOf new (bytes ++ more))
     → old ≡ head_extent_of before → head_extent_of after ≡ new
     → (code ≡ done → answer ≡ Ok (Some out)) → (code ≡ incomplete → answer ≡ Ok None)
@@ -21,7 +21,7 @@ pub tells_head : (old new : HeadExtent) (bytes : List ℕ) (answer : Result (Opt
     → IsOf (head_extent_of before) bytes → TellsHead bytes code out after
 tells_head old new bytes answer before after code out told kept was is ends wants never here =
     let P : HeadExtent → Type 0 = λ e. IsOf e bytes in
-    let Q : Result (Option ℕ) Refused → Type 0 = λ a. IsTold bytes a in
+    let Q : Result (Option ℕ) Refused → Type 0 = λ a. HeadResult bytes a in
     let it : IsOf old bytes = subst P (sym was) here in
     record {
       ends = λ e. subst Q (ends e) (told it);

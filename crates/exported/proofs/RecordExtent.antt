@@ -1,7 +1,7 @@
 -- Lemmas about successive calls for the end of a record.
 use Rattle.std.specs.Prelude.{◌≡◌, ◌++◌, ℕ, List, [], Option, None, Some, Result, Ok, Err}
-use Rattle.std.proofs.Common.{inr, refl, sym, subst}
-use Rattle.format_csv_records.specs.Extents.{IsOf, IsTold}
+use Rattle.std.proofs.Common.{inr, refl, subst, sym}
+use Rattle.format_csv_records.specs.Extents.{IsOf, RecordResult}
 use Rattle.format_csv_records.specs.Refused.{IsRefused}
 use Rattle.format_csv_records.specs.declared.buffers.RecordSize.{RecordSize}
 use Rattle.format_csv_records.specs.declared.dialect.Dialect.{Dialect}
@@ -13,21 +13,21 @@ use Rattle.exported.specs.CsvExtent.{RecordCalls, TellsRecord, nothing, record_e
 use Rattle.exported.specs.Turns.{all_of}
 use Rattle.exported.specs.declared.csv.Record.{Record}
 use Rattle.exported.specs.declared.csv.extent.CsvRecordState.{CsvRecordState}
-use Rattle.exported.proofs.Records.{Tells, wanted}
+use Rattle.exported.proofs.Records.{HasCounts, wanted}
 use Rattle.exported.proofs.Turns.{calls_from_nothing}
 
 module _ (d : Dialect) (old new : RecordExtent) (bytes : List ℕ)
     (answer : Result (Option RecordSize) RecordFault) (before after : CsvRecordState) (code : ℕ)
-    (out : Record) (told : IsOf d old bytes → IsTold d bytes answer)
+    (out : Record) (told : IsOf d old bytes → RecordResult d bytes answer)
     (kept : IsOf d old bytes → (more : List ℕ) → IsOf d new (bytes ++ more))
     (was : old ≡ record_extent_of before) (is : record_extent_of after ≡ new)
-    (ends : code ≡ done → (size : RecordSize) × (answer ≡ Ok (Some size)) × Tells out size)
+    (ends : code ≡ done → (size : RecordSize) × (answer ≡ Ok (Some size)) × HasCounts out size)
     (wants : code ≡ incomplete → answer ≡ Ok None)
     (never : code ≡ invalid
     → (fault : RecordFault) × (answer ≡ Err fault) × (out.error_offset ≡ fault.offset)) where
   tells_of : IsOf d old bytes → TellsRecord d bytes code out after
   tells_of it =
-      let Q : Result (Option RecordSize) RecordFault → Type 0 = λ a. IsTold d bytes a in
+      let Q : Result (Option RecordSize) RecordFault → Type 0 = λ a. RecordResult d bytes a in
       record {
         ends = λ e.
             let (size, at, counts) = ends e in

@@ -7,7 +7,7 @@ use Rattle.format_csv_records.specs.Buffers.{IsForGood, IsSized, NoneForGood, Sh
 use Rattle.format_csv_records.specs.Buffers.{SizedAs}
 use Rattle.std.proofs.lemmas.List.Elements.{All-nil}
 use Rattle.format_csv_records.specs.Dialects.{IsRecord}
-use Rattle.format_csv_records.specs.Early.{GoesOn}
+use Rattle.format_csv_records.specs.Early.{IsViablePrefix}
 use Rattle.format_csv_records.specs.Refused.{IsRefused}
 use Rattle.format_csv_records.specs.declared.buffers.RecordSize.{RecordSize}
 use Rattle.format_csv_records.specs.declared.dialect.Dialect.{Dialect}
@@ -21,14 +21,14 @@ use Rattle.exported.specs.Span.{span_of}
 use Rattle.exported.specs.declared.csv.Record.{Record}
 use Rattle.exported.specs.declared.span.Span.{Span}
 
--- `Tells found size`: `found` has the counts of `size`.
-abbrev pub Tells : Record → RecordSize → Type 0
-Tells found size = (found.fields ≡ size.fields) × (found.text ≡ size.text)
+-- `HasCounts found size`: `found` has the counts of `size`.
+abbrev pub HasCounts : Record → RecordSize → Type 0
+HasCounts found size = (found.fields ≡ size.fields) × (found.text ≡ size.text)
     × (found.length ≡ size.length)
 
 counts : (begins : List ℕ → List (List ℕ) → List ℕ → Type 0) (d : Dialect) (input : List ℕ)
     (fields : List (List ℕ)) (size : RecordSize) (found : Record) → SizedAs d input fields size
-    → Tells found size → begins input fields (drop size.length input)
+    → HasCounts found size → begins input fields (drop size.length input)
     → CountsRecord begins input found fields
 counts begins d input fields size found it (count, total, end) is = record {
   rest = drop size.length input;
@@ -47,7 +47,7 @@ open_still A B true it is = cc
 open_still A B false it is = it
 
 pub wanted : (d : Dialect) (input : List ℕ) (size : RecordSize) (found : Record)
-    → Tells found size → size.ended ≡ true → IsSized d input size
+    → HasCounts found size → size.ended ≡ true → IsSized d input size
     → WantsRecord (IsForGood d) input found
 wanted d input size found tells is (fields, it) = (
   fields,
@@ -56,7 +56,7 @@ wanted d input size found tells is (fields, it) = (
 )
 
 module _ (d : Dialect) (line_feeds : ℕ) (same : d ≡ dialect_of line_feeds) (input : List ℕ) where
-  module _ (size : RecordSize) (found : Record) (tells : Tells found size) where
+  module _ (size : RecordSize) (found : Record) (tells : HasCounts found size) where
     pub shown_for_good : size.ended ≡ true → (text : List ℕ) (places : List Span)
         → ShowsFields span_of d input size text places
         → ShowsRecord (IsForGood (dialect_of line_feeds)) input found text places
@@ -84,11 +84,11 @@ module _ (d : Dialect) (line_feeds : ℕ) (same : d ≡ dialect_of line_feeds) (
       let R : List ℕ → Type 0 = λ l. IsRecord d l fields (rest ++ []) in
       none fields (rest ++ []) (subst R (append-nil input) (all [])))
 
-  goes_on : GoesOn d input → GoesOn (dialect_of line_feeds) input
-  goes_on it = let P : Dialect → Type 0 = λ x. GoesOn x input in subst P same it
+  goes_on : IsViablePrefix d input → IsViablePrefix (dialect_of line_feeds) input
+  goes_on it = let P : Dialect → Type 0 = λ x. IsViablePrefix x input in subst P same it
 
   pub some_may : (size : RecordSize) → IsSized d input size → size.ended ≡ false
-      → NoneForGood (dialect_of line_feeds) input × GoesOn (dialect_of line_feeds) input
+      → NoneForGood (dialect_of line_feeds) input × IsViablePrefix (dialect_of line_feeds) input
   some_may size (fields, it) is =
       let P : Dialect → Type 0 = λ x. NoneForGood x input in
       let R : List ℕ → Type 0 = λ l. IsRecord d l fields (drop size.length input) in (
@@ -98,15 +98,15 @@ module _ (d : Dialect) (line_feeds : ℕ) (same : d ≡ dialect_of line_feeds) (
       )
 
   pub nothing_may : input ≡ []
-      → NoneForGood (dialect_of line_feeds) input × GoesOn (dialect_of line_feeds) input
+      → NoneForGood (dialect_of line_feeds) input × IsViablePrefix (dialect_of line_feeds) input
   nothing_may none =
-      let P : List ℕ → Type 0 = λ l. GoesOn d l in (
+      let P : List ℕ → Type 0 = λ l. IsViablePrefix d l in (
         none_yet (λ fields rest is. omega (arith, is.0, ap (λ l. length l) none)),
         goes_on (subst P (sym none) (none_goes_on d)),
       )
 
   pub refused_may : (fault : RecordFault) → IsRefused d input fault → length input ≤ fault.offset
-      → NoneForGood (dialect_of line_feeds) input × GoesOn (dialect_of line_feeds) input
+      → NoneForGood (dialect_of line_feeds) input × IsViablePrefix (dialect_of line_feeds) input
   refused_may fault it far =
       let quote : d.quote ≡ 34 = ap (λ (x : Dialect). x.quote) same in (
         none_yet (λ fields rest is. refused_none d input fault fields rest it is),

@@ -17,7 +17,7 @@ use Rattle.format_resp.specs.declared.reply.Reply.TheOpen.{Reply-F}
 use Rattle.winnow.specs.InTurn.{First}
 use Rattle.exported.specs.Pieces.{MayFollow}
 use Rattle.exported.specs.Resp.{AreElements, Found, IsReply, IsReplyForGood, IsShown}
-use Rattle.exported.specs.Resp.{IsShownBy, ShowsReply, Tells, TellsText}
+use Rattle.exported.specs.Resp.{HasFields, HasText, IsShownBy, ShowsReply}
 use Rattle.exported.specs.Span.{EndsWith, StandsAt, nowhere}
 use Rattle.exported.specs.declared.resp.Reply.{Reply}
 use Rattle.exported.specs.declared.span.Span.{Span}
@@ -145,38 +145,38 @@ module _ (level : ℕ) (input rest : List ℕ) (reply : Found) (it : Reply) wher
       subst P (sym (ap (out-Reply (Bor (List ℕ)) Global) same ∙ form_is))
 
   pub simple_shown : (text : Bor (List ℕ)) → reply ≡ made.Simple text
-      → TellsText 0 input rest text.now it → IsShown level input rest reply it
+      → HasText 0 input rest text.now it → IsShown level input rest reply it
   simple_shown text same =
       shown_made (Reply-F.Simple text) (made.Simple text) same (simple_is text)
 
   pub error_shown : (text : Bor (List ℕ)) → reply ≡ made.Error text
-      → TellsText 1 input rest text.now it → IsShown level input rest reply it
+      → HasText 1 input rest text.now it → IsShown level input rest reply it
   error_shown text same =
       shown_made (Reply-F.Error text) (made.Error text) same (error_is text)
 
-  pub integer_shown : (number : ℤ) → reply ≡ made.Integer number → Tells it 2 number 0
+  pub integer_shown : (number : ℤ) → reply ≡ made.Integer number → HasFields it 2 number 0
       → it.span ≡ nowhere → IsShown level input rest reply it
   integer_shown number same told none =
       shown_made (Reply-F.Integer number) (made.Integer number) same (integer_is number)
       (told, none)
 
   pub bulk_shown : (text : Bor (List ℕ)) → reply ≡ made.Bulk text
-      → TellsText 3 input rest text.now it → IsShown level input rest reply it
+      → HasText 3 input rest text.now it → IsShown level input rest reply it
   bulk_shown text same =
       shown_made (Reply-F.Bulk text) (made.Bulk text) same (bulk_is text)
 
-  pub null_bulk_shown : reply ≡ made.NullBulk → Tells it 4 (pos 0) 0 → it.span ≡ nowhere
+  pub null_bulk_shown : reply ≡ made.NullBulk → HasFields it 4 (pos 0) 0 → it.span ≡ nowhere
       → IsShown level input rest reply it
   null_bulk_shown same told none =
       shown_made Reply-F.NullBulk made.NullBulk same null_bulk_is (told, none)
 
   pub array_shown : (list : Vec Found Global) → reply ≡ made.Array list
-      → Tells it 5 (pos 0) (length list.items) → AreElements level input rest list.items it
+      → HasFields it 5 (pos 0) (length list.items) → AreElements level input rest list.items it
       → IsShown level input rest reply it
   array_shown list same told are =
       shown_made (Reply-F.Array list) (made.Array list) same (array_is list) (told, are)
 
-  pub null_array_shown : reply ≡ made.NullArray → Tells it 6 (pos 0) 0 → it.span ≡ nowhere
+  pub null_array_shown : reply ≡ made.NullArray → HasFields it 6 (pos 0) 0 → it.span ≡ nowhere
       → IsShown level input rest reply it
   null_array_shown same told none =
       shown_made Reply-F.NullArray made.NullArray same null_array_is (told, none)

@@ -1,7 +1,7 @@
 -- The search for the end of a record in partial input.
 use Rattle.std.specs.Prelude.{◌≡◌, ◌++◌, ℕ, List, [], ◌∷◌, get_or}
 use Rattle.format_csv_records.specs.Buffers.{IsForGood, NoneForGood}
-use Rattle.format_csv_records.specs.Early.{BeginsNone, GoesOn}
+use Rattle.format_csv_records.specs.Early.{IsPrefixOfNone, IsViablePrefix}
 use Rattle.format_csv_records.specs.Extents.{IsOf}
 use Rattle.format_csv_records.specs.declared.dialect.Dialect.{Dialect}
 use Rattle.format_csv_records.specs.declared.extent.RecordExtent.{RecordExtent}
@@ -39,8 +39,8 @@ nothing = record { passed = 0; text = 0; fields = 0; place = 0 }
 pub record TellsRecord (d : Dialect) (bytes : List ℕ) (code : ℕ) (out : Record)
     (state : CsvRecordState) : Type 0 where
   pub ends : code ≡ done → WantsRecord (IsForGood d) bytes out
-  pub wants : code ≡ incomplete → NoneForGood d bytes × GoesOn d bytes
-  pub never : code ≡ invalid → BeginsNone d bytes × IsRefusedAt d bytes out.error_offset
+  pub wants : code ≡ incomplete → NoneForGood d bytes × IsViablePrefix d bytes
+  pub never : code ≡ invalid → IsPrefixOfNone d bytes × IsRefusedAt d bytes out.error_offset
   pub kept : (more : List ℕ) → IsOf d (record_extent_of state) (bytes ++ more)
 
 -- Successive calls that all return `incomplete`.

@@ -1,8 +1,8 @@
 -- Documents of any dialect of INI as callers see them, from call to call.
 use Rattle.std.specs.Prelude.{◌≡◌, ◌⊎◌, ◌<◌, ◌/◌, ◌%◌, ◌++◌, ℕ, zero, suc, List, [], ◌∷◌, length}
-use Rattle.std.specs.Prelude.{Bool, true, false, Option, Some, None, Result, Ok, Err, nat_eq}
+use Rattle.std.specs.Prelude.{Bool, Err, None, Ok, Option, Result, Some, false, nat_eq, true}
 use Rattle.format_ini.specs.Lines.{Said, said_in}
-use Rattle.format_ini.specs.Places.{IsBegun, NextPlaced}
+use Rattle.format_ini.specs.Places.{IsAtStart, NextPlaced}
 use Rattle.format_ini.specs.declared.dialect.Continued.{Continued}
 use Rattle.format_ini.specs.declared.dialect.Continued.TheVariants as continued
 use Rattle.format_ini.specs.declared.dialect.Delimiters.{Delimiters}
@@ -81,7 +81,7 @@ reading_at s = record {
 -- start of `bytes` after an optional byte order mark.
 abbrev pub IsFrom : IniState → List ℕ → Reading → Type 0
 IsFrom s bytes from =
-    ((s.offset ≡ 0) × IsBegun bytes from) ⊎ ((0 < s.offset) × (from ≡ reading_at s))
+    ((s.offset ≡ 0) × IsAtStart bytes from) ⊎ ((0 < s.offset) × (from ≡ reading_at s))
 
 -- the state of zeros
 abbrev pub zeros : IniState

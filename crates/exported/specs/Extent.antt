@@ -1,7 +1,7 @@
 -- The search for the end of a reply in partial input, over successive calls.
 use Rattle.std.specs.Prelude.{◌≡◌, ◌+◌, ◌*◌, ◌++◌, ℕ, zero, suc, List}
-use Rattle.std.specs.Prelude.{Some, None, Ok}
-use Rattle.format_resp.specs.Extents.{IsOf, IsReply, IsTold, IsWanting, Stands}
+use Rattle.std.specs.Prelude.{None, Ok, Some}
+use Rattle.format_resp.specs.Extents.{IsOf, IsReply, IsWanting, MatchesAtStart, ReplyResult}
 use Rattle.format_resp.specs.declared.extent.Extent.{Extent}
 use Rattle.exported.specs.Code.{done, incomplete, invalid}
 use Rattle.exported.specs.Turns.{CallsFrom}
@@ -37,11 +37,11 @@ nothing = record { due = 0; passed = 0; sought = 0; bulk = 0; low = 0; high = 0 
 -- it has not ended, or bytes of a string are missing. `refused`: no continuation starts with a
 -- reply. Unless `code` is `refused`, `state` is a state of `bytes`, for any continuation.
 pub record TellsEnd (bytes : List ℕ) (code count : ℕ) (state : RespReplyState) : Type 0 where
-  pub ends : code ≡ done → IsTold bytes (Ok (Some count))
+  pub ends : code ≡ done → ReplyResult bytes (Ok (Some count))
   pub wants : code ≡ incomplete
-      → IsTold bytes (Ok None) × IsWanting (extent_of state) bytes None
+      → ReplyResult bytes (Ok None) × IsWanting (extent_of state) bytes None
   pub never : code ≡ invalid
-      → (more left : List ℕ) → Stands IsReply (bytes ++ more) left → ⊥
+      → (more left : List ℕ) → MatchesAtStart IsReply (bytes ++ more) left → ⊥
   pub kept : (code ≡ invalid → ⊥) → (more : List ℕ) → IsOf (extent_of state) (bytes ++ more)
 
 -- Successive calls that all return `incomplete`.

@@ -1,7 +1,7 @@
 -- The search for the end of the head of a request in partial input.
 use Rattle.std.specs.Prelude.{◌≡◌, ◌++◌, ℕ, List, [], ◌∷◌, get_or}
-use Rattle.std.specs.Prelude.{Some, None, Ok, Err}
-use Rattle.format_http_places.specs.Extents.{IsOf, IsTold}
+use Rattle.std.specs.Prelude.{Err, None, Ok, Some}
+use Rattle.format_http_places.specs.Extents.{HeadResult, IsOf}
 use Rattle.format_http_places.specs.declared.extent.HeadExtent.{HeadExtent}
 use Rattle.format_http_places.specs.declared.extent.HeadPlace.{HeadPlace}
 use Rattle.format_http_places.specs.declared.extent.HeadPlace.TheVariants as place
@@ -30,9 +30,9 @@ nothing = record { passed = 0; place = 0 }
 -- `refused`: `out` is the first offset at which no head can continue. `state` is a state of
 -- `bytes`, for any continuation.
 pub record TellsHead (bytes : List ℕ) (code out : ℕ) (state : HttpHeadState) : Type 0 where
-  pub ends : code ≡ done → IsTold bytes (Ok (Some out))
-  pub wants : code ≡ incomplete → IsTold bytes (Ok None)
-  pub never : code ≡ invalid → IsTold bytes (Err (record { place = out }))
+  pub ends : code ≡ done → HeadResult bytes (Ok (Some out))
+  pub wants : code ≡ incomplete → HeadResult bytes (Ok None)
+  pub never : code ≡ invalid → HeadResult bytes (Err (record { place = out }))
   pub kept : (more : List ℕ) → IsOf (head_extent_of state) (bytes ++ more)
 
 -- Successive calls that all return `incomplete`.

@@ -4,22 +4,24 @@ use Rattle.format_json_extents.specs.Integer.{IsInteger, IsNatural}
 use Rattle.format_json_extents.specs.Number.{IsNumber}
 use Rattle.format_json_extents.specs.Texts.{IsLongest}
 
--- `BeginsInteger is bytes n`: `bytes` starts with a number, and `n` is the integer of the longest
+-- `StartsWithInteger is bytes n`: `bytes` starts with a number, and `n` is the integer of the
+-- longest
 -- such number, or `None`.
-abbrev pub BeginsInteger : {A : Type 0} → (List ℕ → Option A → Type 0) → List ℕ → Option A → Type 0
-BeginsInteger is bytes n =
+abbrev pub StartsWithInteger : {A : Type 0} → (List ℕ → Option A → Type 0) → List ℕ → Option A
+    → Type 0
+StartsWithInteger is bytes n =
     (text rest : List ℕ) × IsLongest IsNumber text bytes rest × is text n
 
 -- of 64 bits with a sign
 abbrev pub ShowsInteger : List ℕ → ℤ → Type 0
-ShowsInteger bytes n = BeginsInteger IsInteger bytes (Some n)
+ShowsInteger bytes n = StartsWithInteger IsInteger bytes (Some n)
 
 abbrev pub ShowsNoInteger : List ℕ → Type 0
-ShowsNoInteger bytes = BeginsInteger IsInteger bytes None
+ShowsNoInteger bytes = StartsWithInteger IsInteger bytes None
 
 -- of 64 bits without one
 abbrev pub ShowsNatural : List ℕ → ℕ → Type 0
-ShowsNatural bytes n = BeginsInteger IsNatural bytes (Some n)
+ShowsNatural bytes n = StartsWithInteger IsNatural bytes (Some n)
 
 abbrev pub ShowsNoNatural : List ℕ → Type 0
-ShowsNoNatural bytes = BeginsInteger IsNatural bytes None
+ShowsNoNatural bytes = StartsWithInteger IsNatural bytes None

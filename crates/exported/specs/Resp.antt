@@ -51,30 +51,31 @@ pub record AreElements (level : ℕ) (input rest : List ℕ) (elements : List Fo
   pub behind_line : IsBehindFeed input (bytes ++ rest)
   pub stand : StandsAt input it.span bytes rest
 
--- `Tells it kind number elements`: `it` has this kind, this number, and this number of elements.
-pub record Tells (it : Reply) (kind : ℕ) (number : ℤ) (elements : ℕ) : Type 0 where
+-- `HasFields it kind number elements`: `it` has this kind, this number, and this number of
+-- elements.
+pub record HasFields (it : Reply) (kind : ℕ) (number : ℤ) (elements : ℕ) : Type 0 where
   pub is_kind : it.kind ≡ kind
   pub is_number : it.number ≡ number
   pub count : it.elements ≡ elements
 
--- `TellsText kind input rest text it`: `it` has the text `text`, followed by a line ending and
+-- `HasText kind input rest text it`: `it` has the text `text`, followed by a line ending and
 -- `rest`, and neither a number nor elements.
-abbrev pub TellsText : ℕ → List ℕ → List ℕ → List ℕ → Reply → Type 0
-TellsText kind input rest text it =
-    Tells it kind (pos 0) 0 × StandsAt input it.span text (line_end ++ rest)
+abbrev pub HasText : ℕ → List ℕ → List ℕ → List ℕ → Reply → Type 0
+HasText kind input rest text it =
+    HasFields it kind (pos 0) 0 × StandsAt input it.span text (line_end ++ rest)
 
 -- `IsShownBy level input rest opened it`: `it` describes a RESP2 reply of `input` that is followed
 -- by `rest`, by the kind of the reply.
 abbrev pub IsShownBy : ℕ → List ℕ → List ℕ → Opened Global → Reply → Type 0
-IsShownBy level input rest (Reply-F.Simple text) it = TellsText 0 input rest text.now it
-IsShownBy level input rest (Reply-F.Error text) it = TellsText 1 input rest text.now it
+IsShownBy level input rest (Reply-F.Simple text) it = HasText 0 input rest text.now it
+IsShownBy level input rest (Reply-F.Error text) it = HasText 1 input rest text.now it
 IsShownBy level input rest (Reply-F.Integer number) it =
-    Tells it 2 number 0 × (it.span ≡ nowhere)
-IsShownBy level input rest (Reply-F.Bulk text) it = TellsText 3 input rest text.now it
-IsShownBy level input rest Reply-F.NullBulk it = Tells it 4 (pos 0) 0 × (it.span ≡ nowhere)
+    HasFields it 2 number 0 × (it.span ≡ nowhere)
+IsShownBy level input rest (Reply-F.Bulk text) it = HasText 3 input rest text.now it
+IsShownBy level input rest Reply-F.NullBulk it = HasFields it 4 (pos 0) 0 × (it.span ≡ nowhere)
 IsShownBy level input rest (Reply-F.Array list) it =
-    Tells it 5 (pos 0) (length list.items) × AreElements level input rest list.items it
-IsShownBy level input rest Reply-F.NullArray it = Tells it 6 (pos 0) 0 × (it.span ≡ nowhere)
+    HasFields it 5 (pos 0) (length list.items) × AreElements level input rest list.items it
+IsShownBy level input rest Reply-F.NullArray it = HasFields it 6 (pos 0) 0 × (it.span ≡ nowhere)
 IsShownBy level input rest kind it = ⊥
 
 abbrev pub IsShown : ℕ → List ℕ → List ℕ → Found → Reply → Type 0

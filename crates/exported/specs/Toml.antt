@@ -8,7 +8,7 @@ use Rattle.exported.specs.declared.toml.TomlResult.{TomlResult}
 use Rattle.format_toml.specs.Toml.{DocumentText}
 use Rattle.format_toml.specs.declared.expected.Expected.{Expected}
 use Rattle.format_toml.specs.declared.expected.Expected.TheVariants as lacks
-use Rattle.format_toml_document.specs.Fault.{IsDocument, Tells}
+use Rattle.format_toml_document.specs.Fault.{IsDocument, IsErrorOf}
 use Rattle.format_toml_document.specs.declared.fault.Fault.{Fault}
 use Rattle.format_toml_document.specs.declared.fault.Fault.TheVariants as faults
 use Rattle.format_toml_nodes.specs.Laying.{IsSizeOf}
@@ -63,7 +63,7 @@ code_of faults.OutOfMemory = no_memory
 pub record IsFaultOf (code level : ℕ) (bytes : List ℕ) (out : TomlResult) : Type 0 where
   pub fault : Fault
   pub is_code : code_of fault ≡ code
-  pub tells : Tells Global level bytes fault
+  pub tells : IsErrorOf Global level bytes fault
   pub place : out.error_offset ≡ place_of fault
   pub number : out.error ≡ fault_of fault
 

@@ -4,7 +4,7 @@ ghost use Rattle.std.specs.Prelude.{◌≡◌, ◌≤◌, ◌<◌, ◌⊎◌, le
 ghost use Rattle.format_csv_records.specs.Buffers.{IsForGood, IsSized, NoneForGood};
 ghost use Rattle.format_csv_records.specs.Buffers.{ShowsFields};
 ghost use Rattle.format_csv_records.specs.Dialects.{IsRecord};
-ghost use Rattle.format_csv_records.specs.Early.{BeginsNone, GoesOn};
+ghost use Rattle.format_csv_records.specs.Early.{IsPrefixOfNone, IsViablePrefix};
 ghost use Rattle.exported.specs.Code.{buffer_too_small, done, incomplete, invalid};
 ghost use Rattle.exported.specs.Csv.{IsRefusedAt, NoRecord, ShowsRecord, WantsRecord};
 ghost use Rattle.exported.specs.Csv.{dialect_of};
@@ -193,12 +193,12 @@ pub extern "C" fn exported_csv_record_partial(
         → WantsRecord (IsForGood (dialect_of line_feeds)) bytes.now out.new
         × ((length fields.old < out.new.fields) ⊎ (length text.old < out.new.text)) }
     ensures kept { (result ≡ done → ⊥) → (fields.new ≡ fields.old) × (text.new ≡ text.old) }
-    ensures refused { result ≡ invalid → BeginsNone (dialect_of line_feeds) bytes.now
+    ensures refused { result ≡ invalid → IsPrefixOfNone (dialect_of line_feeds) bytes.now
         × IsRefusedAt (dialect_of line_feeds) bytes.now out.new.error_offset
         × (out.new.error_offset < length bytes.now) }
     ensures nowhere { (result ≡ invalid → ⊥) → out.new.error_offset ≡ 0 }
     ensures incomplete { result ≡ incomplete → NoneForGood (dialect_of line_feeds) bytes.now
-        × GoesOn (dialect_of line_feeds) bytes.now }
+        × IsViablePrefix (dialect_of line_feeds) bytes.now }
     ensures codes { (result ≡ done) ⊎ ((result ≡ buffer_too_small) ⊎ ((result ≡ invalid)
         ⊎ (result ≡ incomplete))) }
 {

@@ -40,8 +40,8 @@ use Rattle.winnow.specs.Texts.Tokens.{byte_of, divides_either, divides_others, d
 use Rattle.winnow.specs.Texts.Tokens.{token_of}
 
 -- what the set of one byte tells
-abbrev pub Tells : ℕ → ℕ → Bool → Type 0
-Tells member b answer = IsTrue answer ↔ (b ≡ member)
+abbrev pub ByteResult : ℕ → ℕ → Bool → Type 0
+ByteResult member b answer = IsTrue answer ↔ (b ≡ member)
 
 -- what a list holds
 abbrev Lists : {O A : Type 0} → Vec O A → List O → Type 0
@@ -49,18 +49,20 @@ Lists list os = list.items ≡ os
 
 -- by `alt((preceded(b'"', b'"'), none_of(b'"')))`
 abbrev pub InQuotesRead : Grammar ℕ ℕ
-InQuotesRead = Either (Both (λ _ b. b) (Byte 34) (Byte 34)) (TokenOf (λ b. b) (Others Tells) 34)
+InQuotesRead = Either (Both (λ _ b. b) (Byte 34) (Byte 34))
+    (TokenOf (λ b. b) (Others ByteResult) 34)
 
 pub in_quotes : IsGrammarOf InQuotesRead InQuotes Anything
 in_quotes = either_apart (both_of (λ _ b. b) (byte_of 34) (byte_of 34) front_any)
-    (token_of (λ b. b) (Others Tells) 34 (divides_others Tells 34 (divides_where (λ b. b ≡ 34))))
+    (token_of (λ b. b) (Others ByteResult) 34
+    (divides_others ByteResult 34 (divides_where (λ b. b ≡ 34))))
     (both_front (λ _ b. b) (spelled_begins 34 [] 34) front_any)
     (front_begins (λ b (k, e, other) is. other (e ∙ is))
     (token_of_begins (λ b. b) (λ b. b ≡ 34 → ⊥)))
 
 pub in_quotes_unique : IsUnique InQuotesRead
 in_quotes_unique = either_unique (both_unique (λ _ b. b) (byte_unique 34) (byte_unique 34))
-    (token_of_unique (λ b. b) (Others Tells) 34)
+    (token_of_unique (λ b. b) (Others ByteResult) 34)
 
 -- a closing quote that is not followed by another quote
 abbrev pub IsClosed : List ℕ → Type 0
@@ -104,7 +106,8 @@ module _ {A : Type 0} where
 
 -- what the set `(b'"', b',', b'\r', b'\n')` tells
 abbrev pub Special : ℕ × ℕ × ℕ × ℕ → ℕ → Bool → Type 0
-Special s = EitherTells (Tells s.0) (EitherTells (Tells s.1) (EitherTells (Tells s.2) (Tells s.3)))
+Special s = EitherTells (ByteResult s.0)
+    (EitherTells (ByteResult s.1) (EitherTells (ByteResult s.2) (ByteResult s.3)))
 
 -- a carriage return or line feed; and these or a comma
 abbrev pub IsBreak : ℕ → Type 0

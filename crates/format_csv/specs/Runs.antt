@@ -1,7 +1,7 @@
 -- Fields by runs of bytes: those without quotes by one, those in quotes by runs with two quotes
 -- between.
 use Rattle.std.specs.Prelude.{◌≡◌, ◌⊎◌, ◌<◌, ℕ, List, [], ◌∷◌, ◌++◌, length}
-use Rattle.std.specs.Prelude.{IfOk, MatchResult, None, Some, Ok, Err, Result}
+use Rattle.std.specs.Prelude.{Err, IfOk, MatchResult, None, Ok, Result, Some}
 use Rattle.std.specs.Borrow.{Bor}
 use Rattle.std.specs.declared.vec.Vec.{Vec}
 use Rattle.std.proofs.Common.{refl, sym, ap, subst, inl, inr, ◌∙◌, arith}
@@ -13,7 +13,7 @@ use Rattle.winnow.specs.Kind.{Kind, memory}
 use Rattle.winnow.specs.Range.{from_to}
 use Rattle.winnow.specs.Growth.{grown}
 use Rattle.format_csv.specs.Csv.{IsPlain}
-use Rattle.format_csv.specs.Read.{InQuotesRead, IsBreak, PlainByte, PlainRead, Special, Tells}
+use Rattle.format_csv.specs.Read.{ByteResult, InQuotesRead, IsBreak, PlainByte, PlainRead, Special}
 use Rattle.format_csv.specs.Read.{in_quotes, plain_byte}
 use Rattle.winnow.specs.Exact.{Reads}
 use Rattle.winnow.specs.Read.{reads_wanting}
@@ -54,10 +54,12 @@ BytesRead = Gathered (λ list os. list.items ≡ os) (Many InQuotesRead (from_to
 -- ---- what the parsers of runs read
 
 -- by `take_till(0.., b'"')`
-pub unquoted_same : Same (Longest counted_reading (λ b. b) (Others Tells) 34 (from_to 0 None))
+pub unquoted_same : Same (Longest counted_reading (λ b. b) (Others ByteResult) 34 (from_to 0 None))
     UnquotedRun
-unquoted_same = run_same counted_reading (λ b. b) (Others Tells) 34 (λ b. b ≡ 34 → ⊥) (λ b. b ≡ 34)
-    (divides_seen (Others Tells 34) (divides_others Tells 34 (divides_where (λ b. b ≡ 34))))
+unquoted_same = run_same counted_reading (λ b. b) (Others ByteResult) 34 (λ b. b ≡ 34 → ⊥)
+    (λ b. b ≡ 34)
+    (divides_seen (Others ByteResult 34)
+    (divides_others ByteResult 34 (divides_where (λ b. b ≡ 34))))
 
 -- by `take_till(0.., (b'"', b',', b'\r', b'\n'))`
 pub plain_same : Same (Longest counted_reading (λ b. b) (Others Special) (34, 44, 13, 10)
@@ -69,8 +71,8 @@ plain_same = run_same counted_reading (λ b. b) (Others Special) (34, 44, 13, 10
 
 -- ---- the only error of a run is out of memory
 
-unquoted_or_not : (b : ℕ) → (b ≡ 34 → ⊥) ⊎ (b ≡ 34)
-unquoted_or_not b = elim (eqb_tells b 34) [
+is_quoted_dec : (b : ℕ) → (b ≡ 34 → ⊥) ⊎ (b ≡ 34)
+is_quoted_dec b = elim (eqb_tells b 34) [
   | inl (_, is) ↦ inr is
   | inr (_, not) ↦ inl not
 ]
@@ -94,7 +96,7 @@ module _ {E : Type 0} {kind : E → Kind} {e : E} (here now : List ℕ) where
   pub unquoted_wants : Reads counted_reading kind UnquotedRun (counted_input here) (Err e)
       (counted_input now) → kind e ≡ memory
   unquoted_wants r = run_wants counted_reading (λ b. b ≡ 34 → ⊥) (λ b. b ≡ 34) slice_for
-      unquoted_or_not (counted_input here) (counted_input now) refl r
+      is_quoted_dec (counted_input here) (counted_input now) refl r
 
   pub plain_wants : Reads counted_reading kind PlainRun (counted_input here) (Err e)
       (counted_input now) → kind e ≡ memory

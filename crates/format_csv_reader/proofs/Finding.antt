@@ -1,23 +1,23 @@
 -- Lemmas about the search for a record in the bytes held, and about the capacity of the buffer.
 use Rattle.std.specs.Prelude.{◌≡◌, ◌⊎◌, ◌≤◌, ◌+◌, ◌*◌, ℕ, List, [], ◌++◌, drop, length, max}
 use Rattle.std.specs.Prelude.{Bool, MatchBool, None, Ok, Option, Some, true}
-use Rattle.std.proofs.KnownBytes.{Consumes-trans, Consumes-nil}
+use Rattle.std.proofs.KnownBytes.{Consumes-nil, Consumes-trans}
 use Rattle.std.proofs.Common.{◌∙◌, ap, append_assoc, append-nil, arith, inl, inr, refl, subst, sym}
 use Rattle.format_csv_records.specs.Buffers.{IsForGood, IsSized, NoneForGood}
-use Rattle.format_csv_records.specs.Early.{BeginsNone}
-use Rattle.format_csv_records.specs.Extents.{IsOf, IsTold}
+use Rattle.format_csv_records.specs.Early.{IsPrefixOfNone}
+use Rattle.format_csv_records.specs.Extents.{IsOf, RecordResult}
 use Rattle.format_csv_records.specs.Refused.{IsRefused}
 use Rattle.format_csv_records.specs.declared.buffers.RecordSize.{RecordSize}
 use Rattle.format_csv_records.specs.declared.dialect.Dialect.{Dialect}
 use Rattle.format_csv_records.specs.declared.extent.RecordExtent.{RecordExtent}
 use Rattle.format_csv_records.specs.declared.read.RecordFault.{RecordFault}
-use Rattle.format_csv_reader.specs.Finds.{BeginsForGood, IsFound, IsSmall, WantsMore}
+use Rattle.format_csv_reader.specs.Finds.{IsFound, IsSmall, StartsForGood, WantsMore}
 use Rattle.format_csv_reader.specs.Held.{Grew}
 use Rattle.format_csv_reader.specs.declared.finds.Found.{Found}
 use Rattle.format_csv_reader.specs.declared.finds.Found.TheVariants.{Enough, Never}
 
 sized_good : (d : Dialect) (bytes : List ℕ) (size : RecordSize) → IsSized d bytes size
-    → size.ended ≡ true → BeginsForGood d bytes
+    → size.ended ≡ true → StartsForGood d bytes
 sized_good d bytes size (fields, it) ended =
     let left = drop size.length bytes in
     let Good : Type 0 = IsForGood d bytes fields left in
@@ -25,16 +25,16 @@ sized_good d bytes size (fields, it) ended =
     (fields, left, subst P ended it.ended)
 
 pub told_good : (d : Dialect) (bytes : List ℕ) (told : Option RecordSize) (size : RecordSize)
-    → told ≡ Some size → IsTold d bytes (Ok told) → BeginsForGood d bytes
+    → told ≡ Some size → RecordResult d bytes (Ok told) → StartsForGood d bytes
 told_good d bytes told size e it =
-    let P : Option RecordSize → Type 0 = λ x. IsTold d bytes (Ok x) in
+    let P : Option RecordSize → Type 0 = λ x. RecordResult d bytes (Ok x) in
     let (sized, ended) = subst P e it in
     sized_good d bytes size sized ended
 
 pub told_more : (d : Dialect) (bytes : List ℕ) (told : Option RecordSize) → told ≡ None
-    → IsTold d bytes (Ok told) → WantsMore d bytes
+    → RecordResult d bytes (Ok told) → WantsMore d bytes
 told_more d bytes told e it =
-    let P : Option RecordSize → Type 0 = λ x. IsTold d bytes (Ok x) in
+    let P : Option RecordSize → Type 0 = λ x. RecordResult d bytes (Ok x) in
     subst P e it
 
 found_at : (d : Dialect) (bytes : List ℕ) (IsOver : Type 0) (found : Found)
@@ -50,13 +50,14 @@ found_over d held bytes IsOver found same it =
     found_at d bytes IsOver found (subst P same it)
 
 pub is_enough : (d : Dialect) (bytes : List ℕ) (IsOver : Type 0) (found : Found)
-    → found ≡ Enough → IsFound d bytes IsOver found → BeginsForGood d bytes ⊎ IsOver
+    → found ≡ Enough → IsFound d bytes IsOver found → StartsForGood d bytes ⊎ IsOver
 is_enough d bytes IsOver found e it =
     let P : Found → Type 0 = λ f. IsFound d bytes IsOver f in
     subst P e it
 
 pub is_never : (d : Dialect) (bytes : List ℕ) (IsOver : Type 0) (found : Found) (at : RecordFault)
-    → found ≡ Never at → IsFound d bytes IsOver found → IsRefused d bytes at × BeginsNone d bytes
+    → found ≡ Never at → IsFound d bytes IsOver found
+    → IsRefused d bytes at × IsPrefixOfNone d bytes
 is_never d bytes IsOver found at e it =
     let P : Found → Type 0 = λ f. IsFound d bytes IsOver f in
     subst P e it

@@ -1,13 +1,13 @@
 -- Lemmas about the bytes read by a call that skips a byte order mark.
 use Rattle.std.specs.Prelude.{◌≡◌, ◌⊎◌, ◌≤◌, ◌<◌, ◌^◌, ℕ, List, ◌∷◌, length, drop, Option}
-use Rattle.std.specs.Prelude.{Ok, Err, true, false}
+use Rattle.std.specs.Prelude.{Err, Ok, false, true}
 use Rattle.std.specs.Io.KnownBytes.{IsAtEnd}
 use Rattle.std.proofs.Common.{◌∙◌, ap, arith, refl, subst, sym}
 use Rattle.format_csv_records.specs.Parts.{NoMark}
 use Rattle.format_csv_reader.specs.Finds.{IsOfReader}
 use Rattle.format_csv_reader.specs.Held.{Grew}
 use Rattle.format_csv_reader.specs.Marks.{IsMarkRead, ReadsMark}
-use Rattle.format_csv_reader.specs.Told.{offset_after}
+use Rattle.format_csv_reader.specs.Results.{offset_after}
 use Rattle.format_csv_reader.specs.declared.error.ReadError.{ReadError}
 
 pub mark_long : (held bytes rest : List ℕ) → held ≡ bytes → held ≡ 239 ∷ 187 ∷ 191 ∷ rest

@@ -1,14 +1,14 @@
 -- Lemmas about the result of a call, for the bytes held and for all bytes of the source.
 use Rattle.std.specs.Prelude.{◌≡◌, ◌⊎◌, ◌≤◌, ◌<◌, ◌-◌, ◌+◌, ◌^◌, ℕ, List, [], ◌∷◌, ◌++◌, length}
-use Rattle.std.specs.Prelude.{drop, Bool}
-use Rattle.std.specs.Prelude.{true, false, Option, Some, None, Result, Ok, Err}
+use Rattle.std.specs.Prelude.{Bool, drop}
+use Rattle.std.specs.Prelude.{Err, None, Ok, Option, Result, Some, false, true}
 use Rattle.std.specs.Io.KnownBytes.{Consumes, IsAtEnd, prepend_known}
 use Rattle.std.proofs.Common.{◌∙◌, ap, append_assoc, append-nil, arith, drop_at, inl, inr, refl}
 use Rattle.std.proofs.Common.{length-append, subst, sym}
 use Rattle.format_csv_records.proofs.One.{fields_one, refused_none}
 use Rattle.format_csv_records.specs.Buffers.{IsForGood}
 use Rattle.format_csv_records.specs.Dialects.{AreFields, IsRecord}
-use Rattle.format_csv_records.specs.Early.{BeginsNone}
+use Rattle.format_csv_records.specs.Early.{IsPrefixOfNone}
 use Rattle.format_csv_records.specs.Refused.{IsRefused, ReadsRecord}
 use Rattle.format_csv_records.specs.declared.dialect.Dialect.{Dialect}
 use Rattle.format_csv_records.specs.declared.read.RecordError.{RecordError}
@@ -17,10 +17,10 @@ use Rattle.format_csv_records.specs.declared.read.Refusal.{Refusal}
 use Rattle.format_csv_records.specs.declared.read.Refusal.TheVariants.{QuoteInField}
 use Rattle.format_csv_records.specs.declared.read.Refusal.TheVariants.{ByteBehindQuote}
 use Rattle.format_csv_records.specs.declared.read.Refusal.TheVariants.{OpenQuote, WrongLineEnd}
-use Rattle.format_csv_reader.specs.Finds.{BeginsForGood, IsOfReader, IsSmall, WantsMore}
+use Rattle.format_csv_reader.specs.Finds.{IsOfReader, IsSmall, StartsForGood, WantsMore}
 use Rattle.format_csv_reader.specs.Held.{Grew}
-use Rattle.format_csv_reader.specs.Told.{IsAnswer, IsFaultAt, IsOfAll, IsTaken, Reads}
-use Rattle.format_csv_reader.specs.Told.{ReadsOfAll, offset_after}
+use Rattle.format_csv_reader.specs.Results.{IsAnswer, IsFaultAt, IsOfAll, IsTaken, Reads}
+use Rattle.format_csv_reader.specs.Results.{ReadsOfAll, offset_after}
 use Rattle.format_csv_reader.specs.declared.error.ReadError.{ReadError}
 use Rattle.format_csv_reader.specs.declared.error.ReadError.TheVariants.{Failed, OutOfMemory}
 use Rattle.format_csv_reader.specs.declared.error.ReadError.TheVariants.{Refused}
@@ -89,7 +89,7 @@ none_first : {b : ℕ} {bs : List ℕ} → b ∷ bs ≡ [] → ⊥
 none_first e = cc
 
 ended : (d : Dialect) (bytes before more : List ℕ) (fields : List (List ℕ))
-    → bytes ≡ before ++ [] → IsRecord d (before ++ more) fields [] → BeginsNone d bytes → ⊥
+    → bytes ≡ before ++ [] → IsRecord d (before ++ more) fields [] → IsPrefixOfNone d bytes → ⊥
 ended d bytes before more fields e on never =
     let P : List ℕ → Type 0 = λ l. IsRecord d (l ++ more) fields [] in
     never more fields [] (subst P (sym (e ∙ append-nil before)) on)
@@ -100,7 +100,7 @@ longer bytes before back ys e = ap (λ l. l ++ ys) e ∙ append_assoc before bac
 
 -- by cases of the error, since it determines the byte at that offset
 refused_why : (d : Dialect) (bytes ys : List ℕ) (offset : ℕ) (why : Refusal)
-    → IsRefused d bytes (record { offset = offset; why = why }) → BeginsNone d bytes
+    → IsRefused d bytes (record { offset = offset; why = why }) → IsPrefixOfNone d bytes
     → IsRefused d (bytes ++ ys) (record { offset = offset; why = why })
 refused_why d bytes ys offset QuoteInField (before, [], more, fs, e, size, on, lack, none) never =
     absurd (ended d bytes before more fs e on never)
@@ -151,13 +151,13 @@ refused_why d bytes ys offset OpenQuote
     absurd (none_first over)
 
 pub refused_on : (d : Dialect) (bytes ys : List ℕ) (at : RecordFault) → IsRefused d bytes at
-    → BeginsNone d bytes → IsRefused d (bytes ++ ys) at
+    → IsPrefixOfNone d bytes → IsRefused d (bytes ++ ys) at
 refused_on d bytes ys at it never = refused_why d bytes ys at.offset at.why it never
 
 -- ---- the result of a call
 
 one_for_good : (d : Dialect) (bytes : List ℕ) (fields : List (List ℕ)) (rest : List ℕ)
-    → BeginsForGood d bytes → IsRecord d bytes fields rest → IsForGood d bytes fields rest
+    → StartsForGood d bytes → IsRecord d bytes fields rest → IsForGood d bytes fields rest
 one_for_good d bytes fields rest (others, left, good) it =
     let P : List ℕ → Type 0 = λ l. IsRecord d l others (left ++ []) in
     let now = subst P (append-nil bytes) (good []) in
@@ -165,7 +165,7 @@ one_for_good d bytes fields rest (others, left, good) it =
     let Q : List (List ℕ) → Type 0 = λ fs. IsForGood d bytes fs left in
     subst (λ l. IsForGood d bytes fields l) (sym (is ∙ append-nil left)) (subst Q (sym same) good)
 
-some_for_good : (d : Dialect) (bytes : List ℕ) → BeginsForGood d bytes
+some_for_good : (d : Dialect) (bytes : List ℕ) → StartsForGood d bytes
     → (fields : List (List ℕ)) × (rest : List ℕ) × IsRecord d bytes fields rest
 some_for_good d bytes (fields, left, good) =
     let P : List ℕ → Type 0 = λ l. IsRecord d l fields (left ++ []) in
@@ -173,7 +173,7 @@ some_for_good d bytes (fields, left, good) =
 
 pub answer_taken : (d : Dialect) (bytes : List ℕ) (IsOver : Type 0) (start : ℕ)
     (result : Result Bool ReadError) (fields : List (List ℕ)) (rest : List ℕ)
-    → BeginsForGood d bytes ⊎ IsOver → IsTaken d bytes start result fields rest
+    → StartsForGood d bytes ⊎ IsOver → IsTaken d bytes start result fields rest
     → IsAnswer d bytes IsOver start result fields rest
 answer_taken d bytes IsOver start (Ok true) fields rest (inl good) it =
     (it, inl (one_for_good d bytes fields rest good it))
@@ -250,7 +250,7 @@ module _ (d : Dialect) (old mid : List ℕ) (before after : Option (List ℕ)) (
     still few = omega (arith, few, ap (λ l. length l) grew.grew)
 
     pub reads_taken : (new : List ℕ) (end : ℕ) (result : Result Bool ReadError)
-        → BeginsForGood d mid ⊎ IsAtEnd after → IsTaken d mid start result fields new
+        → StartsForGood d mid ⊎ IsAtEnd after → IsTaken d mid start result fields new
         → end ≡ offset_after start (length mid - length new)
         → Reads d old new before after start end size room result fields
     reads_taken new end result found taken moved =
@@ -265,7 +265,7 @@ module _ (d : Dialect) (old mid : List ℕ) (before after : Option (List ℕ)) (
         }
 
     pub reads_never : (at : RecordFault) (fault : TableFault) → IsRefused d mid at
-        → BeginsNone d mid → IsFaultAt start at fault → fields ≡ [] → start < 2 ^ 64
+        → IsPrefixOfNone d mid → IsFaultAt start at fault → fields ≡ [] → start < 2 ^ 64
         → Reads d old mid before after start start size room (Err (Refused fault)) fields
     reads_never at fault refusal never is none few =
         let P : List ℕ → Type 0 =

@@ -1,7 +1,7 @@
 -- The result of the search for a record in bytes that arrive in chunks.
 use Rattle.std.specs.Prelude.{◌≡◌, ◌⊎◌, ◌≤◌, ◌*◌, ◌++◌, ℕ, List, length, ⊤}
 use Rattle.format_csv_records.specs.Buffers.{IsForGood, NoneForGood}
-use Rattle.format_csv_records.specs.Early.{BeginsNone, GoesOn}
+use Rattle.format_csv_records.specs.Early.{IsPrefixOfNone, IsViablePrefix}
 use Rattle.format_csv_records.specs.Refused.{IsRefused}
 use Rattle.format_csv_records.specs.declared.dialect.Dialect.{Dialect}
 use Rattle.format_csv_reader.specs.declared.error.ReadError.{ReadError}
@@ -17,18 +17,18 @@ IsOfReader (Failed error) = ⊤
 IsOfReader OutOfMemory = ⊤
 
 -- The bytes start with a record, for any continuation.
-abbrev pub BeginsForGood : Dialect → List ℕ → Type 0
-BeginsForGood d bytes = (fields : List (List ℕ)) × (rest : List ℕ) × IsForGood d bytes fields rest
+abbrev pub StartsForGood : Dialect → List ℕ → Type 0
+StartsForGood d bytes = (fields : List (List ℕ)) × (rest : List ℕ) × IsForGood d bytes fields rest
 
 -- More bytes are needed: no record is final, and with some more bytes one is.
 abbrev pub WantsMore : Dialect → List ℕ → Type 0
-WantsMore d bytes = GoesOn d bytes × NoneForGood d bytes
+WantsMore d bytes = IsViablePrefix d bytes × NoneForGood d bytes
 
 -- `IsFound d bytes IsOver found`: `Enough` if `bytes` starts with a record for any continuation, or
 -- `IsOver` (no more bytes follow); `Never` if no continuation starts with a record.
 abbrev pub IsFound : Dialect → List ℕ → Type 0 → Found → Type 0
-IsFound d bytes IsOver Enough = BeginsForGood d bytes ⊎ IsOver
-IsFound d bytes IsOver (Never fault) = IsRefused d bytes fault × BeginsNone d bytes
+IsFound d bytes IsOver Enough = StartsForGood d bytes ⊎ IsOver
+IsFound d bytes IsOver (Never fault) = IsRefused d bytes fault × IsPrefixOfNone d bytes
 
 -- A buffer has room for as many bytes as before, for 8,192 at most, or for four times as many at
 -- most as some of the bytes, which begin with no record that has ended.

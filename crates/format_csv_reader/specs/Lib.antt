@@ -2,5 +2,5 @@
 pub mod Finds
 pub mod Held
 pub mod Marks
+pub mod Results
 pub mod Table
-pub mod Told

@@ -1,10 +1,10 @@
 -- A UTF-8 byte order mark at the start of a table.
 use Rattle.std.specs.Prelude.{◌≡◌, ◌⊎◌, ◌≤◌, ◌+◌, ℕ, List, ◌∷◌, ◌++◌, length, Bool, true}
-use Rattle.std.specs.Prelude.{false, Option, Result, Ok, Err}
+use Rattle.std.specs.Prelude.{Err, Ok, Option, Result, false}
 use Rattle.std.specs.Io.KnownBytes.{Consumes, IsAtEnd}
 use Rattle.format_csv_records.specs.Parts.{NoMark}
 use Rattle.format_csv_reader.specs.Finds.{IsOfReader}
-use Rattle.format_csv_reader.specs.Told.{offset_after}
+use Rattle.format_csv_reader.specs.Results.{offset_after}
 use Rattle.format_csv_reader.specs.declared.error.ReadError.{ReadError}
 
 -- The result of skipping a byte order mark, and the rest: the bytes after a mark; all bytes, if

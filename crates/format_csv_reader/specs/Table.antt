@@ -22,5 +22,5 @@ table_of it = record {
 }
 
 -- The extent is of the bytes held.
-abbrev pub IsBegun : {R A : Type 0} → Inside R A → Type 0
-IsBegun it = IsOf it.dialect it.extent it.buffer.bytes
+abbrev pub IsOfBuffer : {R A : Type 0} → Inside R A → Type 0
+IsOfBuffer it = IsOf it.dialect it.extent it.buffer.bytes

@@ -18,7 +18,7 @@ ghost use Rattle.std.specs.Prelude.{◌≡◌, []};
 ghost use Rattle.std.specs.Io.KnownBytes.{prepend_known};
 ghost use Rattle.format_csv_records.specs.Records.{fields_of};
 ghost use Rattle.format_csv_reader.specs.Marks.{ReadsMark};
-ghost use Rattle.format_csv_reader.specs.Told.{Reads, ReadsOfAll};
+ghost use Rattle.format_csv_reader.specs.Results.{Reads, ReadsOfAll};
 
 use crate::buffer::Buffer;
 use crate::error::ReadError;
@@ -28,7 +28,7 @@ use crate::taken::{fault_at, take_record};
 use format_csv_records::dialect::Dialect;
 use format_csv_records::extent::RecordExtent;
 use format_csv_records::record::ByteRecord;
-use format_csv_records::records::behind_mark;
+use format_csv_records::records::skip_mark;
 use std::alloc::Allocator;
 use std::io::Read;
 use std::marker::Model;
@@ -59,13 +59,13 @@ pub struct Reader<R, A: Allocator> {
 }
 
 impl<R, A: Allocator> Model for Reader<R, A> {
-    ghost use Rattle.format_csv_reader.specs.Table.{IsBegun, Table, table_of};
+    ghost use Rattle.format_csv_reader.specs.Table.{IsOfBuffer, Table, table_of};
 
     ghost Value = { Table R };
 
     ghost view = { table_of };
 
-    ghost invariant = { IsBegun };
+    ghost invariant = { IsOfBuffer };
 }
 
 impl<R: Read, A: Allocator> Reader<R, A> {
@@ -127,7 +127,7 @@ impl<R: Read, A: Allocator> Reader<R, A> {
         let filled = fill_to(&mut self.source, &mut self.buffer, 3);
         self.extent = RecordExtent::new();
         match filled {
-            Ok(()) => match behind_mark(self.buffer.held()) {
+            Ok(()) => match skip_mark(self.buffer.held()) {
                 None => Ok(false),
                 Some(_) => {
                     self.buffer.consume(3);

@@ -4,7 +4,7 @@ ghost use Rattle.std.specs.Prelude.{◌≡◌, ◌≤◌, ◌-◌, length};
 ghost use Rattle.format_csv_records.specs.Extents.{IsOf};
 ghost use Rattle.format_csv_records.specs.Records.{fields_of};
 ghost use Rattle.format_csv_records.specs.Refused.{ReadsRecord};
-ghost use Rattle.format_csv_reader.specs.Told.{IsFaultAt, IsTaken, offset_after};
+ghost use Rattle.format_csv_reader.specs.Results.{IsFaultAt, IsTaken, offset_after};
 
 use crate::buffer::Buffer;
 use crate::error::{ReadError, TableFault};

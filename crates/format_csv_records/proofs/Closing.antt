@@ -1,22 +1,22 @@
 -- Lemmas about records whose bytes are all passed, and about how an incomplete record continues.
 use Rattle.std.specs.Prelude.{◌≡◌, ◌≤◌, ◌<◌, ◌+◌, ℕ, List, [], ◌∷◌, ◌++◌, length, drop}
-use Rattle.std.specs.Prelude.{MatchBool, Bool, true, false}
+use Rattle.std.specs.Prelude.{Bool, MatchBool, false, true}
 use Rattle.std.specs.List.{All}
 use Rattle.std.proofs.Common.{refl, sym, ap, subst, inl, inr, ◌∙◌, arith, append_assoc}
 use Rattle.std.proofs.Common.{length-append}
-use Rattle.std.proofs.lemmas.List.{append-nil, drop_at, drop_all}
+use Rattle.std.proofs.lemmas.List.{append-nil, drop_all, drop_at}
 use Rattle.std.proofs.lemmas.List.Elements.{All-cons, All-nil}
 use Rattle.format_csv_records.specs.Apart.{IsApart}
 use Rattle.format_csv_records.specs.Buffers.{IsForGood, IsSized, NoneForGood, text_of}
 use Rattle.format_csv_records.specs.Dialects.{AreFields, IsFieldText, IsLineEnd}
 use Rattle.format_csv_records.specs.Dialects.{IsRecord, doubled}
-use Rattle.format_csv_records.specs.Early.{GoesOn}
-use Rattle.format_csv_records.specs.Extents.{IsBegun, Passed}
+use Rattle.format_csv_records.specs.Early.{IsViablePrefix}
+use Rattle.format_csv_records.specs.Extents.{IsFieldPrefix, Passed}
 use Rattle.format_csv_records.specs.Refused.{IsRefused}
 use Rattle.format_csv_records.specs.declared.buffers.RecordSize.{RecordSize}
 use Rattle.format_csv_records.specs.declared.dialect.Dialect.{Dialect}
 use Rattle.format_csv_records.specs.declared.dialect.LineEnds.{LineEnds}
-use Rattle.format_csv_records.specs.declared.dialect.LineEnds.TheVariants.{CrLf, Lf, Either}
+use Rattle.format_csv_records.specs.declared.dialect.LineEnds.TheVariants.{CrLf, Either, Lf}
 use Rattle.format_csv_records.specs.declared.extent.RecordPlace.{RecordPlace}
 use Rattle.format_csv_records.specs.declared.extent.RecordPlace.TheVariants as place
 use Rattle.format_csv_records.specs.declared.read.Refusal.TheVariants.{OpenQuote, WrongLineEnd}
@@ -58,7 +58,7 @@ closes_text d field begun it =
     }
 
 closes_at : (d : Dialect) (at : RecordPlace) → (at ≡ place.Done → ⊥)
-    → (field begun : List ℕ) → IsBegun d at field begun → Closes d field begun
+    → (field begun : List ℕ) → IsFieldPrefix d at field begun → Closes d field begun
 closes_at d place.Field not field begun it =
     closes_text d field begun (field_text d field begun it)
 closes_at d place.Plain not field begun it =
@@ -116,8 +116,8 @@ ended d so text fields front it more whole end is ends same after =
 -- ---- a record that is not whole
 
 module _ (d : Dialect) (at : RecordPlace) (not : at ≡ place.Done → ⊥) (text fields : ℕ)
-    (front : List ℕ) (it : Passed d (IsBegun d at) text fields front) where
-  pub goes_on : d.quote < 256 → GoesOn d front
+    (front : List ℕ) (it : Passed d (IsFieldPrefix d at) text fields front) where
+  pub goes_on : d.quote < 256 → IsViablePrefix d front
   goes_on small =
       let c = closes_at d at not it.field it.begun it.is in
       record {
@@ -133,7 +133,8 @@ module _ (d : Dialect) (at : RecordPlace) (not : at ≡ place.Done → ⊥) (tex
             length-append (front ++ c.more) after,
             length-append front c.more,
           ),
-          ended d (IsBegun d at) text fields front it c.more c.text c.end c.is_text c.is_end c.same
+          ended d (IsFieldPrefix d at) text fields front it c.more c.text c.end c.is_text
+              c.is_end c.same
               after,
         );
       }
@@ -144,13 +145,14 @@ module _ (d : Dialect) (at : RecordPlace) (not : at ≡ place.Done → ⊥) (tex
       let P : List ℕ → Type 0 = λ l. AreFields d l (row_of it) [] in
       let (same, over) = fields_one d apart others (row_of it) (front ++ c.more) (rest ++ c.more) []
       (all c.more).1
-      (subst P (append-nil (front ++ c.more)) (ended d (IsBegun d at) text fields front it c.more
+      (subst P (append-nil (front ++ c.more))
+      (ended d (IsFieldPrefix d at) text fields front it c.more
       c.text c.end c.is_text c.is_end c.same [])) in
       omega (arith, c.some, ap (λ l. length l) over, length-append rest c.more)
 
 pub none_for_good : (d : Dialect) → IsApart d.delimiter d.quote → (at : RecordPlace)
     → (at ≡ place.Done → ⊥) → (text fields : ℕ) (front : List ℕ)
-    → Passed d (IsBegun d at) text fields front → NoneForGood d front
+    → Passed d (IsFieldPrefix d at) text fields front → NoneForGood d front
 none_for_good d apart at not text fields front it =
     open_for_good d at not text fields front it apart
 
@@ -177,12 +179,12 @@ row_size d so text fields front it =
     omega (arith, it.count, length-append it.done (it.field ∷ []))
 
 pub sized_whole : (d : Dialect) (text fields : ℕ) (front bytes left : List ℕ)
-    → Passed d (IsBegun d place.Done) text fields front → bytes ≡ front ++ left
+    → Passed d (IsFieldPrefix d place.Done) text fields front → bytes ≡ front ++ left
     → (size : RecordSize) → size.fields ≡ fields + 1 → size.text ≡ text
     → size.length ≡ length front → size.ended ≡ true → IsSized d bytes size
 sized_whole d text fields front bytes left it splits size count total long closed =
     let (whole, end, is, ends, e) = it.is in
-    let so = IsBegun d place.Done in
+    let so = IsFieldPrefix d place.Done in
     let are : (after : List ℕ) → AreFields d (front ++ after) (row_of it) after = λ after.
     let P : List ℕ → Type 0 = λ l. AreFields d (l ++ after) (row_of it) after in
     subst P (append-nil front) (ended d so text fields front it [] whole end is ends
@@ -232,11 +234,11 @@ sized_whole d text fields front bytes left it splits size count total long close
 module _ (d : Dialect) (apart : IsApart d.delimiter d.quote) (text fields : ℕ)
     (bytes : List ℕ) where
   sized_open : (at : RecordPlace) → (at ≡ place.Done → ⊥)
-      → (it : Passed d (IsBegun d at) text fields bytes) → IsFieldText d it.field it.begun
+      → (it : Passed d (IsFieldPrefix d at) text fields bytes) → IsFieldText d it.field it.begun
       → 0 < length bytes → (size : RecordSize) → size.fields ≡ fields + 1 → size.text ≡ text
       → size.length ≡ length bytes → size.ended ≡ false → IsSized d bytes size
   sized_open at not it is some size count total long unended =
-      let so = IsBegun d at in
+      let so = IsFieldPrefix d at in
       let P : List ℕ → Type 0 = λ l. AreFields d l (row_of it) [] in
       let are : AreFields d bytes (row_of it) [] =
       subst P (sym (it.splits ∙ ap (λ l. it.before ++ l) (sym (append-nil it.begun))))
@@ -259,7 +261,7 @@ module _ (d : Dialect) (apart : IsApart d.delimiter d.quote) (text fields : ℕ)
 
   -- the record ends with the bytes
   pub sized_end : (at : RecordPlace) → (at ≡ place.Done → ⊥) → (at ≡ place.Quoted → ⊥)
-      → (at ≡ place.Return → ⊥) → Passed d (IsBegun d at) text fields bytes → 0 < length bytes
+      → (at ≡ place.Return → ⊥) → Passed d (IsFieldPrefix d at) text fields bytes → 0 < length bytes
       → (size : RecordSize) → size.fields ≡ fields + 1 → size.text ≡ text
       → size.length ≡ length bytes → size.ended ≡ false → IsSized d bytes size
   sized_end place.Field not quoted lone it some size count total long is =
@@ -275,7 +277,7 @@ module _ (d : Dialect) (apart : IsApart d.delimiter d.quote) (text fields : ℕ)
   sized_end place.Return not quoted lone it some size count total long is = absurd (lone refl)
   sized_end place.Done not quoted lone it some size count total long is = absurd (not refl)
 
-  pub refused_open : Passed d (IsBegun d place.Quoted) text fields bytes
+  pub refused_open : Passed d (IsFieldPrefix d place.Quoted) text fields bytes
       → IsRefused d bytes (record { offset = length bytes; why = OpenQuote })
   refused_open it =
       let far : SoFar d bytes it.begun it.done =
@@ -286,7 +288,7 @@ module _ (d : Dialect) (apart : IsApart d.delimiter d.quote) (text fields : ℕ)
         (it.field, [], sym (append-nil (doubled d.quote it.field)), All-nil _),
       )
 
-  pub refused_return : Passed d (IsBegun d place.Return) text fields bytes
+  pub refused_return : Passed d (IsFieldPrefix d place.Return) text fields bytes
       → IsRefused d bytes (record { offset = length bytes; why = WrongLineEnd })
   refused_return it =
       let P : List ℕ → Type 0 =

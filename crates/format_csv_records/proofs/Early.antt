@@ -6,11 +6,11 @@ use Rattle.std.proofs.Common.{length-append}
 use Rattle.std.proofs.lemmas.List.{append-nil}
 use Rattle.std.proofs.lemmas.List.Elements.{All-append, All-cons, All-nil}
 use Rattle.format_csv_records.specs.Dialects.{AreFields, IsLineEnd, IsRecord}
-use Rattle.format_csv_records.specs.Early.{BeginsNone, GoesOn}
+use Rattle.format_csv_records.specs.Early.{IsPrefixOfNone, IsViablePrefix}
 use Rattle.format_csv_records.specs.Refused.{IsRefused, Lacks, NoneWith}
 use Rattle.format_csv_records.specs.declared.dialect.Dialect.{Dialect}
 use Rattle.format_csv_records.specs.declared.dialect.LineEnds.{LineEnds}
-use Rattle.format_csv_records.specs.declared.dialect.LineEnds.TheVariants.{CrLf, Lf, Either}
+use Rattle.format_csv_records.specs.declared.dialect.LineEnds.TheVariants.{CrLf, Either, Lf}
 use Rattle.format_csv_records.specs.declared.read.RecordFault.{RecordFault}
 use Rattle.format_csv_records.specs.declared.read.Refusal.{Refusal}
 use Rattle.format_csv_records.specs.declared.read.Refusal.TheVariants.{QuoteInField}
@@ -122,7 +122,7 @@ ended d (field ∷ (next ∷ fields)) bytes rest (text, behind, t, e, them) =
 -- `bytes` followed by at most one more byte starts with a record, with or without its line ending
 pub record_goes_on : (d : Dialect) (bytes more : List ℕ) (fields : List (List ℕ)) (rest : List ℕ)
     → length more ≤ 1 → All (λ b. b < 256) more → IsRecord d (bytes ++ more) fields rest
-    → GoesOn d bytes
+    → IsViablePrefix d bytes
 record_goes_on d bytes more fields rest one known (some, them) =
     let r = ended d fields (bytes ++ more) rest them in
     let P : List ℕ → List ℕ → Type 0 =
@@ -145,7 +145,7 @@ record_goes_on d bytes more fields rest one known (some, them) =
     }
 
 -- empty input: a line ending is a record of one empty field
-pub none_goes_on : (d : Dialect) → GoesOn d []
+pub none_goes_on : (d : Dialect) → IsViablePrefix d []
 unfolding AreFields
 none_goes_on d =
     let z = line_end_of d.ends in record {
@@ -179,7 +179,7 @@ no_bytes (b ∷ bytes) e = absurd (omega (arith, e))
 
 -- an error at the end of the bytes
 pub open_goes_on : (d : Dialect) → d.quote < 256 → (bytes : List ℕ) (fault : RecordFault)
-    → IsRefused d bytes fault → length bytes ≤ fault.offset → GoesOn d bytes
+    → IsRefused d bytes fault → length bytes ≤ fault.offset → IsViablePrefix d bytes
 open_goes_on d small bytes fault (before, back, more, fields, e, size, on, lacks, none) far =
     let nothing : back ≡ [] = no_bytes back (omega (
       arith,
@@ -188,7 +188,7 @@ open_goes_on d small bytes fault (before, back, more, fields, e, size, on, lacks
       ap (λ l. length l) e,
       length-append before back,
     )) in
-    let P : List ℕ → Type 0 = λ l. GoesOn d l in
+    let P : List ℕ → Type 0 = λ l. IsViablePrefix d l in
     let Q : List ℕ → Type 0 = λ l. Lacks d fault.why before more l in
     let (one, known) = lacks_one d small fault.why before more (subst Q nothing lacks) in
     subst P (sym (e ∙ ap (λ l. before ++ l) nothing ∙ append-nil before))
@@ -196,16 +196,16 @@ open_goes_on d small bytes fault (before, back, more, fields, e, size, on, lacks
 
 -- an error before the end of the bytes
 none_within : (d : Dialect) (before back : List ℕ) → (back ≡ [] → ⊥) → NoneWith d before back
-    → BeginsNone d (before ++ back)
+    → IsPrefixOfNone d (before ++ back)
 none_within d before [] some none more fields rest it = absurd (some refl)
 none_within d before (b ∷ bs) some none more fields rest it =
     let P : List ℕ → Type 0 = λ l. IsRecord d l fields rest in
     none (bs ++ more) fields rest (subst P (append_assoc before (b ∷ bs) more) it)
 
 pub never_goes_on : (d : Dialect) (bytes : List ℕ) (fault : RecordFault) → IsRefused d bytes fault
-    → fault.offset < length bytes → BeginsNone d bytes
+    → fault.offset < length bytes → IsPrefixOfNone d bytes
 never_goes_on d bytes fault (before, back, more, fields, e, size, on, lacks, none) near =
-    let P : List ℕ → Type 0 = λ l. BeginsNone d l in
+    let P : List ℕ → Type 0 = λ l. IsPrefixOfNone d l in
     subst P (sym e) (none_within d before back
     (λ is. omega (
       arith,

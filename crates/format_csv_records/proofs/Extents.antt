@@ -1,11 +1,12 @@
 -- Lemmas about the results for passed bytes.
 use Rattle.std.specs.Prelude.{◌≡◌, ◌≤◌, ◌<◌, ◌+◌, ℕ, List, [], ◌∷◌, ◌++◌, length, drop}
-use Rattle.std.specs.Prelude.{Option, Some, None, Result, Ok, Err}
+use Rattle.std.specs.Prelude.{Err, None, Ok, Option, Result, Some}
 use Rattle.std.proofs.Common.{refl, sym, ap, subst, inl, inr, ◌∙◌, arith, append_assoc}
 use Rattle.std.proofs.Common.{length-append}
 use Rattle.std.proofs.lemmas.List.{append-nil, drop_at}
 use Rattle.format_csv_records.specs.Apart.{IsApart}
-use Rattle.format_csv_records.specs.Extents.{IsBegun, IsLed, IsOf, IsStopped, IsTold, Passed, Says}
+use Rattle.format_csv_records.specs.Extents.{IsFieldPrefix, IsLed, IsOf, IsStopped, Passed}
+use Rattle.format_csv_records.specs.Extents.{RecordResult, Says}
 use Rattle.format_csv_records.specs.Parts.{Done}
 use Rattle.format_csv_records.specs.Refused.{IsRefused}
 use Rattle.format_csv_records.specs.declared.buffers.RecordSize.{RecordSize}
@@ -23,7 +24,7 @@ pub record After (d : Dialect) (new : RecordExtent) (bytes left : List ℕ) : Ty
   pub front : List ℕ
   pub splits : bytes ≡ front ++ left
   pub size : length front ≡ new.passed
-  pub passed : Passed d (IsBegun d new.place) new.text new.fields front
+  pub passed : Passed d (IsFieldPrefix d new.place) new.text new.fields front
 
 pub after : (d : Dialect) (old new : RecordExtent) (bytes : List ℕ)
     (result : Result (Option RecordSize) RecordFault) (is : IsOf d old bytes)
@@ -42,16 +43,17 @@ after d old new bytes result is (taken, left, why, e, sum, keeps, stopped, says)
 module _ (d : Dialect) (apart : IsApart d.delimiter d.quote) (new : RecordExtent)
     (bytes left : List ℕ) (it : After d new bytes left) where
   -- all bytes are passed
-  pub all_passed : left ≡ [] → Passed d (IsBegun d new.place) new.text new.fields bytes
+  pub all_passed : left ≡ [] → Passed d (IsFieldPrefix d new.place) new.text new.fields bytes
   all_passed none =
-      let P : List ℕ → Type 0 = λ l. Passed d (IsBegun d new.place) new.text new.fields l in
+      let P : List ℕ → Type 0 = λ l. Passed d (IsFieldPrefix d new.place) new.text new.fields l in
       subst P (sym (it.splits ∙ ap (λ l. it.front ++ l) none ∙ append-nil it.front)) it.passed
 
   tells : d.quote < 256 → (result : Result (Option RecordSize) RecordFault)
       (why : Option Refusal) → IsStopped d new.place left why → Says new why result
-      → IsTold d bytes result
+      → RecordResult d bytes result
   tells small (Ok (Some size)) why stopped (none, done, count, total, long, closed) =
-      let P : RecordPlace → Type 0 = λ p. Passed d (IsBegun d p) new.text new.fields it.front in (
+      let P : RecordPlace → Type 0 =
+      λ p. Passed d (IsFieldPrefix d p) new.text new.fields it.front in (
         sized_whole d new.text new.fields it.front bytes left (subst P done it.passed) it.splits
             size count total (long ∙ sym it.size) closed,
         closed,
@@ -98,7 +100,8 @@ module _ (d : Dialect) (apart : IsApart d.delimiter d.quote) (new : RecordExtent
 
 pub told : (d : Dialect) → IsApart d.delimiter d.quote → d.quote < 256
     → (old new : RecordExtent) (bytes : List ℕ) (result : Result (Option RecordSize) RecordFault)
-    → IsOf d old bytes → IsLed d old (drop old.passed bytes) new result → IsTold d bytes result
+    → IsOf d old bytes → IsLed d old (drop old.passed bytes) new result
+    → RecordResult d bytes result
 told d apart small old new bytes result is led =
     tells d apart new bytes led.1 (after d old new bytes result is led) small result led.2 led.6
     led.7
@@ -118,7 +121,7 @@ said d old new fresh result led = led.7
 -- if the result is `None`, all bytes are passed
 pub open_after : (d : Dialect) → IsApart d.delimiter d.quote → (old new : RecordExtent)
     (bytes : List ℕ) → IsOf d old bytes → IsLed d old (drop old.passed bytes) new (Ok None)
-    → Passed d (IsBegun d new.place) new.text new.fields bytes × (new.passed ≡ length bytes)
+    → Passed d (IsFieldPrefix d new.place) new.text new.fields bytes × (new.passed ≡ length bytes)
     × (new.place ≡ place.Done → ⊥)
 open_after d apart old new bytes is led =
     let it = after d old new bytes (Ok None) is led in
@@ -152,7 +155,7 @@ pub of_none : (d : Dialect) (extent : RecordExtent) (bytes : List ℕ) → exten
     → extent.text ≡ 0 → extent.fields ≡ 0 → extent.place ≡ place.Field → IsOf d extent bytes
 unfolding Done
 of_none d extent bytes none text fields at =
-    let P : RecordPlace → Type 0 = λ p. IsBegun d p [] [] in record {
+    let P : RecordPlace → Type 0 = λ p. IsFieldPrefix d p [] [] in record {
       front = [];
       left = bytes;
       splits = refl;

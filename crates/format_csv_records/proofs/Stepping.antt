@@ -8,7 +8,7 @@ use Rattle.std.proofs.lemmas.List.{append-nil, length-take-le}
 use Rattle.std.proofs.lemmas.List.Elements.{All-append, All-nil}
 use Rattle.format_csv_records.specs.Buffers.{text_of}
 use Rattle.format_csv_records.specs.Dialects.{IsFieldText, IsLineEnd, IsPlain, doubled}
-use Rattle.format_csv_records.specs.Extents.{IsBegun, IsBehind, IsRun, IsTurn, Keeps, Passed}
+use Rattle.format_csv_records.specs.Extents.{IsBehind, IsFieldPrefix, IsRun, IsTurn, Keeps, Passed}
 use Rattle.format_csv_records.specs.Parts.{IsOther, SoMany}
 use Rattle.format_csv_records.specs.declared.dialect.Dialect.{Dialect}
 use Rattle.format_csv_records.specs.declared.extent.RecordPlace.{RecordPlace}
@@ -53,7 +53,7 @@ grown d so such run n text fields more others front grows room m o it =
 -- the delimiter after a field
 pub separated : (d : Dialect) (text fields more others : ℕ) (front : List ℕ) → more ≡ text
     → others ≡ fields + 1 → Passed d (IsFieldText d) text fields front
-    → Passed d (IsBegun d place.Field) more others (front ++ d.delimiter ∷ [])
+    → Passed d (IsFieldPrefix d place.Field) more others (front ++ d.delimiter ∷ [])
 separated d text fields more others front m o it =
     let comma = d.delimiter ∷ [] in record {
       done = it.done ++ it.field ∷ [];
@@ -96,31 +96,32 @@ passed_as d so such text fields front into it = record {
 
 -- ---- texts that are fields
 
-pub field_text : (d : Dialect) (field begun : List ℕ) → IsBegun d place.Field field begun
+pub field_text : (d : Dialect) (field begun : List ℕ) → IsFieldPrefix d place.Field field begun
     → IsFieldText d field begun
 field_text d field begun (none, nothing) =
     let P : List ℕ → Type 0 = λ l. All (IsPlain d) l in
     inr (nothing ∙ sym none, subst P (sym none) (All-nil (IsPlain d)))
 
-pub plain_text : (d : Dialect) (field begun : List ℕ) → IsBegun d place.Plain field begun
+pub plain_text : (d : Dialect) (field begun : List ℕ) → IsFieldPrefix d place.Plain field begun
     → IsFieldText d field begun
 plain_text d field begun (same, all, some) = inr (same, all)
 
-pub quote_text : (d : Dialect) (field begun : List ℕ) → IsBegun d place.Quote field begun
+pub quote_text : (d : Dialect) (field begun : List ℕ) → IsFieldPrefix d place.Quote field begun
     → IsFieldText d field begun
 quote_text d field begun is = inl is
 
 -- ---- one byte more
 
 pub grows_return : (d : Dialect) → IsLineEnd d.ends (13 ∷ 10 ∷ [])
-    → Grows (IsFieldText d) (13 ∷ []) 0 (IsBegun d place.Return)
+    → Grows (IsFieldText d) (13 ∷ []) 0 (IsFieldPrefix d place.Return)
 grows_return d is field begun it = (field, omega arith, (begun, it, is, refl))
 
 pub grows_feed : (d : Dialect) → IsLineEnd d.ends (10 ∷ [])
-    → Grows (IsFieldText d) (10 ∷ []) 0 (IsBegun d place.Done)
+    → Grows (IsFieldText d) (10 ∷ []) 0 (IsFieldPrefix d place.Done)
 grows_feed d is field begun it = (field, omega arith, (begun, 10 ∷ [], it, is, refl))
 
-pub grows_both : (d : Dialect) → Grows (IsBegun d place.Return) (10 ∷ []) 0 (IsBegun d place.Done)
+pub grows_both : (d : Dialect)
+    → Grows (IsFieldPrefix d place.Return) (10 ∷ []) 0 (IsFieldPrefix d place.Done)
 grows_both d field begun (text, it, is, e) = (
   field,
   omega arith,
@@ -128,7 +129,7 @@ grows_both d field begun (text, it, is, e) = (
 )
 
 pub grows_open : (d : Dialect)
-    → Grows (IsBegun d place.Field) (d.quote ∷ []) 0 (IsBegun d place.Quoted)
+    → Grows (IsFieldPrefix d place.Field) (d.quote ∷ []) 0 (IsFieldPrefix d place.Quoted)
 grows_open d field begun (none, nothing) = (
   [],
   omega (arith, ap (λ l. length l) none),
@@ -136,7 +137,7 @@ grows_open d field begun (none, nothing) = (
 )
 
 pub grows_plain : (d : Dialect) (run : List ℕ) → All (IsPlain d) run
-    → Grows (IsBegun d place.Plain) run (length run) (IsBegun d place.Plain)
+    → Grows (IsFieldPrefix d place.Plain) run (length run) (IsFieldPrefix d place.Plain)
 grows_plain d run all field begun (same, each, some) = (
   field ++ run,
   length-append field run,
@@ -148,7 +149,7 @@ grows_plain d run all field begun (same, each, some) = (
 )
 
 pub grows_quoted : (d : Dialect) (run : List ℕ) → All (IsOther d.quote) run
-    → Grows (IsBegun d place.Quoted) run (length run) (IsBegun d place.Quoted)
+    → Grows (IsFieldPrefix d place.Quoted) run (length run) (IsFieldPrefix d place.Quoted)
 grows_quoted d run all field begun is = (
   field ++ run,
   length-append field run,
@@ -156,11 +157,11 @@ grows_quoted d run all field begun is = (
 )
 
 pub grows_quote : (d : Dialect)
-    → Grows (IsBegun d place.Quoted) (d.quote ∷ []) 0 (IsBegun d place.Quote)
+    → Grows (IsFieldPrefix d place.Quoted) (d.quote ∷ []) 0 (IsFieldPrefix d place.Quote)
 grows_quote d field begun is = (field, omega arith, ap (λ l. l ++ d.quote ∷ []) is)
 
 pub grows_two : (d : Dialect)
-    → Grows (IsBegun d place.Quote) (d.quote ∷ []) 1 (IsBegun d place.Quoted)
+    → Grows (IsFieldPrefix d place.Quote) (d.quote ∷ []) 1 (IsFieldPrefix d place.Quoted)
 grows_two d field begun is =
     let q = d.quote in (
       field ++ q ∷ [],
@@ -174,23 +175,25 @@ grows_two d field begun is =
 
 -- a byte, by its effect on the current field
 pub keeps_byte : (d : Dialect) (at next : RecordPlace) (b n : ℕ) → n ≤ 1
-    → Grows (IsBegun d at) (b ∷ []) n (IsBegun d next) → (more others : ℕ) → more ≡ n
+    → Grows (IsFieldPrefix d at) (b ∷ []) n (IsFieldPrefix d next) → (more others : ℕ) → more ≡ n
     → others ≡ 0 → (text fields : ℕ)
     → Keeps d at text fields (b ∷ []) next (text + more) (fields + others)
 keeps_byte d at next b n less grows more others m o text fields front it =
-    grown d (IsBegun d at) (IsBegun d next) (b ∷ []) n text fields (text + more) (fields + others)
+    grown d (IsFieldPrefix d at) (IsFieldPrefix d next) (b ∷ []) n text fields (text + more)
+    (fields + others)
     front grows less (omega (arith, m)) (omega (arith, o)) it
 
 pub keeps_run : (d : Dialect) (at : RecordPlace) (run : List ℕ) (n : ℕ) → length run ≡ n
-    → Grows (IsBegun d at) run (length run) (IsBegun d at) → (text fields : ℕ)
+    → Grows (IsFieldPrefix d at) run (length run) (IsFieldPrefix d at) → (text fields : ℕ)
     → Keeps d at text fields run at (text + n) fields
 keeps_run d at run n size grows text fields front it =
-    grown d (IsBegun d at) (IsBegun d at) run (length run) text fields (text + n) fields front grows
+    grown d (IsFieldPrefix d at) (IsFieldPrefix d at) run (length run) text fields (text + n)
+    fields front grows
     (omega arith) (omega (arith, size)) refl it
 
 -- a byte, by its effect on the current field, for a step that has this effect
 pub goes_step : (d : Dialect) (at next : RecordPlace) (b c n : ℕ) → b ≡ c → n ≤ 1
-    → Grows (IsBegun d at) (c ∷ []) n (IsBegun d next) → (step : Step)
+    → Grows (IsFieldPrefix d at) (c ∷ []) n (IsFieldPrefix d next) → (step : Step)
     → (step.place ≡ next) × (step.text ≡ n) × (step.fields ≡ 0) → IsTurn d at b (Goes step)
 goes_step d at next b c n same less grows step (is, text_is, none) =
     let Q : ℕ → Type 0 = λ x. IsTurn d at x (Goes step) in
@@ -199,20 +202,22 @@ goes_step d at next b c n same less grows step (is, text_is, none) =
       omega (arith, none),
       λ text fields front it.
           let P : RecordPlace → Type 0 =
-          λ p. Passed d (IsBegun d p) (text + step.text) (fields + step.fields) (front ++ c ∷ []) in
+          λ p. Passed d (IsFieldPrefix d p) (text + step.text) (fields + step.fields)
+          (front ++ c ∷ []) in
           subst P (sym is) (keeps_byte d at next c n less grows step.text step.fields text_is none
           text fields front it),
     )
 
 -- a lemma for complete texts also holds for fields with such a text
 pub turn_text : (d : Dialect) (at : RecordPlace) (b : ℕ)
-    → ((field begun : List ℕ) → IsBegun d at field begun → IsFieldText d field begun)
+    → ((field begun : List ℕ) → IsFieldPrefix d at field begun → IsFieldText d field begun)
     → (step : Step) → IsBehind d b (Some step) → IsTurn d at b (Goes step)
 turn_text d at b into step (less, few, on) = (
   less,
   few,
   λ text fields front it.
-      on text fields front (passed_as d (IsBegun d at) (IsFieldText d) text fields front into it),
+      on text fields front
+      (passed_as d (IsFieldPrefix d at) (IsFieldText d) text fields front into it),
 )
 
 pub behind_delimiter : (d : Dialect) (b : ℕ) → b ≡ d.delimiter
@@ -222,12 +227,12 @@ behind_delimiter d b e = (
   omega arith,
   λ text fields front it.
       let P : ℕ → Type 0 =
-      λ x. Passed d (IsBegun d place.Field) (text + 0) (fields + 1) (front ++ x ∷ []) in
+      λ x. Passed d (IsFieldPrefix d place.Field) (text + 0) (fields + 1) (front ++ x ∷ []) in
       subst P (sym e) (separated d text fields (text + 0) (fields + 1) front (omega arith) refl it),
 )
 
 pub behind_step : (d : Dialect) (next : RecordPlace) (b c : ℕ) → b ≡ c
-    → Grows (IsFieldText d) (c ∷ []) 0 (IsBegun d next) → (step : Step)
+    → Grows (IsFieldText d) (c ∷ []) 0 (IsFieldPrefix d next) → (step : Step)
     → (step.place ≡ next) × (step.text ≡ 0) × (step.fields ≡ 0) → IsBehind d b (Some step)
 behind_step d next b c same grows step (is, none, nothing) =
     let Q : ℕ → Type 0 = λ x. IsBehind d x (Some step) in
@@ -236,8 +241,9 @@ behind_step d next b c same grows step (is, none, nothing) =
       omega (arith, nothing),
       λ text fields front it.
           let P : RecordPlace → Type 0 =
-          λ p. Passed d (IsBegun d p) (text + step.text) (fields + step.fields) (front ++ c ∷ []) in
-          subst P (sym is) (grown d (IsFieldText d) (IsBegun d next) (c ∷ []) 0 text fields
+          λ p. Passed d (IsFieldPrefix d p) (text + step.text) (fields + step.fields)
+          (front ++ c ∷ []) in
+          subst P (sym is) (grown d (IsFieldText d) (IsFieldPrefix d next) (c ∷ []) 0 text fields
           (text + step.text) (fields + step.fields) front grows (omega arith) (omega (arith, none))
           (omega (arith, nothing)) it),
     )

@@ -6,7 +6,7 @@ use Rattle.std.proofs.Common.{length-append}
 use Rattle.std.proofs.lemmas.List.Elements.{All-head, All-nil}
 use Rattle.format_csv_records.specs.Apart.{IsApart}
 use Rattle.format_csv_records.specs.Dialects.{EndsHere, IsPlain, doubled}
-use Rattle.format_csv_records.specs.Extents.{IsBegun, Passed}
+use Rattle.format_csv_records.specs.Extents.{IsFieldPrefix, Passed}
 use Rattle.format_csv_records.specs.Parts.{FieldFirst, NotFirst, WhyNot}
 use Rattle.format_csv_records.specs.Refused.{IsRefused}
 use Rattle.format_csv_records.specs.declared.dialect.Dialect.{Dialect}
@@ -35,7 +35,7 @@ module _ (d : Dialect) (apart : IsApart d.delimiter d.quote) (b : ℕ) where
       (omega (arith, length-append front (b ∷ bs)))
 
   pub first_field : (b ≡ d.quote → ⊥) → (IsPlain d b → ⊥) → (field begun bs : List ℕ)
-      → IsBegun d place.Field field begun → FieldFirst d (begun ++ b ∷ bs) field (b ∷ bs)
+      → IsFieldPrefix d place.Field field begun → FieldFirst d (begun ++ b ∷ bs) field (b ∷ bs)
   first_field other plain field begun bs (none, nothing) =
       let P : List ℕ → Type 0 = λ l. All (IsPlain d) l in
       let Q : List ℕ → Type 0 = λ l. NotFirst (λ c. c ≡ d.quote) (l ++ b ∷ bs) in
@@ -52,7 +52,7 @@ module _ (d : Dialect) (apart : IsApart d.delimiter d.quote) (b : ℕ) where
   plain_first (c ∷ field) rest all some = (All-head (IsPlain d) c field all).0
 
   pub first_plain : (IsPlain d b → ⊥) → (field begun bs : List ℕ)
-      → IsBegun d place.Plain field begun → FieldFirst d (begun ++ b ∷ bs) field (b ∷ bs)
+      → IsFieldPrefix d place.Plain field begun → FieldFirst d (begun ++ b ∷ bs) field (b ∷ bs)
   first_plain plain field begun bs (same, all, some) =
       let Q : List ℕ → Type 0 = λ l. NotFirst (λ c. c ≡ d.quote) (l ++ b ∷ bs) in
       inr (
@@ -63,7 +63,7 @@ module _ (d : Dialect) (apart : IsApart d.delimiter d.quote) (b : ℕ) where
       )
 
   pub first_quote : (b ≡ d.quote → ⊥) → (field begun bs : List ℕ)
-      → IsBegun d place.Quote field begun → FieldFirst d (begun ++ b ∷ bs) field (b ∷ bs)
+      → IsFieldPrefix d place.Quote field begun → FieldFirst d (begun ++ b ∷ bs) field (b ∷ bs)
   first_quote other field begun bs is = inl (
     doubled d.quote field ++ (d.quote ∷ (b ∷ bs)),
     ap (λ l. l ++ b ∷ bs) is ∙ quoted_behind d.quote field (b ∷ bs),
@@ -73,7 +73,7 @@ module _ (d : Dialect) (apart : IsApart d.delimiter d.quote) (b : ℕ) where
 -- after a carriage return, where no line feed is
 pub never_return : (d : Dialect) → IsApart d.delimiter d.quote → (tail : List ℕ)
     → NotFirst (λ c. c ≡ 10) tail → (text fields : ℕ) (front : List ℕ)
-    → Passed d (IsBegun d place.Return) text fields front
+    → Passed d (IsFieldPrefix d place.Return) text fields front
     → IsRefused d (front ++ tail) (record { offset = length front; why = WrongLineEnd })
 never_return d apart tail not text fields front it =
     let (begun, is_text, ends, e) = it.is in

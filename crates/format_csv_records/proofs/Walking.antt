@@ -4,7 +4,7 @@ use Rattle.std.specs.Prelude.{◌-◌, Option, Result}
 use Rattle.std.proofs.Common.{refl, sym, ap, subst, ◌∙◌, arith, append_assoc, length-append}
 use Rattle.std.proofs.lemmas.List.{append-nil, length-drop, take-append-drop, take_all}
 use Rattle.std.specs.Borrow.{Bor}
-use Rattle.format_csv_records.specs.Extents.{IsBegun, IsLed, IsRun, IsStopped, IsTurn, Keeps}
+use Rattle.format_csv_records.specs.Extents.{IsFieldPrefix, IsLed, IsRun, IsStopped, IsTurn, Keeps}
 use Rattle.format_csv_records.specs.Extents.{Passed, Says, Walks}
 use Rattle.format_csv_records.specs.declared.dialect.Dialect.{Dialect}
 use Rattle.format_csv_records.specs.declared.buffers.RecordSize.{RecordSize}
@@ -29,7 +29,7 @@ walking_none d from fresh = record {
   splits = refl;
   keeps = λ front it.
       let P : List ℕ → Type 0 =
-      λ l. Passed d (IsBegun d from.place) from.text from.fields l in
+      λ l. Passed d (IsFieldPrefix d from.place) from.text from.fields l in
       subst P (sym (append-nil front)) it;
   few = (omega arith, omega arith);
 }
@@ -45,7 +45,7 @@ walking_more d from at next fresh rest run left it split keeps text fields = rec
   splits = it.splits ∙ ap (λ l. it.taken ++ l) split ∙ sym (append_assoc it.taken run left);
   keeps = λ front was.
       let P : List ℕ → Type 0 =
-      λ l. Passed d (IsBegun d next.place) next.text next.fields l in
+      λ l. Passed d (IsFieldPrefix d next.place) next.text next.fields l in
       subst P (append_assoc front it.taken run)
       (keeps (front ++ it.taken) (it.keeps front was));
   few = (

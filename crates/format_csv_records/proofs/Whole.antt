@@ -111,7 +111,7 @@ last_field d field text behind rest t ends = (text, behind, t, refl, ends)
 -- ---- uniqueness of records
 
 -- the bytes after the first field of a record
-pub record Behind (d : Dialect) (bytes : List ℕ) (fields : List (List ℕ)) (rest : List ℕ)
+pub record FieldsAfterFirst (d : Dialect) (bytes : List ℕ) (fields : List (List ℕ)) (rest : List ℕ)
     : Type 0 where
   pub field : List ℕ
   pub behind : List ℕ
@@ -121,7 +121,7 @@ pub record Behind (d : Dialect) (bytes : List ℕ) (fields : List (List ℕ)) (r
 
 behind_first : (d : Dialect) → IsApart d.delimiter d.quote → (bytes : List ℕ)
     (fields : List (List ℕ)) (rest : List ℕ) → AreFields d bytes fields rest
-    → Behind d bytes fields rest
+    → FieldsAfterFirst d bytes fields rest
 unfolding AreFields
 behind_first d apart bytes [] rest it = absurd it
 behind_first d apart bytes (field ∷ []) rest (text, behind, t, e, ends) = record {

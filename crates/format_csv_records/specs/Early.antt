@@ -5,7 +5,7 @@ use Rattle.format_csv_records.specs.Dialects.{IsRecord}
 use Rattle.format_csv_records.specs.declared.dialect.Dialect.{Dialect}
 
 -- With at most three more bytes they start with a record of these fields, for any continuation.
-pub record GoesOn (d : Dialect) (bytes : List ℕ) : Type 0 where
+pub record IsViablePrefix (d : Dialect) (bytes : List ℕ) : Type 0 where
   pub more : List ℕ
   pub known : All (λ b. b < 256) more
   pub few : length more ≤ 3
@@ -14,6 +14,6 @@ pub record GoesOn (d : Dialect) (bytes : List ℕ) : Type 0 where
   pub begins : (after : List ℕ) → IsRecord d ((bytes ++ more) ++ after) fields (rest ++ after)
 
 -- No continuation of the bytes starts with a record.
-abbrev pub BeginsNone : Dialect → List ℕ → Type 0
-BeginsNone d bytes = (more : List ℕ) (fields : List (List ℕ)) (rest : List ℕ)
+abbrev pub IsPrefixOfNone : Dialect → List ℕ → Type 0
+IsPrefixOfNone d bytes = (more : List ℕ) (fields : List (List ℕ)) (rest : List ℕ)
     → IsRecord d (bytes ++ more) fields rest → ⊥

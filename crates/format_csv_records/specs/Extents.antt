@@ -1,10 +1,10 @@
 -- The scanner for the end of a record: the bytes passed, and the results.
 use Rattle.std.specs.Prelude.{◌≡◌, ◌⊎◌, ◌≤◌, ◌<◌, ◌+◌, ℕ, List, [], ◌∷◌, ◌++◌, length, true}
-use Rattle.std.specs.Prelude.{Option, Some, None, Result, Ok, Err}
+use Rattle.std.specs.Prelude.{Err, None, Ok, Option, Result, Some}
 use Rattle.std.specs.List.{All}
 use Rattle.format_csv_records.specs.Buffers.{IsSized, NoneForGood, text_of}
 use Rattle.format_csv_records.specs.Dialects.{EndsHere, IsFieldText, IsLineEnd, IsPlain, doubled}
-use Rattle.format_csv_records.specs.Early.{BeginsNone, GoesOn}
+use Rattle.format_csv_records.specs.Early.{IsPrefixOfNone, IsViablePrefix}
 use Rattle.format_csv_records.specs.Parts.{Done}
 use Rattle.format_csv_records.specs.Refused.{IsRefused}
 use Rattle.format_csv_records.specs.declared.buffers.RecordSize.{RecordSize}
@@ -19,18 +19,20 @@ use Rattle.format_csv_records.specs.declared.turns.Step.{Step}
 use Rattle.format_csv_records.specs.declared.turns.Turn.{Turn}
 use Rattle.format_csv_records.specs.declared.turns.Turn.TheVariants.{Ends, Goes, Never}
 
--- `IsBegun d at field begun`: in state `at` of the scanner the last field has the encoded bytes
+-- `IsFieldPrefix d at field begun`: in state `at` of the scanner the last field has the encoded
+-- bytes
 -- `begun`, whose text is `field`. These are empty; plain bytes; an opening quote and encoded bytes;
 -- these with a closing quote; the text of the field with a carriage return; or the text with its
 -- line ending.
-abbrev pub IsBegun : Dialect → RecordPlace → List ℕ → List ℕ → Type 0
-IsBegun d place.Field field begun = (field ≡ []) × (begun ≡ [])
-IsBegun d place.Plain field begun = (begun ≡ field) × All (IsPlain d) field × (0 < length field)
-IsBegun d place.Quoted field begun = begun ≡ d.quote ∷ doubled d.quote field
-IsBegun d place.Quote field begun = begun ≡ d.quote ∷ (doubled d.quote field ++ d.quote ∷ [])
-IsBegun d place.Return field begun = (text : List ℕ) × IsFieldText d field text
+abbrev pub IsFieldPrefix : Dialect → RecordPlace → List ℕ → List ℕ → Type 0
+IsFieldPrefix d place.Field field begun = (field ≡ []) × (begun ≡ [])
+IsFieldPrefix d place.Plain field begun =
+    (begun ≡ field) × All (IsPlain d) field × (0 < length field)
+IsFieldPrefix d place.Quoted field begun = begun ≡ d.quote ∷ doubled d.quote field
+IsFieldPrefix d place.Quote field begun = begun ≡ d.quote ∷ (doubled d.quote field ++ d.quote ∷ [])
+IsFieldPrefix d place.Return field begun = (text : List ℕ) × IsFieldText d field text
     × IsLineEnd d.ends (13 ∷ 10 ∷ []) × (begun ≡ text ++ 13 ∷ [])
-IsBegun d place.Done field begun = (text : List ℕ) × (end : List ℕ) × IsFieldText d field text
+IsFieldPrefix d place.Done field begun = (text : List ℕ) × (end : List ℕ) × IsFieldText d field text
     × IsLineEnd d.ends end × (begun ≡ text ++ end)
 
 -- `front` is passed: complete fields with a delimiter after each, and a part of one more. The
@@ -54,28 +56,28 @@ pub record IsOf (d : Dialect) (extent : RecordExtent) (bytes : List ℕ) : Type 
   pub left : List ℕ
   pub splits : bytes ≡ front ++ left
   pub size : length front ≡ extent.passed
-  pub passed : Passed d (IsBegun d extent.place) extent.text extent.fields front
+  pub passed : Passed d (IsFieldPrefix d extent.place) extent.text extent.fields front
 
 -- The contract of a scan: the size of the record at the start, for any continuation; or `None`, if
 -- no record is final and some continuation has one; or the first byte that cannot continue a
 -- record.
-abbrev pub IsTold : Dialect → List ℕ → Result (Option RecordSize) RecordFault → Type 0
-IsTold d bytes (Ok (Some size)) = IsSized d bytes size × (size.ended ≡ true)
-IsTold d bytes (Ok None) = GoesOn d bytes × NoneForGood d bytes
-IsTold d bytes (Err fault) = IsRefused d bytes fault × BeginsNone d bytes
+abbrev pub RecordResult : Dialect → List ℕ → Result (Option RecordSize) RecordFault → Type 0
+RecordResult d bytes (Ok (Some size)) = IsSized d bytes size × (size.ended ≡ true)
+RecordResult d bytes (Ok None) = IsViablePrefix d bytes × NoneForGood d bytes
+RecordResult d bytes (Err fault) = IsRefused d bytes fault × IsPrefixOfNone d bytes
 
 -- ---- what a call does with the bytes that are new, whatever those are that were passed
 
 -- With these bytes more that is passed which was passed before them.
 abbrev pub Keeps : Dialect → RecordPlace → ℕ → ℕ → List ℕ → RecordPlace → ℕ → ℕ → Type 0
 Keeps d at text fields taken next more others = (front : List ℕ)
-    → Passed d (IsBegun d at) text fields front
-    → Passed d (IsBegun d next) more others (front ++ taken)
+    → Passed d (IsFieldPrefix d at) text fields front
+    → Passed d (IsFieldPrefix d next) more others (front ++ taken)
 
 -- After the passed bytes no record continues with byte `b`, for this reason.
 abbrev pub IsNever : Dialect → RecordPlace → ℕ → Refusal → Type 0
 IsNever d at b why = (text fields : ℕ) (front bs : List ℕ)
-    → Passed d (IsBegun d at) text fields front
+    → Passed d (IsFieldPrefix d at) text fields front
     → IsRefused d (front ++ b ∷ bs) (record { offset = length front; why = why })
 
 -- the scan stops: the record is complete, or no bytes remain, or no record continues with the next
@@ -121,7 +123,8 @@ IsLed d old fresh new result = (taken : List ℕ) × (left : List ℕ) × (why :
 abbrev pub IsBehind : Dialect → ℕ → Option Step → Type 0
 IsBehind d b (Some step) = (step.text ≤ 1) × (step.fields ≤ 1)
     × ((text fields : ℕ) (front : List ℕ) → Passed d (IsFieldText d) text fields front
-    → Passed d (IsBegun d step.place) (text + step.text) (fields + step.fields) (front ++ b ∷ []))
+    → Passed d (IsFieldPrefix d step.place) (text + step.text) (fields + step.fields)
+    (front ++ b ∷ []))
 IsBehind d b None = (b ≡ d.delimiter → ⊥)
     × ((after rest : List ℕ) → EndsHere d.ends (b ∷ after) rest → ⊥)
 

@@ -21,9 +21,9 @@ abbrev pub NotFirst : (ℕ → Type 0) → List ℕ → Type 0
 NotFirst these bytes = MayBegin (λ b. these b → ⊥) bytes
 
 -- There is a first byte, and it is one of these.
-abbrev pub Begins : (ℕ → Type 0) → List ℕ → Type 0
-Begins these [] = ⊥
-Begins these (b ∷ bs) = these b
+abbrev pub StartsWith : (ℕ → Type 0) → List ℕ → Type 0
+StartsWith these [] = ⊥
+StartsWith these (b ∷ bs) = these b
 
 -- the longest prefix of bytes that satisfy `these` has length `n`
 abbrev pub SoMany : (ℕ → Type 0) → List ℕ → ℕ → Type 0
@@ -70,9 +70,9 @@ EndsNowhere ends (b ∷ bs) begun =
 
 -- the reason why a record neither ends nor continues with the first byte
 abbrev pub WhyNot : ℕ → List ℕ → Refusal → Type 0
-WhyNot quote bytes QuoteInField = Begins (λ b. b ≡ quote) bytes
-WhyNot quote bytes WrongLineEnd = Begins IsBreak bytes
-WhyNot quote bytes ByteBehindQuote = Begins (λ b. (b ≡ quote → ⊥) × (IsBreak b → ⊥)) bytes
+WhyNot quote bytes QuoteInField = StartsWith (λ b. b ≡ quote) bytes
+WhyNot quote bytes WrongLineEnd = StartsWith IsBreak bytes
+WhyNot quote bytes ByteBehindQuote = StartsWith (λ b. (b ≡ quote → ⊥) × (IsBreak b → ⊥)) bytes
 WhyNot quote bytes OpenQuote = ⊥
 
 -- The bytes do not start with a UTF-8 byte order mark.

@@ -1,9 +1,9 @@
 -- Where and why bytes begin with no record.
 use Rattle.std.specs.Prelude.{◌≡◌, ◌⊎◌, ℕ, List, [], ◌∷◌, ◌++◌, length, ⊤, Bool, true, false}
-use Rattle.std.specs.Prelude.{Result, Ok, Err}
+use Rattle.std.specs.Prelude.{Err, Ok, Result}
 use Rattle.format_csv_records.specs.Apart.{IsBreak}
 use Rattle.format_csv_records.specs.Dialects.{IsLineEnd, IsPlain, IsRecord}
-use Rattle.format_csv_records.specs.Parts.{Begins}
+use Rattle.format_csv_records.specs.Parts.{StartsWith}
 use Rattle.format_csv_records.specs.declared.dialect.Dialect.{Dialect}
 use Rattle.format_csv_records.specs.declared.read.Refusal.{Refusal}
 use Rattle.format_csv_records.specs.declared.read.Refusal.TheVariants.{QuoteInField}
@@ -24,11 +24,11 @@ EndsAField d before = (end : List ℕ) → IsLineEnd d.ends end
 -- or line feed that is not a line ending; or does not have a line feed after a carriage return.
 abbrev pub Lacks : Dialect → Refusal → List ℕ → List ℕ → List ℕ → Type 0
 Lacks d QuoteInField before more back =
-    IsLineEnd d.ends more × Begins (λ b. b ≡ d.quote) back × EndsAField d before
+    IsLineEnd d.ends more × StartsWith (λ b. b ≡ d.quote) back × EndsAField d before
 Lacks d ByteBehindQuote before more back =
-    IsLineEnd d.ends more × Begins (IsPlain d) back × EndsAField d before
+    IsLineEnd d.ends more × StartsWith (IsPlain d) back × EndsAField d before
 Lacks d OpenQuote before more back = (more ≡ d.quote ∷ []) × (back ≡ [])
-Lacks d WrongLineEnd before more back = (IsLineEnd d.ends more × Begins IsBreak back)
+Lacks d WrongLineEnd before more back = (IsLineEnd d.ends more × StartsWith IsBreak back)
     ⊎ ((more ≡ 10 ∷ []) × ((front : List ℕ) × (before ≡ front ++ 13 ∷ [])))
 
 -- No continuation of `before` and the next byte starts with a record; or there is no next byte, and

@@ -62,7 +62,7 @@ pub struct RecordSize {
 
 // The state after a field: the rest of the bytes, and the offset after the bytes written so far.
 #[derive(Clone, Copy, Drop)]
-pub struct Behind<'i> {
+pub struct AfterField<'i> {
     rest: &'i [u8],
     end: usize,
 }
@@ -145,7 +145,7 @@ fn put_place<P: FieldPlace>(place: P, number: usize, places: &mut [P])
 
 // Puts the bytes of a field up to its closing quote, of two quotes one.
 #[inline(always)]
-fn put_quoted<'i>(quote: u8, bytes: &'i [u8], at: usize, text: &mut [u8]) -> Option<Behind<'i>>
+fn put_quoted<'i>(quote: u8, bytes: &'i [u8], at: usize, text: &mut [u8]) -> Option<AfterField<'i>>
     requires { at + length bytes.now < 2 ^ 63 }
     ensures { MatchOption result (Unclosed quote bytes.now) (λ it. (field : List ℕ)
         × Closed quote bytes.now field it.rest.now
@@ -161,7 +161,7 @@ fn put_quoted<'i>(quote: u8, bytes: &'i [u8], at: usize, text: &mut [u8]) -> Opt
         end += run;
         let left = behind(rest, run + 1);
         if !first_is(left, quote) {
-            return Some(Behind { rest: left, end });
+            return Some(AfterField { rest: left, end });
         }
         put_byte(quote, end, text);
         end += 1;
@@ -176,7 +176,7 @@ fn put_field<'i>(
     bytes: &'i [u8],
     at: usize,
     text: &mut [u8],
-) -> Option<Behind<'i>>
+) -> Option<AfterField<'i>>
     requires { at + length bytes.now < 2 ^ 63 }
     ensures { MatchOption result (OpenFirst dialect bytes.now) (λ it. (field : List ℕ)
         × FieldFirst dialect bytes.now field it.rest.now
@@ -186,7 +186,7 @@ fn put_field<'i>(
         return put_quoted(dialect.quote, behind(bytes, 1), at, text);
     }
     let size = put_plain(dialect, bytes, at, text);
-    Some(Behind {
+    Some(AfterField {
         rest: behind(bytes, size),
         end: at + size,
     })

@@ -7,7 +7,8 @@
 ghost use Rattle.std.specs.Prelude.{◌≡◌, ◌≤◌, ◌<◌, ◌+◌, ◌^◌, ◌++◌, ℕ, List, None, Ok, drop};
 ghost use Rattle.std.specs.Prelude.{length};
 ghost use Rattle.format_csv_records.specs.Buffers.{SizesRecord};
-ghost use Rattle.format_csv_records.specs.Extents.{IsBegun, IsFew, IsLed, IsOf, IsTold, Passed};
+ghost use Rattle.format_csv_records.specs.Extents.{IsFew, IsFieldPrefix, IsLed, IsOf, Passed};
+ghost use Rattle.format_csv_records.specs.Extents.{RecordResult};
 ghost use Rattle.format_csv_records.specs.Extents.{Says, Walks};
 ghost use Rattle.format_csv_records.specs.declared.dialect.Dialect.{Dialect};
 
@@ -183,7 +184,7 @@ impl RecordExtent {
         dialect: Dialect,
         bytes: &[u8],
     ) -> Result<Option<RecordSize>, RecordFault>
-        ensures told { IsOf dialect self.old bytes.now → IsTold dialect bytes.now result }
+        ensures told { IsOf dialect self.old bytes.now → RecordResult dialect bytes.now result }
         ensures kept { IsOf dialect self.old bytes.now
             → (more : List ℕ) → IsOf dialect self.new (bytes.now ++ more) }
         ensures fresh { self.old.passed ≤ length bytes.now → IsFew self.old
@@ -299,7 +300,7 @@ impl RecordExtent {
     /// complete.
     fn end(&self, bytes: &[u8]) -> Result<Option<RecordSize>, RecordFault>
         ensures { (d : Dialect) → (self.now.place ≡ RecordPlace.Done → ⊥)
-            → Passed d (IsBegun d self.now.place) self.now.text self.now.fields bytes.now
+            → Passed d (IsFieldPrefix d self.now.place) self.now.text self.now.fields bytes.now
             → self.now.passed ≡ length bytes.now → SizesRecord d bytes.now result }
     {
         if !is_some(bytes) {

@@ -81,13 +81,13 @@ impl<'i> Records<'i> {
 /// not start with one. If the mark is not skipped, it is part of the first field.
 ///
 /// ```
-/// use format_csv_records::records::behind_mark;
+/// use format_csv_records::records::skip_mark;
 ///
-/// let told = behind_mark(b"\xef\xbb\xbfa,b\n".as_slice());
+/// let told = skip_mark(b"\xef\xbb\xbfa,b\n".as_slice());
 /// assert!(rt; matches!(told, Some(rest) if rest == b"a,b\n".as_slice()));
-/// assert!(rt; behind_mark(b"a,b\n".as_slice()).is_none());
+/// assert!(rt; skip_mark(b"a,b\n".as_slice()).is_none());
 /// ```
-pub fn behind_mark(bytes: &[u8]) -> Option<&[u8]>
+pub fn skip_mark(bytes: &[u8]) -> Option<&[u8]>
     ensures { MatchOption result (NoMark bytes.now)
         (λ rest. bytes.now ≡ 239 ∷ 187 ∷ 191 ∷ rest.now) }
 {

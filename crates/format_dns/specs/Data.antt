@@ -150,19 +150,19 @@ module _ (message : List ℕ) where
         × HasOtherSize behind 20 fault)))
 
     -- Data of any form, from a place to the end.
-    abbrev pub Stands : {A : Type 0} → ℕ → Data A → Type 0
-    Stands place (Ipv4 address) = IsIpv4 place address
-    Stands place (Ipv6 address) = IsIpv6 place address
-    Stands place (Name name) = IsLastName place name
-    Stands place (MailExchange mail) = HasMail place mail
-    Stands place (Text strings) = AreStrings place strings.items
-    Stands place (StartOfAuthority zone) = HasZone place zone
-    Stands place (Service service) = HasService place service
-    Stands place (Other octets) = At message place octets.now
+    abbrev pub IsDataAt : {A : Type 0} → ℕ → Data A → Type 0
+    IsDataAt place (Ipv4 address) = IsIpv4 place address
+    IsDataAt place (Ipv6 address) = IsIpv6 place address
+    IsDataAt place (Name name) = IsLastName place name
+    IsDataAt place (MailExchange mail) = HasMail place mail
+    IsDataAt place (Text strings) = AreStrings place strings.items
+    IsDataAt place (StartOfAuthority zone) = HasZone place zone
+    IsDataAt place (Service service) = HasService place service
+    IsDataAt place (Other octets) = At message place octets.now
 
     -- Data of this form.
     abbrev pub IsOfForm : {A : Type 0} → ℕ → Form → Data A → Type 0
-    IsOfForm place form held = (form_of_data held ≡ form) × Stands place held
+    IsOfForm place form held = (form_of_data held ≡ form) × IsDataAt place held
 
     -- Why no data of a form are there.
     abbrev pub NoForm : ℕ → Form → Fault → Type 0

@@ -10,7 +10,7 @@ use Rattle.winnow.specs.Grammar.Lengths.{same_beginnings}
 use Rattle.winnow.specs.Grammar.Unique.{many_unique}
 use Rattle.format_dns.specs.Data.{AreStrings, HasMail, HasOtherSize, HasService, HasZone}
 use Rattle.format_dns.specs.Data.{IsLastName, IsOfForm, NoForm, NoLastName, NoMail}
-use Rattle.format_dns.specs.Data.{NoService, NoStrings, NoZone, Stands, form_of_data}
+use Rattle.format_dns.specs.Data.{IsDataAt, NoService, NoStrings, NoZone, form_of_data}
 use Rattle.format_dns.specs.FieldLaws.{field_length, service_length, zone_length}
 use Rattle.format_dns.specs.Laws.{sized_unique}
 use Rattle.format_dns.specs.NameLaws.{no_name, one_behind, one_place}
@@ -214,7 +214,7 @@ module _ (message : List ℕ) where
 
     no_held : {A : Type 0} (place : ℕ) (fault : Fault) (it : Data A)
         → NoForm message pointers place (form_of_data it) fault
-        → Stands message pointers place it → ⊥
+        → IsDataAt message pointers place it → ⊥
     no_held place fault (Ipv4 address) none (at, size) = no_size at size none
     no_held place fault (Ipv6 address) none (octets, at, size, is) = no_size at size none
     no_held place fault (Name name) none is = no_last_name place fault name none is

@@ -13,9 +13,9 @@ use Rattle.winnow.specs.Grammar.{Counted, Gathered, Grammar, IsUnique, Many, Non
 use Rattle.winnow.specs.Grammar.{TokenOf}
 use Rattle.winnow.specs.Grammar.Known.{slice_for}
 use Rattle.winnow.specs.Grammar.Lengths.{SaysOne, Sized, same_beginnings}
-use Rattle.format_dns.specs.Names.{GoesNot, GoesOn, IsCut}
+use Rattle.format_dns.specs.Names.{IsCut, IsNameEnding, IsNoNameEnding}
 use Rattle.format_dns.specs.Names.{IsLabel, IsPointer, IsRoot, IsSized, Label}
-use Rattle.format_dns.specs.Names.{EndingTold, NoEnding}
+use Rattle.format_dns.specs.Names.{EndingResult, NoEnding}
 use Rattle.format_dns.specs.declared.fault.Fault.{Fault}
 use Rattle.format_dns.specs.declared.fault.Fault.TheVariants.{Ends}
 use Rattle.format_dns.specs.declared.name.Ending.{Ending}
@@ -148,7 +148,8 @@ pub goes_one : {others : ℕ → List Label → Type 0} {faults : ℕ → ℕ �
     → ((end to : ℕ) (fault : Fault) (more : List Label) → faults end to fault
     → others to more → ⊥) → (start end : ℕ) (rest : List ℕ) (fault : Fault)
     (here : List Label) (after : ℕ) (labels : List Label) (behind : ℕ)
-    → GoesNot faults start end rest fault → GoesOn others start here after rest labels behind → ⊥
+    → IsNoNameEnding faults start end rest fault
+    → IsNameEnding others start here after rest labels behind → ⊥
 goes_one below start end rest fault here after labels behind (inl none) (inl (root, a, b)) =
     ending_root none root
 goes_one below start end rest fault here after labels behind (inl none)
@@ -163,14 +164,14 @@ goes_one {others} below start end rest fault here after labels behind
     below end to fault more f (subst P (one_pointer q p) o)
 
 pub told_root : {tokens : List ℕ} (place : ℕ) (e : Ending) → e ≡ Root
-    → EndingTold tokens place (Ok e) → IsRoot tokens
+    → EndingResult tokens place (Ok e) → IsRoot tokens
 told_root {tokens} place e is told =
-    let P : Ending → Type 0 = λ x. EndingTold tokens place (Ok x) in subst P is told
+    let P : Ending → Type 0 = λ x. EndingResult tokens place (Ok x) in subst P is told
 
 pub told_pointer : {tokens : List ℕ} (place : ℕ) {to : ℕ} (e : Ending) → e ≡ Pointer to
-    → EndingTold tokens place (Ok e) → IsPointer tokens to
+    → EndingResult tokens place (Ok e) → IsPointer tokens to
 told_pointer {tokens} place e is told =
-    let P : Ending → Type 0 = λ x. EndingTold tokens place (Ok x) in subst P is told
+    let P : Ending → Type 0 = λ x. EndingResult tokens place (Ok x) in subst P is told
 
 -- what was put after others
 pub put_behind : {X E : Type 0} {all : List X} (front more : List X) (r : Result (Unit {0}) E)

@@ -8,7 +8,7 @@ use Rattle.winnow.specs.Equal.{same_others}
 use Rattle.format_dns.specs.FieldLaws.{field_length}
 use Rattle.format_dns.specs.Fields.{IsField}
 use Rattle.format_dns.specs.Header.{AreCounts, IsHeader, IsNumber}
-use Rattle.format_dns.specs.Messages.{BeginsWith, HasNoMessage, IsMessage, MessageTold}
+use Rattle.format_dns.specs.Messages.{HasNoMessage, IsMessage, MessageResult, StartsWithHeader}
 use Rattle.format_dns.specs.Messages.{QuestionsTo, RecordsTo, SectionLacks, SectionStops}
 use Rattle.format_dns.specs.Messages.{SectionWants, WantsMessage}
 use Rattle.format_dns.specs.PartLaws.{lack_questions, one_question, rows_end}
@@ -184,10 +184,10 @@ module _ (message : List ℕ) (pointers : ℕ) where
 
   -- a property of the error's section, from that of a section equal to it
   pub section_stops : (A : Type 0) (h : Header) (s : Section) (fault : MessageFault)
-      → (OfQuestions OfRecords : ℕ → ℕ → ℕ → Fault → Type 0) → BeginsWith message h
+      → (OfQuestions OfRecords : ℕ → ℕ → ℕ → Fault → Type 0) → StartsWithHeader message h
       → fault.section ≡ s
       → SectionStops message pointers A OfQuestions OfRecords h s fault.entry fault.why
-      → (header : Header) × BeginsWith message header
+      → (header : Header) × StartsWithHeader message header
       × SectionStops message pointers A OfQuestions OfRecords header fault.section fault.entry
       fault.why
   section_stops A h s fault OfQuestions OfRecords header is stops =
@@ -198,7 +198,7 @@ module _ (message : List ℕ) (pointers : ℕ) where
   pub message_err : {A : Type 0} (fault : MessageFault) (r : Result (Message A) MessageFault)
       → IsErrAnd r (λ y. y ≡ fault)
       → WantsMessage message pointers A fault ⊎ HasNoMessage message pointers A fault
-      → MessageTold message pointers r
+      → MessageResult message pointers r
   message_err fault (Ok it) is why = elim is [ ]
   message_err {A} fault (Err y) is (inl wants) =
       let P : MessageFault → Type 0 = λ f. WantsMessage message pointers A f in
@@ -209,9 +209,9 @@ module _ (message : List ℕ) (pointers : ℕ) where
 
   -- where a section ends
   pub section_err : {A : Type 0} (fault : MessageFault) (r : Result (Message A) MessageFault)
-      → IsErrAnd r (λ y. y ≡ fault) → (h : Header) (s : Section) → BeginsWith message h
+      → IsErrAnd r (λ y. y ≡ fault) → (h : Header) (s : Section) → StartsWithHeader message h
       → fault.section ≡ s → SectionWants message pointers A h s fault.entry fault.why
-      ⊎ SectionLacks message pointers A h s fault.entry fault.why → MessageTold message pointers r
+      ⊎ SectionLacks message pointers A h s fault.entry fault.why → MessageResult message pointers r
   section_err {A} fault r is h s header same why = message_err fault r is (elim why [
     | inl wants ↦ inl (section_stops A h s fault (QuestionsWant message pointers A)
         (RecordsWant message pointers A) header same wants)

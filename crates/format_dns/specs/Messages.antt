@@ -14,20 +14,20 @@ use Rattle.format_dns.specs.declared.question.Questions.{Questions}
 use Rattle.format_dns.specs.declared.record.Records.{Records}
 
 -- The first twelve bytes are a header of these fields.
-abbrev pub BeginsWith : List ℕ → Header → Type 0
-BeginsWith message header = IsHeader header (take 12 message) []
+abbrev pub StartsWithHeader : List ℕ → Header → Type 0
+StartsWithHeader message header = IsHeader header (take 12 message) []
 
 -- the contract of a message's header
-abbrev pub HeaderTold : List ℕ → Result Header MessageFault → Type 0
-HeaderTold message (Ok header) = BeginsWith message header
-HeaderTold message (Err fault) =
+abbrev pub HeaderResult : List ℕ → Result Header MessageFault → Type 0
+HeaderResult message (Ok header) = StartsWithHeader message header
+HeaderResult message (Err fault) =
     (fault ≡ record { section = section.Header; entry = 0; why = Ends 0 }) × (length message < 12)
 
 module _ (message : List ℕ) (pointers : ℕ) where
   -- A message is a header, and after it as many questions, and as many records of three sections,
   -- as it counts. Each section begins where the one before it ends.
   pub record IsMessage {A : Type 0} (it : Message A) : Type 0 where
-    pub header : BeginsWith message it.header
+    pub header : StartsWithHeader message it.header
     pub questions : AreQuestions message pointers 12 it.header.question_count it.questions
     pub answers : AreRecords message pointers it.questions.behind it.header.answer_count it.answers
     pub authority : AreRecords message pointers it.answers.behind it.header.authority_count
@@ -82,18 +82,18 @@ module _ (message : List ℕ) (pointers : ℕ) where
   HasNoMessage A fault =
       ((fault ≡ record { section = section.Header; entry = 0; why = Ends 0 })
       × (length message < 12))
-      ⊎ ((header : Header) × BeginsWith message header
+      ⊎ ((header : Header) × StartsWithHeader message header
       × SectionLacks A header fault.section fault.entry fault.why)
 
   -- The bytes start with a header, and memory allocation failed for an entry that it counts.
   abbrev pub WantsMessage : Type 0 → MessageFault → Type 0
-  WantsMessage A fault = (header : Header) × BeginsWith message header
+  WantsMessage A fault = (header : Header) × StartsWithHeader message header
       × SectionWants A header fault.section fault.entry fault.why
 
   -- The contract of a message: it is the one at the start of the bytes; or memory allocation failed
   -- for an entry; or an entry is invalid, and the bytes do not start with a message.
-  abbrev pub MessageTold : {A : Type 0} → Result (Message A) MessageFault → Type 0
-  MessageTold (Ok it) = IsMessage it
-  MessageTold {A} (Err fault) =
+  abbrev pub MessageResult : {A : Type 0} → Result (Message A) MessageFault → Type 0
+  MessageResult (Ok it) = IsMessage it
+  MessageResult {A} (Err fault) =
       WantsMessage A fault
       ⊎ (HasNoMessage A fault × ((it : Message A) → IsMessage it → ⊥))

@@ -1,7 +1,7 @@
 -- Uniqueness: at each offset of a message there is either one name or an error.
 use Rattle.std.specs.Prelude.{◌≡◌, ◌⊎◌, ◌≤◌, ◌<◌, ◌+◌, ◌-◌, ◌*◌, ◌++◌, ℕ, zero, suc, List}
-use Rattle.std.specs.Prelude.{length, None, take, drop}
-use Rattle.std.specs.Prelude.{Result, Ok, Err, slice_range}
+use Rattle.std.specs.Prelude.{None, drop, length, take}
+use Rattle.std.specs.Prelude.{Err, Ok, Result, slice_range}
 use Rattle.std.specs.Result.{IsErrAnd}
 use Rattle.std.specs.declared.vec.Vec.{Vec}
 use Rattle.std.proofs.Common.{refl, sym, ap, subst, inl, inr, ◌∙◌, arith, length-append}
@@ -12,7 +12,7 @@ use Rattle.winnow.specs.Range.{from_to}
 use Rattle.winnow.specs.Grammar.{Each, Gathered, Many}
 use Rattle.winnow.specs.Grammar.Lengths.{same_beginnings}
 use Rattle.winnow.specs.Grammar.Unique.{many_unique}
-use Rattle.format_dns.specs.Names.{AreLabels, At, FaultBy, GoesNot, GoesOn, HasNoName}
+use Rattle.format_dns.specs.Names.{AreLabels, At, FaultBy, HasNoName, IsNameEnding, IsNoNameEnding}
 use Rattle.format_dns.specs.Names.{HasMore, IsLabel, IsName, IsPointer, IsRoot, Label, NameBy}
 use Rattle.format_dns.specs.Names.{NameWithin, NoEnding, octets}
 use Rattle.format_dns.specs.Octets.{each_here, none_here, octets_append, octets_each}
@@ -95,8 +95,9 @@ module _ (message : List ℕ) where
   -- what a name has after labels, and its octets
   within : {others : ℕ → List Label → Type 0} (room few start : ℕ) (here : List Label) (end : ℕ)
       (rest : List ℕ) (labels : List Label) (behind : ℕ) → few ≤ octets here
-      → octets labels ≤ room → GoesOn others start here end rest labels behind
-      → GoesOn (λ to more. others to more × (octets more ≤ room - few)) start here end rest labels
+      → octets labels ≤ room → IsNameEnding others start here end rest labels behind
+      → IsNameEnding (λ to more. others to more × (octets more ≤ room - few)) start here end
+      rest labels
       behind
   within room few start here end rest labels behind least fits (inl root) = inl root
   within room few start here end rest labels behind least fits
@@ -116,7 +117,7 @@ module _ (message : List ℕ) where
   -- a name has no fewer octets than its first labels
   first_octets : {others : ℕ → List Label → Type 0} (start : ℕ) (here : List Label) (end : ℕ)
       (rest : List ℕ) (labels : List Label) (behind : ℕ)
-      → GoesOn others start here end rest labels behind → octets here ≤ octets labels
+      → IsNameEnding others start here end rest labels behind → octets here ≤ octets labels
   first_octets start here end rest labels behind (inl (root, e, is)) = omega (arith, ap octets e)
   first_octets start here end rest labels behind (inr (to, p, prior, (more, o, out, is))) =
       omega (arith, ap octets out, octets_append here more)
@@ -141,7 +142,8 @@ module _ (message : List ℕ) where
       )
   not_both {others} {faults} below room start fault labels behind
       (inr (inr (here, end, rest, a, enough, why))) (here2, end2, rest2, b, ends) fits =
-      let P : List ℕ → Type 0 = λ l. GoesNot (faults (room - octets here)) start end l fault in
+      let P : List ℕ → Type 0 =
+      λ l. IsNoNameEnding (faults (room - octets here)) start end l fault in
       let Q : List ℕ → Type 0 = λ l. Each IsLabel l here rest in
       goes_one (below (room - octets here)) start end rest2 fault here2 end2 labels behind
       (subst P (one_rest a b) why)

@@ -63,24 +63,24 @@ NoEnding tokens place fault =
     ((fault ≡ Ends place) × IsCut tokens) ⊎ ((fault ≡ Reserved place) × IsReserved tokens)
 
 -- the contract of an ending, for bytes that do not start with a label
-abbrev pub EndingTold : List ℕ → ℕ → Result Ending Fault → Type 0
-EndingTold tokens place (Ok Root) = IsRoot tokens
-EndingTold tokens place (Ok (Pointer to)) = IsPointer tokens to
-EndingTold tokens place (Err fault) = NoEnding tokens place fault
+abbrev pub EndingResult : List ℕ → ℕ → Result Ending Fault → Type 0
+EndingResult tokens place (Ok Root) = IsRoot tokens
+EndingResult tokens place (Ok (Pointer to)) = IsPointer tokens to
+EndingResult tokens place (Err fault) = NoEnding tokens place fault
 
 -- The labels are followed by the root, which ends a name; or by a pointer to an offset before these
 -- labels, and the name consists of these labels and the ones at that offset.
-abbrev pub GoesOn : (ℕ → List Label → Type 0) → ℕ → List Label → ℕ → List ℕ → List Label
+abbrev pub IsNameEnding : (ℕ → List Label → Type 0) → ℕ → List Label → ℕ → List ℕ → List Label
     → ℕ → Type 0
-GoesOn others start here end rest labels behind =
+IsNameEnding others start here end rest labels behind =
     (IsRoot rest × (labels ≡ here) × (behind ≡ end + 1))
     ⊎ ((to : ℕ) × IsPointer rest to × (to < start)
     × ((more : List Label) × others to more × (labels ≡ here ++ more) × (behind ≡ end + 2)))
 
 -- The labels are followed by an invalid ending, by a pointer to an offset that is not smaller, or
 -- by a pointer to an offset without a valid name.
-abbrev pub GoesNot : (ℕ → ℕ → Fault → Type 0) → ℕ → ℕ → List ℕ → Fault → Type 0
-GoesNot faults start end rest fault =
+abbrev pub IsNoNameEnding : (ℕ → ℕ → Fault → Type 0) → ℕ → ℕ → List ℕ → Fault → Type 0
+IsNoNameEnding faults start end rest fault =
     NoEnding rest end fault
     ⊎ ((to : ℕ) × IsPointer rest to
     × (((fault ≡ NotPrior end) × (start ≤ to)) ⊎ ((to < start) × faults end to fault)))
@@ -102,7 +102,7 @@ module _ (message : List ℕ) where
   abbrev pub NameBy : (ℕ → List Label → Type 0) → ℕ → List Label → ℕ → Type 0
   NameBy others start labels behind =
       (here : List Label) × (end : ℕ) × (rest : List ℕ) × AreLabels start here end rest
-      × GoesOn others start here end rest labels behind
+      × IsNameEnding others start here end rest labels behind
 
   -- `IsName pointers start labels behind`: the name at offset `start` has these labels, and follows
   -- at most `pointers` pointers in sequence; its encoding there ends at offset `behind`.
@@ -123,7 +123,7 @@ module _ (message : List ℕ) where
       ((fault ≡ Ends start) × (length message < start))
       ⊎ (((fault ≡ TooLong start) × HasMore start room)
       ⊎ ((here : List Label) × (end : ℕ) × (rest : List ℕ) × AreLabels start here end rest
-      × (octets here ≤ room) × GoesNot (faults (room - octets here)) start end rest fault))
+      × (octets here ≤ room) × IsNoNameEnding (faults (room - octets here)) start end rest fault))
 
   -- `HasNoName pointers room start fault`: the reason why offset `start` has no name that follows
   -- at most `pointers` pointers and whose labels have at most `room` octets.
@@ -144,5 +144,5 @@ module _ (message : List ℕ) where
       → octets labels ≤ room → ⊥))
 
   -- The same contract for any name: it has at most 255 octets, including the octet of the root.
-  abbrev pub NameTold : {A : Type 0} → ℕ → ℕ → Result (Name A) Fault → Type 0
-  NameTold pointers = NameWithin pointers 254
+  abbrev pub NameResult : {A : Type 0} → ℕ → ℕ → Result (Name A) Fault → Type 0
+  NameResult pointers = NameWithin pointers 254

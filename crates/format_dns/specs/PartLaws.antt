@@ -1,6 +1,6 @@
 -- Lemmas that a part with an error is not a valid part.
 use Rattle.std.specs.Prelude.{◌≡◌, ◌⊎◌, ◌≤◌, ◌<◌, ◌+◌, ◌-◌, ◌++◌, ℕ, List, [], ◌∷◌, length, Result}
-use Rattle.std.specs.Prelude.{Ok, Err, drop, slice_range, take}
+use Rattle.std.specs.Prelude.{Err, Ok, drop, slice_range, take}
 use Rattle.std.specs.Result.{IsErrAnd}
 use Rattle.std.proofs.Common.{refl, sym, ap, subst, inl, inr, ◌∙◌, arith, length-append}
 use Rattle.std.proofs.Common.{length-drop}
@@ -9,7 +9,7 @@ use Rattle.format_dns.specs.FieldLaws.{asked_length}
 use Rattle.format_dns.specs.NameLaws.{no_name, one_behind}
 use Rattle.format_dns.specs.Names.{At}
 use Rattle.format_dns.specs.Questions.{AreQuestions, HasNoQuestion, HaveNoQuestions, IsQuestion}
-use Rattle.format_dns.specs.Questions.{PartTold, QuestionsLack, Rows, RowsFail, RowsLack}
+use Rattle.format_dns.specs.Questions.{PartResult, QuestionsLack, Rows, RowsFail, RowsLack}
 use Rattle.format_dns.specs.declared.fault.Fault.{Fault}
 use Rattle.format_dns.specs.declared.fault.Fault.TheVariants.{NoMemory}
 use Rattle.format_dns.specs.declared.question.Question.{Question}
@@ -17,7 +17,7 @@ use Rattle.format_dns.specs.declared.question.Questions.{Questions}
 
 pub part_err : {X : Type 0} (Is : X → Type 0) (Fails : Fault → Type 0) {fault : Fault}
     (r : Result X Fault) → IsErrAnd r (λ y. y ≡ fault)
-    → (fault ≡ NoMemory) ⊎ (Fails fault × ((part : X) → Is part → ⊥)) → PartTold Is Fails r
+    → (fault ≡ NoMemory) ⊎ (Fails fault × ((part : X) → Is part → ⊥)) → PartResult Is Fails r
 part_err Is Fails (Ok part) is why = elim is [ ]
 part_err Is Fails (Err y) is (inl memory) = inl (is ∙ memory)
 part_err Is Fails (Err y) is (inr (fails, none)) = inr (subst Fails (sym is) fails, none)

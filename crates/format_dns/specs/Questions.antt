@@ -12,9 +12,9 @@ use Rattle.format_dns.specs.declared.question.Questions.{Questions}
 
 -- The contract of a part of a message: it is that part; or the error is the reason why there is
 -- none; or memory allocation failed.
-abbrev pub PartTold : {X : Type 0} → (X → Type 0) → (Fault → Type 0) → Result X Fault → Type 0
-PartTold Is Fails (Ok part) = Is part
-PartTold {X} Is Fails (Err fault) =
+abbrev pub PartResult : {X : Type 0} → (X → Type 0) → (Fault → Type 0) → Result X Fault → Type 0
+PartResult Is Fails (Ok part) = Is part
+PartResult {X} Is Fails (Err fault) =
     (fault ≡ NoMemory) ⊎ (Fails fault × ((part : X) → Is part → ⊥))
 
 -- Consecutive parts from one offset to another. `behind` gives the offset after each part.
@@ -42,21 +42,21 @@ RowsLack {X} Is behind Fails start count entry fault =
 
 -- The contract of a section: its entries; or the number of entries before a failed allocation; or
 -- the number before the first invalid entry, the reason, and that the section is invalid.
-abbrev pub SectionTold : {X : Type 0} → Section → (X → Type 0) → (ℕ → Fault → Type 0)
+abbrev pub SectionResult : {X : Type 0} → Section → (X → Type 0) → (ℕ → Fault → Type 0)
     → (ℕ → Fault → Type 0) → Result X MessageFault → Type 0
-SectionTold section Is Wants Fails (Ok entries) = Is entries
-SectionTold {X} section Is Wants Fails (Err fault) =
+SectionResult section Is Wants Fails (Ok entries) = Is entries
+SectionResult {X} section Is Wants Fails (Err fault) =
     (fault.section ≡ section)
     × (Wants fault.entry fault.why
     ⊎ (Fails fault.entry fault.why × ((entries : X) → Is entries → ⊥)))
 
 -- The contract of fields at an offset, of `size` bytes together: their values, or that the message
 -- ends within them.
-abbrev pub FieldsTold : {X : Type 0} → List ℕ → ℕ → (X → List ℕ → List ℕ → Type 0) → ℕ
+abbrev pub FieldsResult : {X : Type 0} → List ℕ → ℕ → (X → List ℕ → List ℕ → Type 0) → ℕ
     → Result X Fault → Type 0
-FieldsTold message size Are place (Ok fields) =
+FieldsResult message size Are place (Ok fields) =
     (tokens : List ℕ) × (rest : List ℕ) × At message place tokens × Are fields tokens rest
-FieldsTold message size Are place (Err fault) =
+FieldsResult message size Are place (Err fault) =
     (fault ≡ Ends place) × (length message < place + size)
 
 module _ (message : List ℕ) (pointers : ℕ) where
@@ -111,6 +111,6 @@ module _ (message : List ℕ) (pointers : ℕ) where
       (λ question. question.behind) WantsMemory
 
   -- the contract of `count` questions
-  abbrev pub QuestionsTold : {A : Type 0} → ℕ → ℕ → Result (Questions A) Fault → Type 0
-  QuestionsTold {A} start count =
-      PartTold (AreQuestions start count) (HaveNoQuestions A start count)
+  abbrev pub QuestionsResult : {A : Type 0} → ℕ → ℕ → Result (Questions A) Fault → Type 0
+  QuestionsResult {A} start count =
+      PartResult (AreQuestions start count) (HaveNoQuestions A start count)

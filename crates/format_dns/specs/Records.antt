@@ -3,7 +3,7 @@ use Rattle.std.specs.Prelude.{◌≡◌, ◌⊎◌, ◌≤◌, ◌<◌, ◌+◌,
 use Rattle.format_dns.specs.Data.{IsOfForm, NoForm, form_in}
 use Rattle.format_dns.specs.Fields.{AreRecordFields}
 use Rattle.format_dns.specs.Names.{At, HasNoName, Label}
-use Rattle.format_dns.specs.Questions.{HasName, IsShort, PartTold, Rows, RowsFail, RowsLack}
+use Rattle.format_dns.specs.Questions.{HasName, IsShort, PartResult, Rows, RowsFail, RowsLack}
 use Rattle.format_dns.specs.Questions.{WantsMemory}
 use Rattle.format_dns.specs.declared.fault.Fault.{Fault}
 use Rattle.format_dns.specs.declared.fault.Fault.TheVariants.{Ends}
@@ -68,6 +68,6 @@ module _ (message : List ℕ) (pointers : ℕ) where
       RowsLack (λ place (it : Record A). IsRecord place it) (λ it. it.behind) WantsMemory
 
   -- the contract of `count` records
-  abbrev pub RecordsTold : {A : Type 0} → ℕ → ℕ → Result (Records A) Fault → Type 0
-  RecordsTold {A} start count =
-      PartTold (AreRecords start count) (HaveNoRecords A start count)
+  abbrev pub RecordsResult : {A : Type 0} → ℕ → ℕ → Result (Records A) Fault → Type 0
+  RecordsResult {A} start count =
+      PartResult (AreRecords start count) (HaveNoRecords A start count)

@@ -4,7 +4,7 @@ ghost use Rattle.format_dns.specs.Data.{IsIpv4, IsIpv6, IsLastName, IsOfForm, No
 ghost use Rattle.format_dns.specs.Data.{NoMail, NoService, NoStrings, NoZone, form_for};
 ghost use Rattle.format_dns.specs.Data.{empty_form, form_in, internet_form};
 ghost use Rattle.format_dns.specs.Names.{At};
-ghost use Rattle.format_dns.specs.Questions.{PartTold};
+ghost use Rattle.format_dns.specs.Questions.{PartResult};
 ghost use Rattle.std.specs.Prelude.{◌≡◌, length};
 
 use crate::fault::Fault;
@@ -154,7 +154,7 @@ pub(crate) fn form_in(kind: u16, class: u16, length: u16) -> Form
 
 /// That many octets from a place to the end.
 fn octets_to_end<'m>(message: &'m [u8], place: usize, size: usize) -> Result<&'m [u8], Fault>
-    ensures { PartTold (λ octets. At message.now place octets.now × (length octets.now ≡ size))
+    ensures { PartResult (λ octets. At message.now place octets.now × (length octets.now ≡ size))
         (HasOtherSize message.now place size) result }
 {
     let Some(octets) = message.get(place..) else {
@@ -176,7 +176,7 @@ fn name_to_end<'m, A: Allocator + Copy>(
     message: &'m [u8],
     place: usize,
 ) -> Result<Name<'m, A>, Fault>
-    ensures { PartTold (IsLastName message.now pointers place)
+    ensures { PartResult (IsLastName message.now pointers place)
         (NoLastName message.now pointers place)
         result }
 {
@@ -193,7 +193,7 @@ fn strings_to_end<'m, A: Allocator + Copy>(
     message: &'m [u8],
     place: usize,
 ) -> Result<Vec<&'m [u8], A>, Fault>
-    ensures { PartTold (λ strings. AreStrings message.now place strings.items)
+    ensures { PartResult (λ strings. AreStrings message.now place strings.items)
         (NoStrings message.now place) result }
 {
     let Some(mut rest) = message.get(place..) else {
@@ -215,7 +215,7 @@ fn mail_to_end<'m, A: Allocator + Copy>(
     message: &'m [u8],
     place: usize,
 ) -> Result<MailExchange<'m, A>, Fault>
-    ensures { PartTold (HasMail message.now pointers place) (NoMail message.now pointers place)
+    ensures { PartResult (HasMail message.now pointers place) (NoMail message.now pointers place)
         result }
 {
     let preference = short_at(message, place)?;
@@ -233,7 +233,7 @@ fn zone_to_end<'m, A: Allocator + Copy>(
     message: &'m [u8],
     place: usize,
 ) -> Result<StartOfAuthority<'m, A>, Fault>
-    ensures { PartTold (HasZone message.now pointers place) (NoZone message.now pointers place)
+    ensures { PartResult (HasZone message.now pointers place) (NoZone message.now pointers place)
         result }
 {
     let primary = read_name(alloc, pointers, message, place)?;
@@ -261,7 +261,7 @@ fn service_to_end<'m, A: Allocator + Copy>(
     message: &'m [u8],
     place: usize,
 ) -> Result<Service<'m, A>, Fault>
-    ensures { PartTold (HasService message.now pointers place)
+    ensures { PartResult (HasService message.now pointers place)
         (NoService message.now pointers place)
         result }
 {
@@ -277,7 +277,7 @@ fn service_to_end<'m, A: Allocator + Copy>(
 
 /// The address of four octets from a place to the end.
 fn ipv4_to_end(message: &[u8], place: usize) -> Result<Ipv4Addr, Fault>
-    ensures { PartTold (IsIpv4 message.now place)
+    ensures { PartResult (IsIpv4 message.now place)
         (HasOtherSize message.now place 4) result }
 {
     let mut octets = [0; 4];
@@ -287,7 +287,7 @@ fn ipv4_to_end(message: &[u8], place: usize) -> Result<Ipv4Addr, Fault>
 
 /// The address of sixteen octets from a place to the end.
 fn ipv6_to_end(message: &[u8], place: usize) -> Result<Ipv6Addr, Fault>
-    ensures { PartTold (IsIpv6 message.now place) (HasOtherSize message.now place 16) result }
+    ensures { PartResult (IsIpv6 message.now place) (HasOtherSize message.now place 16) result }
 {
     let mut octets = [0; 16];
     octets.copy_from_slice(octets_to_end(message, place, 16)?);
@@ -302,7 +302,7 @@ pub(crate) fn read_data<'m, A: Allocator + Copy>(
     message: &'m [u8],
     place: usize,
 ) -> Result<Data<'m, A>, Fault>
-    ensures { PartTold (IsOfForm message.now pointers place form)
+    ensures { PartResult (IsOfForm message.now pointers place form)
         (NoForm message.now pointers place form) result }
 {
     match form {

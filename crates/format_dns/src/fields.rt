@@ -1,6 +1,6 @@
 //! Numbers of fixed widths in records (RFC 1035, sections 3.3.9, 3.3.13 and 4.1.3; RFC 2782).
 ghost use Rattle.format_dns.specs.Fields.{AreOfService, AreOfZone, AreRecordFields, IsField};
-ghost use Rattle.format_dns.specs.Questions.{FieldsTold};
+ghost use Rattle.format_dns.specs.Questions.{FieldsResult};
 ghost use Rattle.std.specs.Prelude.{◌≤◌, length, IfOk, IsOk};
 
 use crate::fault::Fault;
@@ -111,7 +111,7 @@ fn read_of_zone<'m>(input: &mut &'m [u8]) -> Result<OfZone, ErrMode<EmptyError>>
 
 /// Reads the fields of a record at offset `place`.
 pub(crate) fn record_fields_at(message: &[u8], place: usize) -> Result<RecordFields, Fault>
-    ensures { FieldsTold message.now 10
+    ensures { FieldsResult message.now 10
         (λ f. AreRecordFields f.kind f.class f.time_to_live f.length) place result }
 {
     let Some(mut rest) = message.get(place..) else {
@@ -125,7 +125,7 @@ pub(crate) fn record_fields_at(message: &[u8], place: usize) -> Result<RecordFie
 
 /// Reads a number of two bytes at offset `place`.
 pub(crate) fn short_at(message: &[u8], place: usize) -> Result<u16, Fault>
-    ensures { FieldsTold message.now 2 (λ n. IsField 2 n) place result }
+    ensures { FieldsResult message.now 2 (λ n. IsField 2 n) place result }
 {
     let Some(mut rest) = message.get(place..) else {
         return Err(Fault::Ends(place));
@@ -138,7 +138,7 @@ pub(crate) fn short_at(message: &[u8], place: usize) -> Result<u16, Fault>
 
 /// Reads the numbers of a service at offset `place`.
 pub(crate) fn of_service_at(message: &[u8], place: usize) -> Result<OfService, Fault>
-    ensures { FieldsTold message.now 6 (λ s. AreOfService s.priority s.weight s.port) place
+    ensures { FieldsResult message.now 6 (λ s. AreOfService s.priority s.weight s.port) place
         result }
 {
     let Some(mut rest) = message.get(place..) else {
@@ -152,7 +152,7 @@ pub(crate) fn of_service_at(message: &[u8], place: usize) -> Result<OfService, F
 
 /// Reads the numbers of a zone at offset `place`.
 pub(crate) fn of_zone_at(message: &[u8], place: usize) -> Result<OfZone, Fault>
-    ensures { FieldsTold message.now 20
+    ensures { FieldsResult message.now 20
         (λ z. AreOfZone z.serial z.refresh z.retry z.expire z.minimum) place result }
 {
     let Some(mut rest) = message.get(place..) else {

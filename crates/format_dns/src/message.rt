@@ -1,7 +1,7 @@
 //! Whole messages (RFC 1035, section 4.1).
 
 ghost use Rattle.std.specs.Prelude.{◌≡◌};
-ghost use Rattle.format_dns.specs.Messages.{HeaderTold, MessageTold};
+ghost use Rattle.format_dns.specs.Messages.{HeaderResult, MessageResult};
 
 use crate::fault::{Fault, MessageFault, Section};
 use crate::header::{Header, read_header};
@@ -43,7 +43,7 @@ impl<'m, A: Allocator> Message<'m, A> {
 
 /// The header with which a message begins.
 fn header_in(message: &[u8]) -> Result<Header, MessageFault>
-    ensures { HeaderTold message.now result }
+    ensures { HeaderResult message.now result }
 {
     let lacks = MessageFault {
         section: Section::Header,
@@ -98,7 +98,7 @@ pub fn read_message<'m, A: Allocator + Copy>(
     pointers: usize,
     message: &'m [u8],
 ) -> Result<Message<'m, A>, MessageFault>
-    ensures { MessageTold message.now pointers result }
+    ensures { MessageResult message.now pointers result }
 {
     let header = header_in(message)?;
     let questions = questions_in(alloc, pointers, message, 12, header.question_count)?;

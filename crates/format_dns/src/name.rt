@@ -1,5 +1,5 @@
 //! Names.
-ghost use Rattle.format_dns.specs.Names.{EndingTold, IsLabel, NameTold, NameWithin};
+ghost use Rattle.format_dns.specs.Names.{EndingResult, IsLabel, NameResult, NameWithin};
 ghost use Rattle.winnow.specs.Grammar.{NoneStands};
 
 use crate::fault::Fault;
@@ -26,7 +26,7 @@ enum Ending {
 /// Reads the ending at offset `place`, where no label follows.
 fn read_ending(rest: &[u8], place: usize) -> Result<Ending, Fault>
     requires { NoneStands IsLabel rest.now }
-    ensures { EndingTold rest.now place result }
+    ensures { EndingResult rest.now place result }
 {
     let Some((first, behind)) = rest.split_first() else {
         return Err(Fault::Ends(place));
@@ -115,7 +115,7 @@ pub fn read_name<'m, A: Allocator + Copy>(
     message: &'m [u8],
     place: usize,
 ) -> Result<Name<'m, A>, Fault>
-    ensures { NameTold message.now pointers place result }
+    ensures { NameResult message.now pointers place result }
 {
     read_within(alloc, pointers, 254, message, place)
 }

@@ -1,9 +1,10 @@
 //! Questions (RFC 1035, section 4.1.2).
 ghost use Rattle.format_dns.specs.Fields.{AreAsked};
 ghost use Rattle.format_dns.specs.Names.{At};
-ghost use Rattle.format_dns.specs.Questions.{AreQuestions, FieldsTold, HasNoQuestion, IsQuestion};
-ghost use Rattle.format_dns.specs.Questions.{PartTold, QuestionsLack, QuestionsTold, QuestionsWant};
-ghost use Rattle.format_dns.specs.Questions.{SectionTold};
+ghost use Rattle.format_dns.specs.Questions.{AreQuestions, FieldsResult, HasNoQuestion, IsQuestion};
+ghost use Rattle.format_dns.specs.Questions.{PartResult, QuestionsLack, QuestionsResult};
+ghost use Rattle.format_dns.specs.Questions.{QuestionsWant};
+ghost use Rattle.format_dns.specs.Questions.{SectionResult};
 ghost use Rattle.std.specs.Prelude.{◌≤◌, length, IfOk, IsOk};
 
 use crate::fault::{Fault, MessageFault, Section};
@@ -45,7 +46,7 @@ fn read_asked<'m>(input: &mut &'m [u8]) -> Result<Asked, ErrMode<EmptyError>>
 
 /// Reads the type and the class at offset `place`.
 fn asked_at(message: &[u8], place: usize) -> Result<Asked, Fault>
-    ensures { FieldsTold message.now 4 (λ asked. AreAsked asked.kind asked.class) place result }
+    ensures { FieldsResult message.now 4 (λ asked. AreAsked asked.kind asked.class) place result }
 {
     let Some(mut rest) = message.get(place..) else {
         return Err(Fault::Ends(place));
@@ -76,7 +77,7 @@ pub fn read_question<'m, A: Allocator + Copy>(
     message: &'m [u8],
     place: usize,
 ) -> Result<Question<'m, A>, Fault>
-    ensures { PartTold (IsQuestion message.now pointers place)
+    ensures { PartResult (IsQuestion message.now pointers place)
         (HasNoQuestion message.now pointers place)
         result }
 {
@@ -122,7 +123,7 @@ pub fn read_questions<'m, A: Allocator + Copy>(
     place: usize,
     count: u16,
 ) -> Result<Questions<'m, A>, Fault>
-    ensures { QuestionsTold message.now pointers place count result }
+    ensures { QuestionsResult message.now pointers place count result }
 {
     match questions_in(alloc, pointers, message, place, count) {
         Ok(questions) => Ok(questions),
@@ -139,7 +140,7 @@ pub(crate) fn questions_in<'m, A: Allocator + Copy>(
     place: usize,
     count: u16,
 ) -> Result<Questions<'m, A>, MessageFault>
-    ensures { SectionTold Section.Question (AreQuestions message.now pointers place count)
+    ensures { SectionResult Section.Question (AreQuestions message.now pointers place count)
         (QuestionsWant message.now pointers A place count)
         (QuestionsLack message.now pointers A place count) result }
 {

@@ -1,7 +1,7 @@
 //! Resource records (RFC 1035, sections 3.2 and 4.1.3).
-ghost use Rattle.format_dns.specs.Questions.{PartTold, SectionTold};
+ghost use Rattle.format_dns.specs.Questions.{PartResult, SectionResult};
 ghost use Rattle.format_dns.specs.Records.{AreRecords, HasNoRecord, IsRecord, RecordsLack};
-ghost use Rattle.format_dns.specs.Records.{RecordsTold, RecordsWant};
+ghost use Rattle.format_dns.specs.Records.{RecordsResult, RecordsWant};
 
 use crate::data::{Data, form_in, read_data};
 use crate::fault::{Fault, MessageFault, Section};
@@ -52,7 +52,7 @@ pub fn read_record<'m, A: Allocator + Copy>(
     message: &'m [u8],
     place: usize,
 ) -> Result<Record<'m, A>, Fault>
-    ensures { PartTold (IsRecord message.now pointers place)
+    ensures { PartResult (IsRecord message.now pointers place)
         (HasNoRecord message.now pointers place)
         result }
 {
@@ -106,7 +106,7 @@ pub fn read_records<'m, A: Allocator + Copy>(
     place: usize,
     count: u16,
 ) -> Result<Records<'m, A>, Fault>
-    ensures { RecordsTold message.now pointers place count result }
+    ensures { RecordsResult message.now pointers place count result }
 {
     match records_in(Section::Answer, alloc, pointers, message, place, count) {
         Ok(records) => Ok(records),
@@ -124,7 +124,7 @@ pub(crate) fn records_in<'m, A: Allocator + Copy>(
     place: usize,
     count: u16,
 ) -> Result<Records<'m, A>, MessageFault>
-    ensures { SectionTold section (AreRecords message.now pointers place count)
+    ensures { SectionResult section (AreRecords message.now pointers place count)
         (RecordsWant message.now pointers A place count)
         (RecordsLack message.now pointers A place count) result }
 {

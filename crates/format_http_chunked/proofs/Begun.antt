@@ -1,8 +1,9 @@
 -- Lemmas that a body can continue from each state.
 use Rattle.std.specs.Prelude.{◌≡◌, ◌<◌, ◌+◌, ◌++◌, ℕ, zero, suc, List, [], ◌∷◌, length, replicate}
-use Rattle.std.proofs.Common.{inl, inr, refl, sym, subst, ap, arith, length-append}
+use Rattle.std.proofs.Common.{ap, arith, inl, inr, length-append, refl, subst, sym}
 use Rattle.std.proofs.lemmas.List.{length-replicate}
-use Rattle.format_http_chunked.specs.Bodies.{Behind, ChunkData, Extended, Given, IsBody, QuotedByte}
+use Rattle.format_http_chunked.specs.Bodies.{ChunkData, ChunksAfterSize, Extended, Given, IsBody}
+use Rattle.format_http_chunked.specs.Bodies.{QuotedByte}
 use Rattle.format_http_chunked.specs.Bodies.{Value}
 use Rattle.format_http_chunked.specs.Dues.{DueDigits, DueFields, DueInLine, IsDue, IsFramingDue}
 use Rattle.format_http_chunked.specs.Words.{Byte, Star}
@@ -46,7 +47,7 @@ data_due size = (
 )
 
 behind_due : (size : ℕ) → (n : ℕ) × (content : List ℕ) × (bytes : List ℕ)
-    × Behind n content [] size bytes
+    × ChunksAfterSize n content [] size bytes
 behind_due zero = (0, [], 13 ∷ 10 ∷ [], (refl, refl, ((0, refl), refl)))
 behind_due (suc size) =
     let (content, bytes, (piece, more, behind, l, c, b, (n, x))) = data_due (suc size) in
@@ -54,7 +55,7 @@ behind_due (suc size) =
 
 module _ (next : List ℕ → Type 0) (bytes : List ℕ) (x : next bytes) where
   line_due : (at : InLine) → (more : List ℕ) × DueInLine at next more
-  line_due line.Behind = (13 ∷ 10 ∷ bytes, (0, (refl, (refl, x))))
+  line_due line.AfterSize = (13 ∷ 10 ∷ bytes, (0, (refl, (refl, x))))
   line_due line.White = (
     59 ∷ 97 ∷ 13 ∷ 10 ∷ bytes,
     inl (
@@ -115,7 +116,7 @@ framing_due (framing.Digits number) =
     (content, [], 13 ∷ 10 ∷ bytes, (n, ([], 13 ∷ 10 ∷ bytes, tt, refl, (0, (refl, (refl, x))))))
 framing_due (framing.Line at size) =
     let (n, content, bytes, x) = behind_due size in
-    let (more, y) = line_due (Behind n content [] size) bytes x at in
+    let (more, y) = line_due (ChunksAfterSize n content [] size) bytes x at in
     (content, [], more, (n, y))
 framing_due framing.DataEnd =
     ([], [], 13 ∷ 10 ∷ 48 ∷ 13 ∷ 10 ∷ 13 ∷ 10 ∷ [], (refl, (refl, empty_is)))
@@ -156,7 +157,7 @@ module _ (next : List ℕ → Type 0) where
   quotes_some (suc n, inr x) = absurd x
 
   line_some : (at : InLine) → DueInLine at next [] → ⊥
-  line_some line.Behind x = extended_some x
+  line_some line.AfterSize x = extended_some x
   line_some line.White x = absurd x
   line_some line.Semicolon x = absurd x
   line_some line.Name x = given_some x
@@ -179,9 +180,9 @@ framing_some : (at : Framing) (content trailers : List ℕ) → IsFramingDue at 
 framing_some framing.Start content trailers (n, (digits, behind, some, all, e, x)) =
     no_end digits behind (omega (arith, some)) e
 framing_some (framing.Digits number) content trailers (n, x) =
-    digits_some number (Behind n content trailers) x
+    digits_some number (ChunksAfterSize n content trailers) x
 framing_some (framing.Line at size) content trailers (n, x) =
-    line_some (Behind n content trailers size) at x
+    line_some (ChunksAfterSize n content trailers size) at x
 framing_some framing.DataEnd content trailers x = absurd x
 framing_some framing.DataReturn content trailers x = absurd x
 framing_some framing.LastReturn content trailers (c, t, e) = no_end [] (10 ∷ []) (omega arith) e

@@ -1,6 +1,6 @@
 -- Lemmas about the results of a decoder, for equivalent states and after consumed bytes.
 use Rattle.std.specs.Prelude.{◌≡◌, ◌↔◌, ◌<◌, ◌++◌, ℕ, List, [], ◌∷◌, length, Option, Some, None}
-use Rattle.std.specs.Prelude.{Result, Ok, Err, IfErr}
+use Rattle.std.specs.Prelude.{Err, IfErr, Ok, Result}
 use Rattle.std.proofs.Common.{ap, arith, refl, subst, sym, ◌∙◌}
 use Rattle.format_http_chunked.proofs.Taking.{data_zero, taken_byte, taken_from, taken_none}
 use Rattle.format_http_chunked.proofs.Taking.{taken_then}
@@ -8,7 +8,7 @@ use Rattle.format_http_chunked.proofs.Turns.{both_ways}
 use Rattle.format_http_chunked.proofs.Begun.{can_go_on, fields_due}
 use Rattle.format_http_chunked.specs.Dues.{DueFields, IsDue, IsFramingDue}
 use Rattle.format_http_chunked.specs.Room.{IsSpent, PartSpends, Spends}
-use Rattle.format_http_chunked.specs.Steps.{GoesOn, IsFault, IsNever, IsPart, IsSaid, IsTaken}
+use Rattle.format_http_chunked.specs.Steps.{IsFault, IsNever, IsPart, IsSaid, IsTaken, IsViableByte}
 use Rattle.format_http_chunked.specs.declared.decoder.Decoder.{Decoder}
 use Rattle.format_http_chunked.specs.declared.decoder.Fault.{Fault}
 use Rattle.format_http_chunked.specs.declared.decoder.Limits.{Limits}
@@ -110,7 +110,7 @@ fault_from at framing b why e =
 pub goes_on : (at : Place) (framing : Framing) (next : Place) (b : ℕ)
     → at ≡ place.Framing framing → ((content trailers bytes : List ℕ)
     → IsFramingDue framing content trailers (b ∷ bytes) ↔ IsDue next content trailers bytes)
-    → GoesOn at b
+    → IsViableByte at b
 goes_on at framing next b e step =
     let (content, trailers, bytes, x) = can_go_on next in
     let P : Place → Type 0 = λ k. IsDue k content trailers (b ∷ bytes) in
@@ -118,7 +118,7 @@ goes_on at framing next b e step =
 
 -- and so can field lines after a byte of theirs
 pub fields_go_on : (at : Place) (it next : InField) (b : ℕ) → at ≡ place.Trailers it
-    → ((fields : List ℕ) → DueFields it (b ∷ fields) ↔ DueFields next fields) → GoesOn at b
+    → ((fields : List ℕ) → DueFields it (b ∷ fields) ↔ DueFields next fields) → IsViableByte at b
 fields_go_on at it next b e step =
     let (fields, x) = fields_due next in
     let P : Place → Type 0 = λ k. IsDue k [] (b ∷ fields) (b ∷ fields ++ 13 ∷ 10 ∷ []) in (
@@ -130,7 +130,7 @@ fields_go_on at it next b e step =
 
 -- the line end after the trailer section ends the body
 pub last_goes_on : (at : Place) (it : InField) (b : ℕ) → at ≡ place.Trailers it
-    → it ≡ field.Start → b ≡ 13 → GoesOn at b
+    → it ≡ field.Start → b ≡ 13 → IsViableByte at b
 last_goes_on at it b e f g =
     let P : Place → Type 0 = λ k. IsDue k [] [] (b ∷ 10 ∷ []) in
     let Q : ℕ → Type 0 = λ k. IsDue (place.Trailers field.Start) [] [] (k ∷ 10 ∷ []) in (

@@ -8,7 +8,8 @@ use Rattle.std.specs.List.{AllByRecursion}
 use Rattle.std.specs.Str.Parse.{digits_value, digits_value_after}
 use Rattle.format_http_chunked.proofs.Splits.{extension, line_end, star, then}
 use Rattle.format_http_chunked.proofs.Turns.{counted, extended_none}
-use Rattle.format_http_chunked.specs.Bodies.{AreFields, Behind, ChunkData, Extended, Extension}
+use Rattle.format_http_chunked.specs.Bodies.{AreFields, ChunkData, ChunksAfterSize, Extended}
+use Rattle.format_http_chunked.specs.Bodies.{Extension}
 use Rattle.format_http_chunked.specs.Bodies.{IsBody, IsHexDigit, IsWhite, LineEnd, SizeLine}
 use Rattle.format_http_chunked.specs.Dues.{DueDigits}
 use Rattle.format_http_chunked.specs.Words.{Byte, Star}
@@ -16,42 +17,42 @@ use Rattle.format_http_chunked.specs.Words.{Byte, Star}
 -- ---- after a size line
 
 pub last_behind : (content trailers bytes : List ℕ)
-    → ((n : ℕ) × Behind n content trailers 0 bytes)
+    → ((n : ℕ) × ChunksAfterSize n content trailers 0 bytes)
     ↔ ((content ≡ []) × AreFields trailers × (bytes ≡ trailers ++ 13 ∷ 10 ∷ []))
 last_behind content trailers bytes = (there, λ (c, f, b). (zero, (refl, c, (f, b))))
   where
-    there : ((n : ℕ) × Behind n content trailers 0 bytes)
+    there : ((n : ℕ) × ChunksAfterSize n content trailers 0 bytes)
         → (content ≡ []) × AreFields trailers × (bytes ≡ trailers ++ 13 ∷ 10 ∷ [])
     there (zero, (e, c, x)) = (c, x.0, x.1)
     there (suc n, x) = absurd (omega (arith, x.0))
 
 pub chunk_behind : (size : ℕ) → (size ≡ 0 → ⊥) → (content trailers bytes : List ℕ)
-    → ((n : ℕ) × Behind n content trailers size bytes)
+    → ((n : ℕ) × ChunksAfterSize n content trailers size bytes)
     ↔ ChunkData size (λ more. IsBody more trailers) content bytes
 chunk_behind size some content trailers bytes = (there, back)
   where
-    there : ((n : ℕ) × Behind n content trailers size bytes)
+    there : ((n : ℕ) × ChunksAfterSize n content trailers size bytes)
         → ChunkData size (λ more. IsBody more trailers) content bytes
     there (zero, x) = absurd (some x.0)
     there (suc n, (least, (piece, more, behind, l, c, b, x))) =
         (piece, more, behind, l, c, b, (n, x))
 
     back : ChunkData size (λ more. IsBody more trailers) content bytes
-        → (n : ℕ) × Behind n content trailers size bytes
+        → (n : ℕ) × ChunksAfterSize n content trailers size bytes
     back (piece, more, behind, l, c, b, (n, x)) =
         (suc n, (omega (arith, some), (piece, more, behind, l, c, b, x)))
 
 pub last_behind_at : (size : ℕ) → size ≡ 0 → (content trailers bytes : List ℕ)
-    → ((n : ℕ) × Behind n content trailers size bytes)
+    → ((n : ℕ) × ChunksAfterSize n content trailers size bytes)
     ↔ ((content ≡ []) × AreFields trailers × (bytes ≡ trailers ++ 13 ∷ 10 ∷ []))
 last_behind_at size e content trailers bytes =
-    let P : ℕ → Type 0 = λ k. ((n : ℕ) × Behind n content trailers k bytes)
+    let P : ℕ → Type 0 = λ k. ((n : ℕ) × ChunksAfterSize n content trailers k bytes)
     ↔ ((content ≡ []) × AreFields trailers × (bytes ≡ trailers ++ 13 ∷ 10 ∷ [])) in
     subst P (sym e) (last_behind content trailers bytes)
 
 -- the content has as many bytes as the size says, or more
 pub behind_size : (n : ℕ) (content trailers : List ℕ) (size : ℕ) (bytes : List ℕ)
-    → Behind n content trailers size bytes → size ≤ length content
+    → ChunksAfterSize n content trailers size bytes → size ≤ length content
 behind_size zero content trailers size bytes x = omega (arith, x.0)
 behind_size (suc n) content trailers size bytes (least, (piece, more, behind, l, c, b, x)) =
     omega (arith, l, ap (λ (k : List ℕ). length k) c, length-append piece more)
@@ -124,46 +125,46 @@ module _ (next : ℕ → List ℕ → Type 0) (b : ℕ) (bytes : List ℕ) where
       none (subst IsHexDigit (sym (same_first e)) hex)
 
 pub too_large : (n number : ℕ) (content trailers bytes : List ℕ) → 2 ^ 64 ≤ number
-    → DueDigits number (Behind n content trailers) bytes → 2 ^ 64 ≤ length content
+    → DueDigits number (ChunksAfterSize n content trailers) bytes → 2 ^ 64 ≤ length content
 too_large n number content trailers bytes large (ds, behind, all, e, x) =
     let size : ℕ = digits_value_after 16 number ds in
     let (rest, y, f) = then (Star Extension) LineEnd (star Extension extension) line_end
-    (Behind n content trailers size) behind x in
+    (ChunksAfterSize n content trailers size) behind x in
     omega (arith, large, digits_grow number ds, behind_size n content trailers size rest y)
 
 pub fault_large : (number value b : ℕ) → value ≡ digit_value b → IsHexDigit b
     → 2 ^ 64 ≤ number * 16 + value → (content trailers bytes : List ℕ)
-    → ((n : ℕ) × DueDigits number (Behind n content trailers) (b ∷ bytes))
+    → ((n : ℕ) × DueDigits number (ChunksAfterSize n content trailers) (b ∷ bytes))
     → 2 ^ 64 ≤ length content
 fault_large number value b v is large content trailers bytes (n, x) =
     too_large n (number * 16 + digit_value b) content trailers bytes
     (subst (λ k. 2 ^ 64 ≤ number * 16 + k) v large)
-    ((digit_due (Behind n content trailers) b bytes number is).0 x)
+    ((digit_due (ChunksAfterSize n content trailers) b bytes number is).0 x)
 
 pub digit_goes : (number sum value b : ℕ) → value ≡ digit_value b → IsHexDigit b
     → sum ≡ number * 16 + value → (content trailers bytes : List ℕ)
-    → ((n : ℕ) × DueDigits number (Behind n content trailers) (b ∷ bytes))
-    ↔ ((n : ℕ) × DueDigits sum (Behind n content trailers) bytes)
+    → ((n : ℕ) × DueDigits number (ChunksAfterSize n content trailers) (b ∷ bytes))
+    ↔ ((n : ℕ) × DueDigits sum (ChunksAfterSize n content trailers) bytes)
 digit_goes number sum value b v is s content trailers bytes = counted (λ n.
-    let P : ℕ → Type 0 = λ k. DueDigits k (Behind n content trailers) bytes in
+    let P : ℕ → Type 0 = λ k. DueDigits k (ChunksAfterSize n content trailers) bytes in
     let same : number * 16 + digit_value b ≡ sum =
     sym (s ∙ ap (λ k. number * 16 + k) v) in
-    let step = digit_due (Behind n content trailers) b bytes number is in
+    let step = digit_due (ChunksAfterSize n content trailers) b bytes number is in
     (λ x. subst P same (step.0 x), λ x. step.1 (subst P (sym same) x)))
 
 pub digits_end : (number b : ℕ) → (IsHexDigit b → ⊥) → (content trailers bytes : List ℕ)
-    → ((n : ℕ) × DueDigits number (Behind n content trailers) (b ∷ bytes))
-    ↔ ((n : ℕ) × Extended (Behind n content trailers number) (b ∷ bytes))
+    → ((n : ℕ) × DueDigits number (ChunksAfterSize n content trailers) (b ∷ bytes))
+    ↔ ((n : ℕ) × Extended (ChunksAfterSize n content trailers number) (b ∷ bytes))
 digits_end number b none content trailers bytes =
-    counted (λ n. digits_out (Behind n content trailers) b bytes number none)
+    counted (λ n. digits_out (ChunksAfterSize n content trailers) b bytes number none)
 
 pub size_begins : (value b : ℕ) → value ≡ digit_value b → IsHexDigit b
     → (content trailers bytes : List ℕ) → IsBody content trailers (b ∷ bytes)
-    ↔ ((n : ℕ) × DueDigits value (Behind n content trailers) bytes)
+    ↔ ((n : ℕ) × DueDigits value (ChunksAfterSize n content trailers) bytes)
 size_begins value b v is content trailers bytes =
-    counted (λ n. first_digit (Behind n content trailers) b bytes value v is)
+    counted (λ n. first_digit (ChunksAfterSize n content trailers) b bytes value v is)
 
 pub size_never : (b : ℕ) → (IsHexDigit b → ⊥) → (content trailers bytes : List ℕ)
     → IsBody content trailers (b ∷ bytes) → ⊥
 size_never b none content trailers bytes (n, x) =
-    no_digit (Behind n content trailers) b bytes none x
+    no_digit (ChunksAfterSize n content trailers) b bytes none x

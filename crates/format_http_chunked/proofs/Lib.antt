@@ -2,8 +2,8 @@ pub mod Begun
 pub mod Calls
 pub mod Digits
 pub mod Lists
+pub mod Results
 pub mod Splits
 pub mod Standing
 pub mod Taking
-pub mod Told
 pub mod Turns

@@ -1,8 +1,9 @@
 -- Lemmas about the state in a size line after a byte.
 use Rattle.std.specs.Prelude.{◌≡◌, ◌⊎◌, ◌↔◌, ◌<◌, ◌≤◌, ℕ, List, ◌∷◌}
-use Rattle.std.proofs.Common.{inl, inr, arith, subst, sym}
+use Rattle.std.proofs.Common.{arith, inl, inr, subst, sym}
 use Rattle.format_http_chunked.proofs.Splits.{extension, opens, quoted_byte}
-use Rattle.format_http_chunked.specs.Bodies.{Behind, Extended, Extension, Given, IsQuotedByte}
+use Rattle.format_http_chunked.specs.Bodies.{ChunksAfterSize, Extended, Extension, Given}
+use Rattle.format_http_chunked.specs.Bodies.{IsQuotedByte}
 use Rattle.format_http_chunked.specs.Bodies.{IsTokenByte, IsValueByte, IsWhite, LineEnd, QuotedByte}
 use Rattle.format_http_chunked.specs.Bodies.{Spaced, Value}
 use Rattle.format_http_chunked.specs.Dues.{DueInLine, IsFramingDue}

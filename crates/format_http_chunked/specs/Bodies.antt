@@ -98,11 +98,12 @@ ChunkData size next content bytes =
 -- The bytes after the size line of a chunk of this size, followed by `n` more chunks. After the
 -- last one, whose size is 0, comes the trailer section; after any other come its data and the
 -- following chunks.
-abbrev pub Behind : ℕ → List ℕ → List ℕ → ℕ → List ℕ → Type 0
-Behind zero content trailers size bytes = (size ≡ 0) × (content ≡ []) × Ending trailers bytes
-Behind (suc n) content trailers size bytes =
-    (0 < size) × ChunkData size (λ more. SizeLine (Behind n more trailers)) content bytes
+abbrev pub ChunksAfterSize : ℕ → List ℕ → List ℕ → ℕ → List ℕ → Type 0
+ChunksAfterSize zero content trailers size bytes =
+    (size ≡ 0) × (content ≡ []) × Ending trailers bytes
+ChunksAfterSize (suc n) content trailers size bytes =
+    (0 < size) × ChunkData size (λ more. SizeLine (ChunksAfterSize n more trailers)) content bytes
 
 -- The bytes are a chunked body, all of them, with this content and these bytes of trailers.
 abbrev pub IsBody : List ℕ → List ℕ → List ℕ → Type 0
-IsBody content trailers bytes = (n : ℕ) × SizeLine (Behind n content trailers) bytes
+IsBody content trailers bytes = (n : ℕ) × SizeLine (ChunksAfterSize n content trailers) bytes

@@ -1,6 +1,6 @@
 -- The results of a decoder for a chunked body that arrives in chunks.
 use Rattle.std.specs.Prelude.{◌≡◌, ◌≤◌, ◌<◌, ◌^◌, ◌↔◌, ◌++◌, ⊤, ℕ, List, [], ◌∷◌, length}
-use Rattle.std.specs.Prelude.{Result, Ok, Err}
+use Rattle.std.specs.Prelude.{Err, Ok, Result}
 use Rattle.format_http_chunked.specs.Bodies.{IsBody}
 use Rattle.format_http_chunked.specs.Dues.{IsDue}
 use Rattle.format_http_chunked.specs.Steps.{IsAtDataEnd, IsBetweenData, IsDigitAt, IsInSizeLine}
@@ -25,8 +25,8 @@ IsAt at front given fields = (content trailers bytes : List ℕ)
 
 -- Some continuation makes these bytes a body, whose content and trailers start with the output so
 -- far.
-abbrev pub IsBegun : List ℕ → List ℕ → List ℕ → Type 0
-IsBegun front given fields =
+abbrev pub IsBodyPrefix : List ℕ → List ℕ → List ℕ → Type 0
+IsBodyPrefix front given fields =
     (left : List ℕ) × (others : List ℕ) × (more : List ℕ)
     × IsBody (given ++ left) (fields ++ others) (front ++ more)
 
@@ -81,11 +81,11 @@ Says decoder front given fields rest (Ok (step.Data chunk)) = 0 < length chunk.n
 Says decoder front given fields rest (Ok (step.Trailers some)) = 0 < length some.now
 Says decoder front given fields rest (Ok step.End) = IsBody given fields front
 Says decoder front given fields rest (Ok step.More) =
-    (rest ≡ []) × IsBegun front given fields
+    (rest ≡ []) × IsBodyPrefix front given fields
     × ((content trailers : List ℕ) → IsBody content trailers front → ⊥)
 Says decoder front given fields rest (Err why) =
     (byte : ℕ) × (others : List ℕ) × (rest ≡ byte ∷ others)
-    × IsRefusal decoder front byte why × IsBegun front given fields
+    × IsRefusal decoder front byte why × IsBodyPrefix front given fields
 
 -- The contract of a call after `front` was consumed and `given` and `fields` were returned: it
 -- consumes some of the bytes, leaves the rest, and returns the next part of content or trailers.

@@ -3,7 +3,8 @@
 use Rattle.std.specs.Prelude.{◌≡◌, ◌⊎◌, ◌++◌, ◌↔◌, ℕ, List, [], ◌∷◌}
 use Rattle.std.specs.List.{AllByRecursion}
 use Rattle.std.specs.Str.Parse.{digits_value_after}
-use Rattle.format_http_chunked.specs.Bodies.{AreFields, Behind, ChunkData, Extended, Extension}
+use Rattle.format_http_chunked.specs.Bodies.{AreFields, ChunkData, ChunksAfterSize, Extended}
+use Rattle.format_http_chunked.specs.Bodies.{Extension}
 use Rattle.format_http_chunked.specs.Bodies.{Given, IsBody, IsHexDigit, IsTokenByte, IsValueByte}
 use Rattle.format_http_chunked.specs.Bodies.{IsWhite, LineEnd, QuotedByte, Spaced, Value}
 use Rattle.format_http_chunked.specs.Words.{Byte, Many, One, Some, Star}
@@ -18,7 +19,7 @@ use Rattle.format_http_chunked.specs.declared.places.Place.TheVariants as place
 
 -- the rest of a size line that is expected in a state, followed by `next`
 abbrev pub DueInLine : InLine → (List ℕ → Type 0) → List ℕ → Type 0
-DueInLine line.Behind next = Extended next
+DueInLine line.AfterSize next = Extended next
 DueInLine line.White next = Extension (Extended next)
 DueInLine line.Semicolon next = Many IsWhite (Some IsTokenByte (Given (Extended next)))
 DueInLine line.Name next = Many IsTokenByte (Given (Extended next))
@@ -47,9 +48,9 @@ DueFields field.Return = Byte 10 AreFields
 abbrev pub IsFramingDue : Framing → List ℕ → List ℕ → List ℕ → Type 0
 IsFramingDue framing.Start content trailers bytes = IsBody content trailers bytes
 IsFramingDue (framing.Digits number) content trailers bytes =
-    (n : ℕ) × DueDigits number (Behind n content trailers) bytes
+    (n : ℕ) × DueDigits number (ChunksAfterSize n content trailers) bytes
 IsFramingDue (framing.Line at size) content trailers bytes =
-    (n : ℕ) × DueInLine at (Behind n content trailers size) bytes
+    (n : ℕ) × DueInLine at (ChunksAfterSize n content trailers size) bytes
 IsFramingDue framing.DataEnd content trailers bytes = LineEnd (IsBody content trailers) bytes
 IsFramingDue framing.DataReturn content trailers bytes = Byte 10 (IsBody content trailers) bytes
 IsFramingDue framing.LastReturn content trailers bytes =

@@ -2,8 +2,8 @@
 pub mod Bodies
 pub mod Decoded
 pub mod Dues
+pub mod Outputs
 pub mod Room
-pub mod Stands
 pub mod State
 pub mod Steps
 pub mod Words

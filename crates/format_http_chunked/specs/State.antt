@@ -15,7 +15,7 @@ use Rattle.format_http_chunked.specs.declared.state.ChunkedState.{ChunkedState}
 -- where in a size line, by a number
 abbrev pub line_at : ℕ → InLine
 line_at n = get_or
-    (line.Behind ∷ line.White ∷ line.Semicolon ∷ line.Name ∷ line.NameWhite ∷ line.Equals
+    (line.AfterSize ∷ line.White ∷ line.Semicolon ∷ line.Name ∷ line.NameWhite ∷ line.Equals
     ∷ line.Token ∷ line.Quotes ∷ line.Escape ∷ []) n line.Return
 
 -- where in a field line, by a number

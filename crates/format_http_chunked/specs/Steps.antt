@@ -1,7 +1,7 @@
 -- The effect of a byte on a decoder, and the results for bytes.
 use Rattle.std.specs.Prelude.{◌≡◌, ◌⊎◌, ◌≤◌, ◌<◌, ◌^◌, ◌↔◌, ◌++◌, ⊤, ℕ, List, [], ◌∷◌, length}
-use Rattle.std.specs.Prelude.{Option, Some, None, Result, Ok, Err}
-use Rattle.format_http_chunked.specs.Bodies.{Behind, IsHexDigit}
+use Rattle.std.specs.Prelude.{Err, None, Ok, Option, Result, Some}
+use Rattle.format_http_chunked.specs.Bodies.{ChunksAfterSize, IsHexDigit}
 use Rattle.format_http_chunked.specs.Dues.{DueFields, IsDue, IsFramingDue}
 use Rattle.format_http_chunked.specs.declared.decoder.Decoder.{Decoder}
 use Rattle.format_http_chunked.specs.declared.decoder.Fault.{Fault}
@@ -25,7 +25,7 @@ IsTurn at size byte (Goes next) =
     ↔ IsFramingDue (framing.Line next size) content trailers bytes
 IsTurn at size byte Ends =
     (content trailers bytes : List ℕ) → IsFramingDue at content trailers (byte ∷ bytes)
-    ↔ ((n : ℕ) × Behind n content trailers size bytes)
+    ↔ ((n : ℕ) × ChunksAfterSize n content trailers size bytes)
 IsTurn at size byte Never =
     (content trailers bytes : List ℕ) → IsFramingDue at content trailers (byte ∷ bytes) → ⊥
 
@@ -39,8 +39,8 @@ IsTooLarge at byte = (content trailers bytes : List ℕ)
     → IsDue at content trailers (byte ∷ bytes) → 2 ^ 64 ≤ length content
 
 -- some body continues with the byte in this state
-abbrev pub GoesOn : Place → ℕ → Type 0
-GoesOn at byte = (content : List ℕ) × (trailers : List ℕ) × (bytes : List ℕ)
+abbrev pub IsViableByte : Place → ℕ → Type 0
+IsViableByte at byte = (content : List ℕ) × (trailers : List ℕ) × (bytes : List ℕ)
     × IsDue at content trailers (byte ∷ bytes)
 
 -- The byte is a digit of a size, after another.
@@ -89,11 +89,11 @@ IsFault at room left byte fault.Size = (at ≡ place.Framing framing.Start) × I
 IsFault at room left byte fault.SizeLine = IsInSizeLine at × IsNever at byte
 IsFault at room left byte fault.SizeTooLarge = IsDigitAt at byte × IsTooLarge at byte
 IsFault at room left byte fault.SizeLineTooLong =
-    IsBetweenData at byte × GoesOn at byte × (room ≡ 0)
+    IsBetweenData at byte × IsViableByte at byte × (room ≡ 0)
 IsFault at room left byte fault.DataEnd = IsAtDataEnd at × IsNever at byte
 IsFault at room left byte fault.Trailers = IsInTrailers at × IsNever at byte
 IsFault at room left byte fault.TrailersTooLong =
-    IsTrailerByte at byte × GoesOn at byte × (left ≡ 0)
+    IsTrailerByte at byte × IsViableByte at byte × (left ≡ 0)
 
 -- `ArePassed old new fields`: bytes of field lines lead from one state to another. The bytes are
 -- accepted in `old` if and only if they are the start of the trailers and the rest is accepted in

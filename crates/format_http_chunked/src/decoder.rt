@@ -16,7 +16,7 @@
 
 ghost use Rattle.format_http_chunked.specs.Decoded.{IsAnswer, IsAt};
 ghost use Rattle.format_http_chunked.specs.Room.{PartSpends, Spends};
-ghost use Rattle.format_http_chunked.specs.Stands.{PartStands, Stands};
+ghost use Rattle.format_http_chunked.specs.Outputs.{OutputBeforeRest, PartBeforeRest};
 ghost use Rattle.format_http_chunked.specs.State.{decoder_of};
 ghost use Rattle.format_http_chunked.specs.Steps.{IsPart, IsSaid};
 ghost use Rattle.format_http_chunked.specs.declared.places.Framing.TheVariants as framing;
@@ -235,7 +235,7 @@ impl Decoder {
         requires { self.old.place ≡ place.Framing at }
         ensures told { IsPart self.old self.new input.old.now input.new.now result }
         ensures spent { PartSpends self.old self.new input.old.now input.new.now result }
-        ensures stands { PartStands input.old.now input.new.now result }
+        ensures stands { PartBeforeRest input.old.now input.new.now result }
     {
         match input.split_first() {
             None => Ok(Some(Step::More)),
@@ -260,7 +260,7 @@ impl Decoder {
         requires some { 0 < size }
         ensures told { IsSaid self.old self.new input.old.now input.new.now (Ok result) }
         ensures spent { Spends self.old self.new input.old.now input.new.now (Ok result) }
-        ensures stands { Stands input.old.now input.new.now (Ok result) }
+        ensures stands { OutputBeforeRest input.old.now input.new.now (Ok result) }
     {
         let all = *input;
         if all.is_empty() {
@@ -283,7 +283,7 @@ impl Decoder {
         requires { self.old.place ≡ place.Trailers at }
         ensures told { IsPart self.old self.new input.old.now input.new.now result }
         ensures spent { PartSpends self.old self.new input.old.now input.new.now result }
-        ensures stands { PartStands input.old.now input.new.now result }
+        ensures stands { PartBeforeRest input.old.now input.new.now result }
     {
         let all = *input;
         match all.split_first() {
@@ -321,7 +321,7 @@ impl Decoder {
     fn part<'i>(&mut self, input: &mut &'i [u8]) -> Result<Option<Step<'i>>, Fault>
         ensures told { IsPart self.old self.new input.old.now input.new.now result }
         ensures spent { PartSpends self.old self.new input.old.now input.new.now result }
-        ensures stands { PartStands input.old.now input.new.now result }
+        ensures stands { PartBeforeRest input.old.now input.new.now result }
     {
         match self.place {
             Place::Done => Ok(Some(Step::End)),
@@ -341,7 +341,7 @@ impl Decoder {
     fn run<'i>(&mut self, input: &mut &'i [u8]) -> Result<Step<'i>, Fault>
         ensures told { IsSaid self.old self.new input.old.now input.new.now result }
         ensures spent { Spends self.old self.new input.old.now input.new.now result }
-        ensures stands { Stands input.old.now input.new.now result }
+        ensures stands { OutputBeforeRest input.old.now input.new.now result }
     {
         'bytes: loop {
             match self.part(input) {
@@ -389,7 +389,7 @@ impl Decoder {
     /// ```
     pub fn advance<'i>(&mut self, input: &mut &'i [u8]) -> Result<Step<'i>, Fault>
         ensures spent { Spends self.old self.new input.old.now input.new.now result }
-        ensures stands { Stands input.old.now input.new.now result }
+        ensures stands { OutputBeforeRest input.old.now input.new.now result }
         ensures told { (front given fields : List ℕ) → IsAt self.old.place front given fields
             → IsAnswer self.new front given fields input.old.now input.new.now result }
     {

@@ -1,7 +1,7 @@
 //! The effect of a byte that is not part of the output.
 #![tactic(auto)]
 
-ghost use Rattle.format_http_chunked.specs.Bodies.{Behind};
+ghost use Rattle.format_http_chunked.specs.Bodies.{ChunksAfterSize};
 ghost use Rattle.format_http_chunked.specs.Dues.{IsDue, IsFramingDue};
 ghost use Rattle.format_http_chunked.specs.Steps.{IsFault};
 ghost use Rattle.format_http_chunked.specs.declared.places.Framing.TheVariants as framing;
@@ -17,7 +17,8 @@ use crate::places::{Framing, InField, InLine, Place};
 /// Returns the position after the size line of a chunk of this size.
 fn place_behind(size: u64) -> Place
     ensures { (content trailers bytes : List ℕ)
-        → ((n : ℕ) × Behind n content trailers size bytes) ↔ IsDue result content trailers bytes }
+        → ((n : ℕ) × ChunksAfterSize n content trailers size bytes)
+        ↔ IsDue result content trailers bytes }
 {
     match size.checked_sub(1) {
         None => Place::Trailers(InField::Start),
@@ -26,7 +27,7 @@ fn place_behind(size: u64) -> Place
 }
 
 /// Returns the position after this byte in a size line, or `None` if no line continues with it.
-fn behind_in_line(at: InLine, size: u64, byte: u8) -> Option<Place>
+fn after_in_line(at: InLine, size: u64, byte: u8) -> Option<Place>
     ensures some { IfSome result (λ next. (content trailers bytes : List ℕ)
         → IsFramingDue (framing.Line at size) content trailers (byte ∷ bytes)
         ↔ IsDue next content trailers bytes) }
@@ -58,7 +59,7 @@ fn after_digit(number: u64, byte: u8) -> Result<Place, Fault>
         → IsFault (place.Framing (framing.Digits number)) room left byte fault) }
 {
     match digit_of(byte) {
-        None => match behind_in_line(InLine::Behind, number, byte) {
+        None => match after_in_line(InLine::AfterSize, number, byte) {
             Some(next) => Ok(next),
             None => Err(Fault::SizeLine),
         },
@@ -83,7 +84,7 @@ pub(crate) fn place_after(at: Framing, byte: u8) -> Result<Place, Fault>
             None => Err(Fault::Size),
         },
         Framing::Digits(number) => after_digit(number, byte),
-        Framing::Line(line, size) => match behind_in_line(line, size, byte) {
+        Framing::Line(line, size) => match after_in_line(line, size, byte) {
             Some(next) => Ok(next),
             None => Err(Fault::SizeLine),
         },

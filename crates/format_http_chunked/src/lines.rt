@@ -22,7 +22,7 @@ pub(crate) enum Turn {
 /// Returns the effect of a byte after a size or a value.
 #[inline]
 fn turn_behind(byte: u8) -> Turn
-    ensures { (size : ℕ) → IsTurn (framing.Line line.Behind size) size byte result }
+    ensures { (size : ℕ) → IsTurn (framing.Line line.AfterSize size) size byte result }
 {
     match byte {
         b'\r' => Turn::Goes(InLine::Return),
@@ -115,7 +115,7 @@ fn turn_quotes(byte: u8) -> Turn
         return Turn::Goes(InLine::Quotes);
     }
     match byte {
-        b'"' => Turn::Goes(InLine::Behind),
+        b'"' => Turn::Goes(InLine::AfterSize),
         b'\\' => Turn::Goes(InLine::Escape),
         _ => Turn::Never,
     }
@@ -146,7 +146,7 @@ pub(crate) fn turn_at(at: InLine, byte: u8) -> Turn
     ensures { (size : ℕ) → IsTurn (framing.Line at size) size byte result }
 {
     match at {
-        InLine::Behind => turn_behind(byte),
+        InLine::AfterSize => turn_behind(byte),
         InLine::White => turn_white(byte),
         InLine::Semicolon => turn_semicolon(byte),
         InLine::Name => turn_name(byte),

@@ -5,7 +5,7 @@
 #[derive(Clone, Copy, Debug, PartialEq, Eq)]
 pub(crate) enum InLine {
     /// After the size, or after a value in quotes.
-    Behind,
+    AfterSize,
     /// After white space there.
     White,
     /// After a semicolon, and white space.

@@ -53,7 +53,7 @@ fn line_of(number: usize) -> InLine
     ensures { result ≡ line_at number }
 {
     match number {
-        0 => InLine::Behind,
+        0 => InLine::AfterSize,
         1 => InLine::White,
         2 => InLine::Semicolon,
         3 => InLine::Name,
@@ -100,7 +100,7 @@ fn line_number(at: InLine) -> usize
     ensures { line_at result ≡ at }
 {
     match at {
-        InLine::Behind => 0,
+        InLine::AfterSize => 0,
         InLine::White => 1,
         InLine::Semicolon => 2,
         InLine::Name => 3,

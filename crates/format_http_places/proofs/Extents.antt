@@ -1,11 +1,12 @@
 -- Lemmas about passing a head byte by byte, and about the results for the bytes passed.
 use Rattle.std.proofs.Common.{◌≡◌, ◌∙◌, ◌≤◌, ◌+◌, ◌-◌, ◌++◌, ◌∷◌, [], ap, ℕ, List, length}
-use Rattle.std.proofs.Common.{take, drop, sym, subst, arith, refl, inl, inr, append_assoc}
+use Rattle.std.proofs.Common.{append_assoc, arith, drop, inl, inr, refl, subst, sym, take}
 use Rattle.std.proofs.Common.{length-append}
 use Rattle.std.proofs.lemmas.List.{drop_at, length-drop, take-append-drop, take_all}
-use Rattle.std.specs.Prelude.{Option, Some, None, Result, Ok, Err}
+use Rattle.std.specs.Prelude.{Err, None, Ok, Option, Result, Some}
 use Rattle.format_http.specs.Heads.Bytes.{IsDigit, IsTokenByte, IsValueByte, IsVisible, line_end}
-use Rattle.format_http_places.specs.Extents.{Due, IsLed, IsOf, IsStep, IsStopped, IsTold, Leads}
+use Rattle.format_http_places.specs.Extents.{Due, HeadResult, IsLed, IsOf, IsStep, IsStopped}
+use Rattle.format_http_places.specs.Extents.{StateAfter}
 use Rattle.format_http_places.specs.Extents.{NumbersText, Says, Walks}
 use Rattle.format_http_places.specs.Grammar.{Byte, FieldsText, HeadText, Language, Nothing, OneOf}
 use Rattle.format_http_places.specs.Grammar.{Run, SomeOf, Text, VersionText}
@@ -13,9 +14,10 @@ use Rattle.format_http_places.specs.declared.extent.HeadExtent.{HeadExtent}
 use Rattle.format_http_places.specs.declared.extent.HeadPlace.{HeadPlace}
 use Rattle.format_http_places.specs.declared.extent.HeadPlace.TheVariants as place
 use Rattle.format_http_places.specs.declared.extent.Refused.{Refused}
-use Rattle.format_http_places.proofs.Behind.{Behind, Live, NoneFirst, behind_both, behind_none}
-use Rattle.format_http_places.proofs.Behind.{live_byte, live_one, live_run, live_text}
-use Rattle.format_http_places.proofs.Behind.{none_byte, none_one, none_run, stops_at}
+use Rattle.format_http_places.proofs.EquivalentAfter.{EquivalentAfter, Live, NoneFirst, behind_both}
+use Rattle.format_http_places.proofs.EquivalentAfter.{behind_none}
+use Rattle.format_http_places.proofs.EquivalentAfter.{live_byte, live_one, live_run, live_text}
+use Rattle.format_http_places.proofs.EquivalentAfter.{none_byte, none_one, none_run, stops_at}
 use Rattle.format_http_places.proofs.Heads.{refused_at, text_head, wanting}
 use Rattle.format_http_places.proofs.Lines.{a_token, fields_line, live_target, live_value}
 use Rattle.format_http_places.proofs.Versions.{live_fields, live_version}
@@ -110,7 +112,7 @@ record After (new : HeadExtent) (bytes left : List ℕ) : Type 0 where
   pub front : List ℕ
   pub splits : bytes ≡ front ++ left
   pub size : length front ≡ new.passed
-  pub behind : Behind HeadText front (Due new.place)
+  pub behind : EquivalentAfter HeadText front (Due new.place)
 
 after : (old new : HeadExtent) (bytes : List ℕ) (result : Result (Option ℕ) Refused)
     (is : IsOf old bytes) (led : IsLed old (drop old.passed bytes) new result)
@@ -129,9 +131,9 @@ after old new bytes result is (taken, left, e, sum, goes, stopped, said) =
 
 tells : (new : HeadExtent) (bytes left : List ℕ) → After new bytes left
     → (result : Result (Option ℕ) Refused) → IsStopped new.place left → Says new left result
-    → IsTold bytes result
+    → HeadResult bytes result
 tells new bytes left it (Ok (Some n)) stopped (done, count) =
-    let P : HeadPlace → Type 0 = λ p. Behind HeadText it.front (Due p) in
+    let P : HeadPlace → Type 0 = λ p. EquivalentAfter HeadText it.front (Due p) in
     let Q : List ℕ → Type 0 = λ l. HeadText l left in
     let (line, fields, head) = text_head bytes left
     (subst Q (sym it.splits) ((subst P done it.behind).there left left refl)) in (
@@ -163,7 +165,7 @@ tells new bytes (b ∷ more) it (Err refused) (inr never) (not, some, at) =
 
 -- the result, by the state and the rest
 pub told : (old new : HeadExtent) (bytes : List ℕ) (result : Result (Option ℕ) Refused)
-    → IsOf old bytes → IsLed old (drop old.passed bytes) new result → IsTold bytes result
+    → IsOf old bytes → IsLed old (drop old.passed bytes) new result → HeadResult bytes result
 told old new bytes result is led =
     tells new bytes led.1 (after old new bytes result is led) result led.5 led.6
 
@@ -185,7 +187,7 @@ kept old new bytes result is led more =
 pub of_none : (extent : HeadExtent) (bytes : List ℕ) → extent.passed ≡ 0
     → extent.place ≡ place.Start → IsOf extent bytes
 of_none extent bytes none start =
-    let P : HeadPlace → Type 0 = λ p. Behind HeadText [] (Due p) in
+    let P : HeadPlace → Type 0 = λ p. EquivalentAfter HeadText [] (Due p) in
     let behind = subst P (sym start) (behind_none HeadText) in record {
       front = [];
       left = bytes;
@@ -200,14 +202,14 @@ of_none extent bytes none start =
 pub record Walking (from at : HeadPlace) (fresh rest : List ℕ) : Type 0 where
   pub taken : List ℕ
   pub splits : fresh ≡ taken ++ rest
-  pub goes : Leads from taken at
+  pub goes : StateAfter from taken at
 
 pub walking_none : (from : HeadPlace) (fresh : List ℕ) → Walking from from fresh fresh
 walking_none from fresh =
     record { taken = []; splits = refl; goes = leads_none from }
 
 walking_more : (from at next : HeadPlace) (fresh rest run left : List ℕ)
-    → Walking from at fresh rest → rest ≡ run ++ left → Leads at run next
+    → Walking from at fresh rest → rest ≡ run ++ left → StateAfter at run next
     → Walking from next fresh left
 walking_more from at next fresh rest run left it split goes = record {
   taken = it.taken ++ run;
@@ -216,14 +218,14 @@ walking_more from at next fresh rest run left it split goes = record {
 }
 
 pub walking_run : (from at : HeadPlace) (fresh rest left : List ℕ) (n : ℕ)
-    → Walking from at fresh rest → left ≡ drop n rest → Leads at (take n rest) at
+    → Walking from at fresh rest → left ≡ drop n rest → StateAfter at (take n rest) at
     → Walking from at fresh left
 walking_run from at fresh rest left n it is goes =
     walking_more from at at fresh rest (take n rest) left it
     (sym (take-append-drop n rest) ∙ ap (λ l. take n rest ++ l) (sym is)) goes
 
 pub walking_byte : (from at next : HeadPlace) (fresh left more : List ℕ) (b : ℕ)
-    → Walking from at fresh left → left ≡ b ∷ more → Leads at (b ∷ []) next
+    → Walking from at fresh left → left ≡ b ∷ more → StateAfter at (b ∷ []) next
     → Walking from next fresh more
 walking_byte from at next fresh left more b it starts goes =
     walking_more from at next fresh left (b ∷ []) more it starts goes

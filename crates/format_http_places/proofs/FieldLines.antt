@@ -1,6 +1,6 @@
 -- The fields of a head: that their language is theirs, and what is read of them.
 use Rattle.std.proofs.Common.{◌≡◌, ◌∙◌, ◌<◌, ◌≤◌, ◌+◌, ◌++◌, ◌∷◌, [], ap, ℕ, zero, suc, List}
-use Rattle.std.proofs.Common.{length, take, sym, subst, arith, refl, append_assoc, slice_set}
+use Rattle.std.proofs.Common.{append_assoc, arith, length, refl, slice_set, subst, sym, take}
 use Rattle.std.proofs.Common.{length-append}
 use Rattle.std.proofs.lemmas.List.{take_more_set}
 use Rattle.std.proofs.lemmas.List.Elements.{All-cons}
@@ -8,12 +8,13 @@ use Rattle.format_http.specs.Heads.Bytes.{IsTokenByte, line_end}
 use Rattle.format_http.specs.Heads.FieldLine.{IsFieldLine}
 use Rattle.format_http.specs.Heads.Head.{AreFieldLines, AreFields, Pair}
 use Rattle.format_http.proofs.OneLemmas.Values.{field_line_some}
-use Rattle.format_http_places.specs.Grammar.{Byte, FieldsText, Language, LinesText, LineText, OneOf}
+use Rattle.format_http_places.specs.Grammar.{Byte, FieldsText, Language, LineText, LinesText, OneOf}
 use Rattle.format_http_places.specs.Grammar.{Run, Stops}
 use Rattle.format_http_places.specs.Places.{AreShown, ShowsField, ShowsFieldLine, ShowsFields}
 use Rattle.format_http_places.specs.declared.line.FieldLine.{FieldLine}
 use Rattle.format_http_places.specs.declared.places.Field.{Field}
-use Rattle.format_http_places.proofs.Behind.{Behind, behind_both, behind_none, stops_behind}
+use Rattle.format_http_places.proofs.EquivalentAfter.{EquivalentAfter, behind_both, behind_none}
+use Rattle.format_http_places.proofs.EquivalentAfter.{stops_behind}
 use Rattle.format_http_places.proofs.Lines.{behind_field, behind_line, line_of, line_splits}
 
 -- ---- fields are of the language, and it is that of fields
@@ -117,7 +118,7 @@ pub record SoFar (whole : ℕ) (bytes rest : List ℕ) (places : List Field) (co
       → length input ≡ whole → AreShown input bytes (take count places) fields rest
   pub front : List ℕ
   pub splits : bytes ≡ front ++ rest
-  pub behind : Behind FieldsText front FieldsText
+  pub behind : EquivalentAfter FieldsText front FieldsText
   pub small : count + length rest ≤ length bytes
 
 pub so_far_none : (whole : ℕ) (bytes : List ℕ) (places : List Field)

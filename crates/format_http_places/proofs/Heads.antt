@@ -1,6 +1,6 @@
 -- Heads of requests: that their language is theirs, and what is read of one.
 use Rattle.std.proofs.Common.{◌≡◌, ◌∙◌, ◌<◌, ◌≤◌, ◌-◌, ◌++◌, ◌∷◌, [], ap, ℕ, List}
-use Rattle.std.proofs.Common.{length, sym, subst, arith, refl, length-append}
+use Rattle.std.proofs.Common.{arith, length, length-append, refl, subst, sym}
 use Rattle.std.proofs.lemmas.List.Elements.{All-cons}
 use Rattle.std.specs.List.{All}
 use Rattle.std.specs.Prelude.{Err}
@@ -18,7 +18,7 @@ use Rattle.format_http_places.specs.declared.places.Field.{Field}
 use Rattle.format_http_places.specs.declared.read.HeadError.{HeadError}
 use Rattle.format_http_places.specs.declared.read.HeadError.TheVariants.{Incomplete, Refused}
 use Rattle.format_http_places.specs.declared.read.HeadError.TheVariants.{TooManyFields}
-use Rattle.format_http_places.proofs.Behind.{stops_behind}
+use Rattle.format_http_places.proofs.EquivalentAfter.{stops_behind}
 use Rattle.format_http_places.proofs.FieldLines.{fields_small, lines_text, text_lines}
 use Rattle.format_http_places.proofs.Lines.{behind_request}
 use Rattle.format_http_places.proofs.Stops.{refused_by, wanting_by}

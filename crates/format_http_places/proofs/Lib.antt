@@ -1,5 +1,5 @@
-pub mod Behind
 pub mod Counts
+pub mod EquivalentAfter
 pub mod Extents
 pub mod FieldLines
 pub mod Heads

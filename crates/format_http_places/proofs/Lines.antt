@@ -1,6 +1,6 @@
 -- The lines of heads as languages.
 use Rattle.std.proofs.Common.{◌≡◌, ◌∙◌, ◌<◌, ◌-◌, ◌++◌, ◌∷◌, [], ap, ℕ, zero, suc, List}
-use Rattle.std.proofs.Common.{length, sym, subst, arith, inl, inr, refl, append_assoc}
+use Rattle.std.proofs.Common.{append_assoc, arith, inl, inr, length, refl, subst, sym}
 use Rattle.std.specs.Prelude.{⊤}
 use Rattle.std.proofs.lemmas.List.Elements.{All-append, All-weaker}
 use Rattle.std.specs.List.{All}
@@ -13,10 +13,13 @@ use Rattle.format_http_places.specs.Grammar.{LineText, LinesText, Nothing, OneOf
 use Rattle.format_http_places.specs.Grammar.{SomeOf, Stops, VersionText}
 use Rattle.format_http_places.specs.Grammar.{protocol}
 use Rattle.format_http_places.specs.Runs.{NotFirst}
-use Rattle.format_http_places.proofs.Behind.{Behind, Live, behind_both, behind_byte}
-use Rattle.format_http_places.proofs.Behind.{behind_run_end, behind_some_end, first_same, live_byte}
-use Rattle.format_http_places.proofs.Behind.{live_one, live_run, none_byte, not_empty, part_stops}
-use Rattle.format_http_places.proofs.Behind.{stops_at}
+use Rattle.format_http_places.proofs.EquivalentAfter.{EquivalentAfter, Live, behind_both}
+use Rattle.format_http_places.proofs.EquivalentAfter.{behind_byte}
+use Rattle.format_http_places.proofs.EquivalentAfter.{behind_run_end, behind_some_end, first_same}
+use Rattle.format_http_places.proofs.EquivalentAfter.{live_byte}
+use Rattle.format_http_places.proofs.EquivalentAfter.{live_one, live_run, none_byte, not_empty}
+use Rattle.format_http_places.proofs.EquivalentAfter.{part_stops}
+use Rattle.format_http_places.proofs.EquivalentAfter.{stops_at}
 use Rattle.format_http_places.proofs.Versions.{behind_version, live_fields, live_version}
 use Rattle.format_http_places.proofs.Tests.{token_not, value_not, visible_not}
 
@@ -51,20 +54,20 @@ live_target = live_one IsVisible 65 (Run IsVisible 32 VersionText) a_visible
     (live_run IsVisible 32 VersionText live_version)
 
 pub behind_method : (method : List ℕ) → 0 < length method → All IsTokenByte method
-    → Behind HeadText (method ++ 32 ∷ []) Target
+    → EquivalentAfter HeadText (method ++ 32 ∷ []) Target
 unfolding HeadText
 behind_method method some all =
     behind_some_end IsTokenByte 32 Target method all token_no_space some
 
 pub behind_target : (target : List ℕ) → 0 < length target → All IsVisible target
-    → Behind Target (target ++ 32 ∷ []) VersionText
+    → EquivalentAfter Target (target ++ 32 ∷ []) VersionText
 behind_target target some all =
     behind_some_end IsVisible 32 VersionText target all visible_no_space some
 
 -- after a request line are fields
 pub behind_request : (m t : List ℕ) (a b : ℕ) (bytes rest : List ℕ)
     → IsRequestLine m t a b bytes rest
-    → (front : List ℕ) × (bytes ≡ front ++ rest) × Behind HeadText front FieldsText
+    → (front : List ℕ) × (bytes ≡ front ++ rest) × EquivalentAfter HeadText front FieldsText
 behind_request m t a b bytes rest is =
     let last = protocol ++ (digits a b ++ line_end) in (
       (m ++ 32 ∷ []) ++ ((t ++ 32 ∷ []) ++ last),
@@ -86,7 +89,7 @@ pub live_value : Live (Run IsValueByte 13 (Byte 10 FieldsText))
 live_value = live_run IsValueByte 13 (Byte 10 FieldsText) (live_byte 10 FieldsText live_fields)
 
 pub behind_name : (K : Language) (name : List ℕ) → 0 < length name → All IsTokenByte name
-    → Behind (LineText K) (name ++ 58 ∷ []) (Run IsValueByte 13 (Byte 10 K))
+    → EquivalentAfter (LineText K) (name ++ 58 ∷ []) (Run IsValueByte 13 (Byte 10 K))
 behind_name K name some all = behind_some_end IsTokenByte 58 (Run IsValueByte 13 (Byte 10 K)) name
     all token_no_colon some
 
@@ -117,11 +120,11 @@ module _ (name value bytes rest : List ℕ) (is : IsFieldLine name value bytes r
       (All-append IsValueByte value is.behind is.is_value
       (All-weaker IsWhite IsValueByte white_value is.behind is.white_behind))
 
-  pub behind_line : (K : Language) → Behind (LineText K) line_of K
+  pub behind_line : (K : Language) → EquivalentAfter (LineText K) line_of K
   behind_line K =
       let V : Language = Run IsValueByte 13 (Byte 10 K) in
-      let ends : Behind V (text ++ line_end) K =
-      let P : List ℕ → Type 0 = λ l. Behind V l K in
+      let ends : EquivalentAfter V (text ++ line_end) K =
+      let P : List ℕ → Type 0 = λ l. EquivalentAfter V l K in
       subst P (append_assoc text (13 ∷ []) (10 ∷ []))
       (behind_both V (Byte 10 K) K (text ++ 13 ∷ []) (10 ∷ [])
       (behind_run_end IsValueByte 13 (Byte 10 K) text all_value value_no_return)
@@ -204,7 +207,7 @@ fields_stop bytes left not it = part_stops (λ b. b ≡ 13) FieldsText (LineText
 
 -- after a field line are fields
 pub behind_field : (name value bytes rest : List ℕ) (is : IsFieldLine name value bytes rest)
-    → Behind FieldsText (line_of name value bytes rest is) FieldsText
+    → EquivalentAfter FieldsText (line_of name value bytes rest is) FieldsText
 unfolding FieldsText Byte
 behind_field name value bytes rest is = record {
   there = λ more left fields. (
@@ -232,7 +235,7 @@ behind_field name value bytes rest is = record {
         (n, (behind_line name value bytes rest is (LinesText n)).back more left it)
 
 -- after the carriage return of the empty line
-pub behind_return : Behind FieldsText (13 ∷ []) (Byte 10 Nothing)
+pub behind_return : EquivalentAfter FieldsText (13 ∷ []) (Byte 10 Nothing)
 unfolding FieldsText
 behind_return = record {
   there = λ more rest it. (0, (behind_byte 13 (Byte 10 Nothing)).there more rest it);

@@ -4,36 +4,39 @@ use Rattle.std.proofs.Common.{◌≡◌, ◌⊎◌, ◌++◌, ◌∷◌, [], ℕ
 use Rattle.std.proofs.Common.{inr}
 use Rattle.std.proofs.Common.{Bool, true, false, IsTrue, ◌↔◌}
 use Rattle.std.proofs.lemmas.List.Elements.{All-cons, All-nil}
-use Rattle.std.specs.Prelude.{Option, Some, None}
+use Rattle.std.specs.Prelude.{None, Option, Some}
 use Rattle.format_http.specs.Heads.Bytes.{IsDigit, IsTokenByte, IsValueByte, IsVisible}
-use Rattle.format_http_places.specs.Extents.{Due, IsIf, IsNever, IsOnly, IsRunOr, IsStep, Leads}
+use Rattle.format_http_places.specs.Extents.{Due, IsIf, IsNever, IsOnly, IsRunOr, IsStep}
+use Rattle.format_http_places.specs.Extents.{StateAfter}
 use Rattle.format_http_places.specs.Grammar.{Byte, FieldsText, HeadText, Language, OneOf, Run}
 use Rattle.format_http_places.specs.Grammar.{SomeOf, VersionText}
 use Rattle.format_http_places.specs.Runs.{SoMany}
 use Rattle.format_http_places.specs.declared.extent.HeadPlace.{HeadPlace}
 use Rattle.format_http_places.specs.declared.extent.HeadPlace.TheVariants as place
-use Rattle.format_http_places.proofs.Behind.{Behind, behind_both, behind_byte, behind_none}
-use Rattle.format_http_places.proofs.Behind.{behind_one, behind_run, behind_run_end, none_byte}
-use Rattle.format_http_places.proofs.Behind.{none_one, none_run}
+use Rattle.format_http_places.proofs.EquivalentAfter.{EquivalentAfter, behind_both, behind_byte}
+use Rattle.format_http_places.proofs.EquivalentAfter.{behind_none}
+use Rattle.format_http_places.proofs.EquivalentAfter.{behind_one, behind_run, behind_run_end}
+use Rattle.format_http_places.proofs.EquivalentAfter.{none_byte}
+use Rattle.format_http_places.proofs.EquivalentAfter.{none_one, none_run}
 use Rattle.format_http_places.proofs.Lines.{behind_return, fields_line, line_fields}
 use Rattle.format_http_places.proofs.Lines.{token_no_colon, token_no_space, value_no_return}
 use Rattle.format_http_places.proofs.Lines.{visible_no_space}
 
 -- ---- from place to place
 
-leads : (old new : HeadPlace) (bytes : List ℕ) → Behind (Due old) bytes (Due new)
-    → Leads old bytes new
+leads : (old new : HeadPlace) (bytes : List ℕ) → EquivalentAfter (Due old) bytes (Due new)
+    → StateAfter old bytes new
 leads old new bytes it = record { there = it.there; back = it.back }
 
-pub behind_of : (old new : HeadPlace) (bytes : List ℕ) → Leads old bytes new
-    → Behind (Due old) bytes (Due new)
+pub behind_of : (old new : HeadPlace) (bytes : List ℕ) → StateAfter old bytes new
+    → EquivalentAfter (Due old) bytes (Due new)
 behind_of old new bytes it = record { there = it.there; back = it.back }
 
-pub leads_none : (at : HeadPlace) → Leads at [] at
+pub leads_none : (at : HeadPlace) → StateAfter at [] at
 leads_none at = leads at at [] (behind_none (Due at))
 
-pub leads_both : (old mid new : HeadPlace) (front after : List ℕ) → Leads old front mid
-    → Leads mid after new → Leads old (front ++ after) new
+pub leads_both : (old mid new : HeadPlace) (front after : List ℕ) → StateAfter old front mid
+    → StateAfter mid after new → StateAfter old (front ++ after) new
 leads_both old mid new front after one two =
     leads old new (front ++ after) (behind_both (Due old) (Due mid) (Due new) front after
     (behind_of old mid front one) (behind_of mid new after two))
@@ -45,10 +48,10 @@ pub step_at : (at here : HeadPlace) (b : ℕ) (step : Option HeadPlace) → at �
 step_at at here b step is it =
     let P : HeadPlace → Type 0 = λ a. IsStep a b step in subst P (sym is) it
 
-step_to : (at next told : HeadPlace) (b : ℕ) → told ≡ next → Leads at (b ∷ []) next
+step_to : (at next told : HeadPlace) (b : ℕ) → told ≡ next → StateAfter at (b ∷ []) next
     → IsStep at b (Some told)
 step_to at next told b is it =
-    let P : HeadPlace → Type 0 = λ p. Leads at (b ∷ []) p in subst P (sym is) it
+    let P : HeadPlace → Type 0 = λ p. StateAfter at (b ∷ []) p in subst P (sym is) it
 
 not_so : (is : Bool) (A : Type 0) → IsTrue is ↔ A → is ≡ false → A → ⊥
 not_so true A both e a = cc
@@ -61,7 +64,7 @@ so false A both e = cc
 -- a byte of a kind
 step_if : (at next : HeadPlace) (b : ℕ) (these : ℕ → Type 0) (is : Bool)
     → IsTrue is ↔ these b
-    → (these b → Leads at (b ∷ []) next) → ((these b → ⊥) → IsNever at b)
+    → (these b → StateAfter at (b ∷ []) next) → ((these b → ⊥) → IsNever at b)
     → (step : Option HeadPlace) → IsIf is next step → IsStep at b step
 step_if at next b these is both goes never (Some told) (e, same) =
     step_to at next told b same (goes (so is (these b) both e))
@@ -69,35 +72,36 @@ step_if at next b these is both goes never None e = inr (never (not_so is (these
 
 -- one byte
 pub step_only : (at next : HeadPlace) (b wanted : ℕ)
-    → Behind (Due at) (wanted ∷ []) (Due next)
+    → EquivalentAfter (Due at) (wanted ∷ []) (Due next)
     → ((b ≡ wanted → ⊥) → IsNever at b) → (step : Option HeadPlace) → IsOnly b wanted next step
     → IsStep at b step
 step_only at next b wanted goes never (Some told) (e, same) =
-    let P : ℕ → Type 0 = λ x. Leads at (x ∷ []) next in
+    let P : ℕ → Type 0 = λ x. StateAfter at (x ∷ []) next in
     step_to at next told b same (subst P (sym e) (leads at next (wanted ∷ []) goes))
 step_only at next b wanted goes never None not = inr (never not)
 
 -- a byte of a run, or the one after it
 step_run : (at next : HeadPlace) (b wanted : ℕ) (these : ℕ → Type 0) (K : Language)
     (is : Bool) → IsTrue is ↔ these b
-    → (these b → Behind (Due at) (b ∷ []) (Due at)) → Behind (Due at) (wanted ∷ []) (Due next)
+    → (these b → EquivalentAfter (Due at) (b ∷ []) (Due at))
+    → EquivalentAfter (Due at) (wanted ∷ []) (Due next)
     → ((these b → ⊥) → (b ≡ wanted → ⊥) → IsNever at b)
     → (step : Option HeadPlace) → IsRunOr is at b wanted next step → IsStep at b step
 step_run at next b wanted these K is both goes ends never (Some told) (inl (e, here)) =
     step_to at at told b here (leads at at (b ∷ []) (goes (so is (these b) both e)))
 step_run at next b wanted these K is both goes ends never (Some told) (inr (e, same, here)) =
-    let P : ℕ → Type 0 = λ x. Leads at (x ∷ []) next in
+    let P : ℕ → Type 0 = λ x. StateAfter at (x ∷ []) next in
     step_to at next told b here (subst P (sym same) (leads at next (wanted ∷ []) ends))
 step_run at next b wanted these K is both goes ends never None (e, not) =
     inr (never (not_so is (these b) both e) not)
 
 run_byte : (these : ℕ → Type 0) (c : ℕ) (K : Language) (b : ℕ) → (these c → ⊥) → these b
-    → Behind (Run these c K) (b ∷ []) (Run these c K)
+    → EquivalentAfter (Run these c K) (b ∷ []) (Run these c K)
 run_byte these c K b apart is =
     behind_run these c K (b ∷ []) (All-cons these b [] is (All-nil these)) apart
 
 run_ends : (these : ℕ → Type 0) (c : ℕ) (K : Language) → (these c → ⊥)
-    → Behind (Run these c K) (c ∷ []) K
+    → EquivalentAfter (Run these c K) (c ∷ []) K
 run_ends these c K apart = behind_run_end these c K [] (All-nil these) apart
 
 run_never : (these : ℕ → Type 0) (c : ℕ) (K : Language) (b : ℕ) → (these b → ⊥)
@@ -112,9 +116,9 @@ InName = Run IsTokenByte 58 (Run IsValueByte 13 (Byte 10 FieldsText))
 token_not_return : (b : ℕ) → IsTokenByte b → b ≡ 13 → ⊥
 token_not_return b is e = grind arith
 
-name_begins : (b : ℕ) → IsTokenByte b → Leads place.Fields (b ∷ []) place.Name
+name_begins : (b : ℕ) → IsTokenByte b → StateAfter place.Fields (b ∷ []) place.Name
 name_begins b is =
-    let one : Behind (OneOf IsTokenByte InName) (b ∷ []) InName =
+    let one : EquivalentAfter (OneOf IsTokenByte InName) (b ∷ []) InName =
     behind_one IsTokenByte b InName is in
     record {
       there = λ more rest it. line_fields (b ∷ more) rest (one.there more rest it);
@@ -129,36 +133,36 @@ fields_never b not other more rest it =
 -- ---- runs
 
 run_at : (at here : HeadPlace) (bytes : List ℕ) (n : ℕ) → at ≡ here
-    → Leads here (take n bytes) here → Leads at (take n bytes) at
+    → StateAfter here (take n bytes) here → StateAfter at (take n bytes) at
 run_at at here bytes n is it =
-    let P : HeadPlace → Type 0 = λ p. Leads p (take n bytes) p in subst P (sym is) it
+    let P : HeadPlace → Type 0 = λ p. StateAfter p (take n bytes) p in subst P (sym is) it
 
 method_run : (at : HeadPlace) (bytes : List ℕ) (n : ℕ) → at ≡ place.Method
-    → SoMany IsTokenByte bytes n → Leads at (take n bytes) at
+    → SoMany IsTokenByte bytes n → StateAfter at (take n bytes) at
 method_run at bytes n is it = run_at at place.Method bytes n is
     (leads place.Method place.Method (take n bytes) (behind_run IsTokenByte 32
     (SomeOf IsVisible 32 VersionText) (take n bytes) it.0.1 token_no_space))
 
 name_run : (at : HeadPlace) (bytes : List ℕ) (n : ℕ) → at ≡ place.Name
-    → SoMany IsTokenByte bytes n → Leads at (take n bytes) at
+    → SoMany IsTokenByte bytes n → StateAfter at (take n bytes) at
 name_run at bytes n is it = run_at at place.Name bytes n is
     (leads place.Name place.Name (take n bytes) (behind_run IsTokenByte 58
     (Run IsValueByte 13 (Byte 10 FieldsText)) (take n bytes) it.0.1 token_no_colon))
 
 pub token_run : (at : HeadPlace) (bytes : List ℕ) (n : ℕ)
     → (at ≡ place.Method) ⊎ (at ≡ place.Name) → SoMany IsTokenByte bytes n
-    → Leads at (take n bytes) at
+    → StateAfter at (take n bytes) at
 token_run at bytes n (inl is) it = method_run at bytes n is it
 token_run at bytes n (inr is) it = name_run at bytes n is it
 
 pub target_run : (at : HeadPlace) (bytes : List ℕ) (n : ℕ) → at ≡ place.Target
-    → SoMany IsVisible bytes n → Leads at (take n bytes) at
+    → SoMany IsVisible bytes n → StateAfter at (take n bytes) at
 target_run at bytes n is it = run_at at place.Target bytes n is
     (leads place.Target place.Target (take n bytes)
     (behind_run IsVisible 32 VersionText (take n bytes) it.0.1 visible_no_space))
 
 pub value_run : (at : HeadPlace) (bytes : List ℕ) (n : ℕ) → at ≡ place.Value
-    → SoMany IsValueByte bytes n → Leads at (take n bytes) at
+    → SoMany IsValueByte bytes n → StateAfter at (take n bytes) at
 value_run at bytes n is it = run_at at place.Value bytes n is
     (leads place.Value place.Value (take n bytes)
     (behind_run IsValueByte 13 (Byte 10 FieldsText) (take n bytes) it.0.1 value_no_return))
@@ -235,7 +239,7 @@ value_step b is both =
 
 pub fields_end : (b : ℕ) → b ≡ 13 → IsStep place.Fields b (Some place.LastLineFeed)
 fields_end b e =
-    let P : ℕ → Type 0 = λ x. Leads place.Fields (x ∷ []) place.LastLineFeed in
+    let P : ℕ → Type 0 = λ x. StateAfter place.Fields (x ∷ []) place.LastLineFeed in
     subst P (sym e) (leads place.Fields place.LastLineFeed (13 ∷ []) behind_return)
 
 pub fields_step : (b : ℕ) → (b ≡ 13 → ⊥) → (is : Bool) → IsTrue is ↔ IsTokenByte b

@@ -1,6 +1,6 @@
 -- Heads of responses: that their language is theirs, and what is read of one.
 use Rattle.std.proofs.Common.{◌≡◌, ◌∙◌, ◌≤◌, ◌+◌, ◌*◌, ◌-◌, ◌++◌, ◌∷◌, [], ap, ℕ, List}
-use Rattle.std.proofs.Common.{length, sym, subst, arith, inl, inr, refl, length-append}
+use Rattle.std.proofs.Common.{arith, inl, inr, length, length-append, refl, subst, sym}
 use Rattle.std.specs.Prelude.{Err}
 use Rattle.std.proofs.lemmas.List.Elements.{All-nil}
 use Rattle.format_http.specs.Heads.Bytes.{IsValueByte}
@@ -21,7 +21,7 @@ use Rattle.format_http_places.specs.declared.read.HeadError.{HeadError}
 use Rattle.format_http_places.specs.declared.read.HeadError.TheVariants.{Incomplete, Refused}
 use Rattle.format_http_places.specs.declared.read.HeadError.TheVariants.{TooManyFields}
 use Rattle.format_http_places.specs.declared.status.StatusLine.{StatusLine}
-use Rattle.format_http_places.proofs.Behind.{stops_behind}
+use Rattle.format_http_places.proofs.EquivalentAfter.{stops_behind}
 use Rattle.format_http_places.proofs.FieldLines.{fields_small, lines_text, text_lines}
 use Rattle.format_http_places.proofs.StatusLines.{behind_line}
 use Rattle.format_http_places.proofs.Stops.{refused_by, wanting_by}

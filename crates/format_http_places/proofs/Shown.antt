@@ -1,6 +1,6 @@
 -- Lemmas about lines: their errors, and the offsets of their parts.
 use Rattle.std.proofs.Common.{◌≡◌, ◌∙◌, ◌<◌, ◌≤◌, ◌+◌, ◌-◌, ◌++◌, ◌∷◌, [], ap, ℕ, List, length}
-use Rattle.std.proofs.Common.{take, drop, sym, subst, arith, refl, append_assoc, length-append}
+use Rattle.std.proofs.Common.{append_assoc, arith, drop, length-append, refl, subst, sym, take}
 use Rattle.std.proofs.lemmas.List.{length-take, take-append-drop}
 use Rattle.std.proofs.lemmas.List.Elements.{All-cons, All-head, All-nil, All-tail}
 use Rattle.std.specs.Borrow.{Bor}
@@ -14,7 +14,7 @@ use Rattle.format_http_places.specs.Grammar.{protocol}
 use Rattle.format_http_places.specs.Places.{IsBare, ShowsField, ShowsLine, version_on}
 use Rattle.format_http_places.specs.Runs.{SoMany}
 use Rattle.format_http_places.specs.declared.places.Span.{Span}
-use Rattle.format_http_places.proofs.Behind.{run_stops, some_stops, stops_behind}
+use Rattle.format_http_places.proofs.EquivalentAfter.{run_stops, some_stops, stops_behind}
 use Rattle.format_http_places.proofs.Lines.{a_token, a_visible, behind_method, behind_name}
 use Rattle.format_http_places.proofs.Lines.{behind_target, live_target, live_value, token_no_colon}
 use Rattle.format_http_places.proofs.Lines.{token_no_space, value_no_return, visible_no_space}

@@ -1,6 +1,6 @@
 -- Lemmas about status lines: their errors, and the offsets of their parts.
 use Rattle.std.proofs.Common.{◌≡◌, ◌∙◌, ◌<◌, ◌+◌, ◌-◌, ◌++◌, ◌∷◌, [], ap, ℕ, List, length}
-use Rattle.std.proofs.Common.{take, drop, sym, subst, arith, inl, inr, refl, append_assoc}
+use Rattle.std.proofs.Common.{append_assoc, arith, drop, inl, inr, refl, subst, sym, take}
 use Rattle.std.proofs.Common.{length-append}
 use Rattle.std.proofs.lemmas.List.{length-take, take-append-drop}
 use Rattle.std.proofs.lemmas.List.Elements.{All-nil}
@@ -16,10 +16,13 @@ use Rattle.format_http_places.specs.Places.{StandsAt}
 use Rattle.format_http_places.specs.Responses.{IsCodeFirst, ShowsReason, ShowsStatus}
 use Rattle.format_http_places.specs.Runs.{NotFirst, SoMany}
 use Rattle.format_http_places.specs.declared.status.Reason.{Reason}
-use Rattle.format_http_places.proofs.Behind.{Behind, Live, behind_both, behind_byte, behind_one}
-use Rattle.format_http_places.proofs.Behind.{behind_run_end, behind_text, live_byte, live_one}
-use Rattle.format_http_places.proofs.Behind.{live_text, none_byte, none_one, not_empty, part_stops}
-use Rattle.format_http_places.proofs.Behind.{run_stops, stops_at, stops_behind, text_stops}
+use Rattle.format_http_places.proofs.EquivalentAfter.{EquivalentAfter, Live, behind_both}
+use Rattle.format_http_places.proofs.EquivalentAfter.{behind_byte, behind_one}
+use Rattle.format_http_places.proofs.EquivalentAfter.{behind_run_end, behind_text, live_byte}
+use Rattle.format_http_places.proofs.EquivalentAfter.{live_one}
+use Rattle.format_http_places.proofs.EquivalentAfter.{live_text, none_byte, none_one, not_empty}
+use Rattle.format_http_places.proofs.EquivalentAfter.{part_stops}
+use Rattle.format_http_places.proofs.EquivalentAfter.{run_stops, stops_at, stops_behind, text_stops}
 use Rattle.format_http_places.proofs.Lines.{value_no_return}
 use Rattle.format_http_places.proofs.Versions.{a_digit, behind_numbers, is_digit, live_fields}
 use Rattle.format_http_places.proofs.Versions.{numbers_stop}
@@ -36,7 +39,7 @@ live_reason =
     let end = live_text line_end FieldsText live_fields in
     record { bytes = end.bytes; is = inr end.is }
 
-behind_space : Behind ReasonText (32 ∷ []) Value
+behind_space : EquivalentAfter ReasonText (32 ∷ []) Value
 unfolding ReasonText
 behind_space = record {
   there = λ more rest it. inl ((behind_byte 32 Value).there more rest it);
@@ -47,7 +50,7 @@ behind_space = record {
   ];
 }
 
-behind_end : Behind ReasonText line_end FieldsText
+behind_end : EquivalentAfter ReasonText line_end FieldsText
 unfolding ReasonText
 behind_end = record {
   there = λ more rest it. inr ((behind_text line_end [] FieldsText).there more rest it);
@@ -60,10 +63,10 @@ behind_end = record {
 
 -- a reason and a line ending are followed by fields
 behind_reason : (text reason : List ℕ) → IsBehind text reason → All IsValueByte reason
-    → Behind ReasonText (text ++ line_end) FieldsText
+    → EquivalentAfter ReasonText (text ++ line_end) FieldsText
 behind_reason text reason (inl space) all =
-    let P : List ℕ → Type 0 = λ l. Behind ReasonText l FieldsText in
-    let Q : List ℕ → Type 0 = λ l. Behind ReasonText (32 ∷ l) FieldsText in
+    let P : List ℕ → Type 0 = λ l. EquivalentAfter ReasonText l FieldsText in
+    let Q : List ℕ → Type 0 = λ l. EquivalentAfter ReasonText (32 ∷ l) FieldsText in
     subst P (sym (ap (λ l. l ++ line_end) space))
     (subst Q (append_assoc reason (13 ∷ []) (10 ∷ []))
     (behind_both ReasonText Value FieldsText (32 ∷ []) ((reason ++ 13 ∷ []) ++ 10 ∷ [])
@@ -72,7 +75,7 @@ behind_reason text reason (inl space) all =
     (behind_run_end IsValueByte 13 (Byte 10 FieldsText) reason all value_no_return)
     (behind_byte 10 FieldsText))))
 behind_reason text reason (inr (none, empty)) all =
-    let P : List ℕ → Type 0 = λ l. Behind ReasonText l FieldsText in
+    let P : List ℕ → Type 0 = λ l. EquivalentAfter ReasonText l FieldsText in
     subst P (sym (ap (λ l. l ++ line_end) none)) behind_end
 
 -- where the value after the space stops
@@ -188,7 +191,7 @@ module _ (bytes : List ℕ) (left : ℕ) where
       }) live_code (none_one IsDigit Two bytes not) refl size
 
   module _ (h : ℕ) (second : List ℕ) (some : h < 10) (at : bytes ≡ (48 + h) ∷ second) where
-    behind_h : Behind Code ((48 + h) ∷ []) Two
+    behind_h : EquivalentAfter Code ((48 + h) ∷ []) Two
     behind_h = behind_one IsDigit (48 + h) Two (is_digit h some)
 
     pub stops_tens : NotFirst IsDigit second → left ≡ length second → Stops Code bytes left
@@ -206,7 +209,7 @@ module _ (bytes : List ℕ) (left : ℕ) where
         (at ∙ ap (λ l. (48 + h) ∷ l) next) size
 
 pub behind_code : (h t o : ℕ) → h < 10 → t < 10 → o < 10
-    → Behind Code (three h t o) ReasonText
+    → EquivalentAfter Code (three h t o) ReasonText
 behind_code h t o some more few =
     behind_both Code Two ReasonText ((48 + h) ∷ []) ((48 + t) ∷ (48 + o) ∷ [])
     (behind_one IsDigit (48 + h) Two (is_digit h some))
@@ -237,7 +240,7 @@ module _ (bytes : List ℕ) (a b : ℕ) (after : List ℕ) (less : a < 10) (smal
       (behind_numbers Behinds a b less small) live_behinds (none_byte 32 Code after not) at size
 
   module _ (text : List ℕ) (spaced : after ≡ 32 ∷ text) where
-    behind_status : Behind ResponseText ((protocol ++ digits a b) ++ 32 ∷ []) Code
+    behind_status : EquivalentAfter ResponseText ((protocol ++ digits a b) ++ 32 ∷ []) Code
     unfolding ResponseText
     behind_status = behind_both (ProtocolText Behinds) Behinds Code (protocol ++ digits a b)
         (32 ∷ []) (behind_numbers Behinds a b less small) (behind_byte 32 Code)
@@ -297,7 +300,7 @@ module _ (bytes : List ℕ) (a b : ℕ) (after : List ℕ) (less : a < 10) (smal
 -- after a status line are fields
 pub behind_line : (a b status : ℕ) (reason bytes rest : List ℕ)
     → IsStatusLine a b status reason bytes rest
-    → (front : List ℕ) × (bytes ≡ front ++ rest) × Behind ResponseText front FieldsText
+    → (front : List ℕ) × (bytes ≡ front ++ rest) × EquivalentAfter ResponseText front FieldsText
 unfolding ResponseText
 behind_line a b status reason bytes rest is =
     let code = three is.hundreds is.tens is.ones in

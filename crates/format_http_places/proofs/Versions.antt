@@ -1,16 +1,17 @@
 -- Versions as languages, and where they stop.
 use Rattle.std.proofs.Common.{◌≡◌, ◌∙◌, ◌<◌, ◌+◌, ◌-◌, ◌++◌, ◌∷◌, [], ap, ℕ, List, length}
-use Rattle.std.proofs.Common.{sym, subst, arith, refl, append_assoc}
+use Rattle.std.proofs.Common.{append_assoc, arith, refl, subst, sym}
 use Rattle.format_http.specs.Heads.Bytes.{IsDigit, line_end}
 use Rattle.format_http.specs.Heads.RequestLine.{digits}
 use Rattle.format_http_places.specs.Grammar.{Byte, Differs, FieldsText, Language, NoneAt, Nothing}
 use Rattle.format_http_places.specs.Grammar.{OneOf, ProtocolText, Stops, Text, VersionText}
 use Rattle.format_http_places.specs.Grammar.{protocol}
 use Rattle.format_http_places.specs.Runs.{NotFirst}
-use Rattle.format_http_places.proofs.Behind.{Behind, Live, behind_both, behind_byte, behind_one}
-use Rattle.format_http_places.proofs.Behind.{behind_text, live_byte, live_one, live_text}
-use Rattle.format_http_places.proofs.Behind.{none_byte, none_one, stops_at, stops_behind}
-use Rattle.format_http_places.proofs.Behind.{text_stops}
+use Rattle.format_http_places.proofs.EquivalentAfter.{EquivalentAfter, Live, behind_both}
+use Rattle.format_http_places.proofs.EquivalentAfter.{behind_byte, behind_one}
+use Rattle.format_http_places.proofs.EquivalentAfter.{behind_text, live_byte, live_one, live_text}
+use Rattle.format_http_places.proofs.EquivalentAfter.{none_byte, none_one, stops_at, stops_behind}
+use Rattle.format_http_places.proofs.EquivalentAfter.{text_stops}
 
 abbrev Minor : Language → Language
 Minor K = OneOf IsDigit K
@@ -50,7 +51,7 @@ live_version = live_protocol (Text line_end FieldsText) (live_text line_end Fiel
 
 -- the continuation of the language after a version
 pub behind_numbers : (K : Language) (a b : ℕ) → a < 10 → b < 10
-    → Behind (ProtocolText K) (protocol ++ digits a b) K
+    → EquivalentAfter (ProtocolText K) (protocol ++ digits a b) K
 behind_numbers K a b less small =
     behind_both (ProtocolText K) (Major K) K protocol (digits a b)
     (behind_text protocol [] (Major K))
@@ -69,7 +70,7 @@ module _ (bytes : List ℕ) (left : ℕ) where
       text_stops protocol bytes left (Major Nothing) (live_major Nothing live_nothing) it
 
   module _ (first : List ℕ) (at : bytes ≡ protocol ++ first) where
-    behind_protocol : Behind Numbers protocol (Major Nothing)
+    behind_protocol : EquivalentAfter Numbers protocol (Major Nothing)
     behind_protocol = behind_text protocol [] (Major Nothing)
 
     pub stops_major : NotFirst IsDigit first → left ≡ length first → Stops Numbers bytes left
@@ -78,7 +79,7 @@ module _ (bytes : List ℕ) (left : ℕ) where
         (live_major Nothing live_nothing) (none_one IsDigit (Pointed Nothing) first not) at size
 
     module _ (a : ℕ) (point : List ℕ) (less : a < 10) (major : first ≡ (48 + a) ∷ point) where
-      behind_major : Behind Numbers (protocol ++ (48 + a) ∷ []) (Pointed Nothing)
+      behind_major : EquivalentAfter Numbers (protocol ++ (48 + a) ∷ []) (Pointed Nothing)
       behind_major = behind_both Numbers (Major Nothing) (Pointed Nothing) protocol
           ((48 + a) ∷ []) behind_protocol
           (behind_one IsDigit (48 + a) (Pointed Nothing) (is_digit a less))
@@ -100,7 +101,7 @@ module _ (bytes : List ℕ) (left : ℕ) where
         abbrev front : List ℕ
         front = (protocol ++ (48 + a) ∷ []) ++ 46 ∷ []
 
-        behind_point : Behind Numbers front (Minor Nothing)
+        behind_point : EquivalentAfter Numbers front (Minor Nothing)
         behind_point = behind_both Numbers (Pointed Nothing) (Minor Nothing)
             (protocol ++ (48 + a) ∷ []) (46 ∷ []) behind_major (behind_byte 46 (Minor Nothing))
 
@@ -200,7 +201,7 @@ version_ends bytes end a b left less small at it =
     (text_stops line_end end left FieldsText live_fields it)
 
 pub behind_version : (a b : ℕ) → a < 10 → b < 10
-    → Behind VersionText (protocol ++ (digits a b ++ line_end)) FieldsText
+    → EquivalentAfter VersionText (protocol ++ (digits a b ++ line_end)) FieldsText
 unfolding VersionText
 behind_version a b less small =
     let K : Language = Text line_end FieldsText in

@@ -1,7 +1,7 @@
 -- The scanner for the end of a head: the bytes passed, and the continuation expected after them.
 use Rattle.std.specs.Prelude.{◌≡◌, ◌⊎◌, ◌<◌, ◌+◌, ⊤, ℕ, List, [], ◌∷◌, ◌++◌, length, Bool, true}
 use Rattle.std.specs.Prelude.{false}
-use Rattle.std.specs.Prelude.{Option, Some, None, Result, Ok, Err}
+use Rattle.std.specs.Prelude.{Err, None, Ok, Option, Result, Some}
 use Rattle.format_http.specs.Heads.Bytes.{IsDigit, IsTokenByte, IsValueByte, IsVisible, line_end}
 use Rattle.format_http.specs.Heads.Head.{IsHead, Pair, Request}
 use Rattle.format_http.specs.Heads.Head.{BeginsHead}
@@ -39,9 +39,10 @@ Due place.Value = Run IsValueByte 13 (Byte 10 FieldsText)
 Due place.LastLineFeed = Byte 10 Nothing
 Due place.Done = Nothing
 
--- `Leads old bytes new`: `bytes` lead from state `old` to state `new`. For any continuation, it is
+-- `StateAfter old bytes new`: `bytes` lead from state `old` to state `new`. For any continuation,
+-- it is
 -- accepted in `new` if and only if `bytes` followed by it are accepted in `old`.
-pub record Leads (old : HeadPlace) (bytes : List ℕ) (new : HeadPlace) : Type 0 where
+pub record StateAfter (old : HeadPlace) (bytes : List ℕ) (new : HeadPlace) : Type 0 where
   pub there : (more rest : List ℕ) → Due new more rest → Due old (bytes ++ more) rest
   pub back : (more rest : List ℕ) → Due old (bytes ++ more) rest → Due new more rest
 
@@ -67,10 +68,10 @@ IsLong bytes n = (line : Request) × (fields : List Pair) × (rest : List ℕ)
 
 -- The contract of a scan: the length of the head at the start; or `None`, if the bytes do not start
 -- with a head and some continuation does; or the first offset at which no head can continue.
-abbrev pub IsTold : List ℕ → Result (Option ℕ) Refused → Type 0
-IsTold bytes (Ok (Some n)) = IsLong bytes n
-IsTold bytes (Ok None) = BeginsHead bytes × NoneRead bytes
-IsTold bytes (Err refused) = IsRefused bytes refused.place
+abbrev pub HeadResult : List ℕ → Result (Option ℕ) Refused → Type 0
+HeadResult bytes (Ok (Some n)) = IsLong bytes n
+HeadResult bytes (Ok None) = BeginsHead bytes × NoneRead bytes
+HeadResult bytes (Err refused) = IsRefused bytes refused.place
 
 -- ---- what a call does with the bytes that are new, whatever those are that were passed
 
@@ -81,7 +82,7 @@ IsStopped at (b ∷ bs) = (at ≡ place.Done) ⊎ IsNever at b
 
 -- The scan passes the longest possible prefix of the bytes; `left` is the rest.
 abbrev pub Walks : HeadPlace → List ℕ → HeadPlace → List ℕ → Type 0
-Walks old fresh new left = (taken : List ℕ) × (fresh ≡ taken ++ left) × Leads old taken new
+Walks old fresh new left = (taken : List ℕ) × (fresh ≡ taken ++ left) × StateAfter old taken new
     × IsStopped new left
 
 -- the result in a state, with the rest and the number of bytes passed
@@ -95,7 +96,7 @@ Says new left (Err refused) = (new.place ≡ place.Done → ⊥) × (0 < length 
 -- result depends on the new state. The bytes that were passed before do not matter.
 abbrev pub IsLed : HeadExtent → List ℕ → HeadExtent → Result (Option ℕ) Refused → Type 0
 IsLed old fresh new result = (taken : List ℕ) × (left : List ℕ) × (fresh ≡ taken ++ left)
-    × (new.passed ≡ old.passed + length taken) × Leads old.place taken new.place
+    × (new.passed ≡ old.passed + length taken) × StateAfter old.place taken new.place
     × IsStopped new.place left × Says new left result
 
 -- ---- one byte
@@ -119,5 +120,5 @@ IsRunOr is within byte wanted next None = (is ≡ false) × (byte ≡ wanted →
 
 -- The next state after the byte; or the head was complete; or no head continues with the byte.
 abbrev pub IsStep : HeadPlace → ℕ → Option HeadPlace → Type 0
-IsStep at b (Some next) = Leads at (b ∷ []) next
+IsStep at b (Some next) = StateAfter at (b ∷ []) next
 IsStep at b None = (at ≡ place.Done) ⊎ IsNever at b

@@ -8,7 +8,7 @@ ghost use Rattle.std.specs.Prelude.{◌≡◌, ◌≤◌, ◌<◌, ◌+◌, ◌+
 ghost use Rattle.std.specs.Prelude.{take};
 ghost use Rattle.format_http.specs.Heads.Bytes.{IsDigit};
 ghost use Rattle.format_http_places.specs.Extents.{IsIf, IsLed, IsOf, IsOnly, IsRunOr, IsStep};
-ghost use Rattle.format_http_places.specs.Extents.{IsTold, Leads, Says, Walks};
+ghost use Rattle.format_http_places.specs.Extents.{HeadResult, Says, StateAfter, Walks};
 ghost use Rattle.std.specs.Prelude.{◌↔◌, IsTrue};
 
 use crate::runs::{is_token, is_value, is_visible, target_len, token_len, value_len};
@@ -119,7 +119,7 @@ fn is_digit(byte: u8) -> bool
 
 /// The next place, if this is so.
 #[inline(always)]
-fn if_so(is: bool, next: HeadPlace) -> Option<HeadPlace>
+fn then_some(is: bool, next: HeadPlace) -> Option<HeadPlace>
     ensures { IsIf is next result }
 {
     if is { Some(next) } else { None }
@@ -136,7 +136,7 @@ fn only(byte: u8, wanted: u8, next: HeadPlace) -> Option<HeadPlace>
 /// Returns the same state if a run continues, or the next one if the byte is the one that ends the
 /// run.
 #[inline(always)]
-fn run_or(
+fn or_run(
     goes_on: bool,
     same: HeadPlace,
     byte: u8,
@@ -160,7 +160,7 @@ fn place_in_fields(byte: u8) -> Option<HeadPlace>
     if byte == b'\r' {
         Some(HeadPlace::LastLineFeed)
     } else {
-        if_so(is_token(byte), HeadPlace::Name)
+        then_some(is_token(byte), HeadPlace::Name)
     }
 }
 
@@ -171,16 +171,16 @@ fn place_after(place: HeadPlace, byte: u8) -> Option<HeadPlace>
     ensures { IsStep place byte result }
 {
     match place {
-        HeadPlace::Start => if_so(is_token(byte), HeadPlace::Method),
-        HeadPlace::Method => run_or(
+        HeadPlace::Start => then_some(is_token(byte), HeadPlace::Method),
+        HeadPlace::Method => or_run(
             is_token(byte),
             HeadPlace::Method,
             byte,
             b' ',
             HeadPlace::TargetStart,
         ),
-        HeadPlace::TargetStart => if_so(is_visible(byte), HeadPlace::Target),
-        HeadPlace::Target => run_or(
+        HeadPlace::TargetStart => then_some(is_visible(byte), HeadPlace::Target),
+        HeadPlace::Target => or_run(
             is_visible(byte),
             HeadPlace::Target,
             byte,
@@ -192,20 +192,20 @@ fn place_after(place: HeadPlace, byte: u8) -> Option<HeadPlace>
         HeadPlace::AfterT => only(byte, b'T', HeadPlace::AfterTT),
         HeadPlace::AfterTT => only(byte, b'P', HeadPlace::AfterP),
         HeadPlace::AfterP => only(byte, b'/', HeadPlace::Major),
-        HeadPlace::Major => if_so(is_digit(byte), HeadPlace::Point),
+        HeadPlace::Major => then_some(is_digit(byte), HeadPlace::Point),
         HeadPlace::Point => only(byte, b'.', HeadPlace::Minor),
-        HeadPlace::Minor => if_so(is_digit(byte), HeadPlace::Return),
+        HeadPlace::Minor => then_some(is_digit(byte), HeadPlace::Return),
         HeadPlace::Return => only(byte, b'\r', HeadPlace::LineFeed),
         HeadPlace::LineFeed => only(byte, b'\n', HeadPlace::Fields),
         HeadPlace::Fields => place_in_fields(byte),
-        HeadPlace::Name => run_or(
+        HeadPlace::Name => or_run(
             is_token(byte),
             HeadPlace::Name,
             byte,
             b':',
             HeadPlace::Value,
         ),
-        HeadPlace::Value => run_or(
+        HeadPlace::Value => or_run(
             is_value(byte),
             HeadPlace::Value,
             byte,
@@ -221,7 +221,7 @@ fn place_after(place: HeadPlace, byte: u8) -> Option<HeadPlace>
 #[inline(always)]
 fn run_len(place: HeadPlace, bytes: &[u8]) -> usize
     ensures few { result ≤ length bytes.now }
-    ensures same { Leads place (take result bytes.now) place }
+    ensures same { StateAfter place (take result bytes.now) place }
 {
     match place {
         HeadPlace::Method | HeadPlace::Name => token_len(bytes),
@@ -304,7 +304,7 @@ impl HeadExtent {
     /// assert!(rt; read_head_into(&bytes[..27], &mut fields).is_ok());
     /// ```
     pub fn advance(&mut self, bytes: &[u8]) -> Result<Option<usize>, Refused>
-        ensures told { IsOf self.old bytes.now → IsTold bytes.now result }
+        ensures told { IsOf self.old bytes.now → HeadResult bytes.now result }
         ensures kept { IsOf self.old bytes.now
             → (more : List ℕ) → IsOf self.new (bytes.now ++ more) }
         ensures fresh { self.old.passed ≤ length bytes.now

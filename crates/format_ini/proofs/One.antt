@@ -1,18 +1,19 @@
 -- A line says one thing, and a text one document.
 use Rattle.std.specs.Prelude.{◌≡◌, ◌⊎◌, ℕ, List, [], ◌∷◌, ◌++◌, length, Bool, true, false}
-use Rattle.std.specs.Prelude.{Option, Some, None}
+use Rattle.std.specs.Prelude.{None, Option, Some}
 use Rattle.std.specs.List.{All}
 use Rattle.std.proofs.Common.{refl, sym, ap, subst, inl, inr, ◌∙◌, arith}
 use Rattle.std.proofs.lemmas.List.Elements.{All-head, All-tail}
 use Rattle.format_ini.specs.Documents.{AreLines, BehindMark, IsDocument, IsRefused, LinesSay}
 use Rattle.format_ini.specs.Documents.{start}
-use Rattle.format_ini.specs.Front.{Begins, FirstLine, IsKept, NotFirst, indent_of, trimmed}
-use Rattle.format_ini.specs.Lines.{GoesOn, IdleSays, IsEmpty, IsIdle, IsPair, IsSection, Lacks}
+use Rattle.format_ini.specs.Front.{FirstLine, IsKept, NotFirst, StartsWith, indent_of, trimmed}
+use Rattle.format_ini.specs.Lines.{ContinuesPair, IdleSays, IsEmpty, IsIdle, IsPair, IsSection}
+use Rattle.format_ini.specs.Lines.{Lacks}
 use Rattle.format_ini.specs.Lines.{LacksOwn, NoPair, NoSection, OwnSays, Said, Step, StepOf}
-use Rattle.format_ini.specs.Lines.{pair_at, section, pair}
+use Rattle.format_ini.specs.Lines.{pair, pair_at, section}
 use Rattle.format_ini.specs.Marks.{IsDelimiter}
 use Rattle.format_ini.specs.declared.dialect.Continued.{Continued}
-use Rattle.format_ini.specs.declared.dialect.Continued.TheVariants.{Never, UntilEmpty, PastEmpty}
+use Rattle.format_ini.specs.declared.dialect.Continued.TheVariants.{Never, PastEmpty, UntilEmpty}
 use Rattle.format_ini.specs.declared.dialect.Dialect.{Dialect}
 use Rattle.format_ini.specs.declared.dialect.Marks.{Marks}
 use Rattle.format_ini.specs.declared.documents.Fault.{Fault}
@@ -112,13 +113,13 @@ pair_one d text key other value less (inr (none, may, k, v)) (inr (none', may', 
     (k ∙ sym k', v ∙ sym v')
 
 -- what begins so does not begin otherwise
-both_first : (P : ℕ → Type 0) (text : List ℕ) → Begins P text → NotFirst P text → ⊥
+both_first : (P : ℕ → Type 0) (text : List ℕ) → StartsWith P text → NotFirst P text → ⊥
 both_first P [] is not = is
 both_first P (b ∷ bs) is not = not is
 
-section_first : (text name : List ℕ) → IsSection text name → Begins (λ b. b ≡ 91) text
+section_first : (text name : List ℕ) → IsSection text name → StartsWith (λ b. b ≡ 91) text
 section_first text name (e, all, some) =
-    let P : List ℕ → Type 0 = λ l. Begins (λ b. b ≡ 91) l in subst P (sym e) refl
+    let P : List ℕ → Type 0 = λ l. StartsWith (λ b. b ≡ 91) l in subst P (sym e) refl
 
 own_one : (d : Dialect) (s : State) (depth : ℕ) (text : List ℕ) (said other : List Said)
     (next left : State) → OwnSays d s depth text said next → OwnSays d s depth text other left
@@ -226,7 +227,7 @@ no_section text name why.NoSection it is = it
 no_section text name why.NoKey it is = it
 no_section text name why.NoDelimiter it is = it
 
-none_first : (d : Dialect) (text : List ℕ) → Begins (IsDelimiter d.delimiters) text
+none_first : (d : Dialect) (text : List ℕ) → StartsWith (IsDelimiter d.delimiters) text
     → All (λ b. IsDelimiter d.delimiters b → ⊥) text → ⊥
 none_first d [] is all = is
 none_first d (b ∷ bs) is all = All-head (λ x. IsDelimiter d.delimiters x → ⊥) b bs all is
@@ -240,7 +241,7 @@ no_pair d text key value why.NoSection it is = it
 no_pair d text key value why.NoKey it (inl ([], m, r, e, is, all, some, k, v)) =
     omega (arith, some)
 no_pair d text key value why.NoKey it (inl (b ∷ bs, m, r, e, is, all, some, k, v)) =
-    let P : List ℕ → Type 0 = λ l. Begins (IsDelimiter d.delimiters) l in
+    let P : List ℕ → Type 0 = λ l. StartsWith (IsDelimiter d.delimiters) l in
     All-head (λ x. IsDelimiter d.delimiters x → ⊥) b bs all (subst P e it)
 no_pair d text key value why.NoKey it (inr (all, may, k, v)) = none_first d text it all
 no_pair d text key value why.NoDelimiter (all, never)
@@ -265,7 +266,7 @@ none_own d s depth text said next reason (inr (not, inr (may, lacks)))
     (inr (k, v, first, too, is, e, n)) = no_pair d text k v reason lacks is
 
 none_of : (d : Dialect) (s : State) (line kept : List ℕ) (said : List Said) (next : State)
-    (reason : Refusal) → (IsIdle d (trimmed kept) → ⊥) → (GoesOn s (indent_of line) → ⊥)
+    (reason : Refusal) → (IsIdle d (trimmed kept) → ⊥) → (ContinuesPair s (indent_of line) → ⊥)
     → LacksOwn d s (trimmed kept) reason → StepOf d s line kept said next → ⊥
 none_of d s line kept said next reason busy alone lacks (inl (idle, at)) = busy idle
 none_of d s line kept said next reason busy alone lacks (inr (inl (too, on, e, n))) =

@@ -18,9 +18,9 @@ abbrev pub NotFirst : (ℕ → Type 0) → List ℕ → Type 0
 NotFirst these bytes = MayBegin (λ b. these b → ⊥) bytes
 
 -- There is a first byte, and it is one of these.
-abbrev pub Begins : (ℕ → Type 0) → List ℕ → Type 0
-Begins these [] = ⊥
-Begins these (b ∷ bs) = these b
+abbrev pub StartsWith : (ℕ → Type 0) → List ℕ → Type 0
+StartsWith these [] = ⊥
+StartsWith these (b ∷ bs) = these b
 
 -- another byte
 abbrev pub IsOther : ℕ → ℕ → Type 0

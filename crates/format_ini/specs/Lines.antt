@@ -1,13 +1,13 @@
 -- The meaning of a line, by its text: the line without an inline comment, and without the blanks at
 -- both ends.
 use Rattle.std.specs.Prelude.{◌≡◌, ◌⊎◌, ◌<◌, ℕ, List, [], ◌∷◌, ◌++◌, length, Bool, true, false}
-use Rattle.std.specs.Prelude.{Option, Some, None, option_map, nat_lt}
+use Rattle.std.specs.Prelude.{None, Option, Some, nat_lt, option_map}
 use Rattle.std.specs.Borrow.{Bor}
 use Rattle.std.specs.List.{All}
-use Rattle.format_ini.specs.Front.{Begins, IsKept, IsOther, NotFirst, indent_of, trimmed}
+use Rattle.format_ini.specs.Front.{IsKept, IsOther, NotFirst, StartsWith, indent_of, trimmed}
 use Rattle.format_ini.specs.Marks.{IsDelimiter, IsMark}
 use Rattle.format_ini.specs.declared.dialect.Continued.{Continued}
-use Rattle.format_ini.specs.declared.dialect.Continued.TheVariants.{Never, UntilEmpty, PastEmpty}
+use Rattle.format_ini.specs.declared.dialect.Continued.TheVariants.{Never, PastEmpty, UntilEmpty}
 use Rattle.format_ini.specs.declared.dialect.Dialect.{Dialect}
 use Rattle.format_ini.specs.declared.lines.Entry.{Entry}
 use Rattle.format_ini.specs.declared.lines.Entry.TheVariants as entries
@@ -67,7 +67,7 @@ NoPair d text why.OpenSection = ⊥
 NoPair d text why.EmptySection = ⊥
 NoPair d text why.TextBehindSection = ⊥
 NoPair d text why.NoSection = ⊥
-NoPair d text why.NoKey = Begins (IsDelimiter d.delimiters) text
+NoPair d text why.NoKey = StartsWith (IsDelimiter d.delimiters) text
 NoPair d text why.NoDelimiter =
     All (λ b. IsDelimiter d.delimiters b → ⊥) text × (d.valueless ≡ false)
 
@@ -96,7 +96,7 @@ OwnSays d s indent text said next =
 -- Why it is none.
 abbrev pub LacksOwn : Dialect → State → List ℕ → Refusal → Type 0
 LacksOwn d s text reason =
-    (Begins (λ b. b ≡ 91) text × NoSection text reason)
+    (StartsWith (λ b. b ≡ 91) text × NoSection text reason)
     ⊎ (NotFirst (λ b. b ≡ 91) text × (((reason ≡ why.NoSection) × (MayPair d s → ⊥))
     ⊎ (MayPair d s × NoPair d text reason)))
 
@@ -112,16 +112,16 @@ IdleSays PastEmpty s empty said next = (next ≡ s)
 
 -- An empty line or a comment.
 abbrev pub IsIdle : Dialect → List ℕ → Type 0
-IsIdle d text = (text ≡ []) ⊎ Begins (IsMark d.comments) text
+IsIdle d text = (text ≡ []) ⊎ StartsWith (IsMark d.comments) text
 
 -- whether a line is indented deeper than the pair that it may continue, if there is one
 abbrev pub is_deeper : Option ℕ → ℕ → Bool
 is_deeper None indent = false
 is_deeper (Some n) indent = nat_lt n indent
 
--- `GoesOn s indent`: a line of this indentation continues the value of the previous pair.
-abbrev pub GoesOn : State → ℕ → Type 0
-GoesOn s indent = is_deeper s.pair indent ≡ true
+-- `ContinuesPair s indent`: a line of this indentation continues the value of the previous pair.
+abbrev pub ContinuesPair : State → ℕ → Type 0
+ContinuesPair s indent = is_deeper s.pair indent ≡ true
 
 -- The line is empty: it has neither text nor an inline comment.
 abbrev pub IsEmpty : List ℕ → List ℕ → Bool → Type 0
@@ -134,9 +134,9 @@ abbrev pub StepOf : Dialect → State → List ℕ → List ℕ → List Said �
 StepOf d s line kept said next =
     (IsIdle d (trimmed kept)
     × ((empty : Bool) × IsEmpty line kept empty × IdleSays d.continued s empty said next))
-    ⊎ (((IsIdle d (trimmed kept) → ⊥) × GoesOn s (indent_of line)
+    ⊎ (((IsIdle d (trimmed kept) → ⊥) × ContinuesPair s (indent_of line)
     × (said ≡ more (trimmed kept) ∷ []) × (next ≡ s))
-    ⊎ ((IsIdle d (trimmed kept) → ⊥) × (GoesOn s (indent_of line) → ⊥)
+    ⊎ ((IsIdle d (trimmed kept) → ⊥) × (ContinuesPair s (indent_of line) → ⊥)
     × OwnSays d s (indent_of line) (trimmed kept) said next))
 
 -- The meaning of a line after the lines before it, and the state after it.
@@ -147,5 +147,5 @@ Step d s line said next = (kept : List ℕ) × IsKept d.inline_comments line kep
 -- The reason why a line is invalid in this dialect.
 abbrev pub Lacks : Dialect → State → List ℕ → Refusal → Type 0
 Lacks d s line reason = (kept : List ℕ) × IsKept d.inline_comments line kept
-    × (IsIdle d (trimmed kept) → ⊥) × (GoesOn s (indent_of line) → ⊥)
+    × (IsIdle d (trimmed kept) → ⊥) × (ContinuesPair s (indent_of line) → ⊥)
     × LacksOwn d s (trimmed kept) reason

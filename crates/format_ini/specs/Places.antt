@@ -1,6 +1,6 @@
 -- The offsets of the texts of an entry, and consecutive entries as offsets of bytes.
 use Rattle.std.specs.Prelude.{◌≡◌, ◌≤◌, ◌<◌, ◌+◌, ℕ, List, [], ◌∷◌, ◌++◌, length, drop, ⊤}
-use Rattle.std.specs.Prelude.{Result, Ok, Err, Option, Some, None}
+use Rattle.std.specs.Prelude.{Err, None, Ok, Option, Result, Some}
 use Rattle.std.specs.List.{All}
 use Rattle.std.specs.Str.{IsUtf8}
 use Rattle.format_ini.specs.Documents.{BehindMark, ReadsLines, start}
@@ -61,8 +61,8 @@ StopsAtLine d s line stops.NoText = IsUtf8 line → ⊥
 StopsAtLine d s line (stops.Refused why) = Lacks d s line why
 
 -- at most a byte order mark at the start of `bytes` has been read
-abbrev pub IsBegun : List ℕ → Reading → Type 0
-IsBegun bytes reading = BehindMark bytes (drop reading.offset bytes)
+abbrev pub IsAtStart : List ℕ → Reading → Type 0
+IsAtStart bytes reading = BehindMark bytes (drop reading.offset bytes)
     × (reading.offset ≤ length bytes) × (reading.state ≡ start)
 
 -- `PassesIdle d bytes old new`: the lines from `old` to `new` are empty or comments.

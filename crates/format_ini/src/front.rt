@@ -3,7 +3,7 @@
 ghost use Rattle.std.specs.Prelude.{◌≡◌, ◌<◌, ◌+◌, ◌∷◌, [], true, length, take, drop, slice_index};
 ghost use Rattle.std.specs.Prelude.{MatchBool, MatchOption};
 ghost use Rattle.std.specs.List.{All};
-ghost use Rattle.format_ini.specs.Front.{Begins, CutAt, FirstLine, IsKept, IsStop, KeepsSoMany};
+ghost use Rattle.format_ini.specs.Front.{CutAt, FirstLine, IsKept, IsStop, KeepsSoMany, StartsWith};
 ghost use Rattle.format_ini.specs.Front.{NotFirst, StopsAt, indent_of, trimmed};
 ghost use Rattle.format_ini.specs.Marks.{IsMark};
 
@@ -83,7 +83,7 @@ pub(crate) fn first_is(text: &str, byte: u8) -> bool
 }
 
 pub(crate) fn is_comment(marks: Marks, text: &str) -> bool
-    ensures { MatchBool result (Begins (IsMark marks) text.now)
+    ensures { MatchBool result (StartsWith (IsMark marks) text.now)
         (NotFirst (IsMark marks) text.now) }
 {
     match text.as_bytes().first() {

@@ -1,7 +1,7 @@
 //! The meaning of one line.
 
 ghost use Rattle.std.specs.Prelude.{◌≡◌, ◌<◌, ◌+◌, ◌^◌, List, length, IfOk, MatchResult, ℕ};
-ghost use Rattle.format_ini.specs.Front.{Begins};
+ghost use Rattle.format_ini.specs.Front.{StartsWith};
 ghost use Rattle.format_ini.specs.Lines.{IdleSays, IsPair, IsSection, Lacks, LacksOwn, NoPair};
 ghost use Rattle.format_ini.specs.Lines.{NoSection, OwnSays, Step, is_deeper, pair_at, said_of};
 ghost use Rattle.format_ini.specs.Lines.{value_of};
@@ -91,7 +91,7 @@ fn both_at(place: usize) -> Places
 
 // The name of the section that begins.
 fn read_section(text: &str) -> Result<&str, Refusal>
-    requires { Begins (λ b. b ≡ 91) text.now }
+    requires { StartsWith (λ b. b ≡ 91) text.now }
     ensures { MatchResult result (λ name. IsSection text.now name.now)
         (λ why. NoSection text.now why) }
 {
@@ -138,7 +138,7 @@ fn read_pair<'i>(dialect: Dialect, place: usize, text: &'i str) -> Result<Pair<'
 }
 
 // Returns the indentation of the pair that the next line may continue, after a pair.
-fn behind_pair(continued: Continued, indent: usize, value: Option<&str>) -> Option<usize>
+fn after_pair(continued: Continued, indent: usize, value: Option<&str>) -> Option<usize>
     ensures { result ≡ pair_at continued indent (value_of value.entry) }
 {
     match continued {
@@ -183,7 +183,7 @@ fn read_own<'i>(
     let Pair { key, value, at } = read_pair(dialect, place, text)?;
     let next = State {
         section: state.section,
-        pair: behind_pair(dialect.continued, indent, value),
+        pair: after_pair(dialect.continued, indent, value),
     };
     Ok(Line {
         entry: Some(Entry::Pair { key, value }),

@@ -3,7 +3,7 @@
 ghost use Rattle.std.specs.Prelude.{◌≤◌, ◌<◌, ◌+◌, List, drop, length, MatchOption, MatchResult, ℕ};
 ghost use Rattle.format_ini.specs.Documents.{BehindMark};
 ghost use Rattle.format_ini.specs.Front.{FirstLine};
-ghost use Rattle.format_ini.specs.Places.{IsBegun, LineAt, NextPlaced, StopsAtLine};
+ghost use Rattle.format_ini.specs.Places.{IsAtStart, LineAt, NextPlaced, StopsAtLine};
 
 use crate::dialect::Dialect;
 use crate::front;
@@ -46,7 +46,7 @@ impl Reading {
     /// assert_eq!(rt; Reading::begin(b"\xef\xbb\xbf[s]\n").offset, 3);
     /// ```
     pub fn begin(bytes: &[u8]) -> Reading
-        ensures { IsBegun bytes.now result }
+        ensures { IsAtStart bytes.now result }
     {
         Reading {
             offset: mark_len(bytes),

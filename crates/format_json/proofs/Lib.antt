@@ -1,4 +1,4 @@
+pub mod ErrorResults
 pub mod Gaps
 pub mod Laid
 pub mod Put
-pub mod Told

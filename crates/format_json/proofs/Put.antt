@@ -102,18 +102,19 @@ adds_second first added = record {
 -- ---- parts on lines
 
 -- each after a comma and a line
-abbrev pub Behind : {O : Type 0} → Text ℕ O → ℕ → Text ℕ (List O)
-Behind text near = EachText (BothText (λ d o. o) (LaidMark 44 (gaps.Line near)) text)
+abbrev pub CommaPrefixedLines : {O : Type 0} → Text ℕ O → ℕ → Text ℕ (List O)
+CommaPrefixedLines text near = EachText (BothText (λ d o. o) (LaidMark 44 (gaps.Line near)) text)
 
 module _ {O : Type 0} (text : Text ℕ O) (near : ℕ) where
   -- one more
   pub behind_more : (os : List O) (k : ℕ) (o : O) {before first second after : List ℕ}
       → k < length os → o ≡ slice_index_or os k o
       → first ≡ before ++ (encode_utf8 44 ++ gap_bytes (gaps.Line near))
-      → Adds text o first second → Adds (Behind text near) (drop (k + 1) os) second after
-      → Adds (Behind text near) (drop k os) before after
+      → Adds text o first second
+      → Adds (CommaPrefixedLines text near) (drop (k + 1) os) second after
+      → Adds (CommaPrefixedLines text near) (drop k os) before after
   behind_more os k o {before} {after = after} below is comma one more =
-      let P : List O → Type 0 = λ l. Adds (Behind text near) l before after in
+      let P : List O → Type 0 = λ l. Adds (CommaPrefixedLines text near) l before after in
       let here : drop k os ≡ o ∷ drop (k + 1) os =
       drop_more os k o below ∙ ap (λ y. y ∷ drop (k + 1) os) (sym is) in
       subst P (sym here)
@@ -121,9 +122,9 @@ module _ {O : Type 0} (text : Text ℕ O) (near : ℕ) where
 
   -- no more
   pub behind_end : (os : List O) (k : ℕ) (bytes : List ℕ) → length os ≤ k
-      → Adds (Behind text near) (drop k os) bytes bytes
+      → Adds (CommaPrefixedLines text near) (drop k os) bytes bytes
   behind_end os k bytes most =
-      let P : List O → Type 0 = λ l. Adds (Behind text near) l bytes bytes in
+      let P : List O → Type 0 = λ l. Adds (CommaPrefixedLines text near) l bytes bytes in
       subst P (sym (drop_all k os most))
       (adds_none (BothText (λ d o. o) (LaidMark 44 (gaps.Line near)) text) bytes)
 
@@ -138,7 +139,7 @@ module _ {O : Type 0} (text : Text ℕ O) (near far : ℕ) where
       (record { tokens = []; is = refl; behind = sym (append-nil bytes) })
 
   joined : {o : O} {os : List O} {before between after : List ℕ} → Adds text o before between
-      → Adds (Behind text near) os between after
+      → Adds (CommaPrefixedLines text near) os between after
       → Adds (PartedText (LaidMark 44 (gaps.Line near)) text) (o ∷ os) before after
   unfolding PartedText
   joined one rest = record {
@@ -156,7 +157,8 @@ module _ {O : Type 0} (text : Text ℕ O) (near far : ℕ) where
 
   -- the first and the others, and the line after them
   pub parts_put : {o : O} {all os : List O} {before between ended after : List ℕ}
-      → all ≡ o ∷ os → Adds text o before between → Adds (Behind text near) os between ended
+      → all ≡ o ∷ os → Adds text o before between
+      → Adds (CommaPrefixedLines text near) os between ended
       → after ≡ ended ++ gap_bytes (gaps.Line far)
       → Adds (LaidParts text near far) all before after
   parts_put {o} {all} {os} {before} {after = after} is one rest line =

@@ -29,22 +29,22 @@ IsLocated bytes at = IsLocation bytes at.offset at
 abbrev pub IsReadable : List ℕ → ℕ → Type 0
 IsReadable bytes offset = IsUtf8 bytes ⊎ (offset < utf8_valid_len bytes)
 
--- `Tells level bytes fault`: `fault` is why `bytes` is not a JSON text. A bracket that exceeds
+-- `IsErrorOf level bytes fault`: `fault` is why `bytes` is not a JSON text. A bracket that exceeds
 -- `level` is reported as `TooDeep`.
-abbrev pub Tells : ℕ → List ℕ → Fault → Type 0
-Tells level bytes (faults.Unexpected at expected) =
+abbrev pub IsErrorOf : ℕ → List ℕ → Fault → Type 0
+IsErrorOf level bytes (faults.Unexpected at expected) =
     (expected ≡ NoDeeper → ⊥) × IsPlace level bytes at.offset expected
     × (at.offset < length bytes) × IsReadable bytes at.offset × IsLocated bytes at
-Tells level bytes (faults.End at expected) =
+IsErrorOf level bytes (faults.End at expected) =
     (expected ≡ NoDeeper → ⊥) × IsPlace level bytes at.offset expected
     × (length bytes ≤ at.offset) × IsReadable bytes at.offset × IsLocated bytes at
-Tells level bytes (faults.TooDeep at most) =
+IsErrorOf level bytes (faults.TooDeep at most) =
     (most ≡ level) × IsPlace level bytes at.offset NoDeeper × IsReadable bytes at.offset
     × IsLocated bytes at
-Tells level bytes (faults.NotUtf8 at) =
+IsErrorOf level bytes (faults.NotUtf8 at) =
     (IsUtf8 bytes → ⊥) × (at.offset ≡ utf8_valid_len bytes)
     × MayBegin level (take at.offset bytes) × IsLocated bytes at
-Tells level bytes faults.NoMemory = ⊤
+IsErrorOf level bytes faults.NoMemory = ⊤
 
 abbrev pub location_of : Fault → Option Location
 location_of (faults.Unexpected at expected) = Some at

@@ -1,5 +1,6 @@
 //! Why a text is no JSON, and where; and why a value is not written.
-ghost use Rattle.format_json.specs.Fault.{IsLocation, IsReadable, Tells, location_of, write_fault};
+ghost use Rattle.format_json.specs.Fault.{IsErrorOf, IsLocation, IsReadable, location_of};
+ghost use Rattle.format_json.specs.Fault.{write_fault};
 ghost use Rattle.format_json_pieces.specs.Place.{IsPlace};
 ghost use Rattle.std.specs.Prelude.{◌≡◌};
 ghost use Rattle.std.specs.Str.{IsUtf8};
@@ -180,7 +181,7 @@ fn located(bytes: &[u8], offset: usize) -> Location
 /// Returns the [`Fault`] for `place` in `text`.
 fn fault_at(level: usize, text: &[u8], place: Place) -> Fault
     ensures { IsPlace level text.now place.offset place.expected
-        → IsReadable text.now place.offset → Tells level text.now result }
+        → IsReadable text.now place.offset → IsErrorOf level text.now result }
 {
     let at = located(text, place.offset);
     match place.expected {
@@ -193,7 +194,7 @@ fn fault_at(level: usize, text: &[u8], place: Place) -> Fault
 /// Returns the [`Fault`] of a text that is not JSON.
 pub(crate) fn fault_of_text<A: Allocator>(alloc: A, level: usize, text: &[u8]) -> Fault
     requires { IsUtf8 text.now }
-    ensures { Tells level text.now result }
+    ensures { IsErrorOf level text.now result }
 {
     match first_place(alloc, level, text) {
         Ok(place) => fault_at(level, text, place),
@@ -204,7 +205,7 @@ pub(crate) fn fault_of_text<A: Allocator>(alloc: A, level: usize, text: &[u8]) -
 /// Returns the [`Fault`] of bytes that are not JSON. It is that they are not UTF-8, unless another
 /// error has a smaller offset.
 pub(crate) fn fault_of_bytes<A: Allocator>(alloc: A, level: usize, bytes: &[u8]) -> Fault
-    ensures { Tells level bytes.now result }
+    ensures { IsErrorOf level bytes.now result }
 {
     let valid = match str::from_utf8(bytes) {
         Ok(_) => return fault_of_text(alloc, level, bytes),

@@ -87,8 +87,8 @@ fn put_mark<B: Allocator>(mark: char, gap: Gap, into: &mut String<B>) -> Result<
 }
 
 /// Appends values, each on its own line, and a line after the last.
-#[cycle(lay)]
-fn lay_items<A: Allocator, B: Allocator>(
+#[cycle(write_pretty)]
+fn write_pretty_items<A: Allocator, B: Allocator>(
     level: usize,
     indent: Indent,
     outer: usize,
@@ -102,10 +102,10 @@ fn lay_items<A: Allocator, B: Allocator>(
     match items.split_first() {
         None => Ok(()),
         Some((first, rest)) => {
-            lay(level, indent, first, into)?;
+            write_pretty(level, indent, first, into)?;
             for item in rest {
                 put_mark(',', Gap::Line(indent.now), into)?;
-                lay(level, indent, item, into)?;
+                write_pretty(level, indent, item, into)?;
             }
             put_gap(Gap::Line(outer), into)?;
             Ok(())
@@ -114,8 +114,8 @@ fn lay_items<A: Allocator, B: Allocator>(
 }
 
 /// Appends an array.
-#[cycle(lay)]
-fn lay_array<A: Allocator, B: Allocator>(
+#[cycle(write_pretty)]
+fn write_pretty_array<A: Allocator, B: Allocator>(
     level: usize,
     indent: Indent,
     items: &Vec<Value<A>, A>,
@@ -131,14 +131,14 @@ fn lay_array<A: Allocator, B: Allocator>(
     let inner = deeper(indent)?;
     let list = items.as_slice();
     put_mark('[', line_in(list, inner.now), into)?;
-    lay_items(level - 1, inner, indent.now, list, into)?;
+    write_pretty_items(level - 1, inner, indent.now, list, into)?;
     into.push(']')?;
     Ok(())
 }
 
 /// Appends a name, a colon, a space and a value.
-#[cycle(lay)]
-fn lay_member<A: Allocator, B: Allocator>(
+#[cycle(write_pretty)]
+fn write_pretty_member<A: Allocator, B: Allocator>(
     level: usize,
     indent: Indent,
     member: &(String<A>, Value<A>),
@@ -151,12 +151,12 @@ fn lay_member<A: Allocator, B: Allocator>(
     let (name, value) = member;
     write_string(name.as_str(), into)?;
     put_mark(':', Gap::Space, into)?;
-    lay(level, indent, value, into)
+    write_pretty(level, indent, value, into)
 }
 
 /// Appends members, each on its own line, and a line after the last.
-#[cycle(lay)]
-fn lay_members<A: Allocator, B: Allocator>(
+#[cycle(write_pretty)]
+fn write_pretty_members<A: Allocator, B: Allocator>(
     level: usize,
     indent: Indent,
     outer: usize,
@@ -171,10 +171,10 @@ fn lay_members<A: Allocator, B: Allocator>(
     match members.split_first() {
         None => Ok(()),
         Some((first, rest)) => {
-            lay_member(level, indent, first, into)?;
+            write_pretty_member(level, indent, first, into)?;
             for member in rest {
                 put_mark(',', Gap::Line(indent.now), into)?;
-                lay_member(level, indent, member, into)?;
+                write_pretty_member(level, indent, member, into)?;
             }
             put_gap(Gap::Line(outer), into)?;
             Ok(())
@@ -183,8 +183,8 @@ fn lay_members<A: Allocator, B: Allocator>(
 }
 
 /// Appends an object.
-#[cycle(lay)]
-fn lay_object<A: Allocator, B: Allocator>(
+#[cycle(write_pretty)]
+fn write_pretty_object<A: Allocator, B: Allocator>(
     level: usize,
     indent: Indent,
     members: &Vec<(String<A>, Value<A>), A>,
@@ -200,14 +200,14 @@ fn lay_object<A: Allocator, B: Allocator>(
     let inner = deeper(indent)?;
     let list = members.as_slice();
     put_mark('{', line_in(list, inner.now), into)?;
-    lay_members(level - 1, inner, indent.now, list, into)?;
+    write_pretty_members(level - 1, inner, indent.now, list, into)?;
     into.push('}')?;
     Ok(())
 }
 
 /// Appends a value, indented over several lines.
-#[cycle(lay)]
-pub fn lay<A: Allocator, B: Allocator>(
+#[cycle(write_pretty)]
+pub fn write_pretty<A: Allocator, B: Allocator>(
     level: usize,
     indent: Indent,
     value: &Value<A>,
@@ -218,8 +218,8 @@ pub fn lay<A: Allocator, B: Allocator>(
     ensures refused { IfErr result (IsRefused level value.now) }
 {
     match value {
-        Value::Array(items) => lay_array(level, indent, items, into),
-        Value::Object(members) => lay_object(level, indent, members, into),
+        Value::Array(items) => write_pretty_array(level, indent, items, into),
+        Value::Object(members) => write_pretty_object(level, indent, members, into),
         _ => write_value(level, value, into),
     }
 }

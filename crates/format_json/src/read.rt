@@ -1,5 +1,5 @@
 //! Values from text and from bytes.
-ghost use Rattle.format_json.specs.Fault.{Tells};
+ghost use Rattle.format_json.specs.Fault.{IsErrorOf};
 ghost use Rattle.format_json.specs.declared.fault.Fault.TheVariants.{NoMemory};
 ghost use Rattle.format_json_pieces.specs.Value.{InUtf8};
 ghost use Rattle.format_json_texts.specs.Values.{JsonText};
@@ -58,7 +58,7 @@ pub fn from_text<A: Allocator + Copy>(alloc: A, level: usize, text: &str) -> Res
     ensures value { IfOk result (λ v. JsonText HasCharacters level v (chars text.now)) }
     ensures none { IfErr result (λ fault. (fault ≡ NoMemory)
         ⊎ ((v : Value A) → JsonText HasCharacters level v (chars text.now) → ⊥)) }
-    ensures place { IfErr result (Tells level text.now) }
+    ensures place { IfErr result (IsErrorOf level text.now) }
 {
     match parse_value(alloc, level, text) {
         Ok(value) => Ok(value),
@@ -91,7 +91,7 @@ pub fn from_bytes<A: Allocator + Copy>(
     ensures value { IfOk result (λ v. InUtf8 (JsonText HasCharacters level) v bytes.now) }
     ensures none { IfErr result (λ fault. (fault ≡ NoMemory)
         ⊎ ((v : Value A) → InUtf8 (JsonText HasCharacters level) v bytes.now → ⊥)) }
-    ensures place { IfErr result (Tells level bytes.now) }
+    ensures place { IfErr result (IsErrorOf level bytes.now) }
 {
     match parse_value_of_bytes(alloc, level, bytes) {
         Ok(value) => Ok(value),

@@ -11,7 +11,7 @@ ghost use Rattle.std.specs.Str.{chars};
 ghost use Rattle.winnow.specs.Accumulator.Holds.{HasCharacters};
 
 use crate::fault::WriteFault;
-use crate::layout::{Indent, lay};
+use crate::layout::{Indent, write_pretty};
 use format_json_texts::value::Value;
 use format_json_writer::value as writer;
 use std::alloc::Allocator;
@@ -85,7 +85,7 @@ pub fn to_text_pretty<A: Allocator, B: Allocator>(
         now: 0,
         step: indent,
     };
-    match lay(level, indent, value, &mut text) {
+    match write_pretty(level, indent, value, &mut text) {
         Ok(()) => {
             let _written = text.as_str();
             Ok(text)

@@ -50,7 +50,7 @@ pub enum DecimalFault {
 
 /// Returns whether the number starts with a minus sign, and the bytes after the sign.
 #[inline]
-fn behind_sign<'i>(number: &'i [u8]) -> (bool, &'i [u8])
+fn skip_sign<'i>(number: &'i [u8]) -> (bool, &'i [u8])
     ensures { (n : Number) (is : IsWritten number.now n)
         → (result.0 ≡ n.negative) × (result.1.now ≡ n.whole ++ (is.point ++ is.exponent)) }
 {
@@ -86,7 +86,7 @@ fn behind_sign<'i>(number: &'i [u8]) -> (bool, &'i [u8])
 pub fn as_decimal(number: &[u8]) -> Result<Decimal, DecimalFault>
     ensures { (n : Number) → IsWritten number.now n → Answers n result }
 {
-    let (negative, unsigned) = behind_sign(number);
+    let (negative, unsigned) = skip_sign(number);
     let Some(read) = read_coefficient(unsigned) else {
         return Err(DecimalFault::TooManyDigits);
     };

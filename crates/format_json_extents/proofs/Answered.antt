@@ -2,7 +2,7 @@
 use Rattle.std.proofs.Common.{◌≡◌, ◌∙◌, ◌⊎◌, ◌++◌, ◌-◌, ◌≤◌, ℕ, IfNone, List, MatchOption, None}
 use Rattle.std.proofs.Common.{Option, Some, ap, arith, inl, inr, length, length-append, subst, sym}
 use Rattle.std.proofs.Common.{take, take_at}
-use Rattle.format_json_extents.specs.Texts.{GoesOn, IsLongest, Leaves}
+use Rattle.format_json_extents.specs.Texts.{IsLongerRest, IsLongest, RestAfter}
 
 -- ---- the longest text
 
@@ -14,7 +14,8 @@ from_left bytes text rest e =
     ap (λ l. take (length bytes - length rest) l) e
     ∙ take_at text rest (length bytes - length rest) size
 
-pub longest : (P : List ℕ → Type 0) (S : ℕ → Type 0) (bytes rest : List ℕ) → Leaves P S bytes rest
+pub longest : (P : List ℕ → Type 0) (S : ℕ → Type 0) (bytes rest : List ℕ)
+    → RestAfter P S bytes rest
     → IsLongest P (take (length bytes - length rest) bytes) bytes rest
 longest P S bytes rest it =
     let same = from_left bytes it.stands.text rest it.stands.splits in
@@ -36,7 +37,7 @@ longest P S bytes rest it =
           );
     }
   where
-    no_less : (more : List ℕ) → (more ≡ rest) ⊎ GoesOn S more rest → length rest ≤ length more
+    no_less : (more : List ℕ) → (more ≡ rest) ⊎ IsLongerRest S more rest → length rest ≤ length more
     no_less more (inl same) = omega (arith, ap (λ l. length l) same)
     no_less more (inr goes) = omega (arith, goes.is_more)
 

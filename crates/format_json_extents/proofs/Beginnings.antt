@@ -2,11 +2,12 @@
 use Rattle.std.proofs.Common.{◌≡◌, ◌∙◌, ◌++◌, ◌<◌, ℕ, [], ◌∷◌, List, ap, arith, inl, inr, length}
 use Rattle.std.proofs.Common.{length-append, refl, subst, sym}
 use Rattle.format_json_extents.proofs.Standing.{Apart, Bars, byte_first, same_byte, then_split}
-use Rattle.format_json_extents.specs.Texts.{Either, IsByte, Maybe, NoneStands, Or, Stands, Then}
+use Rattle.format_json_extents.specs.Texts.{Either, IsByte, MatchesAtStart, Maybe, NoneStands, Or}
+use Rattle.format_json_extents.specs.Texts.{Then}
 
 -- `Starts P F`: each text in `P` starts with a byte of `F`.
 abbrev pub Starts : (P : List ℕ → Type 0) (F : ℕ → Type 0) → Type 0
-Starts P F = (bytes rest : List ℕ) → Stands P bytes rest
+Starts P F = (bytes rest : List ℕ) → MatchesAtStart P bytes rest
     → (b : ℕ) × (more : List ℕ) × (bytes ≡ b ∷ more) × F b
 
 pub starts_bars : (P : List ℕ → Type 0) (F S : ℕ → Type 0) → Starts P F → Apart S F → Bars P S
@@ -16,7 +17,7 @@ starts_bars P F S starts apart bytes rest b more e s it =
     apart b s (subst F same f)
 
 pub starts_none : (P Q : List ℕ → Type 0) (F : ℕ → Type 0) (bytes rest : List ℕ) → Starts P F
-    → Bars Q F → Stands P bytes rest → NoneStands Q bytes
+    → Bars Q F → MatchesAtStart P bytes rest → NoneStands Q bytes
 starts_none P Q F bytes rest starts bars it other second =
     let (b, more, begins, f) = starts bytes rest it in
     bars bytes other b more begins f second
@@ -55,7 +56,7 @@ maybe_starts P Q F G one two bytes rest it =
     let (at, first, second) = then_split (Maybe P) Q bytes rest it in
     begins at second first.text first.is first.splits
   where
-    begins : (at : List ℕ) → Stands Q at rest → (text : List ℕ) → Maybe P text
+    begins : (at : List ℕ) → MatchesAtStart Q at rest → (text : List ℕ) → Maybe P text
         → bytes ≡ text ++ at → (b : ℕ) × (more : List ℕ) × (bytes ≡ b ∷ more) × Or F G b
     begins at second text (inl is) e =
         let (b, more, begins, g) = two at rest second in
@@ -81,7 +82,7 @@ none_empty P F bytes starts e rest it =
     let (b, more, begins, f) = starts bytes rest it in no_bytes b more (sym e ∙ begins)
 
 pub start_less : (P : List ℕ → Type 0) (F : ℕ → Type 0) (bytes rest : List ℕ) → Starts P F
-    → Stands P bytes rest → length rest < length bytes
+    → MatchesAtStart P bytes rest → length rest < length bytes
 start_less P F bytes rest starts it = less it.text it.is it.splits
   where
     less : (text : List ℕ) → P text → bytes ≡ text ++ rest → length rest < length bytes

@@ -15,12 +15,12 @@ use Rattle.format_json_extents.specs.Number.{IsLeading}
 use Rattle.format_json_extents.specs.Number.{IsMinus, IsNumber, IsNumberByte, IsPoint, IsSign}
 use Rattle.format_json_extents.specs.Number.{IsWhole}
 use Rattle.format_json_extents.specs.Number.{IsZero}
-use Rattle.format_json_extents.specs.Texts.{IsByte, Leaves, Maybe, Never, NoneStands, Or, Then}
+use Rattle.format_json_extents.specs.Texts.{IsByte, Maybe, Never, NoneStands, Or, RestAfter, Then}
 
 -- ---- digits
 
 pub digits_are : (bytes : List ℕ) (b : ℕ) (more rest : List ℕ) → bytes ≡ b ∷ more → IsDigit b
-    → Leaves (All IsDigit) IsDigit more rest → Leaves IsDigits IsDigit bytes rest
+    → RestAfter (All IsDigit) IsDigit more rest → RestAfter IsDigits IsDigit bytes rest
 digits_are bytes b more rest e is all =
     then_exact (IsByte IsDigit) (All IsDigit) Never IsDigit bytes more rest
     (never_bars (All IsDigit)) (byte_leaves IsDigit bytes b more e is) all
@@ -40,28 +40,28 @@ digits_start = then_starts (IsByte IsDigit) (All IsDigit) IsDigit (byte_starts I
 -- ---- the minus and the sign
 
 pub mark_there : (P : ℕ → Type 0) (bytes : List ℕ) (b : ℕ) (rest : List ℕ) → bytes ≡ b ∷ rest → P b
-    → Leaves (Maybe (IsByte P)) (Or Never P) bytes rest
+    → RestAfter (Maybe (IsByte P)) (Or Never P) bytes rest
 mark_there P bytes b rest e is =
     maybe_some (IsByte P) Never P bytes rest b rest e is
     (omega (arith, ap (λ l. length l) e)) (byte_leaves P bytes b rest e is)
 
 pub mark_missing : (P : ℕ → Type 0) (bytes : List ℕ) (b : ℕ) (more : List ℕ) → bytes ≡ b ∷ more
-    → (P b → ⊥) → Leaves (Maybe (IsByte P)) (Or Never P) bytes bytes
+    → (P b → ⊥) → RestAfter (Maybe (IsByte P)) (Or Never P) bytes bytes
 mark_missing P bytes b more e not =
     maybe_none (IsByte P) (Or Never P) bytes (byte_none P bytes b more e not)
 
 pub mark_empty : (P : ℕ → Type 0) (bytes : List ℕ) → bytes ≡ []
-    → Leaves (Maybe (IsByte P)) (Or Never P) bytes bytes
+    → RestAfter (Maybe (IsByte P)) (Or Never P) bytes bytes
 mark_empty P bytes e = maybe_none (IsByte P) (Or Never P) bytes (byte_empty P bytes e)
 
 pub minus_missing : (bytes : List ℕ) → ((more : List ℕ) → bytes ≡ 45 ∷ more → ⊥)
-    → Leaves (Maybe (IsByte IsMinus)) (Or Never IsMinus) bytes bytes
+    → RestAfter (Maybe (IsByte IsMinus)) (Or Never IsMinus) bytes bytes
 minus_missing bytes not =
     maybe_none (IsByte IsMinus) (Or Never IsMinus) bytes (this_none 45 bytes not)
 
 -- ---- the whole part
 
-pub whole_zero : (bytes more : List ℕ) → bytes ≡ 48 ∷ more → Leaves IsWhole IsDigit bytes more
+pub whole_zero : (bytes more : List ℕ) → bytes ≡ 48 ∷ more → RestAfter IsWhole IsDigit bytes more
 whole_zero bytes more e =
     either_left (IsByte IsZero) (Then (IsByte IsLeading) (All IsDigit)) IsDigit bytes more
     (widen (IsByte IsZero) Never IsDigit bytes more (λ b n. absurd n)
@@ -70,7 +70,7 @@ whole_zero bytes more e =
     (byte_none IsLeading bytes 48 more e (λ is. omega (arith, is))))
 
 pub whole_digits : (bytes : List ℕ) (b : ℕ) (more rest : List ℕ) → bytes ≡ b ∷ more → IsLeading b
-    → Leaves (All IsDigit) IsDigit more rest → Leaves IsWhole IsDigit bytes rest
+    → RestAfter (All IsDigit) IsDigit more rest → RestAfter IsWhole IsDigit bytes rest
 whole_digits bytes b more rest e is all =
     either_right (IsByte IsZero) (Then (IsByte IsLeading) (All IsDigit)) IsDigit bytes rest
     (byte_none IsZero bytes b more e (λ zero. omega (arith, is, zero)))
@@ -100,7 +100,7 @@ whole_start =
 
 -- after the point
 pub fraction_is : (bytes digits rest : List ℕ) → bytes ≡ 46 ∷ digits
-    → Leaves IsDigits IsDigit digits rest → Leaves IsFraction IsDigit bytes rest
+    → RestAfter IsDigits IsDigit digits rest → RestAfter IsFraction IsDigit bytes rest
 fraction_is bytes digits rest e all =
     then_exact (IsByte IsPoint) IsDigits Never IsDigit bytes digits rest (never_bars IsDigits)
     (byte_leaves IsPoint bytes 46 digits e refl) all
@@ -133,8 +133,8 @@ sign_bars = starts_bars IsDigits IsDigit (Or Never IsSign) digits_start apart
     apart b (inr (inr minus)) is = omega (arith, minus, is)
 
 pub exponent_is : (bytes : List ℕ) (b : ℕ) (more digits rest : List ℕ) → bytes ≡ b ∷ more → IsE b
-    → Leaves (Maybe (IsByte IsSign)) (Or Never IsSign) more digits
-    → Leaves IsDigits IsDigit digits rest → Leaves IsExponent IsDigit bytes rest
+    → RestAfter (Maybe (IsByte IsSign)) (Or Never IsSign) more digits
+    → RestAfter IsDigits IsDigit digits rest → RestAfter IsExponent IsDigit bytes rest
 exponent_is bytes b more digits rest e is sign all =
     then_exact (IsByte IsE) (Then (Maybe (IsByte IsSign)) IsDigits) Never IsDigit bytes more rest
     (never_bars (Then (Maybe (IsByte IsSign)) IsDigits)) (byte_leaves IsE bytes b more e is)
@@ -142,7 +142,7 @@ exponent_is bytes b more digits rest e is sign all =
     sign_bars sign all)
 
 pub exponent_none : (bytes : List ℕ) (b : ℕ) (more digits : List ℕ) → bytes ≡ b ∷ more → IsE b
-    → Leaves (Maybe (IsByte IsSign)) (Or Never IsSign) more digits → NoneStands IsDigits digits
+    → RestAfter (Maybe (IsByte IsSign)) (Or Never IsSign) more digits → NoneStands IsDigits digits
     → NoneStands IsExponent bytes
 exponent_none bytes b more digits e is sign none =
     then_none (IsByte IsE) (Then (Maybe (IsByte IsSign)) IsDigits) Never bytes more
@@ -168,17 +168,17 @@ exponent_starts =
 
 -- a part that begins with a byte of F
 part_there : (P : List ℕ → Type 0) (F : ℕ → Type 0) (bytes rest : List ℕ) → Starts P F
-    → Leaves P IsDigit bytes rest → Leaves (Maybe P) (Or IsDigit F) bytes rest
+    → RestAfter P IsDigit bytes rest → RestAfter (Maybe P) (Or IsDigit F) bytes rest
 part_there P F bytes rest starts it =
     let (b, more, e, f) = starts bytes rest it.stands in
     maybe_some P IsDigit F bytes rest b more e f (start_less P F bytes rest starts it.stands) it
 
-pub fraction_there : (bytes rest : List ℕ) → Leaves IsFraction IsDigit bytes rest
-    → Leaves (Maybe IsFraction) (Or IsDigit IsPoint) bytes rest
+pub fraction_there : (bytes rest : List ℕ) → RestAfter IsFraction IsDigit bytes rest
+    → RestAfter (Maybe IsFraction) (Or IsDigit IsPoint) bytes rest
 fraction_there bytes rest it = part_there IsFraction IsPoint bytes rest fraction_starts it
 
-pub exponent_there : (bytes rest : List ℕ) → Leaves IsExponent IsDigit bytes rest
-    → Leaves (Maybe IsExponent) (Or IsDigit IsE) bytes rest
+pub exponent_there : (bytes rest : List ℕ) → RestAfter IsExponent IsDigit bytes rest
+    → RestAfter (Maybe IsExponent) (Or IsDigit IsE) bytes rest
 exponent_there bytes rest it = part_there IsExponent IsE bytes rest exponent_starts it
 
 -- ---- the number
@@ -221,11 +221,11 @@ minus_bars Q =
     apart b (inr is) (inr p) = omega (arith, is, p)
 
 pub number_is : (bytes whole behind more rest : List ℕ)
-    → Leaves (Maybe (IsByte IsMinus)) (Or Never IsMinus) bytes whole
-    → Leaves IsWhole IsDigit whole behind
-    → Leaves (Maybe IsFraction) (Or IsDigit IsPoint) behind more
-    → Leaves (Maybe IsExponent) (Or IsDigit IsE) more rest
-    → Leaves IsNumber IsNumberByte bytes rest
+    → RestAfter (Maybe (IsByte IsMinus)) (Or Never IsMinus) bytes whole
+    → RestAfter IsWhole IsDigit whole behind
+    → RestAfter (Maybe IsFraction) (Or IsDigit IsPoint) behind more
+    → RestAfter (Maybe IsExponent) (Or IsDigit IsE) more rest
+    → RestAfter IsNumber IsNumberByte bytes rest
 number_is bytes whole behind more rest minus digits fraction exponent =
     let tail = then_leaves (Maybe IsFraction) (Maybe IsExponent) (Or IsDigit IsPoint)
     (Or IsDigit IsE) behind more rest behind_fraction_stays fraction exponent in
@@ -245,7 +245,7 @@ number_is bytes whole behind more rest minus digits fraction exponent =
     wider b (inr (inr (inr is))) = inr (inr is)
 
 pub number_none : (bytes whole : List ℕ)
-    → Leaves (Maybe (IsByte IsMinus)) (Or Never IsMinus) bytes whole → NoneStands IsWhole whole
+    → RestAfter (Maybe (IsByte IsMinus)) (Or Never IsMinus) bytes whole → NoneStands IsWhole whole
     → NoneStands IsNumber bytes
 number_none bytes whole minus none =
     then_none (Maybe (IsByte IsMinus)) (Then IsWhole IsBehindWhole) (Or Never IsMinus) bytes whole
@@ -257,9 +257,9 @@ number_starts =
     (byte_starts IsMinus) (then_starts IsWhole IsBehindWhole (Or IsZero IsLeading) whole_start)
 
 pub fraction_missing : (bytes : List ℕ) → NoneStands IsFraction bytes
-    → Leaves (Maybe IsFraction) (Or IsDigit IsPoint) bytes bytes
+    → RestAfter (Maybe IsFraction) (Or IsDigit IsPoint) bytes bytes
 fraction_missing bytes none = maybe_none IsFraction (Or IsDigit IsPoint) bytes none
 
 pub exponent_missing : (bytes : List ℕ) → NoneStands IsExponent bytes
-    → Leaves (Maybe IsExponent) (Or IsDigit IsE) bytes bytes
+    → RestAfter (Maybe IsExponent) (Or IsDigit IsE) bytes bytes
 exponent_missing bytes none = maybe_none IsExponent (Or IsDigit IsE) bytes none

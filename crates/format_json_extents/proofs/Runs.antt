@@ -11,18 +11,18 @@ use Rattle.std.proofs.Math.Seq.{drop-append_seam}
 use Rattle.std.specs.List.{All, prefix_len}
 use Rattle.format_json_extents.proofs.Standing.{all_leaves, same_byte}
 use Rattle.format_json_extents.specs.Strings.{IsUnescaped}
-use Rattle.format_json_extents.specs.Texts.{EndsAt, Leaves, Stands}
+use Rattle.format_json_extents.specs.Texts.{EndsAt, MatchesAtStart, RestAfter}
 use Rattle.format_json_extents.specs.Value.{IsSpace}
 use lib.Count.{count_trailing_zeros}
 use lib.Lanes.{chunk, mask_l, sel_l, top, zip2}
 
 -- ---- from one place to a later one
 
-pub run_here : (P : ℕ → Type 0) (bytes : List ℕ) → Stands (All P) bytes bytes
+pub run_here : (P : ℕ → Type 0) (bytes : List ℕ) → MatchesAtStart (All P) bytes bytes
 run_here P bytes = record { text = []; is = All-nil P; splits = refl }
 
-pub run_on : (P : ℕ → Type 0) (bytes rest front more : List ℕ) → Stands (All P) bytes rest
-    → rest ≡ front ++ more → All P front → Stands (All P) bytes more
+pub run_on : (P : ℕ → Type 0) (bytes rest front more : List ℕ) → MatchesAtStart (All P) bytes rest
+    → rest ≡ front ++ more → All P front → MatchesAtStart (All P) bytes more
 run_on P bytes rest front more it e all = record {
   text = it.text ++ front;
   is = All-append P it.text front it.is all;
@@ -30,31 +30,32 @@ run_on P bytes rest front more it e all = record {
 }
 
 pub run_one : (P : ℕ → Type 0) (bytes rest : List ℕ) (b : ℕ) (more : List ℕ)
-    → Stands (All P) bytes rest → rest ≡ b ∷ more → P b → Stands (All P) bytes more
+    → MatchesAtStart (All P) bytes rest → rest ≡ b ∷ more → P b → MatchesAtStart (All P) bytes more
 run_one P bytes rest b more it e is =
     run_on P bytes rest (b ∷ []) more it e (All-cons P b [] is (All-nil P))
 
 pub run_stops : (P : ℕ → Type 0) (bytes rest : List ℕ) (b : ℕ) (more : List ℕ)
-    → Stands (All P) bytes rest → rest ≡ b ∷ more → (P b → ⊥) → Leaves (All P) P bytes rest
+    → MatchesAtStart (All P) bytes rest → rest ≡ b ∷ more → (P b → ⊥)
+    → RestAfter (All P) P bytes rest
 run_stops P bytes rest b more it e not =
     all_leaves P it.text bytes rest it.is it.splits
     (λ c tail begins is. not (subst P (same_byte _ _ _ _ (sym begins ∙ e)).0 is))
 
-pub run_ends : (P : ℕ → Type 0) (bytes rest : List ℕ) → Stands (All P) bytes rest
-    → length rest ≡ 0 → Leaves (All P) P bytes rest
+pub run_ends : (P : ℕ → Type 0) (bytes rest : List ℕ) → MatchesAtStart (All P) bytes rest
+    → length rest ≡ 0 → RestAfter (All P) P bytes rest
 run_ends P bytes rest it e =
     all_leaves P it.text bytes rest it.is it.splits
     (λ c tail begins is. omega (arith, e, ap (λ l. length l) begins))
 
 -- the run after one byte of it
 pub run_after : (P : ℕ → Type 0) (bytes : List ℕ) (b : ℕ) (more rest : List ℕ)
-    → bytes ≡ b ∷ more → P b → Leaves (All P) P more rest → Leaves (All P) P bytes rest
+    → bytes ≡ b ∷ more → P b → RestAfter (All P) P more rest → RestAfter (All P) P bytes rest
 run_after P bytes b more rest e is it =
     let text = it.stands.text in
     all_leaves P (b ∷ text) bytes rest (All-cons P b text is it.stands.is)
     (e ∙ ap (λ l. b ∷ l) it.stands.splits)
     (λ c tail begins is_more.
-    let longer : Stands (All P) more tail =
+    let longer : MatchesAtStart (All P) more tail =
     run_one P more rest c tail it.stands begins is_more in
     elim (it.only tail longer) [
       | inl same ↦ absurd (omega (
@@ -68,8 +69,9 @@ run_after P bytes b more rest e is it =
 -- ---- where the lanes of one load are the first bytes
 
 -- they stop there
-pub lanes_stop : (P : ℕ → Type 0) (bytes rest : List ℕ) (count : ℕ) → Stands (All P) bytes rest
-    → EndsAt P (chunk 0 16 rest) count → Leaves (All P) P bytes (drop count rest)
+pub lanes_stop : (P : ℕ → Type 0) (bytes rest : List ℕ) (count : ℕ)
+    → MatchesAtStart (All P) bytes rest
+    → EndsAt P (chunk 0 16 rest) count → RestAfter (All P) P bytes (drop count rest)
 lanes_stop P bytes rest count it (front, other, tail, e, long, all, not) =
     let more = (other ∷ tail) ++ drop 16 rest in
     let whole : rest ≡ front ++ more =
@@ -82,8 +84,8 @@ lanes_stop P bytes rest count it (front, other, tail, e, long, all, not) =
     (run_on P bytes rest front (drop count rest) it (whole ∙ ap (λ l. front ++ l) (sym left)) all)
     left not
 
-pub lanes_go_on : (P : ℕ → Type 0) (bytes rest : List ℕ) → Stands (All P) bytes rest
-    → All P (chunk 0 16 rest) → Stands (All P) bytes (drop 16 rest)
+pub lanes_go_on : (P : ℕ → Type 0) (bytes rest : List ℕ) → MatchesAtStart (All P) bytes rest
+    → All P (chunk 0 16 rest) → MatchesAtStart (All P) bytes (drop 16 rest)
 lanes_go_on P bytes rest it all =
     run_on P bytes rest (chunk 0 16 rest) (drop 16 rest) it (chunk-drop 0 16 rest) all
 

@@ -3,19 +3,19 @@ use Rattle.std.proofs.Common.{◌≡◌, ◌∙◌, ◌⊎◌, ◌++◌, ◌<◌
 use Rattle.std.proofs.Common.{arith, inl, inr, length, length-append, refl, subst, sym}
 use Rattle.std.specs.List.{All}
 use Rattle.std.proofs.lemmas.List.Elements.{All-head, All-tail}
-use Rattle.format_json_extents.specs.Texts.{Either, GoesOn, IsByte, Leaves, Maybe, Never}
+use Rattle.format_json_extents.specs.Texts.{Either, IsByte, IsLongerRest, Maybe, Never, RestAfter}
 use Rattle.format_json_extents.specs.Texts.{NoneStands, Or}
-use Rattle.format_json_extents.specs.Texts.{Stands, Then}
+use Rattle.format_json_extents.specs.Texts.{MatchesAtStart, Then}
 
 -- `Bars Q S`: no text in `Q` starts with a byte of `S`.
 abbrev pub Bars : (Q : List ℕ → Type 0) (S : ℕ → Type 0) → Type 0
 Bars Q S = (bytes rest : List ℕ) (b : ℕ) (more : List ℕ) → bytes ≡ b ∷ more → S b
-    → Stands Q bytes rest → ⊥
+    → MatchesAtStart Q bytes rest → ⊥
 
 -- `Stays Q S`: at a byte of `S`, the empty text is the only prefix in `Q`.
 abbrev pub Stays : (Q : List ℕ → Type 0) (S : ℕ → Type 0) → Type 0
 Stays Q S = (bytes rest : List ℕ) (b : ℕ) (more : List ℕ) → bytes ≡ b ∷ more → S b
-    → Stands Q bytes rest → rest ≡ bytes
+    → MatchesAtStart Q bytes rest → rest ≡ bytes
 
 -- No byte is in both.
 abbrev pub Apart : (S T : ℕ → Type 0) → Type 0
@@ -25,7 +25,7 @@ pub bars_stays : (Q : List ℕ → Type 0) (S : ℕ → Type 0) → Bars Q S →
 bars_stays Q S bars bytes rest b more e s it = absurd (bars bytes rest b more e s it)
 
 -- what is left is no longer
-pub shorter : (P : List ℕ → Type 0) (bytes rest : List ℕ) → Stands P bytes rest
+pub shorter : (P : List ℕ → Type 0) (bytes rest : List ℕ) → MatchesAtStart P bytes rest
     → length rest ≤ length bytes
 shorter P bytes rest it =
     omega (arith, ap (λ l. length l) it.splits, length-append it.text rest)
@@ -33,11 +33,12 @@ shorter P bytes rest it =
 -- ---- one byte
 
 pub byte_stands : (P : ℕ → Type 0) (bytes : List ℕ) (b : ℕ) (rest : List ℕ) → bytes ≡ b ∷ rest → P b
-    → Stands (IsByte P) bytes rest
+    → MatchesAtStart (IsByte P) bytes rest
 byte_stands P bytes b rest e p =
     record { text = b ∷ []; is = record { byte = b; is_byte = p; alone = refl }; splits = e }
 
-pub byte_first : (P : ℕ → Type 0) (bytes rest : List ℕ) → (it : Stands (IsByte P) bytes rest)
+pub byte_first : (P : ℕ → Type 0) (bytes rest : List ℕ)
+    → (it : MatchesAtStart (IsByte P) bytes rest)
     → bytes ≡ it.is.byte ∷ rest
 byte_first P bytes rest it = it.splits ∙ ap (λ l. l ++ rest) it.is.alone
 
@@ -45,7 +46,7 @@ pub same_byte : {A : Type 0} (b c : A) (bs cs : List A) → b ∷ bs ≡ c ∷ c
 same_byte b c bs cs e = (cc, cc)
 
 pub byte_leaves : (P : ℕ → Type 0) (bytes : List ℕ) (b : ℕ) (rest : List ℕ) → bytes ≡ b ∷ rest
-    → P b → Leaves (IsByte P) Never bytes rest
+    → P b → RestAfter (IsByte P) Never bytes rest
 byte_leaves P bytes b rest e p = record {
   stands = byte_stands P bytes b rest e p;
   only = λ other it.
@@ -71,8 +72,8 @@ byte_empty P bytes e rest it = nothing _ _ (sym e ∙ byte_first P bytes rest it
 
 -- ---- one text and then another
 
-pub then_stands : (P Q : List ℕ → Type 0) (bytes mid rest : List ℕ) → Stands P bytes mid
-    → Stands Q mid rest → Stands (Then P Q) bytes rest
+pub then_stands : (P Q : List ℕ → Type 0) (bytes mid rest : List ℕ) → MatchesAtStart P bytes mid
+    → MatchesAtStart Q mid rest → MatchesAtStart (Then P Q) bytes rest
 then_stands P Q bytes mid rest p q = record {
   text = p.text ++ q.text;
   is = record {
@@ -86,8 +87,9 @@ then_stands P Q bytes mid rest p q = record {
 }
 
 -- where the second begins
-pub then_split : (P Q : List ℕ → Type 0) (bytes rest : List ℕ) → Stands (Then P Q) bytes rest
-    → (mid : List ℕ) × Stands P bytes mid × Stands Q mid rest
+pub then_split : (P Q : List ℕ → Type 0) (bytes rest : List ℕ)
+    → MatchesAtStart (Then P Q) bytes rest
+    → (mid : List ℕ) × MatchesAtStart P bytes mid × MatchesAtStart Q mid rest
 then_split P Q bytes rest it = (
   it.is.second ++ rest,
   record {
@@ -100,13 +102,13 @@ then_split P Q bytes rest it = (
 )
 
 pub then_leaves : (P Q : List ℕ → Type 0) (S T : ℕ → Type 0) (bytes mid rest : List ℕ) → Stays Q S
-    → Leaves P S bytes mid → Leaves Q T mid rest → Leaves (Then P Q) (Or S T) bytes rest
+    → RestAfter P S bytes mid → RestAfter Q T mid rest → RestAfter (Then P Q) (Or S T) bytes rest
 then_leaves P Q S T bytes mid rest stays p q = record {
   stands = then_stands P Q bytes mid rest p.stands q.stands;
   only = λ other it.
       let (at, first, second) = then_split P Q bytes other it in
       elim (p.only at first) [
-        | inl same ↦ elim (q.only other (subst (λ l. Stands Q l other) same second)) [
+        | inl same ↦ elim (q.only other (subst (λ l. MatchesAtStart Q l other) same second)) [
           | inl is ↦ inl is
           | inr goes ↦ inr (record {
             byte = goes.byte;
@@ -131,11 +133,11 @@ then_leaves P Q S T bytes mid rest stays p q = record {
 }
 
 pub then_none : (P Q : List ℕ → Type 0) (S : ℕ → Type 0) (bytes mid : List ℕ) → Bars Q S
-    → Leaves P S bytes mid → NoneStands Q mid → NoneStands (Then P Q) bytes
+    → RestAfter P S bytes mid → NoneStands Q mid → NoneStands (Then P Q) bytes
 then_none P Q S bytes mid bars p none rest it =
     let (at, first, second) = then_split P Q bytes rest it in
     elim (p.only at first) [
-      | inl same ↦ none rest (subst (λ l. Stands Q l rest) same second)
+      | inl same ↦ none rest (subst (λ l. MatchesAtStart Q l rest) same second)
       | inr goes ↦ bars at rest goes.byte goes.tail goes.begins goes.is_byte second
     ]
 
@@ -165,27 +167,27 @@ stays_bars P Q S one two bytes rest b more e s it =
 -- ---- one or the other
 
 pub either_left : (P Q : List ℕ → Type 0) (S : ℕ → Type 0) (bytes rest : List ℕ)
-    → Leaves P S bytes rest → NoneStands Q bytes → Leaves (Either P Q) S bytes rest
+    → RestAfter P S bytes rest → NoneStands Q bytes → RestAfter (Either P Q) S bytes rest
 either_left P Q S bytes rest p none = record {
   stands = record { text = p.stands.text; is = inl p.stands.is; splits = p.stands.splits };
   only = λ other it. left other it.text it.is it.splits;
 }
   where
     left : (other text : List ℕ) → Either P Q text → bytes ≡ text ++ other
-        → (other ≡ rest) ⊎ GoesOn S other rest
+        → (other ≡ rest) ⊎ IsLongerRest S other rest
     left other text (inl is) e = p.only other (record { text = text; is = is; splits = e })
     left other text (inr is) e =
         absurd (none other (record { text = text; is = is; splits = e }))
 
 pub either_right : (P Q : List ℕ → Type 0) (S : ℕ → Type 0) (bytes rest : List ℕ)
-    → NoneStands P bytes → Leaves Q S bytes rest → Leaves (Either P Q) S bytes rest
+    → NoneStands P bytes → RestAfter Q S bytes rest → RestAfter (Either P Q) S bytes rest
 either_right P Q S bytes rest none q = record {
   stands = record { text = q.stands.text; is = inr q.stands.is; splits = q.stands.splits };
   only = λ other it. right other it.text it.is it.splits;
 }
   where
     right : (other text : List ℕ) → Either P Q text → bytes ≡ text ++ other
-        → (other ≡ rest) ⊎ GoesOn S other rest
+        → (other ≡ rest) ⊎ IsLongerRest S other rest
     right other text (inl is) e =
         absurd (none other (record { text = text; is = is; splits = e }))
     right other text (inr is) e = q.only other (record { text = text; is = is; splits = e })
@@ -208,14 +210,14 @@ either_bars P Q S one two bytes rest b more e s it =
 
 pub maybe_some : (P : List ℕ → Type 0) (S F : ℕ → Type 0) (bytes rest : List ℕ) (b : ℕ)
     (more : List ℕ) → bytes ≡ b ∷ more → F b → length rest < length bytes
-    → Leaves P S bytes rest → Leaves (Maybe P) (Or S F) bytes rest
+    → RestAfter P S bytes rest → RestAfter (Maybe P) (Or S F) bytes rest
 maybe_some P S F bytes rest b more begins f less p = record {
   stands = record { text = p.stands.text; is = inr p.stands.is; splits = p.stands.splits };
   only = λ other it. some other it.text it.is it.splits;
 }
   where
     some : (other text : List ℕ) → Maybe P text → bytes ≡ text ++ other
-        → (other ≡ rest) ⊎ GoesOn (Or S F) other rest
+        → (other ≡ rest) ⊎ IsLongerRest (Or S F) other rest
     some other text (inl is) e =
         let same : bytes ≡ other = e ∙ ap (λ l. l ++ other) is in
         inr (record {
@@ -238,14 +240,14 @@ maybe_some P S F bytes rest b more begins f less p = record {
         ]
 
 pub maybe_none : (P : List ℕ → Type 0) (S : ℕ → Type 0) (bytes : List ℕ) → NoneStands P bytes
-    → Leaves (Maybe P) S bytes bytes
+    → RestAfter (Maybe P) S bytes bytes
 maybe_none P S bytes none = record {
   stands = record { text = []; is = inl refl; splits = refl };
   only = λ other it. some other it.text it.is it.splits;
 }
   where
     some : (other text : List ℕ) → Maybe P text → bytes ≡ text ++ other
-        → (other ≡ bytes) ⊎ GoesOn S other bytes
+        → (other ≡ bytes) ⊎ IsLongerRest S other bytes
     some other text (inl is) e = inl (sym (e ∙ ap (λ l. l ++ other) is))
     some other text (inr is) e =
         absurd (none other (record { text = text; is = is; splits = e }))
@@ -271,14 +273,14 @@ all_stays P S apart bytes rest b more e s it = stays it.text it.is it.splits
 
 -- where all are taken
 pub all_leaves : (P : ℕ → Type 0) (text bytes rest : List ℕ) → All P text → bytes ≡ text ++ rest
-    → ((b : ℕ) (more : List ℕ) → rest ≡ b ∷ more → P b → ⊥) → Leaves (All P) P bytes rest
+    → ((b : ℕ) (more : List ℕ) → rest ≡ b ∷ more → P b → ⊥) → RestAfter (All P) P bytes rest
 all_leaves P text bytes rest all splits stops = record {
   stands = record { text = text; is = all; splits = splits };
   only = λ other it. same text it.text other all it.is (sym splits ∙ it.splits);
 }
   where
     same : (xs ys other : List ℕ) → All P xs → All P ys → xs ++ rest ≡ ys ++ other
-        → (other ≡ rest) ⊎ GoesOn P other rest
+        → (other ≡ rest) ⊎ IsLongerRest P other rest
     same [] [] other p q e = inl (sym e)
     same [] (y ∷ ys) other p q e = absurd (stops y (ys ++ other) e (All-head P y ys q))
     same (x ∷ xs) [] other p q e = inr (record {
@@ -294,7 +296,7 @@ all_leaves P text bytes rest all splits stops = record {
 -- ---- other sets
 
 pub widen : (P : List ℕ → Type 0) (S T : ℕ → Type 0) (bytes rest : List ℕ)
-    → ((b : ℕ) → S b → T b) → Leaves P S bytes rest → Leaves P T bytes rest
+    → ((b : ℕ) → S b → T b) → RestAfter P S bytes rest → RestAfter P T bytes rest
 widen P S T bytes rest wider p = record {
   stands = p.stands;
   only = λ other it. elim (p.only other it) [
@@ -309,8 +311,8 @@ widen P S T bytes rest wider p = record {
   ];
 }
 
-pub alone : (P : List ℕ → Type 0) (bytes rest other : List ℕ) → Leaves P Never bytes rest
-    → Stands P bytes other → other ≡ rest
+pub alone : (P : List ℕ → Type 0) (bytes rest other : List ℕ) → RestAfter P Never bytes rest
+    → MatchesAtStart P bytes other → other ≡ rest
 alone P bytes rest other p it = elim (p.only other it) [
   | inl same ↦ same
   | inr goes ↦ absurd goes.is_byte
@@ -318,7 +320,8 @@ alone P bytes rest other p it = elim (p.only other it) [
 
 -- what goes on with a byte of S is not what another byte begins
 pub ended : (P : List ℕ → Type 0) (S : ℕ → Type 0) (bytes rest other : List ℕ) (b : ℕ)
-    (more : List ℕ) → other ≡ b ∷ more → (S b → ⊥) → Leaves P S bytes rest → Stands P bytes other
+    (more : List ℕ) → other ≡ b ∷ more → (S b → ⊥) → RestAfter P S bytes rest
+    → MatchesAtStart P bytes other
     → other ≡ rest
 ended P S bytes rest other b more e not p it = elim (p.only other it) [
   | inl same ↦ same
@@ -328,13 +331,13 @@ ended P S bytes rest other b more e not p it = elim (p.only other it) [
 ]
 
 pub then_exact : (P Q : List ℕ → Type 0) (S T : ℕ → Type 0) (bytes mid rest : List ℕ) → Bars Q S
-    → Leaves P S bytes mid → Leaves Q T mid rest → Leaves (Then P Q) T bytes rest
+    → RestAfter P S bytes mid → RestAfter Q T mid rest → RestAfter (Then P Q) T bytes rest
 then_exact P Q S T bytes mid rest bars p q = record {
   stands = then_stands P Q bytes mid rest p.stands q.stands;
   only = λ other it.
       let (at, first, second) = then_split P Q bytes other it in
       elim (p.only at first) [
-        | inl same ↦ q.only other (subst (λ l. Stands Q l other) same second)
+        | inl same ↦ q.only other (subst (λ l. MatchesAtStart Q l other) same second)
         | inr goes ↦
             absurd (bars at other goes.byte goes.tail goes.begins goes.is_byte second)
       ];

@@ -13,7 +13,8 @@ use Rattle.format_json_extents.proofs.Walks.{closing_no_space, lead_no_first}
 use Rattle.format_json_extents.proofs.Words.{IsFirstOfScalar, scalar_starts}
 use Rattle.format_json_extents.specs.Number.{IsNumberByte}
 use Rattle.format_json_extents.specs.Steps.{IsBeforeColon, IsBracket, IsNextStep, IsOfStep, IsToken}
-use Rattle.format_json_extents.specs.Texts.{GoesOn, IsByte, Leaves, Never, NoneStands, Or, Then}
+use Rattle.format_json_extents.specs.Texts.{IsByte, IsLongerRest, Never, NoneStands, Or, RestAfter}
+use Rattle.format_json_extents.specs.Texts.{Then}
 use Rattle.format_json_extents.specs.Value.{IsColon, IsGap, IsScalar, IsSpace}
 use Rattle.format_json_extents.specs.Walk.{IsClosingByte, IsLead, IsLeadByte, IsMark}
 use Rattle.format_json_extents.specs.declared.steps.Step.{Step}
@@ -25,7 +26,7 @@ bracket_no_scalar b (inl opens) is = scalar_no_bracket b is opens
 bracket_no_scalar b (inr closes) is = first_not b (inl is) (inr closes)
 
 pub token_bracket : (bytes : List ℕ) (b : ℕ) (more : List ℕ) → bytes ≡ b ∷ more → IsBracket b
-    → Leaves IsToken IsNumberByte bytes more
+    → RestAfter IsToken IsNumberByte bytes more
 token_bracket bytes b more e is =
     either_left (IsByte IsBracket) IsScalar IsNumberByte bytes more
     (widen (IsByte IsBracket) Never IsNumberByte bytes more (λ b n. absurd n)
@@ -33,8 +34,8 @@ token_bracket bytes b more e is =
     (none_first IsScalar IsFirstOfScalar bytes b more scalar_starts e (bracket_no_scalar b is))
 
 pub token_scalar : (bytes : List ℕ) (b : ℕ) (more rest : List ℕ) → bytes ≡ b ∷ more
-    → (IsBracket b → ⊥) → Leaves IsScalar IsNumberByte bytes rest
-    → Leaves IsToken IsNumberByte bytes rest
+    → (IsBracket b → ⊥) → RestAfter IsScalar IsNumberByte bytes rest
+    → RestAfter IsToken IsNumberByte bytes rest
 token_scalar bytes b more rest e not it =
     either_right (IsByte IsBracket) IsScalar IsNumberByte bytes rest
     (byte_none IsBracket bytes b more e not) it
@@ -70,14 +71,14 @@ lead_no_token b lead (inl (inl opens)) = lead_no_first b lead (inr opens)
 lead_no_token b lead (inl (inr closes)) = lead_no_closing b lead closes
 lead_no_token b lead (inr is) = lead_no_first b lead (inl is)
 
-pub no_token : (bytes start : List ℕ) → Leaves IsLead IsLeadByte bytes start
+pub no_token : (bytes start : List ℕ) → RestAfter IsLead IsLeadByte bytes start
     → NoneStands IsToken start → NoneStands (Then IsLead IsToken) bytes
 no_token bytes start lead none =
     then_none IsLead IsToken IsLeadByte bytes start
     (starts_bars IsToken IsFirstOfToken IsLeadByte token_starts lead_no_token) lead none
 
-pub next_step : (step : Step) (bytes start rest : List ℕ) → Leaves IsLead IsLeadByte bytes start
-    → Leaves IsToken IsNumberByte start rest
+pub next_step : (step : Step) (bytes start rest : List ℕ) → RestAfter IsLead IsLeadByte bytes start
+    → RestAfter IsToken IsNumberByte start rest
     → (IsToken (take (length start - length rest) start)
     → IsOfStep step (take (length start - length rest) start) rest)
     → IsNextStep step (take (length start - length rest) start) bytes rest
@@ -98,7 +99,7 @@ next_step step bytes start rest lead it told =
 colon_no_space : Apart IsColon IsSpace
 colon_no_space b is s = let low = space_low b s in omega (arith, low, is)
 
-pub before_colon : (bytes ahead rest : List ℕ) → Leaves IsGap IsSpace bytes ahead
+pub before_colon : (bytes ahead rest : List ℕ) → RestAfter IsGap IsSpace bytes ahead
     → ahead ≡ 58 ∷ rest → IsBeforeColon bytes
 before_colon bytes ahead rest gap e = (
   rest,
@@ -106,22 +107,22 @@ before_colon bytes ahead rest gap e = (
       (byte_stands IsColon ahead 58 rest e refl),
 )
 
-pub no_colon : (bytes ahead : List ℕ) → Leaves IsGap IsSpace bytes ahead
+pub no_colon : (bytes ahead : List ℕ) → RestAfter IsGap IsSpace bytes ahead
     → ((more : List ℕ) → ahead ≡ 58 ∷ more → ⊥) → IsBeforeColon bytes → ⊥
 no_colon bytes ahead gap not (rest, it) =
     then_none IsGap (IsByte IsColon) IsSpace bytes ahead
     (byte_bars IsColon IsSpace colon_no_space) gap (this_none 58 ahead not) rest it
 
-pub over_is : (bytes rest : List ℕ) → Leaves IsGap IsSpace bytes rest → rest ≡ [] → IsGap bytes
+pub over_is : (bytes rest : List ℕ) → RestAfter IsGap IsSpace bytes rest → rest ≡ [] → IsGap bytes
 over_is bytes rest it e =
     subst IsGap
     (sym (it.stands.splits ∙ ap (λ l. it.stands.text ++ l) e ∙ append-nil it.stands.text))
     it.stands.is
 
-pub over_left : (bytes rest : List ℕ) → Leaves IsGap IsSpace bytes rest → IsGap bytes → rest ≡ []
+pub over_left : (bytes rest : List ℕ) → RestAfter IsGap IsSpace bytes rest → IsGap bytes → rest ≡ []
 over_left bytes rest it all =
     left (it.only [] (record { text = bytes; is = all; splits = sym (append-nil bytes) }))
   where
-    left : ([] ≡ rest) ⊎ GoesOn IsSpace [] rest → rest ≡ []
+    left : ([] ≡ rest) ⊎ IsLongerRest IsSpace [] rest → rest ≡ []
     left (inl same) = sym same
     left (inr goes) = absurd (omega (arith, goes.is_more))

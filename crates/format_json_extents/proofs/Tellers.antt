@@ -3,19 +3,22 @@ use Rattle.std.proofs.Common.{◌≡◌, ◌∙◌, ◌++◌, ℕ, zero, suc, Bo
 use Rattle.std.proofs.Common.{ap, append_assoc, inl, inr, refl}
 use Rattle.format_json_extents.proofs.Walked.{text_told}
 use Rattle.format_json_extents.specs.Texts.{IsByte, List_of, Then, before, last}
-use Rattle.format_json_extents.specs.Told.{InTurn, IsTold, TellsElement, TellsItem, TellsList}
-use Rattle.format_json_extents.specs.Told.{TellsMember, TellsNested, TellsScalar, TellsText}
-use Rattle.format_json_extents.specs.Told.{TellsValue, Told, begin_of, end_of, tells_before}
-use Rattle.format_json_extents.specs.Told.{tells_last}
+use Rattle.format_json_extents.specs.StepLists.{InTurn, StepsOfElement, StepsOfItem, StepsOfList}
+use Rattle.format_json_extents.specs.StepLists.{StepsResult}
+use Rattle.format_json_extents.specs.StepLists.{StepsOfMember, StepsOfNested, StepsOfScalar}
+use Rattle.format_json_extents.specs.StepLists.{StepsOfText}
+use Rattle.format_json_extents.specs.StepLists.{StepList, StepsOfValue, begin_of, end_of}
+use Rattle.format_json_extents.specs.StepLists.{tells_before}
+use Rattle.format_json_extents.specs.StepLists.{tells_last}
 use Rattle.format_json_extents.specs.Value.{IsElement, IsItem, IsMember, IsNestedTail, IsScalar}
 use Rattle.format_json_extents.specs.Value.{IsText, IsValue, closing, opening}
 use Rattle.format_json_extents.specs.declared.steps.Step.TheVariants as steps
 
 -- Texts of P have steps.
-abbrev HasSteps : (List ℕ → Type 0) → (Told → List ℕ → Type 0) → Type 0
-HasSteps P tells = (text : List ℕ) → P text → (told : Told) × tells told text
+abbrev HasSteps : (List ℕ → Type 0) → (StepList → List ℕ → Type 0) → Type 0
+HasSteps P tells = (text : List ℕ) → P text → (told : StepList) × tells told text
 
-scalar_tells : HasSteps IsScalar TellsScalar
+scalar_tells : HasSteps IsScalar StepsOfScalar
 scalar_tells text (inl is) =
     ((steps.String, text) ∷ [], record { step = steps.String; is_scalar = is; alone = refl })
 scalar_tells text (inr (inl is)) =
@@ -27,16 +30,16 @@ scalar_tells text (inr (inr (inr (inl is)))) =
 scalar_tells text (inr (inr (inr (inr is)))) =
     ((steps.False, text) ∷ [], record { step = steps.False; is_scalar = is; alone = refl })
 
-list_tells : {P : List ℕ → Type 0} {tells : Told → List ℕ → Type 0} → HasSteps P tells
-    → HasSteps (List_of P) (TellsList tells)
+list_tells : {P : List ℕ → Type 0} {tells : StepList → List ℕ → Type 0} → HasSteps P tells
+    → HasSteps (List_of P) (StepsOfList tells)
 list_tells item _ (last text is) = let (told, it) = item text is in (told, tells_last told text it)
 list_tells item _ (before first others text is more joins) =
     let (one, it) = item first is in
     let (rest, list) = list_tells item others more in
     (one ++ rest, tells_before one rest (one ++ rest) first others text it list joins refl)
 
-module _ (V : List ℕ → Type 0) (tells : Told → List ℕ → Type 0) (has : HasSteps V tells) where
-  element_tells : HasSteps (IsElement V) (TellsElement tells)
+module _ (V : List ℕ → Type 0) (tells : StepList → List ℕ → Type 0) (has : HasSteps V tells) where
+  element_tells : HasSteps (IsElement V) (StepsOfElement tells)
   element_tells text is =
       let (told, it) = has is.is_second.first is.is_second.is_first in (
         told,
@@ -51,7 +54,7 @@ module _ (V : List ℕ → Type 0) (tells : Told → List ℕ → Type 0) (has :
         },
       )
 
-  member_tells : HasSteps (IsMember V) (TellsMember tells)
+  member_tells : HasSteps (IsMember V) (StepsOfMember tells)
   member_tells text is =
       let key = is.is_first in
       let name = key.is_second in
@@ -82,13 +85,13 @@ module _ (V : List ℕ → Type 0) (tells : Told → List ℕ → Type 0) (has :
         },
       )
 
-  item_tells : (keyed : Bool) → HasSteps (IsItem keyed V) (TellsItem keyed tells)
+  item_tells : (keyed : Bool) → HasSteps (IsItem keyed V) (StepsOfItem keyed tells)
   item_tells true = member_tells
   item_tells false = element_tells
 
   nested_tells : (keyed : Bool)
       → HasSteps (Then (IsByte (λ b. b ≡ opening keyed)) (IsNestedTail keyed V))
-      (TellsNested keyed tells)
+      (StepsOfNested keyed tells)
   nested_tells keyed text is = by is.is_second
     where
       starts : text ≡ opening keyed ∷ is.second
@@ -101,11 +104,11 @@ module _ (V : List ℕ → Type 0) (tells : Told → List ℕ → Type 0) (has :
           starts ∙ ap (λ l. opening keyed ∷ l) (e ∙ ap (λ l. inside ++ l) (bracket.alone
           ∙ ap (λ b. b ∷ []) bracket.is_byte))
 
-      told_of : Told → Told
+      told_of : StepList → StepList
       told_of inner = (begin_of keyed, opening keyed ∷ [])
           ∷ (inner ++ (end_of keyed, closing keyed ∷ []) ∷ [])
 
-      by : IsNestedTail keyed V is.second → (told : Told) × TellsNested keyed tells told text
+      by : IsNestedTail keyed V is.second → (told : StepList) × StepsOfNested keyed tells told text
       by (inl it) = (
         told_of [],
         record {
@@ -128,20 +131,21 @@ module _ (V : List ℕ → Type 0) (tells : Told → List ℕ → Type 0) (has :
             },
           )
 
-value_tells : (level : ℕ) → HasSteps (IsValue level) (TellsValue level)
+value_tells : (level : ℕ) → HasSteps (IsValue level) (StepsOfValue level)
 value_tells zero text is = scalar_tells text is
 value_tells (suc level) text (inl is) = let (told, it) = scalar_tells text is in (told, inl it)
 value_tells (suc level) text (inr (inl is)) =
-    let (told, it) = nested_tells (IsValue level) (TellsValue level) (value_tells level) false text
+    let (told, it) =
+    nested_tells (IsValue level) (StepsOfValue level) (value_tells level) false text
     is in (told, inr (inl it))
 value_tells (suc level) text (inr (inr is)) =
-    let (told, it) = nested_tells (IsValue level) (TellsValue level) (value_tells level) true text
+    let (told, it) = nested_tells (IsValue level) (StepsOfValue level) (value_tells level) true text
     is in (told, inr (inr it))
 
 pub text_tells : (level : ℕ) (bytes : List ℕ) → IsText level bytes
-    → (told : Told) × TellsText level told bytes
-    × ((found : Told) (rest : List ℕ) → InTurn bytes found rest → IsTold told found rest)
+    → (told : StepList) × StepsOfText level told bytes
+    × ((found : StepList) (rest : List ℕ) → InTurn bytes found rest → StepsResult told found rest)
 text_tells level bytes is =
     let (told, it) =
-    element_tells (IsValue level) (TellsValue level) (value_tells level) bytes is in
+    element_tells (IsValue level) (StepsOfValue level) (value_tells level) bytes is in
     (told, it, λ found rest turn. text_told level bytes told found rest it turn)

@@ -15,8 +15,8 @@ use Rattle.format_json_extents.proofs.Words.{IsFirstOfScalar, scalar_starts}
 use Rattle.format_json_extents.specs.Number.{IsLeading, IsMinus, IsNumberByte, IsZero}
 use Rattle.format_json_extents.specs.Steps.{IsBracket, IsNextStep, IsOfStep, IsToken}
 use Rattle.format_json_extents.specs.Strings.{IsString}
-use Rattle.format_json_extents.specs.Texts.{IsByte, Maybe, Or, Stands, Then}
-use Rattle.format_json_extents.specs.Told.{InTurn, Told}
+use Rattle.format_json_extents.specs.Texts.{IsByte, MatchesAtStart, Maybe, Or, Then}
+use Rattle.format_json_extents.specs.StepLists.{InTurn, StepList}
 use Rattle.format_json_extents.specs.Value.{IsGap, IsScalar, IsSpace}
 use Rattle.format_json_extents.specs.Walk.{IsLead, IsLeadByte, IsMark}
 use Rattle.format_json_extents.specs.declared.steps.Step.{Step}
@@ -241,29 +241,29 @@ module _ (bytes mid : List ℕ) (s : Step) (t : List ℕ) (next : IsNextStep s t
 
 -- One more step occurs in the rest.
 abbrev pub OneMore : List ℕ → Type 0
-OneMore rest = (after : List ℕ) × Stands (Then IsLead IsToken) rest after
+OneMore rest = (after : List ℕ) × MatchesAtStart (Then IsLead IsToken) rest after
 
 -- `Within told found rest`: `found` is a proper prefix of `told`, and one more step occurs in
 -- `rest`.
-abbrev pub Within : Told → Told → List ℕ → Type 0
+abbrev pub Within : StepList → StepList → List ℕ → Type 0
 Within told found rest =
-    (it : Step × List ℕ) × (others : Told) × (told ≡ found ++ it ∷ others) × OneMore rest
+    (it : Step × List ℕ) × (others : StepList) × (told ≡ found ++ it ∷ others) × OneMore rest
 
--- `Tells start told now`: successive calls from `start` return the steps `told` first, and then
+-- `StepsUpTo start told now`: successive calls from `start` return the steps `told` first, and then
 -- those of `now`.
-pub record Tells (start : List ℕ) (told : Told) (now : List ℕ) : Type 0 where
-  pub calls : (found : Told) (rest : List ℕ) → InTurn start found rest → Within told found rest
-      ⊎ ((more : Told) × (found ≡ told ++ more) × InTurn now more rest)
+pub record StepsUpTo (start : List ℕ) (told : StepList) (now : List ℕ) : Type 0 where
+  pub calls : (found : StepList) (rest : List ℕ) → InTurn start found rest → Within told found rest
+      ⊎ ((more : StepList) × (found ≡ told ++ more) × InTurn now more rest)
 
 tells_of : (step : Step) (text bytes rest : List ℕ) → Here step text bytes rest
     → ((mid : List ℕ) (s : Step) (t : List ℕ) → IsNextStep s t bytes mid → mid ≡ rest)
-    → Tells bytes ((step, text) ∷ []) rest
+    → StepsUpTo bytes ((step, text) ∷ []) rest
 unfolding InTurn
 tells_of step text bytes rest here leaves = record { calls = calls }
   where
-    calls : (found : Told) (last : List ℕ) → InTurn bytes found last
+    calls : (found : StepList) (last : List ℕ) → InTurn bytes found last
         → Within ((step, text) ∷ []) found last
-        ⊎ ((more : Told) × (found ≡ (step, text) ∷ more) × InTurn rest more last)
+        ⊎ ((more : StepList) × (found ≡ (step, text) ∷ more) × InTurn rest more last)
     calls [] last e =
         inl (
           (step, text),
@@ -295,27 +295,28 @@ tells_of step text bytes rest here leaves = record { calls = calls }
 
 pub tells_scalar : (step : Step) (text bytes rest : List ℕ) → Here step text bytes rest
     → ((b : ℕ) (more : List ℕ) → rest ≡ b ∷ more → IsNumberByte b → ⊥)
-    → Tells bytes ((step, text) ∷ []) rest
+    → StepsUpTo bytes ((step, text) ∷ []) rest
 tells_scalar step text bytes rest here stops =
     tells_of step text bytes rest here
     (λ mid s t next. leaves_scalar bytes mid s t next step text rest here stops)
 
 pub tells_bracket : (step : Step) (b : ℕ) (bytes rest : List ℕ) → Here step (b ∷ []) bytes rest
-    → IsBracket b → Tells bytes ((step, b ∷ []) ∷ []) rest
+    → IsBracket b → StepsUpTo bytes ((step, b ∷ []) ∷ []) rest
 tells_bracket step b bytes rest here is =
     tells_of step (b ∷ []) bytes rest here
     (λ mid s t next. leaves_bracket bytes mid s t next step (b ∷ []) rest here b is refl)
 
-pub tells_nothing : (bytes : List ℕ) → Tells bytes [] bytes
+pub tells_nothing : (bytes : List ℕ) → StepsUpTo bytes [] bytes
 tells_nothing bytes = record { calls = λ found rest turn. inr (found, refl, turn) }
 
-pub tells_on : (start mid now : List ℕ) (one two : Told) → Tells start one mid → Tells mid two now
-    → Tells start (one ++ two) now
+pub tells_on : (start mid now : List ℕ) (one two : StepList) → StepsUpTo start one mid
+    → StepsUpTo mid two now
+    → StepsUpTo start (one ++ two) now
 tells_on start mid now one two first second = record { calls = calls }
   where
-    calls : (found : Told) (rest : List ℕ) → InTurn start found rest
+    calls : (found : StepList) (rest : List ℕ) → InTurn start found rest
         → Within (one ++ two) found rest
-        ⊎ ((more : Told) × (found ≡ (one ++ two) ++ more) × InTurn now more rest)
+        ⊎ ((more : StepList) × (found ≡ (one ++ two) ++ more) × InTurn now more rest)
     calls found rest turn = elim (first.calls found rest turn) [
       | inl (it, others, e, some) ↦
           inl (it, others ++ two, ap (λ l. l ++ two) e ∙ append_assoc found (it ∷ others) two, some)

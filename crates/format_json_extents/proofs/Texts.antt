@@ -6,7 +6,7 @@ use Rattle.std.specs.List.{All}
 use Rattle.std.proofs.lemmas.List.Elements.{All-head, All-push, All-tail}
 use Rattle.format_json_extents.proofs.Beginnings.{Starts, byte_starts, either_starts, then_starts}
 use Rattle.format_json_extents.proofs.Beginnings.{this_none}
-use Rattle.format_json_extents.proofs.Leading.{Leads, leads_here, leads_on}
+use Rattle.format_json_extents.proofs.Leading.{SameMatches, leads_here, leads_on}
 use Rattle.format_json_extents.proofs.Standing.{alone, byte_empty, byte_first, byte_leaves}
 use Rattle.format_json_extents.proofs.Standing.{byte_none}
 use Rattle.format_json_extents.proofs.Standing.{byte_stands, either_left, either_none, either_right}
@@ -17,16 +17,17 @@ use Rattle.format_json_extents.specs.Strings.{IsBackslash, IsCharacter, IsEscape
 use Rattle.format_json_extents.specs.Strings.{IsInQuotes, IsPiece, IsQuote, IsString, IsStringTail}
 use Rattle.format_json_extents.specs.Strings.{IsU}
 use Rattle.format_json_extents.specs.Strings.{IsUnescaped}
-use Rattle.format_json_extents.specs.Texts.{IsByte, Leaves, Many, Never, NoneStands, Or, Stands}
+use Rattle.format_json_extents.specs.Texts.{IsByte, Many, MatchesAtStart, Never, NoneStands, Or}
+use Rattle.format_json_extents.specs.Texts.{RestAfter}
 use Rattle.format_json_extents.specs.Texts.{Then}
 use Rattle.format_json_extents.specs.Texts.{nothing, one_more}
 
 -- ---- bytes of a set
 
-pub all_stops : (P : ℕ → Type 0) (bytes rest : List ℕ) → Leaves (All P) P bytes rest → (b : ℕ)
+pub all_stops : (P : ℕ → Type 0) (bytes rest : List ℕ) → RestAfter (All P) P bytes rest → (b : ℕ)
     (more : List ℕ) → rest ≡ b ∷ more → P b → ⊥
 all_stops P bytes rest it b more e is =
-    let longer : Stands (All P) bytes more = record {
+    let longer : MatchesAtStart (All P) bytes more = record {
       text = it.stands.text ++ b ∷ [];
       is = All-push P it.stands.text b it.stands.is is;
       splits = it.stands.splits ∙ ap (λ l. it.stands.text ++ l) e
@@ -39,12 +40,14 @@ all_stops P bytes rest it b more e is =
 
 -- ---- many texts
 
-pub many_split : (P : List ℕ → Type 0) (bytes rest : List ℕ) → Stands (Many P) bytes rest
-    → (bytes ≡ rest) ⊎ ((mid : List ℕ) × Stands P bytes mid × Stands (Many P) mid rest)
+pub many_split : (P : List ℕ → Type 0) (bytes rest : List ℕ) → MatchesAtStart (Many P) bytes rest
+    → (bytes ≡ rest)
+    ⊎ ((mid : List ℕ) × MatchesAtStart P bytes mid × MatchesAtStart (Many P) mid rest)
 many_split P bytes rest it = split it.text it.is it.splits
   where
     split : (text : List ℕ) → Many P text → bytes ≡ text ++ rest
-        → (bytes ≡ rest) ⊎ ((mid : List ℕ) × Stands P bytes mid × Stands (Many P) mid rest)
+        → (bytes ≡ rest)
+        ⊎ ((mid : List ℕ) × MatchesAtStart P bytes mid × MatchesAtStart (Many P) mid rest)
     split _ (nothing text e) splits = inl (splits ∙ ap (λ l. l ++ rest) e)
     split _ (one_more first others text p more e) splits = inr (
       others ++ rest,
@@ -56,11 +59,11 @@ many_split P bytes rest it = split it.text it.is it.splits
       record { text = others; is = more; splits = refl },
     )
 
-pub many_here : (P : List ℕ → Type 0) (bytes : List ℕ) → Stands (Many P) bytes bytes
+pub many_here : (P : List ℕ → Type 0) (bytes : List ℕ) → MatchesAtStart (Many P) bytes bytes
 many_here P bytes = record { text = []; is = nothing [] refl; splits = refl }
 
-pub many_more : (P : List ℕ → Type 0) (bytes mid rest : List ℕ) → Stands P bytes mid
-    → Stands (Many P) mid rest → Stands (Many P) bytes rest
+pub many_more : (P : List ℕ → Type 0) (bytes mid rest : List ℕ) → MatchesAtStart P bytes mid
+    → MatchesAtStart (Many P) mid rest → MatchesAtStart (Many P) bytes rest
 many_more P bytes mid rest p many = record {
   text = p.text ++ many.text;
   is = one_more p.text many.text (p.text ++ many.text) p.is many.is refl;
@@ -81,7 +84,7 @@ not_u (inr (inr (inr (inr (inr (inr (inl e))))))) = omega (arith, e)
 not_u (inr (inr (inr (inr (inr (inr (inr e))))))) = omega (arith, e)
 
 pub escape_u : (bytes more rest : List ℕ) → bytes ≡ 117 ∷ more
-    → Leaves IsCharacter Never more rest → Leaves IsEscape Never bytes rest
+    → RestAfter IsCharacter Never more rest → RestAfter IsEscape Never bytes rest
 escape_u bytes more rest e it =
     either_right (IsByte IsEscaped) (Then (IsByte IsU) IsCharacter) Never bytes rest
     (byte_none IsEscaped bytes 117 more e not_u)
@@ -97,7 +100,7 @@ escape_u_none bytes more e none =
     (byte_leaves IsU bytes 117 more e refl) none)
 
 pub escape_one : (bytes : List ℕ) (b : ℕ) (more : List ℕ) → bytes ≡ b ∷ more → IsEscaped b
-    → (b ≡ 117 → ⊥) → Leaves IsEscape Never bytes more
+    → (b ≡ 117 → ⊥) → RestAfter IsEscape Never bytes more
 escape_one bytes b more e is not =
     either_left (IsByte IsEscaped) (Then (IsByte IsU) IsCharacter) Never bytes more
     (byte_leaves IsEscaped bytes b more e is)
@@ -119,7 +122,7 @@ escape_empty bytes e =
 -- ---- pieces
 
 pub piece_byte : (bytes : List ℕ) (b : ℕ) (more : List ℕ) → bytes ≡ b ∷ more → IsUnescaped b
-    → Leaves IsPiece Never bytes more
+    → RestAfter IsPiece Never bytes more
 piece_byte bytes b more e is =
     either_left (IsByte IsUnescaped) (Then (IsByte IsBackslash) IsEscape) Never bytes more
     (byte_leaves IsUnescaped bytes b more e is)
@@ -129,7 +132,7 @@ slash_no_byte : IsUnescaped 92 → ⊥
 slash_no_byte is = is.2 refl
 
 pub piece_escape : (bytes escape rest : List ℕ) → bytes ≡ 92 ∷ escape
-    → Leaves IsEscape Never escape rest → Leaves IsPiece Never bytes rest
+    → RestAfter IsEscape Never escape rest → RestAfter IsPiece Never bytes rest
 piece_escape bytes escape rest e it =
     either_right (IsByte IsUnescaped) (Then (IsByte IsBackslash) IsEscape) Never bytes rest
     (byte_none IsUnescaped bytes 92 escape e slash_no_byte)
@@ -145,7 +148,7 @@ piece_none bytes escape e none =
     (byte_leaves IsBackslash bytes 92 escape e refl) none)
 
 -- after all bytes that stand for themselves, where no backslash does
-pub piece_other : (start bytes : List ℕ) → Leaves (All IsUnescaped) IsUnescaped start bytes
+pub piece_other : (start bytes : List ℕ) → RestAfter (All IsUnescaped) IsUnescaped start bytes
     → ((more : List ℕ) → bytes ≡ 92 ∷ more → ⊥) → NoneStands IsPiece bytes
 piece_other start bytes run not =
     either_none (IsByte IsUnescaped) (Then (IsByte IsBackslash) IsEscape) bytes
@@ -164,14 +167,15 @@ no_quote : (b : ℕ) → Or IsUnescaped IsBackslash b → b ≡ 34 → ⊥
 no_quote b (inl is) e = is.1 e
 no_quote b (inr is) e = omega (arith, is, e)
 
-quote_no_piece : (bytes rest mid : List ℕ) → Stands IsPiece bytes mid → bytes ≡ 34 ∷ rest → ⊥
+quote_no_piece : (bytes rest mid : List ℕ) → MatchesAtStart IsPiece bytes mid
+    → bytes ≡ 34 ∷ rest → ⊥
 quote_no_piece bytes rest mid it e =
     let (b, more, begins, f) = piece_starts bytes mid it in
     no_quote b f (same_byte _ _ _ _ (sym begins ∙ e)).0
 
 -- ---- after the first quote
 
-pub tail_ends : (bytes rest : List ℕ) → bytes ≡ 34 ∷ rest → Leaves IsStringTail Never bytes rest
+pub tail_ends : (bytes rest : List ℕ) → bytes ≡ 34 ∷ rest → RestAfter IsStringTail Never bytes rest
 tail_ends bytes rest e = record {
   stands = then_stands (Many IsPiece) (IsByte IsQuote) bytes bytes rest (many_here IsPiece bytes)
       (byte_stands IsQuote bytes 34 rest e refl);
@@ -195,8 +199,8 @@ tail_none bytes none not rest it =
       | inr (at, piece, others) ↦ none at piece
     ]
 
-pub tail_piece : (bytes next : List ℕ) → Leaves IsPiece Never bytes next
-    → Leads IsStringTail bytes next
+pub tail_piece : (bytes next : List ℕ) → RestAfter IsPiece Never bytes next
+    → SameMatches IsStringTail bytes next
 tail_piece bytes next piece = record {
   on = λ rest it.
       let (mid, pieces, quote) = then_split (Many IsPiece) (IsByte IsQuote) bytes rest it in
@@ -208,7 +212,7 @@ tail_piece bytes next piece = record {
         | inr (at, first, others) ↦
             let is = alone IsPiece bytes next at piece first in
             then_stands (Many IsPiece) (IsByte IsQuote) next mid rest
-            (subst (λ l. Stands (Many IsPiece) l mid) is others) quote
+            (subst (λ l. MatchesAtStart (Many IsPiece) l mid) is others) quote
       ];
   back = λ rest it.
       let (mid, pieces, quote) = then_split (Many IsPiece) (IsByte IsQuote) next rest it in
@@ -217,9 +221,9 @@ tail_piece bytes next piece = record {
 }
 
 pub tail_run : (text bytes next : List ℕ) → All IsUnescaped text → bytes ≡ text ++ next
-    → Leads IsStringTail bytes next
+    → SameMatches IsStringTail bytes next
 tail_run [] bytes next all e =
-    subst (λ l. Leads IsStringTail l next) (sym e) (leads_here IsStringTail next)
+    subst (λ l. SameMatches IsStringTail l next) (sym e) (leads_here IsStringTail next)
 tail_run (b ∷ text) bytes next all e =
     leads_on IsStringTail bytes (text ++ next) next
     (tail_piece bytes (text ++ next)
@@ -227,8 +231,8 @@ tail_run (b ∷ text) bytes next all e =
     (tail_run text (text ++ next) next (All-tail IsUnescaped b text all) refl)
 
 -- after one more run
-pub tail_ahead : (start now ahead : List ℕ) → Leads IsStringTail start now
-    → Leaves (All IsUnescaped) IsUnescaped now ahead → Leads IsStringTail start ahead
+pub tail_ahead : (start now ahead : List ℕ) → SameMatches IsStringTail start now
+    → RestAfter (All IsUnescaped) IsUnescaped now ahead → SameMatches IsStringTail start ahead
 tail_ahead start now ahead leads run =
     leads_on IsStringTail start now ahead leads
     (tail_run run.stands.text now ahead run.stands.is run.stands.splits)
@@ -236,7 +240,7 @@ tail_ahead start now ahead leads run =
 -- ---- strings
 
 pub string_is : (bytes inside rest : List ℕ) → bytes ≡ 34 ∷ inside
-    → Leaves IsStringTail Never inside rest → Leaves IsString Never bytes rest
+    → RestAfter IsStringTail Never inside rest → RestAfter IsString Never bytes rest
 string_is bytes inside rest e it =
     then_exact (IsByte IsQuote) IsStringTail Never Never bytes inside rest (never_bars IsStringTail)
     (byte_leaves IsQuote bytes 34 inside e refl) it
@@ -255,7 +259,7 @@ pub string_starts : Starts IsString IsQuote
 string_starts = then_starts (IsByte IsQuote) IsStringTail IsQuote (byte_starts IsQuote)
 
 pub in_quotes : (bytes inside rest : List ℕ) → bytes ≡ 34 ∷ inside
-    → Stands IsStringTail inside rest
+    → MatchesAtStart IsStringTail inside rest
     → IsInQuotes (take (length inside - length rest - 1) inside) bytes rest
 in_quotes bytes inside rest e it =
     let (mid, pieces, quote) = then_split (Many IsPiece) (IsByte IsQuote) inside rest it in
@@ -274,16 +278,16 @@ in_quotes bytes inside rest e it =
     }
 
 -- after one more escape
-pub escape_leads : (start now ahead escape next : List ℕ) → Leads IsStringTail start now
-    → Leaves (All IsUnescaped) IsUnescaped now ahead → ahead ≡ 92 ∷ escape
-    → Leaves IsEscape Never escape next → Leads IsStringTail start next
+pub escape_leads : (start now ahead escape next : List ℕ) → SameMatches IsStringTail start now
+    → RestAfter (All IsUnescaped) IsUnescaped now ahead → ahead ≡ 92 ∷ escape
+    → RestAfter IsEscape Never escape next → SameMatches IsStringTail start next
 escape_leads start now ahead escape next leads run e it =
     leads_on IsStringTail start ahead next (tail_ahead start now ahead leads run)
     (tail_piece ahead next (piece_escape ahead escape next e it))
 
 pub escape_less : (now ahead escape next : List ℕ)
-    → Leaves (All IsUnescaped) IsUnescaped now ahead → ahead ≡ 92 ∷ escape
-    → Leaves IsEscape Never escape next → length next < length now
+    → RestAfter (All IsUnescaped) IsUnescaped now ahead → ahead ≡ 92 ∷ escape
+    → RestAfter IsEscape Never escape next → length next < length now
 escape_less now ahead escape next run e it =
     omega (
       arith,

@@ -7,7 +7,7 @@ use Rattle.std.specs.Char.{encode_utf8}
 use Rattle.std.specs.List.{All}
 use Rattle.format_json_extents.proofs.Answered.{from_left}
 use Rattle.format_json_extents.specs.Strings.{IsEscape, IsUnescaped}
-use Rattle.format_json_extents.specs.Texts.{Leaves, Never}
+use Rattle.format_json_extents.specs.Texts.{Never, RestAfter}
 use Rattle.format_json_extents.specs.Unescaped.{IsEscapePut, IsPut, IsTailWritten, Means}
 use Rattle.format_json_extents.specs.Unescaped.{PieceMeans, means_more, means_nothing}
 
@@ -119,7 +119,7 @@ module _ (bytes rest next old now new piece one : List ℕ) (count : ℕ)
 
 -- after all bytes that stand for themselves
 pub wrote_run : (bytes rest ahead old now new run : List ℕ) (count : ℕ)
-    → Wrote bytes rest old now count → Leaves (All IsUnescaped) IsUnescaped rest ahead
+    → Wrote bytes rest old now count → RestAfter (All IsUnescaped) IsUnescaped rest ahead
     → run ≡ take (length rest - length ahead) rest → IsPut run count now new
     → Wrote bytes ahead old new (count + length run)
 wrote_run bytes rest ahead old now new run count it leaves is put =
@@ -131,7 +131,7 @@ wrote_run bytes rest ahead old now new run count it leaves is put =
 
 -- and after an escape
 pub wrote_escape : (bytes ahead escape next old now new between : List ℕ) (count end : ℕ)
-    → Wrote bytes ahead old now count → ahead ≡ 92 ∷ escape → Leaves IsEscape Never escape next
+    → Wrote bytes ahead old now count → ahead ≡ 92 ∷ escape → RestAfter IsEscape Never escape next
     → between ≡ take (length escape - length next) escape
     → IsEscapePut between count end now new → Wrote bytes next old new end
 wrote_escape bytes ahead escape next old now new between count end it e leaves is put =
@@ -145,7 +145,7 @@ wrote_escape bytes ahead escape next old now new between count end it e leaves i
     (means_end it.text it.meant (92 ∷ between) (encode_utf8 put.char) it.means
     (inr (put.char, put.text, refl))))
 
-pub escape_is : (escape next between : List ℕ) → Leaves IsEscape Never escape next
+pub escape_is : (escape next between : List ℕ) → RestAfter IsEscape Never escape next
     → between ≡ take (length escape - length next) escape → IsEscape between
 escape_is escape next between leaves is =
     subst IsEscape (sym (is ∙ from_left escape leaves.stands.text next leaves.stands.splits))

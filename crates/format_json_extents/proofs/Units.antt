@@ -8,17 +8,18 @@ use Rattle.format_json_extents.proofs.Standing.{then_exact, then_none, then_spli
 use Rattle.format_json_extents.specs.Strings.{BeginHigh, BeginLow, BeginOnly, IsBackslash}
 use Rattle.format_json_extents.specs.Strings.{IsCharacter, IsHexDigit, IsPair, IsTwoDigits, IsU}
 use Rattle.format_json_extents.specs.Strings.{IsUnit}
-use Rattle.format_json_extents.specs.Texts.{AreTwo, IsByte, Leaves, Never, NoneStands, Stands}
+use Rattle.format_json_extents.specs.Texts.{AreTwo, IsByte, MatchesAtStart, Never, NoneStands}
+use Rattle.format_json_extents.specs.Texts.{RestAfter}
 use Rattle.format_json_extents.specs.Texts.{Then}
 
 -- ---- two bytes
 
-two_first : (P : ℕ → ℕ → Type 0) (bytes rest : List ℕ) → (it : Stands (AreTwo P) bytes rest)
+two_first : (P : ℕ → ℕ → Type 0) (bytes rest : List ℕ) → (it : MatchesAtStart (AreTwo P) bytes rest)
     → bytes ≡ it.is.one ∷ it.is.two ∷ rest
 two_first P bytes rest it = it.splits ∙ ap (λ l. l ++ rest) it.is.alone
 
 two_leaves : (P : ℕ → ℕ → Type 0) (bytes : List ℕ) (a b : ℕ) (rest : List ℕ)
-    → bytes ≡ a ∷ b ∷ rest → P a b → Leaves (AreTwo P) Never bytes rest
+    → bytes ≡ a ∷ b ∷ rest → P a b → RestAfter (AreTwo P) Never bytes rest
 two_leaves P bytes a b rest e p = record {
   stands = record {
     text = a ∷ b ∷ [];
@@ -39,8 +40,8 @@ two_none P bytes a b rest e not other it =
 
 -- ---- units
 
-pub two_digits : (bytes one rest : List ℕ) → Leaves (IsByte IsHexDigit) Never bytes one
-    → Leaves (IsByte IsHexDigit) Never one rest → Leaves IsTwoDigits Never bytes rest
+pub two_digits : (bytes one rest : List ℕ) → RestAfter (IsByte IsHexDigit) Never bytes one
+    → RestAfter (IsByte IsHexDigit) Never one rest → RestAfter IsTwoDigits Never bytes rest
 two_digits bytes one rest a b =
     let H = IsByte IsHexDigit in then_exact H H Never Never bytes one rest (never_bars H) a b
 
@@ -48,14 +49,14 @@ pub two_none1 : (bytes : List ℕ) → NoneStands (IsByte IsHexDigit) bytes
     → NoneStands IsTwoDigits bytes
 two_none1 bytes none = let H = IsByte IsHexDigit in first_none H H bytes none
 
-pub two_none2 : (bytes one : List ℕ) → Leaves (IsByte IsHexDigit) Never bytes one
+pub two_none2 : (bytes one : List ℕ) → RestAfter (IsByte IsHexDigit) Never bytes one
     → NoneStands (IsByte IsHexDigit) one → NoneStands IsTwoDigits bytes
 two_none2 bytes one a none =
     let H = IsByte IsHexDigit in then_none H H Never bytes one (never_bars H) a none
 
 module _ (P : ℕ → ℕ → Type 0) (bytes : List ℕ) where
   pub unit_is : (a b : ℕ) (digits rest : List ℕ) → bytes ≡ a ∷ b ∷ digits → P a b
-      → Leaves IsTwoDigits Never digits rest → Leaves (IsUnit P) Never bytes rest
+      → RestAfter IsTwoDigits Never digits rest → RestAfter (IsUnit P) Never bytes rest
   unit_is a b digits rest e p it =
       then_exact (AreTwo P) IsTwoDigits Never Never bytes digits rest (never_bars IsTwoDigits)
       (two_leaves P bytes a b digits e p) it
@@ -78,7 +79,7 @@ module _ (P : ℕ → ℕ → Type 0) (bytes : List ℕ) where
       (λ rest it. omega (arith, few, ap (λ l. length l) (two_first P bytes rest it)))
 
   pub unit_apart : (Q : ℕ → ℕ → Type 0) (rest : List ℕ) → ((a b : ℕ) → P a b → Q a b → ⊥)
-      → Stands (IsUnit P) bytes rest → NoneStands (IsUnit Q) bytes
+      → MatchesAtStart (IsUnit P) bytes rest → NoneStands (IsUnit Q) bytes
   unit_apart Q rest apart it =
       let (mid, two, digits) = then_split (AreTwo P) IsTwoDigits bytes rest it in
       first_none (AreTwo Q) IsTwoDigits bytes
@@ -94,7 +95,7 @@ module _ (bytes : List ℕ) where
   pub pair_no_high : NoneStands (IsUnit BeginHigh) bytes → NoneStands IsPair bytes
   pair_no_high none = first_none (IsUnit BeginHigh) BehindHigh bytes none
 
-  module _ (high : List ℕ) (it : Leaves (IsUnit BeginHigh) Never bytes high) where
+  module _ (high : List ℕ) (it : RestAfter (IsUnit BeginHigh) Never bytes high) where
     behind_high : NoneStands BehindHigh high → NoneStands IsPair bytes
     behind_high none =
         then_none (IsUnit BeginHigh) BehindHigh Never bytes high (never_bars BehindHigh) it none
@@ -123,8 +124,8 @@ module _ (bytes : List ℕ) where
             behind_slash (then_none (IsByte IsU) (IsUnit BeginLow) Never escape low
             (never_bars (IsUnit BeginLow)) (byte_leaves IsU escape 117 low letter refl) none)
 
-        pub pair_is : (rest : List ℕ) → Leaves (IsUnit BeginLow) Never low rest
-            → Leaves IsPair Never bytes rest
+        pub pair_is : (rest : List ℕ) → RestAfter (IsUnit BeginLow) Never low rest
+            → RestAfter IsPair Never bytes rest
         pair_is rest second =
             then_exact (IsUnit BeginHigh) BehindHigh Never Never bytes high rest
             (never_bars BehindHigh) it
@@ -139,14 +140,14 @@ module _ (bytes : List ℕ) where
   no_high a b (first, second, below) (is, inr (inl above)) = omega (arith, below is, above)
   no_high a b (first, second, below) (is, inr (inr above)) = omega (arith, below is, above)
 
-  pub character_only : (rest : List ℕ) → Leaves (IsUnit BeginOnly) Never bytes rest
-      → Leaves IsCharacter Never bytes rest
+  pub character_only : (rest : List ℕ) → RestAfter (IsUnit BeginOnly) Never bytes rest
+      → RestAfter IsCharacter Never bytes rest
   character_only rest it =
       either_left (IsUnit BeginOnly) IsPair Never bytes rest it
       (pair_no_high (unit_apart BeginOnly bytes BeginHigh rest no_high it.stands))
 
   pub character_pair : (rest : List ℕ) → NoneStands (IsUnit BeginOnly) bytes
-      → Leaves IsPair Never bytes rest → Leaves IsCharacter Never bytes rest
+      → RestAfter IsPair Never bytes rest → RestAfter IsCharacter Never bytes rest
   character_pair rest none it =
       either_right (IsUnit BeginOnly) IsPair Never bytes rest none it
 

@@ -13,7 +13,7 @@ use Rattle.format_json_extents.proofs.Firsts.{nested_starts, scalar_no_bracket, 
 use Rattle.format_json_extents.proofs.Firsts.{space_no_first}
 use Rattle.format_json_extents.proofs.Firsts.{value_starts}
 use Rattle.format_json_extents.proofs.Items.{ends, goes, never_begins, stops}
-use Rattle.format_json_extents.proofs.Leading.{Leads}
+use Rattle.format_json_extents.proofs.Leading.{SameMatches}
 use Rattle.format_json_extents.proofs.Standing.{Apart, Bars, all_leaves, all_stays, byte_bars}
 use Rattle.format_json_extents.proofs.Standing.{byte_first}
 use Rattle.format_json_extents.proofs.Standing.{byte_leaves, byte_none, either_left, either_none}
@@ -26,7 +26,8 @@ use Rattle.format_json_extents.proofs.Texts.{string_starts}
 use Rattle.format_json_extents.proofs.Words.{IsFirstOfScalar, scalar_starts}
 use Rattle.format_json_extents.specs.Number.{IsNumberByte}
 use Rattle.format_json_extents.specs.Strings.{IsQuote, IsString}
-use Rattle.format_json_extents.specs.Texts.{IsByte, Leaves, Never, NoneStands, Stands, Then}
+use Rattle.format_json_extents.specs.Texts.{IsByte, MatchesAtStart, Never, NoneStands, RestAfter}
+use Rattle.format_json_extents.specs.Texts.{Then}
 use Rattle.format_json_extents.specs.Value.{IsClosing, IsColon, IsElement, IsEmptyTail, IsGap}
 use Rattle.format_json_extents.specs.Value.{IsItem}
 use Rattle.format_json_extents.specs.Value.{IsItemsTail, IsKey, IsName, IsNested, IsNestedTail}
@@ -46,15 +47,15 @@ space_bars V starts =
     then_bars V IsGap IsSpace (starts_bars V IsFirst IsSpace starts space_no_first)
 
 pub element_is : (V : List ℕ → Type 0) (bytes start behind rest : List ℕ) → Starts V IsFirst
-    → Leaves IsGap IsSpace bytes start → Leaves V IsNumberByte start behind
-    → Leaves IsGap IsSpace behind rest → Leaves (IsElement V) IsItemByte bytes rest
+    → RestAfter IsGap IsSpace bytes start → RestAfter V IsNumberByte start behind
+    → RestAfter IsGap IsSpace behind rest → RestAfter (IsElement V) IsItemByte bytes rest
 element_is V bytes start behind rest starts before is after =
     then_exact IsGap (Then V IsGap) IsSpace IsItemByte bytes start rest (space_bars V starts) before
     (then_leaves V IsGap IsNumberByte IsSpace start behind rest
     (all_stays IsSpace IsNumberByte number_no_space) is after)
 
 pub element_none : (V : List ℕ → Type 0) (bytes start : List ℕ) → Starts V IsFirst
-    → Leaves IsGap IsSpace bytes start → NoneStands V start → NoneStands (IsElement V) bytes
+    → RestAfter IsGap IsSpace bytes start → NoneStands V start → NoneStands (IsElement V) bytes
 element_none V bytes start starts before none =
     then_none IsGap (Then V IsGap) IsSpace bytes start (space_bars V starts) before
     (first_none V IsGap start none)
@@ -77,23 +78,23 @@ colon_bars = byte_bars IsColon IsSpace apart
     apart : Apart IsColon IsSpace
     apart b c s = let low = space_low b s in omega (arith, low, c)
 
-pub name_is : (bytes start named ahead rest : List ℕ) → Leaves IsGap IsSpace bytes start
-    → Leaves IsString Never start named → Leaves IsGap IsSpace named ahead → ahead ≡ 58 ∷ rest
-    → Leaves IsKey Never bytes rest
+pub name_is : (bytes start named ahead rest : List ℕ) → RestAfter IsGap IsSpace bytes start
+    → RestAfter IsString Never start named → RestAfter IsGap IsSpace named ahead → ahead ≡ 58 ∷ rest
+    → RestAfter IsKey Never bytes rest
 name_is bytes start named ahead rest before name after e =
     then_exact IsGap (Then IsString BehindName) IsSpace Never bytes start rest name_bars before
     (then_exact IsString BehindName Never Never start named rest (never_bars BehindName) name
     (then_exact IsGap (IsByte IsColon) IsSpace Never named ahead rest colon_bars after
     (byte_leaves IsColon ahead 58 rest e refl)))
 
-pub name_no_string : (bytes start : List ℕ) → Leaves IsGap IsSpace bytes start
+pub name_no_string : (bytes start : List ℕ) → RestAfter IsGap IsSpace bytes start
     → NoneStands IsString start → NoneStands IsKey bytes
 name_no_string bytes start before none =
     then_none IsGap (Then IsString BehindName) IsSpace bytes start name_bars before
     (first_none IsString BehindName start none)
 
-pub name_no_colon : (bytes start named ahead : List ℕ) → Leaves IsGap IsSpace bytes start
-    → Leaves IsString Never start named → Leaves IsGap IsSpace named ahead
+pub name_no_colon : (bytes start named ahead : List ℕ) → RestAfter IsGap IsSpace bytes start
+    → RestAfter IsString Never start named → RestAfter IsGap IsSpace named ahead
     → ((more : List ℕ) → ahead ≡ 58 ∷ more → ⊥) → NoneStands IsKey bytes
 name_no_colon bytes start named ahead before name after not =
     then_none IsGap (Then IsString BehindName) IsSpace bytes start name_bars before
@@ -102,8 +103,8 @@ name_no_colon bytes start named ahead before name after not =
     (this_none 58 ahead not)))
 
 pub keyed_is : (keyed : Bool) (bytes rest : List ℕ) → keyed ≡ true
-    → Leaves IsKey Never bytes rest → Leaves (IsName keyed) Never bytes rest
-keyed_is keyed bytes rest e it = subst (λ k. Leaves (IsName k) Never bytes rest) (sym e) it
+    → RestAfter IsKey Never bytes rest → RestAfter (IsName keyed) Never bytes rest
+keyed_is keyed bytes rest e it = subst (λ k. RestAfter (IsName k) Never bytes rest) (sym e) it
 
 pub keyed_none : (keyed : Bool) (bytes : List ℕ) → keyed ≡ true → NoneStands IsKey bytes
     → NoneStands (IsName keyed) bytes
@@ -111,24 +112,24 @@ keyed_none keyed bytes e none = subst (λ k. NoneStands (IsName k) bytes) (sym e
 
 -- ---- items
 
-pub no_name : (bytes : List ℕ) → Leaves (Only []) Never bytes bytes
+pub no_name : (bytes : List ℕ) → RestAfter (Only []) Never bytes bytes
 no_name bytes = record {
   stands = record { text = []; is = refl; splits = refl };
   only = λ other it. inl (sym (it.splits ∙ ap (λ l. l ++ other) it.is));
 }
 
 pub item_is : (keyed : Bool) (V : List ℕ → Type 0) (bytes named rest : List ℕ)
-    → Leaves (IsName keyed) Never bytes named → Leaves (IsElement V) IsItemByte named rest
-    → Leaves (IsItem keyed V) IsItemByte bytes rest
+    → RestAfter (IsName keyed) Never bytes named → RestAfter (IsElement V) IsItemByte named rest
+    → RestAfter (IsItem keyed V) IsItemByte bytes rest
 item_is true V bytes named rest name it =
     then_exact IsKey (IsElement V) Never IsItemByte bytes named rest (never_bars (IsElement V)) name
     it
 item_is false V bytes named rest name it =
     let same : bytes ≡ named = name.stands.splits ∙ ap (λ l. l ++ named) name.stands.is in
-    subst (λ l. Leaves (IsElement V) IsItemByte l rest) (sym same) it
+    subst (λ l. RestAfter (IsElement V) IsItemByte l rest) (sym same) it
 
 pub item_none : (keyed : Bool) (V : List ℕ → Type 0) (bytes named : List ℕ)
-    → Leaves (IsName keyed) Never bytes named → NoneStands (IsElement V) named
+    → RestAfter (IsName keyed) Never bytes named → NoneStands (IsElement V) named
     → NoneStands (IsItem keyed V) bytes
 item_none true V bytes named name none =
     then_none IsKey (IsElement V) Never bytes named (never_bars (IsElement V)) name none
@@ -143,15 +144,15 @@ item_no_name false V bytes none = absurd (none bytes (no_name bytes).stands)
 
 -- an item by its parts
 pub item_parts : (keyed : Bool) (level : ℕ) (bytes named start behind ahead : List ℕ)
-    → Leaves (IsName keyed) Never bytes named → Leaves IsGap IsSpace named start
-    → Leaves (IsValue level) IsNumberByte start behind → Leaves IsGap IsSpace behind ahead
-    → Leaves (IsItem keyed (IsValue level)) IsItemByte bytes ahead
+    → RestAfter (IsName keyed) Never bytes named → RestAfter IsGap IsSpace named start
+    → RestAfter (IsValue level) IsNumberByte start behind → RestAfter IsGap IsSpace behind ahead
+    → RestAfter (IsItem keyed (IsValue level)) IsItemByte bytes ahead
 item_parts keyed level bytes named start behind ahead name before it after =
     item_is keyed (IsValue level) bytes named ahead name
     (element_is (IsValue level) named start behind ahead (value_starts level) before it after)
 
 pub item_no_value : (keyed : Bool) (level : ℕ) (bytes named start : List ℕ)
-    → Leaves (IsName keyed) Never bytes named → Leaves IsGap IsSpace named start
+    → RestAfter (IsName keyed) Never bytes named → RestAfter IsGap IsSpace named start
     → NoneStands (IsValue level) start → NoneStands (IsItem keyed (IsValue level)) bytes
 item_no_value keyed level bytes named start name before none =
     item_none keyed (IsValue level) bytes named name
@@ -160,21 +161,21 @@ item_no_value keyed level bytes named start name before none =
 -- ---- items up to the closing bracket
 
 pub items_end : (keyed : Bool) (V : List ℕ → Type 0) (bytes ahead rest : List ℕ)
-    → Leaves (IsItem keyed V) IsItemByte bytes ahead → ahead ≡ closing keyed ∷ rest
-    → Leaves (IsItemsTail keyed V) Never bytes rest
+    → RestAfter (IsItem keyed V) IsItemByte bytes ahead → ahead ≡ closing keyed ∷ rest
+    → RestAfter (IsItemsTail keyed V) Never bytes rest
 items_end keyed V bytes ahead rest it e =
     ends (IsItem keyed V) IsItemByte (closing keyed) bytes ahead rest it e (closing_ends keyed)
     comma_ends (comma_no_closing keyed)
 
 pub items_more : (keyed : Bool) (V : List ℕ → Type 0) (bytes ahead next : List ℕ)
-    → Leaves (IsItem keyed V) IsItemByte bytes ahead → ahead ≡ 44 ∷ next
-    → Leads (IsItemsTail keyed V) bytes next
+    → RestAfter (IsItem keyed V) IsItemByte bytes ahead → ahead ≡ 44 ∷ next
+    → SameMatches (IsItemsTail keyed V) bytes next
 items_more keyed V bytes ahead next it e =
     goes (IsItem keyed V) IsItemByte (closing keyed) bytes ahead next it e (closing_ends keyed)
     comma_ends (comma_no_closing keyed)
 
 pub items_stop : (keyed : Bool) (V : List ℕ → Type 0) (bytes ahead : List ℕ)
-    → Leaves (IsItem keyed V) IsItemByte bytes ahead
+    → RestAfter (IsItem keyed V) IsItemByte bytes ahead
     → ((more : List ℕ) → ahead ≡ closing keyed ∷ more → ⊥)
     → ((more : List ℕ) → ahead ≡ 44 ∷ more → ⊥) → NoneStands (IsItemsTail keyed V) bytes
 items_stop keyed V bytes ahead it none no_more =
@@ -186,7 +187,7 @@ pub items_none : (keyed : Bool) (V : List ℕ → Type 0) (bytes : List ℕ)
 items_none keyed V bytes none = never_begins (IsItem keyed V) (closing keyed) bytes none
 
 pub items_less : (keyed : Bool) (level : ℕ) (bytes ahead next : List ℕ)
-    → Leaves (IsItem keyed (IsValue level)) IsItemByte bytes ahead → ahead ≡ 44 ∷ next
+    → RestAfter (IsItem keyed (IsValue level)) IsItemByte bytes ahead → ahead ≡ 44 ∷ next
     → length next < length bytes
 items_less keyed level bytes ahead next it e =
     omega (
@@ -206,20 +207,21 @@ closing_no_space keyed b e s = elim (closing_is keyed b e) [
 closing_bars : (keyed : Bool) → Bars (IsByte (IsClosing keyed)) IsSpace
 closing_bars keyed = byte_bars (IsClosing keyed) IsSpace (closing_no_space keyed)
 
-pub empty_is : (keyed : Bool) (bytes ahead rest : List ℕ) → Leaves IsGap IsSpace bytes ahead
-    → ahead ≡ closing keyed ∷ rest → Leaves (IsEmptyTail keyed) Never bytes rest
+pub empty_is : (keyed : Bool) (bytes ahead rest : List ℕ) → RestAfter IsGap IsSpace bytes ahead
+    → ahead ≡ closing keyed ∷ rest → RestAfter (IsEmptyTail keyed) Never bytes rest
 empty_is keyed bytes ahead rest before e =
     then_exact IsGap (IsByte (IsClosing keyed)) IsSpace Never bytes ahead rest (closing_bars keyed)
     before (byte_leaves (IsClosing keyed) ahead (closing keyed) rest e refl)
 
-pub empty_none : (keyed : Bool) (bytes ahead : List ℕ) → Leaves IsGap IsSpace bytes ahead
+pub empty_none : (keyed : Bool) (bytes ahead : List ℕ) → RestAfter IsGap IsSpace bytes ahead
     → ((more : List ℕ) → ahead ≡ closing keyed ∷ more → ⊥) → NoneStands (IsEmptyTail keyed) bytes
 empty_none keyed bytes ahead before not =
     then_none IsGap (IsByte (IsClosing keyed)) IsSpace bytes ahead (closing_bars keyed) before
     (this_none (closing keyed) ahead not)
 
 item_closed : (keyed : Bool) (V : List ℕ → Type 0) (bytes at rest : List ℕ) → Starts V IsFirst
-    → Leaves IsGap IsSpace bytes at → at ≡ closing keyed ∷ rest → NoneStands (IsItem keyed V) bytes
+    → RestAfter IsGap IsSpace bytes at → at ≡ closing keyed ∷ rest
+    → NoneStands (IsItem keyed V) bytes
 item_closed true V bytes at rest starts before e =
     first_none IsKey (IsElement V) bytes
     (name_no_string bytes at before
@@ -236,25 +238,26 @@ item_closed false V bytes at rest starts before e =
     apart b is first = first_not b first (inr (inl is))
 
 empty_alone : (keyed : Bool) (V : List ℕ → Type 0) (bytes rest : List ℕ) → Starts V IsFirst
-    → Stands (IsEmptyTail keyed) bytes rest → NoneStands (IsItemsTail keyed V) bytes
+    → MatchesAtStart (IsEmptyTail keyed) bytes rest → NoneStands (IsItemsTail keyed V) bytes
 empty_alone keyed V bytes rest starts it =
     let (at, gap, end) = then_split IsGap (IsByte (IsClosing keyed)) bytes rest it in
     let is : at ≡ closing keyed ∷ rest =
     byte_first (IsClosing keyed) at rest end ∙ ap (λ b. b ∷ rest) end.is.is_byte in
-    let before : Leaves IsGap IsSpace bytes at =
+    let before : RestAfter IsGap IsSpace bytes at =
     all_leaves IsSpace gap.text bytes at gap.is gap.splits
     (λ b more e s. closing_no_space keyed b (same_byte _ _ _ _ (sym e ∙ is)).0 s) in
     items_none keyed V bytes (item_closed keyed V bytes at rest starts before is)
 
 pub tail_empty : (keyed : Bool) (V : List ℕ → Type 0) (bytes rest : List ℕ) → Starts V IsFirst
-    → Leaves (IsEmptyTail keyed) Never bytes rest → Leaves (IsNestedTail keyed V) Never bytes rest
+    → RestAfter (IsEmptyTail keyed) Never bytes rest
+    → RestAfter (IsNestedTail keyed V) Never bytes rest
 tail_empty keyed V bytes rest starts it =
     either_left (IsEmptyTail keyed) (IsItemsTail keyed V) Never bytes rest it
     (empty_alone keyed V bytes rest starts it.stands)
 
 pub tail_items : (keyed : Bool) (V : List ℕ → Type 0) (bytes rest : List ℕ)
-    → NoneStands (IsEmptyTail keyed) bytes → Leaves (IsItemsTail keyed V) Never bytes rest
-    → Leaves (IsNestedTail keyed V) Never bytes rest
+    → NoneStands (IsEmptyTail keyed) bytes → RestAfter (IsItemsTail keyed V) Never bytes rest
+    → RestAfter (IsNestedTail keyed V) Never bytes rest
 tail_items keyed V bytes rest none it =
     either_right (IsEmptyTail keyed) (IsItemsTail keyed V) Never bytes rest none it
 
@@ -265,8 +268,8 @@ tail_none keyed V bytes one two =
     either_none (IsEmptyTail keyed) (IsItemsTail keyed V) bytes one two
 
 opening_is : (keyed : Bool) (V : List ℕ → Type 0) (bytes inside rest : List ℕ)
-    → bytes ≡ opening keyed ∷ inside → Leaves (IsNestedTail keyed V) Never inside rest
-    → Leaves (Inside keyed V) Never bytes rest
+    → bytes ≡ opening keyed ∷ inside → RestAfter (IsNestedTail keyed V) Never inside rest
+    → RestAfter (Inside keyed V) Never bytes rest
 opening_is keyed V bytes inside rest e it =
     then_exact (IsByte (This (opening keyed))) (IsNestedTail keyed V) Never Never bytes inside rest
     (never_bars (IsNestedTail keyed V))
@@ -288,8 +291,8 @@ other_opening keyed V bytes b inside e not =
     (byte_none (This (opening keyed)) bytes b inside e not)
 
 pub nested_is : (keyed : Bool) (V : List ℕ → Type 0) (bytes inside rest : List ℕ)
-    → bytes ≡ opening keyed ∷ inside → Leaves (IsNestedTail keyed V) Never inside rest
-    → Leaves (IsNested V) Never bytes rest
+    → bytes ≡ opening keyed ∷ inside → RestAfter (IsNestedTail keyed V) Never inside rest
+    → RestAfter (IsNested V) Never bytes rest
 nested_is false V bytes inside rest e it =
     either_left (Inside false V) (Inside true V) Never bytes rest
     (opening_is false V bytes inside rest e it)
@@ -322,8 +325,8 @@ not_nested V bytes not rest it =
 
 -- ---- values
 
-pub value_scalar : (level : ℕ) (bytes rest : List ℕ) → Leaves IsScalar IsNumberByte bytes rest
-    → Leaves (IsValue level) IsNumberByte bytes rest
+pub value_scalar : (level : ℕ) (bytes rest : List ℕ) → RestAfter IsScalar IsNumberByte bytes rest
+    → RestAfter (IsValue level) IsNumberByte bytes rest
 value_scalar zero bytes rest it = it
 value_scalar (suc level) bytes rest it =
     either_left IsScalar (IsNested (IsValue level)) IsNumberByte bytes rest it
@@ -332,10 +335,10 @@ value_scalar (suc level) bytes rest it =
     (nested_starts (IsValue level)) scalar_no_bracket) it.stands)
 
 pub value_nested : (level below : ℕ) (bytes rest : List ℕ) → level ≡ suc below
-    → NoneStands IsScalar bytes → Leaves (IsNested (IsValue below)) Never bytes rest
-    → Leaves (IsValue level) IsNumberByte bytes rest
+    → NoneStands IsScalar bytes → RestAfter (IsNested (IsValue below)) Never bytes rest
+    → RestAfter (IsValue level) IsNumberByte bytes rest
 value_nested level below bytes rest e none it =
-    subst (λ n. Leaves (IsValue n) IsNumberByte bytes rest) (sym e)
+    subst (λ n. RestAfter (IsValue n) IsNumberByte bytes rest) (sym e)
     (either_right IsScalar (IsNested (IsValue below)) IsNumberByte bytes rest none
     (widen (IsNested (IsValue below)) Never IsNumberByte bytes rest (λ b n. absurd n) it))
 
@@ -373,14 +376,14 @@ value_no_other (suc level) bytes not none =
 -- ---- texts
 
 pub text_is : (level : ℕ) (S : ℕ → Type 0) (bytes rest : List ℕ)
-    → Leaves (IsElement (IsValue level)) S bytes rest → rest ≡ [] → IsText level bytes
+    → RestAfter (IsElement (IsValue level)) S bytes rest → rest ≡ [] → IsText level bytes
 text_is level S bytes rest it e =
     subst (IsText level)
     (sym (it.stands.splits ∙ ap (λ l. it.stands.text ++ l) e ∙ append-nil it.stands.text))
     it.stands.is
 
 pub text_ends : (level : ℕ) (S : ℕ → Type 0) (bytes rest : List ℕ)
-    → Leaves (IsElement (IsValue level)) S bytes rest → IsText level bytes → rest ≡ []
+    → RestAfter (IsElement (IsValue level)) S bytes rest → IsText level bytes → rest ≡ []
 text_ends level S bytes rest it is =
     elim (it.only [] (record { text = bytes; is = is; splits = sym (append-nil bytes) })) [
       | inl same ↦ sym same

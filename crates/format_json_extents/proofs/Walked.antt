@@ -7,15 +7,18 @@ use Rattle.std.proofs.lemmas.List.Elements.{All-head, All-tail}
 use Rattle.format_json_extents.proofs.Beginnings.{no_bytes}
 use Rattle.format_json_extents.proofs.Standing.{byte_stands, same_byte, then_split, then_stands}
 use Rattle.format_json_extents.proofs.Stepping.{IsFirstOfToken, lead_no_token, token_starts}
-use Rattle.format_json_extents.proofs.Telling.{Here, Tells, tells_bracket}
+use Rattle.format_json_extents.proofs.Telling.{Here, StepsUpTo, tells_bracket}
 use Rattle.format_json_extents.proofs.Telling.{tells_nothing, tells_on, tells_scalar}
 use Rattle.format_json_extents.specs.Number.{IsNumberByte}
 use Rattle.format_json_extents.specs.Steps.{IsBeforeColon, IsBracket, IsNextStep, IsOfStep}
 use Rattle.format_json_extents.specs.Texts.{IsByte}
-use Rattle.format_json_extents.specs.Told.{InTurn, IsScalarOf, IsTold, TellsElement, TellsItem}
-use Rattle.format_json_extents.specs.Told.{TellsList, TellsMember, TellsNested, TellsScalar}
-use Rattle.format_json_extents.specs.Told.{TellsText, TellsValue, Told, begin_of, end_of}
-use Rattle.format_json_extents.specs.Told.{tells_before, tells_last}
+use Rattle.format_json_extents.specs.StepLists.{InTurn, IsScalarOf, StepsOfElement, StepsOfItem}
+use Rattle.format_json_extents.specs.StepLists.{StepsResult}
+use Rattle.format_json_extents.specs.StepLists.{StepsOfList, StepsOfMember, StepsOfNested}
+use Rattle.format_json_extents.specs.StepLists.{StepsOfScalar}
+use Rattle.format_json_extents.specs.StepLists.{StepList, StepsOfText, StepsOfValue, begin_of}
+use Rattle.format_json_extents.specs.StepLists.{end_of}
+use Rattle.format_json_extents.specs.StepLists.{tells_before, tells_last}
 use Rattle.format_json_extents.specs.Value.{IsColon, IsGap, IsSpace, closing, opening}
 use Rattle.format_json_extents.specs.Walk.{IsClosingByte, IsLead, IsMark}
 use Rattle.format_json_extents.specs.declared.steps.Step.{Step}
@@ -124,14 +127,14 @@ mark_leads gap b all is behind also = record {
 -- ---- values
 
 -- Calls return the steps of a value, wherever a value may occur.
-abbrev Walks : (Told → List ℕ → Type 0) → Type 0
+abbrev Walks : (StepList → List ℕ → Type 0) → Type 0
 Walks V =
-    (told : Told) (value : List ℕ) → V told value → (lead rest : List ℕ) → IsLead lead
-    → Follows rest → Tells (lead ++ (value ++ rest)) told rest
+    (told : StepList) (value : List ℕ) → V told value → (lead rest : List ℕ) → IsLead lead
+    → Follows rest → StepsUpTo (lead ++ (value ++ rest)) told rest
 
-scalar_walks : Walks TellsScalar
+scalar_walks : Walks StepsOfScalar
 scalar_walks told value it lead rest is follows =
-    let P : Told → Type 0 = λ l. Tells (lead ++ (value ++ rest)) l rest in
+    let P : StepList → Type 0 = λ l. StepsUpTo (lead ++ (value ++ rest)) l rest in
     subst P (sym it.alone)
     (tells_scalar it.step value (lead ++ (value ++ rest)) rest (record {
       lead = lead;
@@ -141,16 +144,16 @@ scalar_walks told value it lead rest is follows =
     }) (follows_stops rest follows))
 
 -- Calls tell these steps of a text with an end after it, and leave white space and the end.
-abbrev Reaches : List ℕ → Told → List ℕ → Type 0
-Reaches start told tail = (gap : List ℕ) × IsGap gap × Tells start told (gap ++ tail)
+abbrev Reaches : List ℕ → StepList → List ℕ → Type 0
+Reaches start told tail = (gap : List ℕ) × IsGap gap × StepsUpTo start told (gap ++ tail)
 
-reaches_from : (start other tail : List ℕ) (told : Told) → start ≡ other
+reaches_from : (start other tail : List ℕ) (told : StepList) → start ≡ other
     → Reaches other told tail → Reaches start told tail
 reaches_from start other tail told e (gap, all, it) =
-    let P : List ℕ → Type 0 = λ l. Tells l told (gap ++ tail) in (gap, all, subst P (sym e) it)
+    let P : List ℕ → Type 0 = λ l. StepsUpTo l told (gap ++ tail) in (gap, all, subst P (sym e) it)
 
-module _ (V : Told → List ℕ → Type 0) (walks : Walks V) where
-  element_reaches : (told : Told) (text front tail : List ℕ) → TellsElement V told text
+module _ (V : StepList → List ℕ → Type 0) (walks : Walks V) where
+  element_reaches : (told : StepList) (text front tail : List ℕ) → StepsOfElement V told text
       → Leading front → Stops tail → Reaches (front ++ (text ++ tail)) told tail
   element_reaches told text front tail it leads stops =
       let rest = it.behind ++ tail in
@@ -183,7 +186,7 @@ module _ (V : Told → List ℕ → Type 0) (walks : Walks V) where
       follower_no_number b
       (inl (subst IsSpace (same_byte _ _ _ _ e).0 (All-head IsSpace g gap all))) number
 
-  member_reaches : (told : Told) (text front tail : List ℕ) → TellsMember V told text
+  member_reaches : (told : StepList) (text front tail : List ℕ) → StepsOfMember V told text
       → Leading front → Stops tail → Reaches (front ++ (text ++ tail)) told tail
   member_reaches told text front tail it leads stops =
       let behind = it.element ++ tail in
@@ -209,7 +212,7 @@ module _ (V : Told → List ℕ → Type 0) (walks : Walks V) where
       (sym (append_assoc it.between (58 ∷ []) behind))
       (element_reaches it.others it.element colon tail it.is_element
       (mark_leads it.between 58 it.is_between (inr refl)) stops) in
-      let P : Told → Type 0 = λ l. Reaches (front ++ (text ++ tail)) l tail in
+      let P : StepList → Type 0 = λ l. Reaches (front ++ (text ++ tail)) l tail in
       subst P (sym it.in_turn)
       (reaches_from (front ++ (text ++ tail)) start tail ((steps.Name, it.name) ∷ it.others) e (
         gap,
@@ -217,14 +220,14 @@ module _ (V : Told → List ℕ → Type 0) (walks : Walks V) where
         tells_on start rest (gap ++ tail) ((steps.Name, it.name) ∷ []) it.others name value,
       ))
 
-  item_reaches : (keyed : Bool) (told : Told) (text front tail : List ℕ)
-      → TellsItem keyed V told text → Leading front → Stops tail
+  item_reaches : (keyed : Bool) (told : StepList) (text front tail : List ℕ)
+      → StepsOfItem keyed V told text → Leading front → Stops tail
       → Reaches (front ++ (text ++ tail)) told tail
   item_reaches true = member_reaches
   item_reaches false = element_reaches
 
-  list_reaches : (keyed : Bool) (told : Told) (text front tail : List ℕ)
-      → TellsList (TellsItem keyed V) told text → Leading front → Stops tail
+  list_reaches : (keyed : Bool) (told : StepList) (text front tail : List ℕ)
+      → StepsOfList (StepsOfItem keyed V) told text → Leading front → Stops tail
       → Reaches (front ++ (text ++ tail)) told tail
   list_reaches keyed _ _ front tail (tells_last told text it) leads stops =
       item_reaches keyed told text front tail it leads stops
@@ -241,7 +244,7 @@ module _ (V : Told → List ℕ → Type 0) (walks : Walks V) where
       let same : front ++ (text ++ tail) ≡ start =
       ap (λ l. front ++ (l ++ tail)) e
       ∙ ap (λ l. front ++ l) (append_assoc first (44 ∷ more) tail) in
-      let P : Told → Type 0 = λ l. Reaches (front ++ (text ++ tail)) l tail in
+      let P : StepList → Type 0 = λ l. Reaches (front ++ (text ++ tail)) l tail in
       subst P (sym turn)
       (reaches_from (front ++ (text ++ tail)) start tail (one ++ others) same (
         last,
@@ -271,7 +274,7 @@ module _ (V : Told → List ℕ → Type 0) (walks : Walks V) where
   closing_bracket true = inr refl
   closing_bracket false = inl refl
 
-  nested_walks : (keyed : Bool) → Walks (TellsNested keyed V)
+  nested_walks : (keyed : Bool) → Walks (StepsOfNested keyed V)
   nested_walks keyed told value it lead rest is follows =
       let tail = closing keyed ∷ rest in
       let middle = it.inside ++ tail in
@@ -285,32 +288,32 @@ module _ (V : Told → List ℕ → Type 0) (walks : Walks V) where
       let end = tells_bracket (end_of keyed) (closing keyed) (gap ++ tail) rest
       (end_here keyed gap rest all) (inr (closing_bracket keyed)) in
       let ended = (end_of keyed, closing keyed ∷ []) ∷ [] in
-      let P : Told → Type 0 = λ l. Tells (lead ++ (value ++ rest)) l rest in
+      let P : StepList → Type 0 = λ l. StepsUpTo (lead ++ (value ++ rest)) l rest in
       let Q : List ℕ → Type 0 = λ l.
-      Tells l ((begin_of keyed, opening keyed ∷ []) ∷ (it.inner ++ ended)) rest in
+      StepsUpTo l ((begin_of keyed, opening keyed ∷ []) ∷ (it.inner ++ ended)) rest in
       subst P (sym it.in_turn)
       (subst Q (sym e)
       (tells_on start middle rest ((begin_of keyed, opening keyed ∷ []) ∷ []) (it.inner ++ ended)
       begin (tells_on middle (gap ++ tail) rest it.inner ended items end)))
     where
-      inside : (inner : Told) (text : List ℕ)
-          → (IsGap text × (inner ≡ [])) ⊎ TellsList (TellsItem keyed V) inner text
+      inside : (inner : StepList) (text : List ℕ)
+          → (IsGap text × (inner ≡ [])) ⊎ StepsOfList (StepsOfItem keyed V) inner text
           → Reaches (text ++ closing keyed ∷ rest) inner (closing keyed ∷ rest)
       inside inner text (inl (all, none)) =
-          let P : Told → Type 0 = λ l.
-          Tells (text ++ closing keyed ∷ rest) l (text ++ closing keyed ∷ rest) in
+          let P : StepList → Type 0 = λ l.
+          StepsUpTo (text ++ closing keyed ∷ rest) l (text ++ closing keyed ∷ rest) in
           (text, all, subst P (sym none) (tells_nothing (text ++ closing keyed ∷ rest)))
       inside inner text (inr list) =
           list_reaches keyed inner text [] (closing keyed ∷ rest) list gap_leads
           (inr (closing_bracket keyed))
 
-value_walks : (level : ℕ) → Walks (TellsValue level)
+value_walks : (level : ℕ) → Walks (StepsOfValue level)
 value_walks zero told value it = scalar_walks told value it
 value_walks (suc level) told value (inl it) = scalar_walks told value it
 value_walks (suc level) told value (inr (inl it)) =
-    nested_walks (TellsValue level) (value_walks level) false told value it
+    nested_walks (StepsOfValue level) (value_walks level) false told value it
 value_walks (suc level) told value (inr (inr it)) =
-    nested_walks (TellsValue level) (value_walks level) true told value it
+    nested_walks (StepsOfValue level) (value_walks level) true told value it
 
 -- ---- texts
 
@@ -330,19 +333,19 @@ gap_no_step gap all s t mid next =
     within (c ∷ bytes) (x ∷ front) b more is e f =
         within bytes front b more (All-tail IsSpace c bytes is) (same_byte _ _ _ _ e).1 f
 
-pub text_told : (level : ℕ) (bytes : List ℕ) (told found : Told) (rest : List ℕ)
-    → TellsText level told bytes → InTurn bytes found rest → IsTold told found rest
+pub text_told : (level : ℕ) (bytes : List ℕ) (told found : StepList) (rest : List ℕ)
+    → StepsOfText level told bytes → InTurn bytes found rest → StepsResult told found rest
 unfolding InTurn
 text_told level bytes told found rest it turn =
     let (gap, all, tells) = reaches_from bytes (bytes ++ []) [] told (sym (append-nil bytes))
-    (element_reaches (TellsValue level) (value_walks level) told bytes [] [] it gap_leads tt) in
+    (element_reaches (StepsOfValue level) (value_walks level) told bytes [] [] it gap_leads tt) in
     elim (tells.calls found rest turn) [
       | inl within ↦ inr within
       | inr (more, e, left) ↦ inl (ended gap all more e (subst (λ l. InTurn l more rest)
           (append-nil gap) left))
     ]
   where
-    ended : (gap : List ℕ) → IsGap gap → (more : Told) → found ≡ told ++ more
+    ended : (gap : List ℕ) → IsGap gap → (more : StepList) → found ≡ told ++ more
         → InTurn gap more rest → (found ≡ told) × IsGap rest
     ended gap all [] e left = (e ∙ append-nil told, subst IsGap left all)
     ended gap all (s ∷ more) e (mid, next, others) =

@@ -10,9 +10,10 @@ use Rattle.format_json_extents.proofs.Standing.{first_none, maybe_none, maybe_so
 use Rattle.format_json_extents.proofs.Standing.{never_bars}
 use Rattle.format_json_extents.proofs.Standing.{shorter, then_bars, then_exact, then_leaves}
 use Rattle.format_json_extents.proofs.Standing.{then_none}
-use Rattle.format_json_extents.specs.Texts.{IsByte, Leaves, Maybe, Never, NoneStands, Or, Then}
+use Rattle.format_json_extents.specs.Texts.{IsByte, Maybe, Never, NoneStands, Or, RestAfter, Then}
 use Rattle.format_json_extents.specs.Value.{IsGap, IsSpace, IsValue}
-use Rattle.format_json_extents.specs.Walk.{BeginsEnd, EndsItems, IsClosingByte, IsLead, IsLeadByte}
+use Rattle.format_json_extents.specs.Walk.{EndsItems, IsClosingByte, IsLead, IsLeadByte}
+use Rattle.format_json_extents.specs.Walk.{StartsWithEnd}
 use Rattle.format_json_extents.specs.Walk.{IsMark}
 
 -- a mark, and white space after it
@@ -26,15 +27,16 @@ mark_no_space b (inr is) s = let low = space_low b s in omega (arith, low, is)
 marked_bars : Bars Marked IsSpace
 marked_bars = then_bars (IsByte IsMark) IsGap IsSpace (byte_bars IsMark IsSpace mark_no_space)
 
-lead_of : (bytes ahead rest : List ℕ) → Leaves IsGap IsSpace bytes ahead
-    → Leaves (Maybe Marked) (Or IsSpace IsMark) ahead rest → Leaves IsLead IsLeadByte bytes rest
+lead_of : (bytes ahead rest : List ℕ) → RestAfter IsGap IsSpace bytes ahead
+    → RestAfter (Maybe Marked) (Or IsSpace IsMark) ahead rest
+    → RestAfter IsLead IsLeadByte bytes rest
 lead_of bytes ahead rest before it =
     then_leaves IsGap (Maybe Marked) IsSpace (Or IsSpace IsMark) bytes ahead rest
     (maybe_stays Marked IsSpace marked_bars) before it
 
-pub lead_marked : (bytes ahead more rest : List ℕ) (b : ℕ) → Leaves IsGap IsSpace bytes ahead
-    → ahead ≡ b ∷ more → IsMark b → Leaves IsGap IsSpace more rest
-    → Leaves IsLead IsLeadByte bytes rest
+pub lead_marked : (bytes ahead more rest : List ℕ) (b : ℕ) → RestAfter IsGap IsSpace bytes ahead
+    → ahead ≡ b ∷ more → IsMark b → RestAfter IsGap IsSpace more rest
+    → RestAfter IsLead IsLeadByte bytes rest
 lead_marked bytes ahead more rest b before e mark after =
     let marked = then_exact (IsByte IsMark) IsGap Never IsSpace ahead more rest (never_bars IsGap)
     (byte_leaves IsMark ahead b more e mark) after in
@@ -43,8 +45,8 @@ lead_marked bytes ahead more rest b before e mark after =
     (maybe_some Marked IsSpace IsMark ahead rest b more e mark
     (omega (arith, less, ap (λ l. length l) e)) marked)
 
-pub lead_bare : (bytes ahead : List ℕ) → Leaves IsGap IsSpace bytes ahead
-    → NoneStands (IsByte IsMark) ahead → Leaves IsLead IsLeadByte bytes ahead
+pub lead_bare : (bytes ahead : List ℕ) → RestAfter IsGap IsSpace bytes ahead
+    → NoneStands (IsByte IsMark) ahead → RestAfter IsLead IsLeadByte bytes ahead
 lead_bare bytes ahead before none =
     lead_of bytes ahead ahead before
     (maybe_none Marked (Or IsSpace IsMark) ahead (first_none (IsByte IsMark) IsGap ahead none))
@@ -61,25 +63,25 @@ pub closing_no_space : Apart IsClosingByte IsSpace
 closing_no_space b (inl is) s = let low = space_low b s in omega (arith, low, is)
 closing_no_space b (inr is) s = let low = space_low b s in omega (arith, low, is)
 
-pub ends_closing : (bytes ahead more : List ℕ) (b : ℕ) → Leaves IsGap IsSpace bytes ahead
+pub ends_closing : (bytes ahead more : List ℕ) (b : ℕ) → RestAfter IsGap IsSpace bytes ahead
     → ahead ≡ b ∷ more → IsClosingByte b → EndsItems bytes
 ends_closing bytes ahead more b before e is =
-    (ahead, before.stands, subst BeginsEnd (sym e) is)
+    (ahead, before.stands, subst StartsWithEnd (sym e) is)
 
-pub ends_nothing : (bytes ahead : List ℕ) → Leaves IsGap IsSpace bytes ahead → length ahead ≡ 0
+pub ends_nothing : (bytes ahead : List ℕ) → RestAfter IsGap IsSpace bytes ahead → length ahead ≡ 0
     → EndsItems bytes
 ends_nothing bytes ahead before e =
-    (ahead, before.stands, subst BeginsEnd (sym (nil_from_length ahead e)) tt)
+    (ahead, before.stands, subst StartsWithEnd (sym (nil_from_length ahead e)) tt)
 
 -- with white space first there is no end
 space_no_end : (rest : List ℕ) (b : ℕ) (more : List ℕ) → rest ≡ b ∷ more → IsSpace b
-    → BeginsEnd rest → ⊥
-space_no_end rest b more e s is = closing_no_space b (subst BeginsEnd e is) s
+    → StartsWithEnd rest → ⊥
+space_no_end rest b more e s is = closing_no_space b (subst StartsWithEnd e is) s
 
-pub ends_is : (bytes ahead more : List ℕ) (b : ℕ) → Leaves IsGap IsSpace bytes ahead
+pub ends_is : (bytes ahead more : List ℕ) (b : ℕ) → RestAfter IsGap IsSpace bytes ahead
     → ahead ≡ b ∷ more → EndsItems bytes → IsClosingByte b
 ends_is bytes ahead more b before e (rest, stands, is) = elim (before.only rest stands) [
-  | inl same ↦ subst BeginsEnd (same ∙ e) is
+  | inl same ↦ subst StartsWithEnd (same ∙ e) is
   | inr goes ↦ absurd (space_no_end rest goes.byte goes.tail goes.begins goes.is_byte is)
 ]
 
@@ -110,7 +112,7 @@ lead_no_first b (inl s) f = space_no_first b s f
 lead_no_first b (inr (inl s)) f = space_no_first b s f
 lead_no_first b (inr (inr mark)) f = side_no_mark b (first_side b f) mark
 
-pub lead_none : (level : ℕ) (bytes rest : List ℕ) → Leaves IsLead IsLeadByte bytes rest
+pub lead_none : (level : ℕ) (bytes rest : List ℕ) → RestAfter IsLead IsLeadByte bytes rest
     → NoneStands (IsValue level) rest → NoneStands (Then IsLead (IsValue level)) bytes
 lead_none level bytes rest lead none =
     then_none IsLead (IsValue level) IsLeadByte bytes rest

@@ -10,13 +10,14 @@ use Rattle.format_json_extents.proofs.Standing.{widen}
 use Rattle.format_json_extents.proofs.Texts.{string_is, string_none, string_starts}
 use Rattle.format_json_extents.specs.Number.{IsLeading, IsMinus, IsNumber, IsNumberByte, IsZero}
 use Rattle.format_json_extents.specs.Strings.{IsQuote, IsString, IsStringTail}
-use Rattle.format_json_extents.specs.Texts.{Either, Leaves, Never, NoneStands, Or, Stands}
+use Rattle.format_json_extents.specs.Texts.{Either, MatchesAtStart, Never, NoneStands, Or}
+use Rattle.format_json_extents.specs.Texts.{RestAfter}
 use Rattle.format_json_extents.specs.Value.{IsScalar, IsWord, Only}
 
 -- ---- one word
 
 pub only_leaves : (word bytes rest : List ℕ) → bytes ≡ word ++ rest
-    → Leaves (Only word) Never bytes rest
+    → RestAfter (Only word) Never bytes rest
 only_leaves word bytes rest e = record {
   stands = record { text = word; is = refl; splits = e };
   only = λ other it.
@@ -56,14 +57,14 @@ word_starts =
 
 -- two words that begin with two letters
 other_word : (c d : ℕ) (one two bytes rest : List ℕ) → (c ≡ d → ⊥)
-    → Leaves (Only (c ∷ one)) Never bytes rest → NoneStands (Only (d ∷ two)) bytes
+    → RestAfter (Only (c ∷ one)) Never bytes rest → NoneStands (Only (d ∷ two)) bytes
 other_word c d one two bytes rest not it =
     starts_none (Only (c ∷ one)) (Only (d ∷ two)) (λ b. b ≡ c) bytes rest (only_starts c one)
     (starts_bars (Only (d ∷ two)) (λ b. b ≡ d) (λ b. b ≡ c) (only_starts d two)
     (λ b is also. not (sym is ∙ also))) it.stands
 
-pub word_null : (bytes rest : List ℕ) → Leaves (Only Null) Never bytes rest
-    → Leaves IsWord Never bytes rest
+pub word_null : (bytes rest : List ℕ) → RestAfter (Only Null) Never bytes rest
+    → RestAfter IsWord Never bytes rest
 word_null bytes rest it =
     either_left (Only Null) (Either (Only True) (Only False)) Never bytes rest it
     (either_none (Only True) (Only False) bytes
@@ -71,15 +72,15 @@ word_null bytes rest it =
     (other_word 110 102 _ _ bytes rest (λ e. omega (arith, e)) it))
 
 pub word_true : (bytes rest : List ℕ) → NoneStands (Only Null) bytes
-    → Leaves (Only True) Never bytes rest → Leaves IsWord Never bytes rest
+    → RestAfter (Only True) Never bytes rest → RestAfter IsWord Never bytes rest
 word_true bytes rest none it =
     either_right (Only Null) (Either (Only True) (Only False)) Never bytes rest none
     (either_left (Only True) (Only False) Never bytes rest it
     (other_word 116 102 _ _ bytes rest (λ e. omega (arith, e)) it))
 
 pub word_false : (bytes rest : List ℕ) → NoneStands (Only Null) bytes
-    → NoneStands (Only True) bytes → Leaves (Only False) Never bytes rest
-    → Leaves IsWord Never bytes rest
+    → NoneStands (Only True) bytes → RestAfter (Only False) Never bytes rest
+    → RestAfter IsWord Never bytes rest
 word_false bytes rest one two it =
     either_right (Only Null) (Either (Only True) (Only False)) Never bytes rest one
     (either_right (Only True) (Only False) Never bytes rest two it)
@@ -105,7 +106,7 @@ scalar_starts =
     string_starts
     (either_starts IsNumber IsWord IsFirstOfNumber IsFirstLetter number_starts word_starts)
 
-string_alone : (bytes rest : List ℕ) → Stands IsString bytes rest
+string_alone : (bytes rest : List ℕ) → MatchesAtStart IsString bytes rest
     → NoneStands (Either IsNumber IsWord) bytes
 string_alone bytes rest it =
     starts_none IsString (Either IsNumber IsWord) IsQuote bytes rest string_starts
@@ -121,7 +122,7 @@ string_alone bytes rest it =
     apart b e (inr (inr (inl is))) = omega (arith, e, is)
     apart b e (inr (inr (inr is))) = omega (arith, e, is)
 
-number_alone : (bytes rest : List ℕ) → Stands IsNumber bytes rest → NoneStands IsWord bytes
+number_alone : (bytes rest : List ℕ) → MatchesAtStart IsNumber bytes rest → NoneStands IsWord bytes
 number_alone bytes rest it =
     starts_none IsNumber IsWord IsFirstOfNumber bytes rest number_starts
     (starts_bars IsWord IsFirstLetter IsFirstOfNumber word_starts apart) it
@@ -136,21 +137,21 @@ number_alone bytes rest it =
     apart b is (inr (inl e)) = let less = letter b is in omega (arith, less, e)
     apart b is (inr (inr e)) = let less = letter b is in omega (arith, less, e)
 
-pub scalar_string : (bytes rest : List ℕ) → Leaves IsString Never bytes rest
-    → Leaves IsScalar IsNumberByte bytes rest
+pub scalar_string : (bytes rest : List ℕ) → RestAfter IsString Never bytes rest
+    → RestAfter IsScalar IsNumberByte bytes rest
 scalar_string bytes rest it =
     either_left IsString (Either IsNumber IsWord) IsNumberByte bytes rest
     (widen IsString Never IsNumberByte bytes rest (λ b n. absurd n) it)
     (string_alone bytes rest it.stands)
 
 pub scalar_number : (bytes rest : List ℕ) → NoneStands IsString bytes
-    → Leaves IsNumber IsNumberByte bytes rest → Leaves IsScalar IsNumberByte bytes rest
+    → RestAfter IsNumber IsNumberByte bytes rest → RestAfter IsScalar IsNumberByte bytes rest
 scalar_number bytes rest none it =
     either_right IsString (Either IsNumber IsWord) IsNumberByte bytes rest none
     (either_left IsNumber IsWord IsNumberByte bytes rest it (number_alone bytes rest it.stands))
 
 pub scalar_word : (bytes rest : List ℕ) → NoneStands IsString bytes → NoneStands IsNumber bytes
-    → Leaves IsWord Never bytes rest → Leaves IsScalar IsNumberByte bytes rest
+    → RestAfter IsWord Never bytes rest → RestAfter IsScalar IsNumberByte bytes rest
 scalar_word bytes rest one two it =
     either_right IsString (Either IsNumber IsWord) IsNumberByte bytes rest one
     (either_right IsNumber IsWord IsNumberByte bytes rest two
@@ -204,7 +205,7 @@ other_no_string bytes b more e not =
     none_first IsString IsQuote bytes b more string_starts e not
 
 pub quoted_is : (bytes inside rest : List ℕ) → bytes ≡ 34 ∷ inside
-    → Leaves IsStringTail Never inside rest → Leaves IsScalar IsNumberByte bytes rest
+    → RestAfter IsStringTail Never inside rest → RestAfter IsScalar IsNumberByte bytes rest
 quoted_is bytes inside rest e it = scalar_string bytes rest (string_is bytes inside rest e it)
 
 pub quoted_none : (bytes inside : List ℕ) → bytes ≡ 34 ∷ inside → NoneStands IsStringTail inside
@@ -214,7 +215,7 @@ quoted_none bytes inside e none =
     (low_no_word bytes 34 inside e (omega arith))
 
 pub low_is : (bytes : List ℕ) (b : ℕ) (more rest : List ℕ) → bytes ≡ b ∷ more → (b ≡ 34 → ⊥)
-    → Leaves IsNumber IsNumberByte bytes rest → Leaves IsScalar IsNumberByte bytes rest
+    → RestAfter IsNumber IsNumberByte bytes rest → RestAfter IsScalar IsNumberByte bytes rest
 low_is bytes b more rest e not it =
     scalar_number bytes rest (other_no_string bytes b more e not) it
 
@@ -224,7 +225,7 @@ low_none bytes b more e not low none =
     scalar_none bytes (other_no_string bytes b more e not) none (low_no_word bytes b more e low)
 
 pub high_is : (bytes : List ℕ) (b : ℕ) (more rest : List ℕ) → bytes ≡ b ∷ more → (b ≡ 34 → ⊥)
-    → (b ≤ 57 → ⊥) → Leaves IsWord Never bytes rest → Leaves IsScalar IsNumberByte bytes rest
+    → (b ≤ 57 → ⊥) → RestAfter IsWord Never bytes rest → RestAfter IsScalar IsNumberByte bytes rest
 high_is bytes b more rest e not high it =
     scalar_word bytes rest (other_no_string bytes b more e not)
     (high_no_number bytes b more e high) it

@@ -2,10 +2,10 @@
 pub mod Integer
 pub mod Number
 pub mod Standard
+pub mod StepLists
 pub mod Steps
 pub mod Strings
 pub mod Texts
-pub mod Told
 pub mod Unescaped
 pub mod Value
 pub mod Walk

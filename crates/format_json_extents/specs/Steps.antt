@@ -2,7 +2,8 @@
 use Rattle.std.specs.Prelude.{◌≡◌, ◌⊎◌, ℕ, List, [], ◌∷◌, ◌++◌}
 use Rattle.format_json_extents.specs.Number.{IsNumber, IsNumberByte}
 use Rattle.format_json_extents.specs.Strings.{IsString}
-use Rattle.format_json_extents.specs.Texts.{Either, GoesOn, IsByte, IsLongest, Stands, Then}
+use Rattle.format_json_extents.specs.Texts.{Either, IsByte, IsLongerRest, IsLongest, MatchesAtStart}
+use Rattle.format_json_extents.specs.Texts.{Then}
 use Rattle.format_json_extents.specs.Value.{IsColon, IsGap, IsScalar, Only}
 use Rattle.format_json_extents.specs.Walk.{IsClosingByte, IsLead}
 use Rattle.format_json_extents.specs.declared.steps.Step.{Step}
@@ -18,7 +19,7 @@ IsToken = Either (IsByte IsBracket) IsScalar
 
 -- `IsBeforeColon bytes`: `bytes` starts with whitespace and a colon.
 abbrev pub IsBeforeColon : List ℕ → Type 0
-IsBeforeColon bytes = (rest : List ℕ) × Stands (Then IsGap (IsByte IsColon)) bytes rest
+IsBeforeColon bytes = (rest : List ℕ) × MatchesAtStart (Then IsGap (IsByte IsColon)) bytes rest
 
 -- `IsOfStep step text rest`: `text` is of kind `step`, and `rest` follows it.
 abbrev pub IsOfStep : Step → List ℕ → List ℕ → Type 0
@@ -42,6 +43,6 @@ pub record IsNextStep (step : Step) (text bytes rest : List ℕ) : Type 0 where
   pub is_lead : IsLead lead
   pub splits : bytes ≡ lead ++ start
   pub longest : IsLongest IsToken text start rest
-  pub others : (other : List ℕ) → Stands IsToken start other
-      → (other ≡ rest) ⊎ GoesOn IsNumberByte other rest
+  pub others : (other : List ℕ) → MatchesAtStart IsToken start other
+      → (other ≡ rest) ⊎ IsLongerRest IsNumberByte other rest
   pub is_step : IsOfStep step text rest

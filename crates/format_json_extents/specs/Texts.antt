@@ -47,29 +47,31 @@ pub data List_of (P : List ℕ → Type 0) : List ℕ → Type 0 where
 
 -- ---- texts at the start of bytes
 
--- `Stands P bytes rest`: `bytes` starts with a text in `P`, followed by `rest`.
-pub record Stands (P : List ℕ → Type 0) (bytes rest : List ℕ) : Type 0 where
+-- `MatchesAtStart P bytes rest`: `bytes` starts with a text in `P`, followed by `rest`.
+pub record MatchesAtStart (P : List ℕ → Type 0) (bytes rest : List ℕ) : Type 0 where
   pub text : List ℕ
   pub is : P text
   pub splits : bytes ≡ text ++ rest
 
 -- `NoneStands P bytes`: `bytes` does not start with a text in `P`.
 abbrev pub NoneStands : (List ℕ → Type 0) → List ℕ → Type 0
-NoneStands P bytes = (rest : List ℕ) → Stands P bytes rest → ⊥
+NoneStands P bytes = (rest : List ℕ) → MatchesAtStart P bytes rest → ⊥
 
--- `GoesOn S more rest`: `more` is longer than `rest`, and starts with a byte of `S`.
-pub record GoesOn (S : ℕ → Type 0) (more rest : List ℕ) : Type 0 where
+-- `IsLongerRest S more rest`: `more` is longer than `rest`, and starts with a byte of `S`.
+pub record IsLongerRest (S : ℕ → Type 0) (more rest : List ℕ) : Type 0 where
   pub byte : ℕ
   pub tail : List ℕ
   pub begins : more ≡ byte ∷ tail
   pub is_byte : S byte
   pub is_more : length rest < length more
 
--- `Leaves P S bytes rest`: `bytes` starts with a text in `P`, followed by `rest`. Any other prefix
+-- `RestAfter P S bytes rest`: `bytes` starts with a text in `P`, followed by `rest`. Any other
+-- prefix
 -- in `P` is shorter, and a byte of `S` follows it.
-pub record Leaves (P : List ℕ → Type 0) (S : ℕ → Type 0) (bytes rest : List ℕ) : Type 0 where
-  pub stands : Stands P bytes rest
-  pub only : (other : List ℕ) → Stands P bytes other → (other ≡ rest) ⊎ GoesOn S other rest
+pub record RestAfter (P : List ℕ → Type 0) (S : ℕ → Type 0) (bytes rest : List ℕ) : Type 0 where
+  pub stands : MatchesAtStart P bytes rest
+  pub only : (other : List ℕ) → MatchesAtStart P bytes other
+      → (other ≡ rest) ⊎ IsLongerRest S other rest
 
 -- `EndsAt P bytes count`: the first `count` bytes are in `P`, and the next one is not.
 abbrev pub EndsAt : (P : ℕ → Type 0) (bytes : List ℕ) (count : ℕ) → Type 0

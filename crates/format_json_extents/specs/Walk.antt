@@ -2,7 +2,7 @@
 use Rattle.std.specs.Prelude.{⊤, ◌≡◌, ◌⊎◌, ℕ, suc, Bool, true, false, List, [], ◌∷◌, ◌++◌}
 use Rattle.format_json_extents.specs.Number.{IsNumber}
 use Rattle.format_json_extents.specs.Strings.{IsString}
-use Rattle.format_json_extents.specs.Texts.{IsByte, IsLongest, Maybe, Or, Stands, Then}
+use Rattle.format_json_extents.specs.Texts.{IsByte, IsLongest, MatchesAtStart, Maybe, Or, Then}
 use Rattle.format_json_extents.specs.Value.{IsGap, IsNestedTail, IsSpace, IsValue, Only}
 use Rattle.format_json_extents.specs.Value.{opening}
 use Rattle.format_json_extents.specs.declared.walk.Kind.{Kind}
@@ -34,13 +34,13 @@ abbrev pub IsClosingByte : ℕ → Type 0
 IsClosingByte b = (b ≡ 93) ⊎ (b ≡ 125)
 
 -- The bytes begin with a closing bracket, or there are none.
-abbrev pub BeginsEnd : List ℕ → Type 0
-BeginsEnd [] = ⊤
-BeginsEnd (b ∷ more) = IsClosingByte b
+abbrev pub StartsWithEnd : List ℕ → Type 0
+StartsWithEnd [] = ⊤
+StartsWithEnd (b ∷ more) = IsClosingByte b
 
 -- After whitespace, a closing bracket or the end follows.
 abbrev pub EndsItems : List ℕ → Type 0
-EndsItems bytes = (rest : List ℕ) × Stands IsGap bytes rest × BeginsEnd rest
+EndsItems bytes = (rest : List ℕ) × MatchesAtStart IsGap bytes rest × StartsWithEnd rest
 
 -- An array or an object, of this many levels.
 abbrev pub IsNestedBy : Bool → ℕ → List ℕ → Type 0

@@ -2,7 +2,7 @@
 
 ghost use Rattle.format_json_decimals.specs.Numbers.{IsWritten, Number};
 ghost use Rattle.format_json_extents.specs.Number.{IsNumber};
-ghost use Rattle.format_json_extents.specs.Told.{InTurn, IsTold, TellsText, Told};
+ghost use Rattle.format_json_extents.specs.StepLists.{InTurn, StepList, StepsOfText, StepsResult};
 ghost use Rattle.format_json_extents.specs.Value.{IsText, IsValue};
 ghost use Rattle.format_json_texts.specs.Values.{JsonText, ValueText};
 ghost use Rattle.format_json_texts.specs.declared.value.Value.{Value};
@@ -48,7 +48,7 @@ pub fn texts_are_those_of_the_standard<A: Allocator>()
 {}
 
 /// The steps of a JSON text, by the grammar of values, are those that successive calls of
-/// [`crate::steps::read_step`] return from its start. There is a list of them (`TellsText`), and
+/// [`crate::steps::read_step`] return from its start. There is a list of them (`StepsOfText`), and
 /// the steps of any successive calls are a prefix of it. They are the whole list if and only if
 /// only whitespace remains. Otherwise one more step follows, which the next call returns.
 ///
@@ -59,8 +59,9 @@ pub fn texts_are_those_of_the_standard<A: Allocator>()
 /// ```
 pub fn steps_in_turn_are_those_of_the_text()
     ensures { (level : ℕ) (bytes : List ℕ) → IsText level bytes
-        → (told : Told) × TellsText level told bytes
-        × ((found : Told) (rest : List ℕ) → InTurn bytes found rest → IsTold told found rest) }
+        → (told : StepList) × StepsOfText level told bytes
+        × ((found : StepList) (rest : List ℕ) → InTurn bytes found rest
+        → StepsResult told found rest) }
 {}
 
 /// The numbers of this crate are the texts that numbers in their parts are written as, so those of

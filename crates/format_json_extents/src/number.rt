@@ -5,20 +5,20 @@ ghost use Rattle.format_json_extents.specs.Number.{IsDigit, IsDigits, IsE, IsExp
 ghost use Rattle.format_json_extents.specs.Number.{IsMinus};
 ghost use Rattle.format_json_extents.specs.Number.{IsNumber, IsNumberByte, IsPoint, IsSign};
 ghost use Rattle.format_json_extents.specs.Number.{IsWhole};
-ghost use Rattle.format_json_extents.specs.Texts.{IsByte, IsLongest, Leaves, Maybe, Never};
+ghost use Rattle.format_json_extents.specs.Texts.{IsByte, IsLongest, Maybe, Never, RestAfter};
 ghost use Rattle.format_json_extents.specs.Texts.{NoneStands, Or};
 
-use crate::tokens::{behind, behind_digits};
+use crate::tokens::{skip_byte, skip_digits};
 
 /// Skips one or more digits.
 #[inline(always)]
-fn behind_some_digits<'i>(bytes: &'i [u8]) -> Option<&'i [u8]>
+fn skip_some_digits<'i>(bytes: &'i [u8]) -> Option<&'i [u8]>
     ensures { MatchOption result (NoneStands IsDigits bytes.now)
-        (λ rest. Leaves IsDigits IsDigit bytes.now rest.now) }
+        (λ rest. RestAfter IsDigits IsDigit bytes.now rest.now) }
 {
     let (first, more) = bytes.split_first()?;
     if *first >= b'0' && *first <= b'9' {
-        Some(behind_digits(more))
+        Some(skip_digits(more))
     } else {
         None
     }
@@ -26,10 +26,10 @@ fn behind_some_digits<'i>(bytes: &'i [u8]) -> Option<&'i [u8]>
 
 /// Skips a minus sign, if there is one.
 #[inline(always)]
-fn behind_minus<'i>(bytes: &'i [u8]) -> &'i [u8]
-    ensures { Leaves (Maybe (IsByte IsMinus)) (Or Never IsMinus) bytes.now result.now }
+fn skip_minus<'i>(bytes: &'i [u8]) -> &'i [u8]
+    ensures { RestAfter (Maybe (IsByte IsMinus)) (Or Never IsMinus) bytes.now result.now }
 {
-    match behind(b'-', bytes) {
+    match skip_byte(b'-', bytes) {
         Some(rest) => rest,
         None => bytes,
     }
@@ -37,8 +37,8 @@ fn behind_minus<'i>(bytes: &'i [u8]) -> &'i [u8]
 
 /// Skips a sign, if there is one.
 #[inline(always)]
-fn behind_sign<'i>(bytes: &'i [u8]) -> &'i [u8]
-    ensures { Leaves (Maybe (IsByte IsSign)) (Or Never IsSign) bytes.now result.now }
+fn skip_sign<'i>(bytes: &'i [u8]) -> &'i [u8]
+    ensures { RestAfter (Maybe (IsByte IsSign)) (Or Never IsSign) bytes.now result.now }
 {
     match bytes.split_first() {
         Some((first, more)) => {
@@ -54,16 +54,16 @@ fn behind_sign<'i>(bytes: &'i [u8]) -> &'i [u8]
 
 /// Skips the integer part of a number.
 #[inline(always)]
-fn behind_whole<'i>(bytes: &'i [u8]) -> Option<&'i [u8]>
+fn skip_whole<'i>(bytes: &'i [u8]) -> Option<&'i [u8]>
     ensures { MatchOption result (NoneStands IsWhole bytes.now)
-        (λ rest. Leaves IsWhole IsDigit bytes.now rest.now) }
+        (λ rest. RestAfter IsWhole IsDigit bytes.now rest.now) }
 {
     let (first, more) = bytes.split_first()?;
     if *first == b'0' {
         return Some(more);
     }
     if *first >= b'1' && *first <= b'9' {
-        Some(behind_digits(more))
+        Some(skip_digits(more))
     } else {
         None
     }
@@ -71,23 +71,23 @@ fn behind_whole<'i>(bytes: &'i [u8]) -> Option<&'i [u8]>
 
 /// Skips a decimal point and digits.
 #[inline(always)]
-fn behind_fraction<'i>(bytes: &'i [u8]) -> Option<&'i [u8]>
+fn skip_fraction<'i>(bytes: &'i [u8]) -> Option<&'i [u8]>
     ensures { MatchOption result (NoneStands IsFraction bytes.now)
-        (λ rest. Leaves IsFraction IsDigit bytes.now rest.now) }
+        (λ rest. RestAfter IsFraction IsDigit bytes.now rest.now) }
 {
-    let digits = behind(b'.', bytes)?;
-    behind_some_digits(digits)
+    let digits = skip_byte(b'.', bytes)?;
+    skip_some_digits(digits)
 }
 
 /// Skips an exponent.
 #[inline(always)]
-fn behind_exponent<'i>(bytes: &'i [u8]) -> Option<&'i [u8]>
+fn skip_exponent<'i>(bytes: &'i [u8]) -> Option<&'i [u8]>
     ensures { MatchOption result (NoneStands IsExponent bytes.now)
-        (λ rest. Leaves IsExponent IsDigit bytes.now rest.now) }
+        (λ rest. RestAfter IsExponent IsDigit bytes.now rest.now) }
 {
     let (first, more) = bytes.split_first()?;
     if *first == b'e' || *first == b'E' {
-        behind_some_digits(behind_sign(more))
+        skip_some_digits(skip_sign(more))
     } else {
         None
     }
@@ -95,10 +95,10 @@ fn behind_exponent<'i>(bytes: &'i [u8]) -> Option<&'i [u8]>
 
 /// Skips a fraction, if there is one.
 #[inline(always)]
-fn behind_any_fraction<'i>(bytes: &'i [u8]) -> &'i [u8]
-    ensures { Leaves (Maybe IsFraction) (Or IsDigit IsPoint) bytes.now result.now }
+fn skip_any_fraction<'i>(bytes: &'i [u8]) -> &'i [u8]
+    ensures { RestAfter (Maybe IsFraction) (Or IsDigit IsPoint) bytes.now result.now }
 {
-    match behind_fraction(bytes) {
+    match skip_fraction(bytes) {
         Some(rest) => rest,
         None => bytes,
     }
@@ -106,10 +106,10 @@ fn behind_any_fraction<'i>(bytes: &'i [u8]) -> &'i [u8]
 
 /// Skips an exponent, if there is one.
 #[inline(always)]
-fn behind_any_exponent<'i>(bytes: &'i [u8]) -> &'i [u8]
-    ensures { Leaves (Maybe IsExponent) (Or IsDigit IsE) bytes.now result.now }
+fn skip_any_exponent<'i>(bytes: &'i [u8]) -> &'i [u8]
+    ensures { RestAfter (Maybe IsExponent) (Or IsDigit IsE) bytes.now result.now }
 {
-    match behind_exponent(bytes) {
+    match skip_exponent(bytes) {
         Some(rest) => rest,
         None => bytes,
     }
@@ -117,12 +117,12 @@ fn behind_any_exponent<'i>(bytes: &'i [u8]) -> &'i [u8]
 
 /// Skips the longest number, and returns the remaining bytes.
 #[inline(always)]
-pub fn behind_number<'i>(bytes: &'i [u8]) -> Option<&'i [u8]>
+pub fn skip_number<'i>(bytes: &'i [u8]) -> Option<&'i [u8]>
     ensures { MatchOption result (NoneStands IsNumber bytes.now)
-        (λ rest. Leaves IsNumber IsNumberByte bytes.now rest.now) }
+        (λ rest. RestAfter IsNumber IsNumberByte bytes.now rest.now) }
 {
-    let rest = behind_whole(behind_minus(bytes))?;
-    Some(behind_any_exponent(behind_any_fraction(rest)))
+    let rest = skip_whole(skip_minus(bytes))?;
+    Some(skip_any_exponent(skip_any_fraction(rest)))
 }
 
 /// Returns the longest number that the input starts with, and consumes it. It may be shorter than
@@ -145,7 +145,7 @@ pub fn read_number<'i>(input: &mut &'i [u8]) -> Option<&'i [u8]>
     ensures kept { IfNone result (input.new.now ≡ input.old.now) }
 {
     let start = *input;
-    let rest = behind_number(start)?;
+    let rest = skip_number(start)?;
     *input = rest;
     Some(&start[..start.len() - rest.len()])
 }

@@ -6,13 +6,13 @@ ghost use Rattle.format_json_extents.specs.Number.{IsNumberByte};
 ghost use Rattle.format_json_extents.specs.Steps.{IsBeforeColon, IsBracket, IsNextStep, IsOfStep};
 ghost use Rattle.format_json_extents.specs.Steps.{IsToken};
 ghost use Rattle.format_json_extents.specs.Strings.{IsString};
-ghost use Rattle.format_json_extents.specs.Texts.{Leaves, NoneStands, Then};
+ghost use Rattle.format_json_extents.specs.Texts.{NoneStands, RestAfter, Then};
 ghost use Rattle.format_json_extents.specs.Value.{IsGap};
 ghost use Rattle.format_json_extents.specs.Walk.{IsLead};
 
-use crate::scalar::behind_scalar;
-use crate::tokens::{behind, behind_gap};
-use crate::walk::behind_lead;
+use crate::scalar::skip_scalar;
+use crate::tokens::{skip_byte, skip_whitespace};
+use crate::walk::skip_separator;
 
 /// The kind of the next part of a text.
 #[derive(Clone, Copy, Debug, PartialEq, Eq)]
@@ -49,15 +49,15 @@ fn is_bracket(byte: u8) -> bool
 
 /// Skips a bracket, or a value that is not an array or an object.
 #[inline(always)]
-fn behind_token<'i>(bytes: &'i [u8]) -> Option<&'i [u8]>
+fn skip_token<'i>(bytes: &'i [u8]) -> Option<&'i [u8]>
     ensures { MatchOption result (NoneStands IsToken bytes.now)
-        (λ rest. Leaves IsToken IsNumberByte bytes.now rest.now) }
+        (λ rest. RestAfter IsToken IsNumberByte bytes.now rest.now) }
 {
     let (first, more) = bytes.split_first()?;
     if is_bracket(*first) {
         Some(more)
     } else {
-        behind_scalar(bytes)
+        skip_scalar(bytes)
     }
 }
 
@@ -66,7 +66,7 @@ fn behind_token<'i>(bytes: &'i [u8]) -> Option<&'i [u8]>
 fn is_before_colon(bytes: &[u8]) -> bool
     ensures { IsTrue result ↔ IsBeforeColon bytes.now }
 {
-    match behind(b':', behind_gap(bytes)) {
+    match skip_byte(b':', skip_whitespace(bytes)) {
         Some(_) => true,
         None => false,
     }
@@ -130,8 +130,8 @@ pub fn read_step<'i>(input: &mut &'i [u8]) -> Option<(Step, &'i [u8])>
     ensures none { IfNone result (NoneStands (Then IsLead IsToken) input.old.now) }
     ensures kept { IfNone result (input.new.now ≡ input.old.now) }
 {
-    let start = behind_lead(*input);
-    let rest = behind_token(start)?;
+    let start = skip_separator(*input);
+    let rest = skip_token(start)?;
     let text = &start[..start.len() - rest.len()];
     *input = rest;
     Some((of_text(text, rest), text))
@@ -148,5 +148,5 @@ pub fn read_step<'i>(input: &mut &'i [u8]) -> Option<(Step, &'i [u8])>
 pub fn is_over(bytes: &[u8]) -> bool
     ensures { IsTrue result ↔ IsGap bytes.now }
 {
-    behind_gap(bytes).is_empty()
+    skip_whitespace(bytes).is_empty()
 }

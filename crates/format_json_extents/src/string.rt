@@ -4,9 +4,10 @@ ghost use Rattle.std.specs.Prelude.{◌≡◌, ◌↔◌, List, ℕ, IfNone, IfS
 ghost use Rattle.format_json_extents.specs.Strings.{BeginUnit, IsCharacter, IsEscape, IsEscaped};
 ghost use Rattle.format_json_extents.specs.Strings.{IsHexDigit, IsInQuotes, IsPair, IsString};
 ghost use Rattle.format_json_extents.specs.Strings.{IsStringTail, IsTwoDigits, IsUnit};
-ghost use Rattle.format_json_extents.specs.Texts.{IsByte, Leaves, Never, NoneStands, Stands};
+ghost use Rattle.format_json_extents.specs.Texts.{IsByte, MatchesAtStart, Never, NoneStands};
+ghost use Rattle.format_json_extents.specs.Texts.{RestAfter};
 
-use crate::tokens::{behind, behind_unescaped};
+use crate::tokens::{skip_byte, skip_unescaped};
 
 /// Whether a byte is a hexadecimal digit.
 fn is_hex_digit(byte: u8) -> bool
@@ -59,9 +60,9 @@ fn begins(unit: Unit, first: u8, second: u8) -> bool
 }
 
 /// Skips a hexadecimal digit.
-fn behind_digit<'i>(bytes: &'i [u8]) -> Option<&'i [u8]>
+fn skip_digit<'i>(bytes: &'i [u8]) -> Option<&'i [u8]>
     ensures { MatchOption result (NoneStands (IsByte IsHexDigit) bytes.now)
-        (λ rest. Leaves (IsByte IsHexDigit) Never bytes.now rest.now) }
+        (λ rest. RestAfter (IsByte IsHexDigit) Never bytes.now rest.now) }
 {
     let (first, more) = bytes.split_first()?;
     if is_hex_digit(*first) {
@@ -72,58 +73,58 @@ fn behind_digit<'i>(bytes: &'i [u8]) -> Option<&'i [u8]>
 }
 
 /// Skips two hexadecimal digits.
-fn behind_two_digits<'i>(bytes: &'i [u8]) -> Option<&'i [u8]>
+fn skip_two_digits<'i>(bytes: &'i [u8]) -> Option<&'i [u8]>
     ensures { MatchOption result (NoneStands IsTwoDigits bytes.now)
-        (λ rest. Leaves IsTwoDigits Never bytes.now rest.now) }
+        (λ rest. RestAfter IsTwoDigits Never bytes.now rest.now) }
 {
-    let one = behind_digit(bytes)?;
-    behind_digit(one)
+    let one = skip_digit(bytes)?;
+    skip_digit(one)
 }
 
 /// Skips the four digits of a unit of this kind.
-fn behind_unit<'i>(unit: Unit, bytes: &'i [u8]) -> Option<&'i [u8]>
+fn skip_unit<'i>(unit: Unit, bytes: &'i [u8]) -> Option<&'i [u8]>
     ensures { MatchOption result (NoneStands (IsUnit (BeginUnit unit)) bytes.now)
-        (λ rest. Leaves (IsUnit (BeginUnit unit)) Never bytes.now rest.now) }
+        (λ rest. RestAfter (IsUnit (BeginUnit unit)) Never bytes.now rest.now) }
 {
     let (first, more) = bytes.split_first()?;
     let (second, digits) = more.split_first()?;
     if begins(unit, *first, *second) {
-        behind_two_digits(digits)
+        skip_two_digits(digits)
     } else {
         None
     }
 }
 
 /// Skips the digits of a high surrogate, and the escaped low surrogate after them.
-fn behind_pair<'i>(bytes: &'i [u8]) -> Option<&'i [u8]>
+fn skip_pair<'i>(bytes: &'i [u8]) -> Option<&'i [u8]>
     ensures { MatchOption result (NoneStands IsPair bytes.now)
-        (λ rest. Leaves IsPair Never bytes.now rest.now) }
+        (λ rest. RestAfter IsPair Never bytes.now rest.now) }
 {
-    let high = behind_unit(Unit::High, bytes)?;
-    let escape = behind(b'\\', high)?;
-    let low = behind(b'u', escape)?;
-    behind_unit(Unit::Low, low)
+    let high = skip_unit(Unit::High, bytes)?;
+    let escape = skip_byte(b'\\', high)?;
+    let low = skip_byte(b'u', escape)?;
+    skip_unit(Unit::Low, low)
 }
 
 /// Skips the digits of a character: those of one unit, or of a pair.
-fn behind_character<'i>(bytes: &'i [u8]) -> Option<&'i [u8]>
+fn skip_character<'i>(bytes: &'i [u8]) -> Option<&'i [u8]>
     ensures { MatchOption result (NoneStands IsCharacter bytes.now)
-        (λ rest. Leaves IsCharacter Never bytes.now rest.now) }
+        (λ rest. RestAfter IsCharacter Never bytes.now rest.now) }
 {
-    match behind_unit(Unit::Only, bytes) {
+    match skip_unit(Unit::Only, bytes) {
         Some(rest) => Some(rest),
-        None => behind_pair(bytes),
+        None => skip_pair(bytes),
     }
 }
 
 /// Skips the bytes that a backslash escapes.
-pub(crate) fn behind_escape<'i>(bytes: &'i [u8]) -> Option<&'i [u8]>
+pub(crate) fn skip_escape<'i>(bytes: &'i [u8]) -> Option<&'i [u8]>
     ensures { MatchOption result (NoneStands IsEscape bytes.now)
-        (λ rest. Leaves IsEscape Never bytes.now rest.now) }
+        (λ rest. RestAfter IsEscape Never bytes.now rest.now) }
 {
     let (first, more) = bytes.split_first()?;
     if *first == b'u' {
-        behind_character(more)
+        skip_character(more)
     } else if is_escaped(*first) {
         Some(more)
     } else {
@@ -131,20 +132,20 @@ pub(crate) fn behind_escape<'i>(bytes: &'i [u8]) -> Option<&'i [u8]>
     }
 }
 
-/// The same as `behind_string_tail`, of a string with escapes.
+/// The same as `skip_string_tail`, of a string with escapes.
 #[inline(never)]
-fn behind_pieces<'i>(bytes: &'i [u8]) -> Option<&'i [u8]>
+fn skip_pieces<'i>(bytes: &'i [u8]) -> Option<&'i [u8]>
     ensures { MatchOption result (NoneStands IsStringTail bytes.now)
-        (λ rest. Leaves IsStringTail Never bytes.now rest.now) }
+        (λ rest. RestAfter IsStringTail Never bytes.now rest.now) }
 {
     let mut rest = bytes;
     'pieces: loop {
-        let ahead = behind_unescaped(rest);
-        match behind(b'"', ahead) {
+        let ahead = skip_unescaped(rest);
+        match skip_byte(b'"', ahead) {
             Some(end) => return Some(end),
             None => {
-                let escape = behind(b'\\', ahead)?;
-                rest = behind_escape(escape)?;
+                let escape = skip_byte(b'\\', ahead)?;
+                rest = skip_escape(escape)?;
             }
         }
     }
@@ -152,25 +153,25 @@ fn behind_pieces<'i>(bytes: &'i [u8]) -> Option<&'i [u8]>
 
 /// Skips a string from after its first quote, and returns the remaining bytes.
 #[inline(always)]
-pub fn behind_string_tail<'i>(bytes: &'i [u8]) -> Option<&'i [u8]>
+pub fn skip_string_tail<'i>(bytes: &'i [u8]) -> Option<&'i [u8]>
     ensures { MatchOption result (NoneStands IsStringTail bytes.now)
-        (λ rest. Leaves IsStringTail Never bytes.now rest.now) }
+        (λ rest. RestAfter IsStringTail Never bytes.now rest.now) }
 {
-    let ahead = behind_unescaped(bytes);
-    match behind(b'"', ahead) {
+    let ahead = skip_unescaped(bytes);
+    match skip_byte(b'"', ahead) {
         Some(end) => Some(end),
-        None => behind_pieces(ahead),
+        None => skip_pieces(ahead),
     }
 }
 
 /// Skips a string, and returns the remaining bytes.
 #[inline(always)]
-pub fn behind_string<'i>(bytes: &'i [u8]) -> Option<&'i [u8]>
+pub fn skip_string<'i>(bytes: &'i [u8]) -> Option<&'i [u8]>
     ensures { MatchOption result (NoneStands IsString bytes.now)
-        (λ rest. Leaves IsString Never bytes.now rest.now) }
+        (λ rest. RestAfter IsString Never bytes.now rest.now) }
 {
-    let inside = behind(b'"', bytes)?;
-    behind_string_tail(inside)
+    let inside = skip_byte(b'"', bytes)?;
+    skip_string_tail(inside)
 }
 
 /// Returns the contents of the string that the input starts with, without undoing escapes, and
@@ -195,12 +196,13 @@ pub fn behind_string<'i>(bytes: &'i [u8]) -> Option<&'i [u8]>
 /// ```
 pub fn read_string<'i>(input: &mut &'i [u8]) -> Option<&'i [u8]>
     ensures found { IfSome result (λ text. IsInQuotes text.now input.old.now input.new.now) }
-    ensures only { (rest : List ℕ) → Stands IsString input.old.now rest → rest ≡ input.new.now }
+    ensures only { (rest : List ℕ) → MatchesAtStart IsString input.old.now rest
+        → rest ≡ input.new.now }
     ensures none { IfNone result (NoneStands IsString input.old.now) }
     ensures kept { IfNone result (input.new.now ≡ input.old.now) }
 {
-    let inside = behind(b'"', *input)?;
-    let rest = behind_string_tail(inside)?;
+    let inside = skip_byte(b'"', *input)?;
+    let rest = skip_string_tail(inside)?;
     *input = rest;
     Some(&inside[..inside.len() - rest.len() - 1])
 }

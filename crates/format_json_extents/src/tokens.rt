@@ -5,7 +5,7 @@ ghost use Rattle.std.specs.Prelude.{length};
 ghost use Rattle.std.specs.List.{All};
 ghost use Rattle.format_json_extents.specs.Number.{IsDigit};
 ghost use Rattle.format_json_extents.specs.Strings.{IsUnescaped};
-ghost use Rattle.format_json_extents.specs.Texts.{EndsAt, Leaves};
+ghost use Rattle.format_json_extents.specs.Texts.{EndsAt, RestAfter};
 ghost use Rattle.format_json_extents.specs.Value.{IsSpace};
 
 use std::simd::prelude::*;
@@ -40,8 +40,8 @@ fn is_unescaped(byte: u8) -> bool
 
 /// Skips all digits, and returns the remaining bytes.
 #[inline(always)]
-pub fn behind_digits<'i>(bytes: &'i [u8]) -> &'i [u8]
-    ensures { Leaves (All IsDigit) IsDigit bytes.now result.now }
+pub fn skip_digits<'i>(bytes: &'i [u8]) -> &'i [u8]
+    ensures { RestAfter (All IsDigit) IsDigit bytes.now result.now }
 {
     let mut rest = bytes;
     'digits: loop {
@@ -60,14 +60,14 @@ pub fn behind_digits<'i>(bytes: &'i [u8]) -> &'i [u8]
 
 /// Skips all whitespace, and returns the remaining bytes.
 #[inline(always)]
-pub fn behind_gap<'i>(bytes: &'i [u8]) -> &'i [u8]
-    ensures { Leaves (All IsSpace) IsSpace bytes.now result.now }
+pub fn skip_whitespace<'i>(bytes: &'i [u8]) -> &'i [u8]
+    ensures { RestAfter (All IsSpace) IsSpace bytes.now result.now }
 {
     // Mostly there is none, or one byte.
     match bytes.split_first() {
         Some((first, more)) => {
             if is_space(*first) {
-                behind_more_space(more)
+                skip_more_whitespace(more)
             } else {
                 bytes
             }
@@ -78,13 +78,13 @@ pub fn behind_gap<'i>(bytes: &'i [u8]) -> &'i [u8]
 
 /// The same, after a byte of white space.
 #[inline(always)]
-fn behind_more_space<'i>(bytes: &'i [u8]) -> &'i [u8]
-    ensures { Leaves (All IsSpace) IsSpace bytes.now result.now }
+fn skip_more_whitespace<'i>(bytes: &'i [u8]) -> &'i [u8]
+    ensures { RestAfter (All IsSpace) IsSpace bytes.now result.now }
 {
     match bytes.split_first() {
         Some((first, more)) => {
             if is_space(*first) {
-                behind_long_gap(more)
+                skip_long_whitespace(more)
             } else {
                 bytes
             }
@@ -95,7 +95,7 @@ fn behind_more_space<'i>(bytes: &'i [u8]) -> &'i [u8]
 
 /// Skips `count` bytes.
 #[inline(always)]
-fn behind_many<'i>(count: usize, bytes: &'i [u8]) -> &'i [u8]
+fn skip_many<'i>(count: usize, bytes: &'i [u8]) -> &'i [u8]
     requires { count ≤ length bytes.now }
     ensures { result.now ≡ drop count bytes.now }
 {
@@ -138,16 +138,16 @@ fn space_first(lanes: u8x16) -> Option<usize>
     Some(ends.trailing_zeros() as usize)
 }
 
-/// The same as `behind_gap`, of several bytes of white space.
+/// The same as `skip_whitespace`, of several bytes of white space.
 #[inline(never)]
-fn behind_long_gap<'i>(bytes: &'i [u8]) -> &'i [u8]
-    ensures { Leaves (All IsSpace) IsSpace bytes.now result.now }
+fn skip_long_whitespace<'i>(bytes: &'i [u8]) -> &'i [u8]
+    ensures { RestAfter (All IsSpace) IsSpace bytes.now result.now }
 {
     let mut rest = bytes;
     'lanes: while rest.len() >= LANES {
         match space_first(u8x16::from_slice(rest)) {
-            Some(count) => return behind_many(count, rest),
-            None => rest = behind_many(LANES, rest),
+            Some(count) => return skip_many(count, rest),
+            None => rest = skip_many(LANES, rest),
         }
     }
     'last: loop {
@@ -166,28 +166,28 @@ fn behind_long_gap<'i>(bytes: &'i [u8]) -> &'i [u8]
 
 /// Skips all bytes that need no escape in a string, and returns the remaining bytes.
 #[inline(always)]
-pub fn behind_unescaped<'i>(bytes: &'i [u8]) -> &'i [u8]
-    ensures { Leaves (All IsUnescaped) IsUnescaped bytes.now result.now }
+pub fn skip_unescaped<'i>(bytes: &'i [u8]) -> &'i [u8]
+    ensures { RestAfter (All IsUnescaped) IsUnescaped bytes.now result.now }
 {
     if bytes.len() >= LANES {
         match unescaped_first(u8x16::from_slice(bytes)) {
-            Some(count) => return behind_many(count, bytes),
+            Some(count) => return skip_many(count, bytes),
             None => {}
         }
     }
-    behind_more_unescaped(bytes)
+    skip_more_unescaped(bytes)
 }
 
 /// The same, in longer strings and at the end of the bytes.
 #[inline(never)]
-fn behind_more_unescaped<'i>(bytes: &'i [u8]) -> &'i [u8]
-    ensures { Leaves (All IsUnescaped) IsUnescaped bytes.now result.now }
+fn skip_more_unescaped<'i>(bytes: &'i [u8]) -> &'i [u8]
+    ensures { RestAfter (All IsUnescaped) IsUnescaped bytes.now result.now }
 {
     let mut rest = bytes;
     'lanes: while rest.len() >= LANES {
         match unescaped_first(u8x16::from_slice(rest)) {
-            Some(count) => return behind_many(count, rest),
-            None => rest = behind_many(LANES, rest),
+            Some(count) => return skip_many(count, rest),
+            None => rest = skip_many(LANES, rest),
         }
     }
     'last: loop {
@@ -206,7 +206,7 @@ fn behind_more_unescaped<'i>(bytes: &'i [u8]) -> &'i [u8]
 
 /// Skips `byte`, and returns the remaining bytes.
 #[inline(always)]
-pub fn behind<'i>(byte: u8, bytes: &'i [u8]) -> Option<&'i [u8]>
+pub fn skip_byte<'i>(byte: u8, bytes: &'i [u8]) -> Option<&'i [u8]>
     ensures { MatchOption result ((more : List ℕ) → bytes.now ≡ byte ∷ more → ⊥)
         (λ rest. bytes.now ≡ byte ∷ rest.now) }
 {

@@ -11,8 +11,8 @@ ghost use Rattle.format_json_extents.specs.Unescaped.{IsTailWritten};
 ghost use Rattle.format_json_texts.specs.Strings.{EscapeText, StandsFor};
 ghost use Rattle.format_parts.specs.Hexadecimal.{IsHex, UnitText};
 
-use crate::string::behind_escape;
-use crate::tokens::{behind, behind_unescaped};
+use crate::string::skip_escape;
+use crate::tokens::{skip_byte, skip_unescaped};
 
 /// The character that a backslash and this byte stand for.
 fn letter(byte: u8) -> char
@@ -122,15 +122,15 @@ fn write_tail<'i>(bytes: &'i [u8], buffer: &mut [u8]) -> Option<(usize, &'i [u8]
     let mut rest = bytes;
     let mut count = 0;
     'pieces: loop {
-        let ahead = behind_unescaped(rest);
+        let ahead = skip_unescaped(rest);
         let plain = &rest[..rest.len() - ahead.len()];
         put(plain, count, buffer);
         count += plain.len();
-        match behind(b'"', ahead) {
+        match skip_byte(b'"', ahead) {
             Some(end) => return Some((count, end)),
             None => {
-                let escape = behind(b'\\', ahead)?;
-                rest = behind_escape(escape)?;
+                let escape = skip_byte(b'\\', ahead)?;
+                rest = skip_escape(escape)?;
                 count = put_escape(&escape[..escape.len() - rest.len()], count, buffer);
             }
         }
@@ -167,7 +167,7 @@ pub fn write_string<'i>(input: &mut &'i [u8], buffer: &mut [u8]) -> Option<usize
     ensures none { IfNone result (NoneStands IsString input.old.now) }
     ensures kept { IfNone result (input.new.now ≡ input.old.now) }
 {
-    let inside = behind(b'"', *input)?;
+    let inside = skip_byte(b'"', *input)?;
     let (count, rest) = write_tail(inside, buffer)?;
     *input = rest;
     Some(count)

@@ -5,18 +5,18 @@ ghost use Rattle.std.specs.Prelude.{IsTrue, MatchOption, length};
 ghost use Rattle.std.specs.Str.{IsUtf8};
 ghost use Rattle.format_json_extents.specs.Number.{IsNumberByte};
 ghost use Rattle.format_json_extents.specs.Standard.{IsTextByStandard, IsValueByStandard};
-ghost use Rattle.format_json_extents.specs.Texts.{IsLongest, Leaves, Never, NoneStands};
+ghost use Rattle.format_json_extents.specs.Texts.{IsLongest, Never, NoneStands, RestAfter};
 ghost use Rattle.format_json_extents.specs.Value.{IsEmptyTail, IsItemsTail, IsName, IsText};
 ghost use Rattle.format_json_extents.specs.Value.{IsValue, closing};
 ghost use Rattle.format_json_extents.specs.Value.{opening};
 
-use crate::scalar::behind_scalar;
-use crate::string::behind_string;
-use crate::tokens::{behind, behind_gap};
+use crate::scalar::skip_scalar;
+use crate::string::skip_string;
+use crate::tokens::{skip_byte, skip_whitespace};
 
 /// Skips an opening bracket, and returns whether names follow it.
 #[inline(always)]
-fn behind_opening<'i>(bytes: &'i [u8]) -> Option<(bool, &'i [u8])>
+fn skip_opening<'i>(bytes: &'i [u8]) -> Option<(bool, &'i [u8])>
     ensures { MatchOption result
         ((keyed : Bool) (more : List ℕ) → bytes.now ≡ opening keyed ∷ more → ⊥)
         (λ r. bytes.now ≡ opening r.0 ∷ r.1.now) }
@@ -31,35 +31,35 @@ fn behind_opening<'i>(bytes: &'i [u8]) -> Option<(bool, &'i [u8])>
 
 /// Skips the closing bracket.
 #[inline(always)]
-fn behind_closing<'i>(keyed: bool, bytes: &'i [u8]) -> Option<&'i [u8]>
+fn skip_closing<'i>(keyed: bool, bytes: &'i [u8]) -> Option<&'i [u8]>
     ensures { MatchOption result ((more : List ℕ) → bytes.now ≡ closing keyed ∷ more → ⊥)
         (λ rest. bytes.now ≡ closing keyed ∷ rest.now) }
 {
     if keyed {
-        behind(b'}', bytes)
+        skip_byte(b'}', bytes)
     } else {
-        behind(b']', bytes)
+        skip_byte(b']', bytes)
     }
 }
 
 /// Skips the closing bracket of an empty array or object.
 #[inline(always)]
-fn behind_empty<'i>(keyed: bool, bytes: &'i [u8]) -> Option<&'i [u8]>
+fn skip_empty<'i>(keyed: bool, bytes: &'i [u8]) -> Option<&'i [u8]>
     ensures { MatchOption result (NoneStands (IsEmptyTail keyed) bytes.now)
-        (λ rest. Leaves (IsEmptyTail keyed) Never bytes.now rest.now) }
+        (λ rest. RestAfter (IsEmptyTail keyed) Never bytes.now rest.now) }
 {
-    behind_closing(keyed, behind_gap(bytes))
+    skip_closing(keyed, skip_whitespace(bytes))
 }
 
 /// Skips a name and its colon in an object, and nothing in an array.
 #[inline(always)]
-fn behind_name<'i>(keyed: bool, bytes: &'i [u8]) -> Option<&'i [u8]>
+fn skip_name<'i>(keyed: bool, bytes: &'i [u8]) -> Option<&'i [u8]>
     ensures { MatchOption result (NoneStands (IsName keyed) bytes.now)
-        (λ rest. Leaves (IsName keyed) Never bytes.now rest.now) }
+        (λ rest. RestAfter (IsName keyed) Never bytes.now rest.now) }
 {
     if keyed {
-        let name = behind_string(behind_gap(bytes))?;
-        behind(b':', behind_gap(name))
+        let name = skip_string(skip_whitespace(bytes))?;
+        skip_byte(b':', skip_whitespace(name))
     } else {
         Some(bytes)
     }
@@ -68,18 +68,18 @@ fn behind_name<'i>(keyed: bool, bytes: &'i [u8]) -> Option<&'i [u8]>
 /// Skips the items and the closing bracket, from before the first item.
 #[cycle(nesting)]
 #[inline(never)]
-fn behind_items<'i>(keyed: bool, level: usize, bytes: &'i [u8]) -> Option<&'i [u8]>
+fn skip_items<'i>(keyed: bool, level: usize, bytes: &'i [u8]) -> Option<&'i [u8]>
     ensures { MatchOption result (NoneStands (IsItemsTail keyed (IsValue level)) bytes.now)
-        (λ rest. Leaves (IsItemsTail keyed (IsValue level)) Never bytes.now rest.now) }
+        (λ rest. RestAfter (IsItemsTail keyed (IsValue level)) Never bytes.now rest.now) }
 {
     let mut rest = bytes;
     'items: loop {
-        let named = behind_name(keyed, rest)?;
-        let item = behind_value(level, behind_gap(named))?;
-        let ahead = behind_gap(item);
-        match behind_closing(keyed, ahead) {
+        let named = skip_name(keyed, rest)?;
+        let item = skip_value(level, skip_whitespace(named))?;
+        let ahead = skip_whitespace(item);
+        match skip_closing(keyed, ahead) {
             Some(end) => return Some(end),
-            None => rest = behind(b',', ahead)?,
+            None => rest = skip_byte(b',', ahead)?,
         }
     }
 }
@@ -87,21 +87,21 @@ fn behind_items<'i>(keyed: bool, level: usize, bytes: &'i [u8]) -> Option<&'i [u
 /// Skips the longest value.
 #[cycle(nesting)]
 #[inline(always)]
-fn behind_value<'i>(level: usize, bytes: &'i [u8]) -> Option<&'i [u8]>
+fn skip_value<'i>(level: usize, bytes: &'i [u8]) -> Option<&'i [u8]>
     ensures { MatchOption result (NoneStands (IsValue level) bytes.now)
-        (λ rest. Leaves (IsValue level) IsNumberByte bytes.now rest.now) }
+        (λ rest. RestAfter (IsValue level) IsNumberByte bytes.now rest.now) }
 {
-    match behind_opening(bytes) {
+    match skip_opening(bytes) {
         Some((keyed, inside)) => {
             if level == 0 {
                 return None;
             }
-            match behind_empty(keyed, inside) {
+            match skip_empty(keyed, inside) {
                 Some(rest) => Some(rest),
-                None => behind_items(keyed, level - 1, inside),
+                None => skip_items(keyed, level - 1, inside),
             }
         }
-        None => behind_scalar(bytes),
+        None => skip_scalar(bytes),
     }
 }
 
@@ -136,7 +136,7 @@ pub fn read_value<'i>(level: usize, input: &mut &'i [u8]) -> Option<&'i [u8]>
         → MatchOption result ⊥ (λ found. length text ≤ length found.now) }
 {
     let start = *input;
-    let rest = behind_value(level, start)?;
+    let rest = skip_value(level, start)?;
     *input = rest;
     Some(&start[..start.len() - rest.len()])
 }
@@ -158,8 +158,8 @@ pub fn is_text(level: usize, bytes: &[u8]) -> bool
     ensures text { IsTrue result ↔ IsText level bytes.now }
     ensures standard { IsUtf8 bytes.now → IsTrue result ↔ IsTextByStandard level bytes.now }
 {
-    match behind_value(level, behind_gap(bytes)) {
-        Some(rest) => behind_gap(rest).is_empty(),
+    match skip_value(level, skip_whitespace(bytes)) {
+        Some(rest) => skip_whitespace(rest).is_empty(),
         None => false,
     }
 }

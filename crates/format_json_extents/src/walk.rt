@@ -1,13 +1,13 @@
 //! The values in arrays and objects of JSON, in sequence.
 
 ghost use Rattle.std.specs.Prelude.{◌≡◌, ◌↔◌, ◌∷◌, List, ℕ, IfNone, IfSome, IsTrue};
-ghost use Rattle.format_json_extents.specs.Texts.{Leaves, NoneStands, Then};
+ghost use Rattle.format_json_extents.specs.Texts.{NoneStands, RestAfter, Then};
 ghost use Rattle.format_json_extents.specs.Value.{IsValue};
 ghost use Rattle.format_json_extents.specs.Walk.{EndsItems, IsClosingByte, IsLead, IsLeadByte};
 ghost use Rattle.format_json_extents.specs.Walk.{IsMark};
 ghost use Rattle.format_json_extents.specs.Walk.{IsNext, IsOfKind};
 
-use crate::tokens::behind_gap;
+use crate::tokens::skip_whitespace;
 use crate::value::read_value;
 
 /// The kind of a value.
@@ -67,14 +67,14 @@ fn is_closing(byte: u8) -> bool
 
 /// Skips whitespace, at most one comma or colon, and whitespace; returns the remaining bytes.
 #[inline(always)]
-pub fn behind_lead<'i>(bytes: &'i [u8]) -> &'i [u8]
-    ensures { Leaves IsLead IsLeadByte bytes.now result.now }
+pub fn skip_separator<'i>(bytes: &'i [u8]) -> &'i [u8]
+    ensures { RestAfter IsLead IsLeadByte bytes.now result.now }
 {
-    let ahead = behind_gap(bytes);
+    let ahead = skip_whitespace(bytes);
     match ahead.split_first() {
         Some((first, more)) => {
             if is_mark(*first) {
-                behind_gap(more)
+                skip_whitespace(more)
             } else {
                 ahead
             }
@@ -104,7 +104,7 @@ pub fn read_next<'i>(level: usize, input: &mut &'i [u8]) -> Option<&'i [u8]>
     ensures none { IfNone result (NoneStands (Then IsLead (IsValue level)) input.old.now) }
     ensures kept { IfNone result (input.new.now ≡ input.old.now) }
 {
-    let mut left = behind_lead(*input);
+    let mut left = skip_separator(*input);
     let value = read_value(level, &mut left)?;
     *input = left;
     Some(value)
@@ -121,7 +121,7 @@ pub fn read_next<'i>(level: usize, input: &mut &'i [u8]) -> Option<&'i [u8]>
 pub fn is_end(bytes: &[u8]) -> bool
     ensures { IsTrue result ↔ EndsItems bytes.now }
 {
-    match behind_gap(bytes).split_first() {
+    match skip_whitespace(bytes).split_first() {
         Some((first, _)) => is_closing(*first),
         None => true,
     }

@@ -6,7 +6,8 @@ use Rattle.std.proofs.Common.{refl, sym, ap, subst, ◌∙◌, arith, length-app
 use Rattle.std.proofs.lemmas.List.{nil_from_length, same_from_push}
 use Rattle.std.proofs.Math.Seq.{get_or-append_seam}
 use Rattle.std.proofs.lemmas.Option.{slice_get-get_or}
-use Rattle.format_json_pieces.specs.Begun.{IsBegun, IsBehind, IsNextStep, last_open, next_step}
+use Rattle.format_json_pieces.specs.Begun.{IsAfterValue, IsNextStep, IsViablePrefix, last_open}
+use Rattle.format_json_pieces.specs.Begun.{next_step}
 use Rattle.format_json_pieces.specs.Begun.{others_open}
 use Rattle.format_json_pieces.specs.declared.begun.Bracket.{Bracket}
 use Rattle.format_json_pieces.specs.declared.begun.Mode.{Mode}
@@ -49,32 +50,32 @@ kept_others (bracket ∷ held) new (Some x) n m e size some =
 
 module _ (X : Type 0) (level : ℕ) (held : List Bracket) (more : List ℕ) where
   abbrev Next : Step → Type 0
-  Next s = IsNextStep (λ m o. IsBegun level m o more) level held s ↔ X
+  Next s = IsNextStep (λ m o. IsViablePrefix level m o more) level held s ↔ X
 
   pub walked : (mode : Mode) (left : List ℕ) (b : ℕ) (last : Option Bracket) (s : Step)
       (items : List Bracket) → left ≡ b ∷ more → last ≡ slice_get items (length items - 1)
-      → items ≡ kept held → s ≡ next_step mode last b → (IsBegun level mode held left ↔ X)
+      → items ≡ kept held → s ≡ next_step mode last b → (IsViablePrefix level mode held left ↔ X)
       → Next s
   walked mode left b last s items e found same is w =
-      let Q : List ℕ → Type 0 = λ l. IsBegun level mode held l ↔ X in
+      let Q : List ℕ → Type 0 = λ l. IsViablePrefix level mode held l ↔ X in
       let top = found ∙ ap (λ l. slice_get l (length l - 1)) same ∙ kept_last held in
       subst (λ t. Next t) (sym (is ∙ ap (λ x. next_step mode x b) top)) (subst Q e w)
 
 -- after a value in no bracket, and in one
 module _ (X : Type 0) (level : ℕ) (held : List Bracket) (more : List ℕ)
-    (w : IsBehind (λ m o. IsBegun level m o more) held ↔ X) where
+    (w : IsAfterValue (λ m o. IsViablePrefix level m o more) held ↔ X) where
   pub behind_none : length (kept held) ≡ 0 → X
   behind_none e = by held w (sym (kept_length held) ∙ e)
     where
-      by : (held : List Bracket) → (IsBehind (λ m o. IsBegun level m o more) held ↔ X)
+      by : (held : List Bracket) → (IsAfterValue (λ m o. IsViablePrefix level m o more) held ↔ X)
           → length held ≡ 0 → X
       by [] w e = w.0 tt
       by (bracket ∷ held) w e = absurd (omega (arith, e))
 
-  pub behind_some : (length (kept held) ≡ 0 → ⊥) → IsBegun level modes.After held more ↔ X
+  pub behind_some : (length (kept held) ≡ 0 → ⊥) → IsViablePrefix level modes.After held more ↔ X
   behind_some some = by held w (λ e. some (kept_length held ∙ e))
     where
-      by : (held : List Bracket) → (IsBehind (λ m o. IsBegun level m o more) held ↔ X)
-          → (length held ≡ 0 → ⊥) → IsBegun level modes.After held more ↔ X
+      by : (held : List Bracket) → (IsAfterValue (λ m o. IsViablePrefix level m o more) held ↔ X)
+          → (length held ≡ 0 → ⊥) → IsViablePrefix level modes.After held more ↔ X
       by [] w some = absurd (some refl)
       by (bracket ∷ held) w some = w

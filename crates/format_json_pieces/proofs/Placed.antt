@@ -5,7 +5,8 @@ use Rattle.std.proofs.Common.{ap, append_assoc, arith, inl, inr, length-append, 
 use Rattle.std.proofs.Common.{◌∙◌}
 use Rattle.std.proofs.lemmas.List.{append-nil, nil_from_length}
 use Rattle.format_json_pieces.proofs.Opened.{kept, kept_last, kept_length}
-use Rattle.format_json_pieces.specs.Begun.{IsBegun, IsBehind, IsNextStep, MayBegin, last_open}
+use Rattle.format_json_pieces.specs.Begun.{IsAfterValue, IsNextStep, IsViablePrefix, MayBegin}
+use Rattle.format_json_pieces.specs.Begun.{last_open}
 use Rattle.format_json_pieces.specs.Begun.{next_step, others_open}
 use Rattle.format_json_pieces.specs.Place.{IsPlace, IsWanted, LeadsTo, wanted}
 use Rattle.format_json_pieces.specs.declared.begun.Bracket.{Bracket}
@@ -74,11 +75,12 @@ module _ {level : ℕ} {bytes left : List ℕ} {mode : Mode} {items : List Brack
   module _ {b : ℕ} {more : List ℕ} (first : left ≡ b ∷ more) where
     -- what comes of the next byte
     led : (s : Step) → s ≡ next_step mode (last_open w.held) b → (l : List ℕ)
-        → IsNextStep (λ m o. IsBegun (suc level) m o l) (suc level) w.held s
+        → IsNextStep (λ m o. IsViablePrefix (suc level) m o l) (suc level) w.held s
         ↔ MayBegin level ((w.front ++ b ∷ []) ++ l)
     led s is l =
         let P : Step → List ℕ → Type 0 = λ t x.
-        IsNextStep (λ m o. IsBegun (suc level) m o l) (suc level) w.held t ↔ MayBegin level x in
+        IsNextStep (λ m o. IsViablePrefix (suc level) m o l) (suc level) w.held t
+        ↔ MayBegin level x in
         subst (λ t. P t ((w.front ++ b ∷ []) ++ l)) (sym is)
         (subst (λ x. P (next_step mode (last_open w.held) b) x)
         (sym (append_assoc w.front (b ∷ []) l)) (w.leads (b ∷ l)))
@@ -126,7 +128,7 @@ module _ {level : ℕ} {bytes left : List ℕ} {mode : Mode} {items : List Brack
         (mode, w.held, w.leads, inr (k, sym opens, full, refl))
 
     ended : (s : Step) → s ≡ next_step mode (last_open w.held) b
-        → ((l : List ℕ) → IsNextStep (λ m o. IsBegun (suc level) m o l) (suc level) w.held s)
+        → ((l : List ℕ) → IsNextStep (λ m o. IsViablePrefix (suc level) m o l) (suc level) w.held s)
         → IsPlace level bytes (length bytes) what.End
     ended s is x =
         let on : (l : List ℕ) → MayBegin level (bytes ++ l) =
@@ -155,7 +157,7 @@ module _ {level : ℕ} {bytes left : List ℕ} {mode : Mode} {items : List Brack
         (sym (kept_length (others_open w.held)) ∙ sym (ap (λ l. length l) same) ∙ none))
       where
         by : (held : List Bracket) → length held ≡ 0 → (l : List ℕ)
-            → IsBehind (λ m o. IsBegun (suc level) m o l) held
+            → IsAfterValue (λ m o. IsViablePrefix (suc level) m o l) held
         by [] e l = tt
         by (k ∷ held) e l = absurd (omega (arith, e))
 
@@ -189,7 +191,7 @@ module _ {level : ℕ} {bytes left : List ℕ} {mode : Mode} {items : List Brack
 
     -- a value ends in a bracket
     behind : (held : List Bracket) → 0 < length held → ((l : List ℕ)
-        → IsBehind (λ m o. IsBegun (suc level) m o l) held
+        → IsAfterValue (λ m o. IsViablePrefix (suc level) m o l) held
         ↔ MayBegin level ((w.front ++ b ∷ []) ++ l))
         → LeadsTo level (w.front ++ b ∷ []) modes.After held
     behind [] some x = absurd (omega (arith, some))

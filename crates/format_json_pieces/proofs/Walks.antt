@@ -3,7 +3,7 @@ use Rattle.std.specs.Prelude.{◌≡◌, ◌<◌, ◌↔◌, ◌++◌, ℕ, zero
 use Rattle.std.proofs.Common.{refl, sym, ap, subst, inl, inr, ◌∙◌, arith}
 use Rattle.std.proofs.lemmas.List.{append-nil}
 use Rattle.format_json_pieces.specs.Extent.{Closes, EndsString, IsPlain, behind_byte, behind_escape}
-use Rattle.format_json_pieces.specs.Extent.{behind_plain, behind_string, byte, escaped, open_behind}
+use Rattle.format_json_pieces.specs.Extent.{behind_plain, byte, escaped, open_behind, skip_string}
 use Rattle.format_json_pieces.specs.Extent.{plain}
 use Rattle.format_json_pieces.specs.Extent.{quote, string}
 use Rattle.format_json_pieces.specs.General.{split_two}
@@ -45,7 +45,7 @@ module _ {b : ℕ} {bytes left more : List ℕ} (first : left ≡ b ∷ more) wh
   over_string zero w some is ends rest = absurd (omega (arith, some))
   over_string (suc n) w some is ends rest =
       let at = subst (InBrackets (suc n) bytes) (first ∙ ap (λ x. x ∷ more) is) w rest in
-      ((λ x. at.0 (string ends x)), (λ x. behind_string ends (at.1 x)))
+      ((λ x. at.0 (string ends x)), (λ x. skip_string ends (at.1 x)))
 
   pub over_byte : (n m : ℕ) → InBrackets n bytes left → 0 < n → (b ≡ 34 → ⊥)
       → m ≡ open_behind b n → InBrackets m bytes more

@@ -1,6 +1,6 @@
 -- Bytes with which the text of a value may begin: what comes of each, after those before it.
 use Rattle.std.specs.Prelude.{◌≡◌, ◌⊎◌, ◌==◌, ◌&&◌, ◌||◌, ◌<◌, if◌then◌else◌, ℕ, Bool}
-use Rattle.std.specs.Prelude.{not, suc, List}
+use Rattle.std.specs.Prelude.{List, not, suc}
 use Rattle.std.specs.Prelude.{[], ◌∷◌, Option, Some, None, nat_le, length, ⊤}
 use Rattle.winnow.specs.Cut.{Asks}
 use Rattle.winnow.specs.Kind.{Kind, backtrack, memory}
@@ -125,34 +125,35 @@ others_open [] = []
 others_open (bracket ∷ held) = held
 
 -- after a value: any bytes are accepted outside brackets
-abbrev pub IsBehind : (Mode → List Bracket → Type 0) → List Bracket → Type 0
-IsBehind on [] = ⊤
-IsBehind on (bracket ∷ held) = on After (bracket ∷ held)
+abbrev pub IsAfterValue : (Mode → List Bracket → Type 0) → List Bracket → Type 0
+IsAfterValue on [] = ⊤
+IsAfterValue on (bracket ∷ held) = on After (bracket ∷ held)
 
 abbrev pub IsNextStep : (Mode → List Bracket → Type 0) → ℕ → List Bracket → Step → Type 0
 IsNextStep on level held Refused = ⊥
 IsNextStep on level held Ended = ⊤
 IsNextStep on level held (Goes mode) = on mode held
 IsNextStep on level held (Opens bracket) = (length held < level) × on First (bracket ∷ held)
-IsNextStep on level held Closes = IsBehind on (others_open held)
-IsNextStep on level held Ends = IsBehind on held
+IsNextStep on level held Closes = IsAfterValue on (others_open held)
+IsNextStep on level held Ends = IsAfterValue on held
 
 -- The bytes may go on to the text of a value of the level, or have it already, where this is to
 -- come
 -- in these brackets, that which was opened last first.
-abbrev pub IsBegun : ℕ → Mode → List Bracket → List ℕ → Type 0
-IsBegun level mode held [] = ⊤
-IsBegun level mode held (b ∷ bytes) =
-    IsNextStep (λ m o. IsBegun level m o bytes) level held (next_step mode (last_open held) b)
+abbrev pub IsViablePrefix : ℕ → Mode → List Bracket → List ℕ → Type 0
+IsViablePrefix level mode held [] = ⊤
+IsViablePrefix level mode held (b ∷ bytes) =
+    IsNextStep (λ m o. IsViablePrefix level m o bytes) level held
+    (next_step mode (last_open held) b)
 
 -- `MayBegin level bytes`: `bytes` is a possible prefix of a JSON text, or a complete one. Each byte
 -- may occur there in such a text, including the whitespace around its value.
 abbrev pub MayBegin : ℕ → List ℕ → Type 0
-MayBegin level bytes = IsBegun (suc level) Value (Whole ∷ []) bytes
+MayBegin level bytes = IsViablePrefix (suc level) Value (Whole ∷ []) bytes
 
 -- `IsLacking level bytes kind`: why no value is returned. The error is out of memory, `Incomplete`
--- if `IsBegun` holds for `bytes`, or a backtrack if it does not.
+-- if `IsViablePrefix` holds for `bytes`, or a backtrack if it does not.
 abbrev pub IsLacking : ℕ → List ℕ → Kind → Type 0
 IsLacking level bytes kind =
-    (kind ≡ memory) ⊎ ((Asks kind × IsBegun level Value [] bytes)
-    ⊎ ((kind ≡ backtrack) × (IsBegun level Value [] bytes → ⊥)))
+    (kind ≡ memory) ⊎ ((Asks kind × IsViablePrefix level Value [] bytes)
+    ⊎ ((kind ≡ backtrack) × (IsViablePrefix level Value [] bytes → ⊥)))

@@ -5,7 +5,7 @@ use Rattle.std.specs.Prelude.{List, [], ◌∷◌, ◌≤◌, length, true}
 use Rattle.std.specs.List.{All}
 use Rattle.std.proofs.Common.{refl, sym, ap, subst, inl, inr, ◌∙◌, arith, append_assoc}
 use Rattle.std.proofs.Common.{length-append}
-use Rattle.format_json_pieces.specs.Told.{Allows}
+use Rattle.format_json_pieces.specs.Results.{Allows}
 use Rattle.format_json_pieces.specs.Value.{IsNumeral, IsNumeric}
 use Rattle.winnow.specs.Equal.{same_rest}
 use Rattle.format_json_pieces.specs.declared.extent.Lack.{Lack}
@@ -106,11 +106,11 @@ string_one (escaped x) y = string_one x (behind_escape y)
 string_one (plain p x) y = string_one x (behind_plain p y)
 
 -- after a string the same brackets are open
-pub behind_string : {n : ℕ} {more behind rest : List ℕ} → EndsString more behind
+pub skip_string : {n : ℕ} {more behind rest : List ℕ} → EndsString more behind
     → Closes (suc n) (34 ∷ more) rest → Closes (suc n) behind rest
-behind_string {n} {rest = rest} x (string y z) =
+skip_string {n} {rest = rest} x (string y z) =
     let P : List ℕ → Type 0 = λ l. Closes (suc n) l rest in subst P (string_one y x) z
-behind_string x (byte not y) = absurd (not refl)
+skip_string x (byte not y) = absurd (not refl)
 
 pub behind_byte : {n b : ℕ} {more rest : List ℕ} → (b ≡ 34 → ⊥) → Closes (suc n) (b ∷ more) rest
     → Closes (open_behind b (suc n)) more rest
@@ -123,7 +123,7 @@ closes_one closed y = by y
   where
     by : {rest other : List ℕ} → Closes zero rest other → rest ≡ other
     by closed = refl
-closes_one (string x y) z = closes_one y (behind_string x z)
+closes_one (string x y) z = closes_one y (skip_string x z)
 closes_one (byte not x) y = closes_one x (behind_byte not y)
 
 pub closed_one : (bytes rest other : List ℕ) → IsClosed bytes rest → IsClosed bytes other

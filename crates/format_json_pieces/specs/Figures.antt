@@ -1,6 +1,6 @@
 -- Proofs that the bytes of a number continue as its characters must.
 use Rattle.std.specs.Prelude.{◌≡◌, ◌⊎◌, ◌<◌, ℕ, true, List, ◌∷◌, ◌++◌, Some}
-use Rattle.std.proofs.Common.{refl, inl, inr, arith}
+use Rattle.std.proofs.Common.{arith, inl, inr, refl}
 use Rattle.std.proofs.lemmas.Bool.Decides.{nat_tests}
 use Rattle.winnow.specs.AsChar.{IsDecDigit}
 use Rattle.winnow.specs.Text.{text_reading}
@@ -10,7 +10,7 @@ use Rattle.format_json_texts.specs.Number.{ExponentText, FractionText, IntegerTe
 use Rattle.format_json_texts.specs.Number.{NumberText}
 use Rattle.format_parts.specs.Words.{One, Run, latter, pair, to_four}
 use Rattle.format_json_pieces.specs.Inside.{figure_behind, is_final}
-use Rattle.format_json_pieces.specs.Spelled.{Leads, Spells, in_spells, left_out, one_spells}
+use Rattle.format_json_pieces.specs.Spelled.{Prepends, Spells, in_spells, left_out, one_spells}
 use Rattle.format_json_pieces.specs.Spelled.{run_spells}
 use Rattle.format_json_pieces.specs.Spelled.{some_spells}
 use Rattle.format_json_pieces.specs.declared.inside.Figure.{Figure}
@@ -53,7 +53,7 @@ module _ (rest : List ℕ) {at : Figure → List ℕ → Type 0} {behind whole :
   Positive l = at figures.Minus l × whole l
 
   adds : (f : Figure) → ((c : ℕ) → IsDecDigit c → figure_behind f c ≡ Some f)
-      → Leads IsDecDigit (at f) (at f)
+      → Prepends IsDecDigit (at f) (at f)
   adds f same c l is x = n.goes f f c l (same c is) x
 
   power : InFront (Run IsDecDigit 1) (Spells rest behind) (Spells rest Signed)

@@ -16,13 +16,13 @@ use Rattle.winnow.specs.Utf8.{four_bytes, three_bytes, two_bytes}
 
 -- ---- lists
 
--- `Behind t rest u other`: `u` is `t` and more, and `rest` is the same and then `other`
-abbrev pub Behind : List ℕ → List ℕ → List ℕ → List ℕ → Type 0
-Behind t rest u other = (more : List ℕ) × (u ≡ t ++ more) × (rest ≡ more ++ other)
+-- `SuffixOf t rest u other`: `u` is `t` and more, and `rest` is the same and then `other`
+abbrev pub SuffixOf : List ℕ → List ℕ → List ℕ → List ℕ → Type 0
+SuffixOf t rest u other = (more : List ℕ) × (u ≡ t ++ more) × (rest ≡ more ++ other)
 
 -- one of two texts begins the other
 pub split_two : (t rest u other : List ℕ) → t ++ rest ≡ u ++ other
-    → Behind t rest u other ⊎ Behind u other t rest
+    → SuffixOf t rest u other ⊎ SuffixOf u other t rest
 split_two [] rest u other e = inl (u, refl, e)
 split_two (x ∷ t) rest [] other e = inr (x ∷ t, refl, sym e)
 split_two (x ∷ t) rest (y ∷ u) other e = elim (split_two t rest u other (same_others e)) [
@@ -35,7 +35,7 @@ pub all_behind : (P : ℕ → Type 0) (front rest : List ℕ) → All P (front +
 all_behind P [] rest all = all
 all_behind P (x ∷ front) rest all = all_behind P front rest (All-tail P x (front ++ rest) all)
 
-pub none_left : (P : ℕ → Type 0) (t rest u other : List ℕ) → Behind t rest u other → All P u
+pub none_left : (P : ℕ → Type 0) (t rest u other : List ℕ) → SuffixOf t rest u other → All P u
     → NotFirst P rest → (t ≡ u) × (rest ≡ other)
 none_left P t rest u other (more, splits, rests) all not = by more splits rests
   where

@@ -10,8 +10,8 @@ pub mod One
 pub mod Passing
 pub mod Place
 pub mod Read
+pub mod Results
 pub mod Spelled
 pub mod Stepped
 pub mod Strung
-pub mod Told
 pub mod Value

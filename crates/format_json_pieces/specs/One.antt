@@ -7,10 +7,10 @@ use Rattle.std.proofs.lemmas.List.{append-nil}
 use Rattle.std.proofs.lemmas.Str.{chars-IsAscii, chars-append}
 use Rattle.format_json_pieces.specs.Closed.{closed_other, numerals_ascii, value_may_end}
 use Rattle.format_json_pieces.specs.Extent.{MayEnd, closed_one}
-use Rattle.format_json_pieces.specs.General.{Behind, all_behind, split_two}
+use Rattle.format_json_pieces.specs.General.{SuffixOf, all_behind, split_two}
 use Rattle.format_json_pieces.specs.Read.{not_on}
 use Rattle.format_json_pieces.specs.Value.{InUtf8, IsEnded, IsNumeral, IsValueIn, value_ends}
-use Rattle.format_json_texts.specs.Number.{GoesOn}
+use Rattle.format_json_texts.specs.Number.{ContinuesNumber}
 use Rattle.format_json_texts.specs.Values.{AnyValue, ValueText}
 use Rattle.format_json_texts.specs.Values.Texts.{value_of}
 use Rattle.format_json_texts.specs.declared.value.Value.{Value}
@@ -23,11 +23,11 @@ module _ {A : Type 0} (level : ℕ) where
   -- a number does not go on to a longer one
   numbers_one : (v w : Value A) (t rest u other : List ℕ)
       → InUtf8 (ValueText HasCharacters level) v t → InUtf8 (ValueText HasCharacters level) w u
-      → All IsNumeral u → NotFirst GoesOn rest → Behind t rest u other → rest ≡ other
+      → All IsNumeral u → NotFirst ContinuesNumber rest → SuffixOf t rest u other → rest ≡ other
   unfolding InUtf8
   numbers_one v w t rest u other (utf8, written) (also, too) all not (more, f, rests) =
       let P : List ℕ → Type 0 = λ l. All IsNumeral l in
-      let Q : List ℕ → Type 0 = λ l. NotFirst GoesOn l in
+      let Q : List ℕ → Type 0 = λ l. NotFirst ContinuesNumber l in
       let ascii = numerals_ascii more (all_behind IsNumeral t more (subst P f all)) in
       let whole : chars u ≡ chars t ++ more =
       ap chars f ∙ chars-append t more utf8

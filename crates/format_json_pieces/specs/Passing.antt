@@ -24,7 +24,8 @@ use Rattle.format_json_texts.specs.Values.{IsString, IsWord, Mark, ObjectText, S
 use Rattle.format_json_texts.specs.Values.{JsonText, ValueText}
 use Rattle.format_parts.specs.Words.{One, for_front, former, latter, pair}
 use Rattle.format_json_texts.specs.declared.value.Value.{Value}
-use Rattle.format_json_pieces.specs.Begun.{IsBegun, IsLacking, IsNextStep, MayBegin, after_step}
+use Rattle.format_json_pieces.specs.Begun.{IsLacking, IsNextStep, IsViablePrefix, MayBegin}
+use Rattle.format_json_pieces.specs.Begun.{after_step}
 use Rattle.format_json_pieces.specs.Begun.{last_open}
 use Rattle.format_json_pieces.specs.Begun.{next_step}
 use Rattle.format_json_pieces.specs.Begun.{value_step}
@@ -38,7 +39,7 @@ use Rattle.format_json_pieces.specs.declared.begun.Mode.{Mode}
 use Rattle.format_json_pieces.specs.declared.begun.Mode.TheVariants as modes
 use Rattle.format_json_pieces.specs.declared.begun.Step.{Step}
 use Rattle.format_json_pieces.specs.declared.begun.Step.TheVariants as steps
-use Rattle.format_json_pieces.specs.Stepped.{At, Behind, Next, Place, Started, begun_front}
+use Rattle.format_json_pieces.specs.Stepped.{AfterValue, At, Next, Place, Started, begun_front}
 use Rattle.format_json_pieces.specs.Stepped.{both_ways}
 use Rattle.format_json_pieces.specs.Stepped.{gap_spells, inner, name_goes, outer, text_goes}
 use Rattle.format_json_pieces.specs.Stepped.{white_by}
@@ -126,17 +127,17 @@ module _ (level : ℕ) (rest : List ℕ) where
     listed : (k : Bracket) (closing : ℕ) {O A : Type 0} {item : Text ℕ O} → closing < 128
         → ((l : List ℕ) → At level modes.Item (k ∷ held) l
         → At level modes.After (k ∷ held) (44 ∷ l))
-        → ((l : List ℕ) → Behind level held l → Closed k (closing ∷ l))
+        → ((l : List ℕ) → AfterValue level held l → Closed k (closing ∷ l))
         → InFront item (Spells rest (At level modes.After (k ∷ held))) (Spells rest (Items k))
         → InFront (BothText former (InList {A = A} (PartedText (Mark 44) item)) (One closing))
-        (Spells rest (Behind level held)) (Spells rest (At level modes.First (k ∷ held)))
+        (Spells rest (AfterValue level held)) (Spells rest (At level modes.First (k ∷ held)))
     listed k closing low comma closes front =
         both_front former (in_list_front (items_front
         (widened (λ cs x scalars. (x scalars).1) (λ cs x. x)
         (marked modes.After modes.Item (k ∷ held) 44 (omega arith) comma (item_gap k)))
         front (λ cs x scalars. (x scalars).1) (λ cs x scalars. (x scalars).0)
         (λ cs x scalars. (x scalars).0)))
-        (one_spells rest (Behind level held) (Closed k) closing low closes)
+        (one_spells rest (AfterValue level held) (Closed k) closing low closes)
 
   -- ---- values
 
@@ -152,9 +153,9 @@ module _ (level : ℕ) (rest : List ℕ) where
         (λ l x mode. x)))))
 
     module _ (held : List Bracket) (few : length held < level) {value : Text ℕ (Value A)} where
-      array : InFront value (Spells rest (Behind level (Array ∷ held)))
+      array : InFront value (Spells rest (AfterValue level (Array ∷ held)))
           (Spells rest (Started level (Array ∷ held)))
-          → InFront (ArrayText holds value) (Spells rest (Behind level held))
+          → InFront (ArrayText holds value) (Spells rest (AfterValue level held))
           (Spells rest (Started level held))
       array front =
           both_front latter (both_front pair (one_spells rest (At level modes.First (Array ∷ held))
@@ -165,9 +166,9 @@ module _ (level : ℕ) (rest : List ℕ) where
           (both_front former front
           (gap_spells level rest modes.After (Array ∷ held) (after_gap held Array)))))
 
-      object : InFront value (Spells rest (Behind level (Object ∷ held)))
+      object : InFront value (Spells rest (AfterValue level (Object ∷ held)))
           (Spells rest (Started level (Object ∷ held)))
-          → InFront (ObjectText holds value) (Spells rest (Behind level held))
+          → InFront (ObjectText holds value) (Spells rest (AfterValue level held))
           (Spells rest (Started level held))
       object front =
           both_front latter (both_front pair (one_spells rest (At level modes.First (Object ∷ held))
@@ -209,13 +210,13 @@ module _ (level : ℕ) where
       let P : List ℕ → Type 0 = λ l. Begins IsNumeric (l ++ encode_utf8_all cs) in
       subst P (sym (encode_ascii c (grind (arith, x)))) x
 
-  started_value : (l : List ℕ) → Started level [] l → IsBegun level modes.Value [] l
+  started_value : (l : List ℕ) → Started level [] l → IsViablePrefix level modes.Value [] l
   started_value [] x = tt
   started_value (b ∷ l) x = x modes.Value
 
 module _ {A : Type 0} (level : ℕ) where
   value_begun : (bytes : List ℕ) (v : Value A) (rest : List ℕ) → IsValueIn level bytes v rest
-      → IsBegun level modes.Value [] bytes
+      → IsViablePrefix level modes.Value [] bytes
   unfolding IsValueIn InUtf8
   value_begun bytes v rest (text, (utf8, written), e, ended) =
       let same = encodes-chars text utf8 in
@@ -224,13 +225,14 @@ module _ {A : Type 0} (level : ℕ) where
       ap (λ l. encode_utf8_all l ++ rest) (append-nil cs) ∙ ap (λ l. l ++ rest) same ∙ sym e in
       let P : List ℕ → Type 0 = λ l. Begins IsNumeric l in
       let Q : List ℕ → Type 0 = λ l. all_scalars l ≡ true in
-      subst (λ l. IsBegun level modes.Value [] l) whole (started_value level _
+      subst (λ l. IsViablePrefix level modes.Value [] l) whole (started_value level _
       ((value_spells level rest HasCharacters level (omega arith) (outer level rest)).makes v cs []
       written refl
       (λ begins. ended (subst P same (numeric level cs (subst P (append-nil cs) begins))))
       (subst Q (sym (append-nil cs)) (scalars-chars text utf8))))
 
-  pub none_begun : (bytes : List ℕ) → (IsBegun level modes.Value [] bytes → ⊥) → (more : List ℕ)
+  pub none_begun : (bytes : List ℕ) → (IsViablePrefix level modes.Value [] bytes → ⊥)
+      → (more : List ℕ)
       → NoneStands (IsValueIn {A = A} level) (bytes ++ more)
   none_begun bytes not more v rest x =
       not (begun_front level bytes more modes.Value [] (value_begun (bytes ++ more) v rest x))
@@ -279,11 +281,11 @@ module _ {A : Type 0} (level : ℕ) where
 -- ---- white space before a value
 
 pub begun_gap : (level : ℕ) (gap left : List ℕ) → All IsMultispace gap
-    → IsBegun level modes.Value [] left → IsBegun level modes.Value [] (gap ++ left)
+    → IsViablePrefix level modes.Value [] left → IsViablePrefix level modes.Value [] (gap ++ left)
 begun_gap level [] left all x = x
 begun_gap level (b ∷ gap) left all x =
     let P : Step → Type 0 =
-    λ s. IsNextStep (λ m o. IsBegun level m o (gap ++ left)) level [] s in
+    λ s. IsNextStep (λ m o. IsViablePrefix level m o (gap ++ left)) level [] s in
     subst P (sym (white_by (λ c. value_step modes.Value c ≡ steps.Goes modes.Value) refl refl refl
     refl b (all 0 b (omega arith))))
     (begun_gap level gap left (All-tail IsMultispace b gap all) x)
@@ -295,7 +297,7 @@ is_asking (incomplete need) = true
 is_asking _ = false
 
 pub asks_begun : (level : ℕ) (bytes : List ℕ) (kind : Kind) → IsLacking level bytes kind
-    → Asks kind → IsBegun level modes.Value [] bytes
+    → Asks kind → IsViablePrefix level modes.Value [] bytes
 asks_begun level bytes kind (inl wants) (need, asks) =
     absurd (true_is_false (ap is_asking (sym asks ∙ wants)))
 asks_begun level bytes kind (inr (inl (_, begun))) asks = begun
@@ -304,12 +306,12 @@ asks_begun level bytes kind (inr (inr (backtracks, not))) (need, asks) =
 
 -- after white space too
 pub asks_next : (level : ℕ) (bytes gap left : List ℕ) → bytes ≡ gap ++ left
-    → All IsMultispace gap → IsBegun level modes.Value [] left
-    → IsBegun level modes.Value [] bytes
+    → All IsMultispace gap → IsViablePrefix level modes.Value [] left
+    → IsViablePrefix level modes.Value [] bytes
 asks_next level bytes gap left e all x =
-    subst (λ l. IsBegun level modes.Value [] l) (sym e) (begun_gap level gap left all x)
+    subst (λ l. IsViablePrefix level modes.Value [] l) (sym e) (begun_gap level gap left all x)
 
 pub asks_white : (level : ℕ) (bytes gap left : List ℕ) → bytes ≡ gap ++ left
-    → All IsMultispace gap → length left ≡ 0 → IsBegun level modes.Value [] bytes
+    → All IsMultispace gap → length left ≡ 0 → IsViablePrefix level modes.Value [] bytes
 asks_white level bytes gap [] e all none = asks_next level bytes gap [] e all tt
 asks_white level bytes gap (x ∷ left) e all none = absurd (omega (arith, none))

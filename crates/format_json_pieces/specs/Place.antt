@@ -2,7 +2,7 @@
 -- expected there.
 use Rattle.std.specs.Prelude.{◌≡◌, ◌⊎◌, ◌↔◌, ◌<◌, ℕ, suc, List, [], ◌∷◌, ◌++◌, Option, Some, None}
 use Rattle.std.specs.Prelude.{length, ⊤}
-use Rattle.format_json_pieces.specs.Begun.{IsBegun, MayBegin, last_open, next_step}
+use Rattle.format_json_pieces.specs.Begun.{IsViablePrefix, MayBegin, last_open, next_step}
 use Rattle.format_json_pieces.specs.Inside.{expected}
 use Rattle.format_json_pieces.specs.declared.begun.Bracket.{Bracket}
 use Rattle.format_json_pieces.specs.declared.begun.Bracket.TheVariants.{Array, Object, Whole}
@@ -80,7 +80,7 @@ IsStopped level front (b ∷ rest) = MayBegin level (front ++ b ∷ []) → ⊥
 -- may follow `front` if and only if they may occur there.
 abbrev pub LeadsTo : ℕ → List ℕ → Mode → List Bracket → Type 0
 LeadsTo level front mode held =
-    (more : List ℕ) → IsBegun (suc level) mode held more ↔ MayBegin level (front ++ more)
+    (more : List ℕ) → IsViablePrefix (suc level) mode held more ↔ MayBegin level (front ++ more)
 
 -- `IsNamed level mode held rest expected`: at the end, or if the next byte is rejected, `expected`
 -- is the name of `mode` in the brackets `held`. If the next byte opens a bracket beyond `level`,

@@ -12,11 +12,11 @@ use Rattle.std.proofs.lemmas.Str.{encodes-append, encodes-chars, scalars-chars}
 use Rattle.format_json_pieces.specs.Closed.{closed_other, numerals_ascii, text_first, value_may_end}
 use Rattle.format_json_pieces.specs.Extent.{Ends, IsClosed, MayEnd, closed_one, closed_stays}
 use Rattle.format_json_pieces.specs.General.{all_behind, none_left, split_two}
-use Rattle.format_json_pieces.specs.Told.{Allows, Fails, Stands}
+use Rattle.format_json_pieces.specs.Results.{Allows, Fails, MatchesAtStart}
 use Rattle.format_json_pieces.specs.Value.{AreNumerals, InUtf8, IsEnded, IsNext, IsNumeral}
 use Rattle.format_json_pieces.specs.Value.{IsNumeric}
 use Rattle.format_json_pieces.specs.Value.{IsValueIn}
-use Rattle.format_json_texts.specs.Number.{GoesOn}
+use Rattle.format_json_texts.specs.Number.{ContinuesNumber}
 use Rattle.format_json_texts.specs.Values.{AnyValue, ValueText}
 use Rattle.format_json_texts.specs.Values.Texts.{value_of}
 use Rattle.format_json_values.specs.Unique.{value_unique}
@@ -31,7 +31,8 @@ use Rattle.winnow.specs.Texts.Fronts.{begins_never, not_first}
 
 -- ---- matches in the bytes are matches in the text
 
-pub not_on : (behind left : List ℕ) → NotFirst GoesOn (behind ++ left) → NotFirst GoesOn behind
+pub not_on : (behind left : List ℕ) → NotFirst ContinuesNumber (behind ++ left)
+    → NotFirst ContinuesNumber behind
 not_on [] left not = tt
 not_on (x ∷ behind) left not = not
 
@@ -40,7 +41,7 @@ record Within (text t rest : List ℕ) : Type 0 where
   pub behind : List ℕ
   pub splits : text ≡ t ++ behind
   pub numerals : All IsNumeral behind
-  pub stops : IsEnded t rest → NotFirst GoesOn behind
+  pub stops : IsEnded t rest → NotFirst ContinuesNumber behind
 
 all_of_it : (text t rest : List ℕ) → text ≡ t → Within text t rest
 all_of_it text t rest e = record {
@@ -70,7 +71,7 @@ ends_within cut bytes text left more t rest ((e, it), ends) allowed (f, other) =
     by (inr (b, all)) (inl d) = closed_other (bytes ++ more) rest text (left ++ more) d whole b
     by (inr (b, all)) (inr (c, each)) =
         let P : List ℕ → Type 0 = λ l. All IsNumeral l in
-        let Q : List ℕ → Type 0 = λ l. NotFirst GoesOn l in
+        let Q : List ℕ → Type 0 = λ l. NotFirst ContinuesNumber l in
         elim (split_two t rest text (left ++ more) (sym f ∙ whole)) [
           | inl (behind, splits, rests) ↦ record {
             behind = behind;
@@ -96,7 +97,7 @@ scalars_in_front (c ∷ front) rest h =
     ap (λ b. b && all_scalars front) one ∙ scalars_in_front front rest more
 
 ended_there : (cut : Bool) (bytes text left more t rest : List ℕ) → Ends cut bytes text left
-    → Allows cut more → text ≡ t ++ rest → NotFirst GoesOn (chars rest)
+    → Allows cut more → text ≡ t ++ rest → NotFirst ContinuesNumber (chars rest)
     → IsEnded t ((rest ++ left) ++ more)
 ended_there cut bytes text left more t rest ((e, inl c), ends) allowed whole not begins =
     closed_other bytes left t (rest ++ left) c
@@ -105,14 +106,15 @@ ended_there cut bytes text left more t rest ((e, inr (b, all)), ends) allowed wh
     let P : List ℕ → Type 0 = λ l. All IsNumeral l in
     by rest (all_behind IsNumeral t rest (subst P whole all)) not
   where
-    by : (rest : List ℕ) → All IsNumeral rest → NotFirst GoesOn (chars rest)
-        → NotFirst GoesOn ((rest ++ left) ++ more)
+    by : (rest : List ℕ) → All IsNumeral rest → NotFirst ContinuesNumber (chars rest)
+        → NotFirst ContinuesNumber ((rest ++ left) ++ more)
     by [] each stops =
-        not_first GoesOn IsNumeral (λ c is. grind (arith, is)) (left ++ more) (ends b more allowed)
+        not_first ContinuesNumber IsNumeral (λ c is. grind (arith, is)) (left ++ more)
+        (ends b more allowed)
     by (x ∷ rest) each stops =
-        let P : List ℕ → Type 0 = λ l. NotFirst GoesOn l in
+        let P : List ℕ → Type 0 = λ l. NotFirst ContinuesNumber l in
         let same = chars-IsAscii (x ∷ rest) (numerals_ascii (x ∷ rest) each) in
-        let it : NotFirst GoesOn (x ∷ rest) = subst P same stops in it
+        let it : NotFirst ContinuesNumber (x ∷ rest) = subst P same stops in it
 
 pub splits_there : (text rest front : List ℕ) → IsUtf8 text → IsUtf8 rest
     → chars text ≡ front ++ chars rest → text ≡ encode_utf8_all front ++ rest
@@ -149,7 +151,7 @@ module _ {A : Type 0} (level : ℕ) (cut : Bool) (bytes text left : List ℕ)
 
   stands_there : (more : List ℕ) → Allows cut more → (v : Value A) (rest : List ℕ)
       → IsValueIn level (bytes ++ more) v rest
-      → IsUtf8 text × (behind : List ℕ) × g (chars text) v behind × NotFirst GoesOn behind
+      → IsUtf8 text × (behind : List ℕ) × g (chars text) v behind × NotFirst ContinuesNumber behind
   unfolding IsValueIn InUtf8
   stands_there more allowed v rest (t, (utf8, written), e, ended) =
       let inside = ends_within cut bytes text left more t rest found allowed
@@ -180,18 +182,19 @@ module _ {A : Type 0} (level : ℕ) (cut : Bool) (bytes text left : List ℕ)
         let P : List ℕ → Type 0 = λ l. g (chars l) v behind in
         none v behind (subst P (sym same) stands)
 
-    pub none_on : (v : Value A) (rest : List ℕ) → g (chars seen) v rest → Begins GoesOn rest
+    pub none_on : (v : Value A) (rest : List ℕ) → g (chars seen) v rest
+        → Begins ContinuesNumber rest
         → (more : List ℕ) → Allows cut more → NoneStands (IsValueIn {A = A} level) (bytes ++ more)
     none_on v rest it goes more allowed w other x =
         let (utf8, behind, stands, not) = stands_there more allowed w other x in
         let P : List ℕ → Type 0 = λ l. g (chars l) v rest in
-        let Q : List ℕ → Type 0 = λ l. NotFirst GoesOn l in
-        begins_never GoesOn rest goes
+        let Q : List ℕ → Type 0 = λ l. NotFirst ContinuesNumber l in
+        begins_never ContinuesNumber rest goes
         (subst Q ((value_unique level).one (chars text) w v behind rest stands (subst P same it))
         not)
 
     pub some_stands : (v : Value A) (rest last : List ℕ) → IsUtf8 text → IsUtf8 rest
-        → g (chars seen) v (chars rest) → NotFirst GoesOn (chars rest)
+        → g (chars seen) v (chars rest) → NotFirst ContinuesNumber (chars rest)
         → last ≡ drop (length text - length rest) bytes → (more : List ℕ) → Allows cut more
         → IsValueIn level (bytes ++ more) v (last ++ more)
     unfolding IsValueIn InUtf8
@@ -238,8 +241,9 @@ one_gap g h s t all each a b e = elim (split_two g s h t e) [
 
 module _ {A : Type 0} (level : ℕ) (cut : Bool) (bytes gap start : List ℕ)
     (passed : (bytes ≡ gap ++ start) × All IsMultispace gap × NotFirst IsMultispace start) where
-  pub next_stands : (v : Value A) (left : List ℕ) → Stands (IsValueIn level) cut start v left
-      → Stands (IsNext level) cut bytes (Some v) left
+  pub next_stands : (v : Value A) (left : List ℕ)
+      → MatchesAtStart (IsValueIn level) cut start v left
+      → MatchesAtStart (IsNext level) cut bytes (Some v) left
   unfolding IsNext
   next_stands v left stands more allowed = (
     gap,
@@ -296,7 +300,7 @@ next_numerals level bytes gap left passed all v rest (g, s, each, e, x) =
 
 pub none_next : (A : Type 0) (level : ℕ) (cut : Bool) (bytes gap left : List ℕ)
     → (bytes ≡ gap ++ left) × All IsMultispace gap × NotFirst IsMultispace left
-    → length left ≡ 0 → cut ≡ false → Stands (IsNext {A = A} level) cut bytes None left
+    → length left ≡ 0 → cut ≡ false → MatchesAtStart (IsNext {A = A} level) cut bytes None left
 unfolding IsNext
 none_next A level cut bytes gap left passed few whole more allowed =
     let none = nil_from_length left few in

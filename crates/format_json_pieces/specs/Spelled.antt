@@ -1,6 +1,6 @@
 -- The effect of characters on the bytes that follow them, one step at a time.
 use Rattle.std.specs.Prelude.{◌≡◌, ◌<◌, ◌≤◌, ◌&&◌, ℕ, Bool, true, false, List, [], ◌∷◌, ◌++◌}
-use Rattle.std.specs.Prelude.{Option, Some, None, length}
+use Rattle.std.specs.Prelude.{None, Option, Some, length}
 use Rattle.std.specs.List.{All}
 use Rattle.std.specs.Str.{all_scalars, encode_utf8_all}
 use Rattle.std.proofs.Common.{refl, sym, ap, subst, ◌∙◌, arith, append_assoc}
@@ -19,10 +19,10 @@ both_true false b h = (h, cc)
 abbrev pub Spells : List ℕ → (List ℕ → Type 0) → List ℕ → Type 0
 Spells rest bytes cs = all_scalars cs ≡ true → bytes (encode_utf8_all cs ++ rest)
 
--- `Leads class behind whole`: a character of `class` before a list in `behind` makes a list in
+-- `Prepends class behind whole`: a character of `class` before a list in `behind` makes a list in
 -- `whole`
-abbrev pub Leads : (ℕ → Type 0) → (List ℕ → Type 0) → (List ℕ → Type 0) → Type 0
-Leads class behind whole = (c : ℕ) (l : List ℕ) → class c → behind l → whole (c ∷ l)
+abbrev pub Prepends : (ℕ → Type 0) → (List ℕ → Type 0) → (List ℕ → Type 0) → Type 0
+Prepends class behind whole = (c : ℕ) (l : List ℕ) → class c → behind l → whole (c ∷ l)
 
 module _ (rest : List ℕ) where
   pub ascii_spells : (behind whole : List ℕ → Type 0) (c : ℕ) (cs : List ℕ) → c < 128
@@ -40,7 +40,7 @@ module _ (rest : List ℕ) where
         spelled_front (c ∷ []) c (λ cs x. ascii_spells behind whole c cs low makes x)
 
     pub in_spells : {class : ℕ → Type 0} → ((c : ℕ) → class c → c < 128)
-        → Leads class behind whole → InFront (In class) (Spells rest behind) (Spells rest whole)
+        → Prepends class behind whole → InFront (In class) (Spells rest behind) (Spells rest whole)
     unfolding In
     in_spells {class} low leads = record {
       makes = λ c xs cs (is, e) x.
@@ -50,7 +50,7 @@ module _ (rest : List ℕ) where
 
     -- one of them or more: the first leads, and the others add nothing
     pub some_spells : {class : ℕ → Type 0} → ((c : ℕ) → class c → c < 128)
-        → Leads class behind behind → Leads class behind whole
+        → Prepends class behind behind → Prepends class behind whole
         → InFront (Run class 1) (Spells rest behind) (Spells rest whole)
     unfolding Run
     some_spells {class} low adds leads = record {
@@ -75,7 +75,7 @@ module _ (rest : List ℕ) where
 
   -- any number of them
   pub run_spells : (behind : List ℕ → Type 0) {class : ℕ → Type 0} → ((c : ℕ) → class c → c < 128)
-      → Leads class behind behind
+      → Prepends class behind behind
       → InFront (Run class 0) (Spells rest behind) (Spells rest behind)
   unfolding Run
   run_spells behind {class} low adds = record {

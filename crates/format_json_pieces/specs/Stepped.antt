@@ -3,16 +3,17 @@ use Rattle.std.specs.Prelude.{◌≡◌, ◌⊎◌, ◌<◌, ℕ, Bool, true, fa
 use Rattle.std.specs.Prelude.{[], ◌∷◌, ◌++◌, Option, Some, None, ⊤, ◌||◌, not}
 use Rattle.std.specs.Prelude.{if◌then◌else◌}
 use Rattle.std.specs.Str.{encode_utf8_all}
-use Rattle.std.proofs.Common.{refl, sym, subst, inl, inr, arith}
+use Rattle.std.proofs.Common.{arith, inl, inr, refl, subst, sym}
 use Rattle.std.proofs.lemmas.Bool.Decides.{nat_tests}
 use Rattle.winnow.specs.AsChar.{IsMultispace}
 use Rattle.winnow.specs.Equal.{true_is_false}
 use Rattle.winnow.specs.Texts.{Begins, InFront, NotFirst}
 use Rattle.winnow.specs.Texts.Fronts.{either_front}
-use Rattle.format_json_texts.specs.Number.{GoesOn, IsLeading, NumberText, number_begins}
+use Rattle.format_json_texts.specs.Number.{ContinuesNumber, IsLeading, NumberText, number_begins}
 use Rattle.format_json_texts.specs.Values.{GapText}
 use Rattle.format_json_texts.specs.Values.{WordText}
-use Rattle.format_json_pieces.specs.Begun.{IsBegun, IsBehind, IsNextStep, after_step, last_open}
+use Rattle.format_json_pieces.specs.Begun.{IsAfterValue, IsNextStep, IsViablePrefix, after_step}
+use Rattle.format_json_pieces.specs.Begun.{last_open}
 use Rattle.format_json_pieces.specs.Begun.{next_step}
 use Rattle.format_json_pieces.specs.Begun.{behind_number, number_step, others_open}
 use Rattle.format_json_pieces.specs.Begun.{value_step, within_name, within_text}
@@ -63,13 +64,13 @@ after_refuses Whole b goes = grind (arith, nat_tests, goes)
 
 module _ (level : ℕ) where
   abbrev pub At : Mode → List Bracket → List ℕ → Type 0
-  At mode held l = IsBegun level mode held l
+  At mode held l = IsViablePrefix level mode held l
 
   abbrev pub Next : List Bracket → List ℕ → Step → Type 0
-  Next held l s = IsNextStep (λ m o. IsBegun level m o l) level held s
+  Next held l s = IsNextStep (λ m o. IsViablePrefix level m o l) level held s
 
-  abbrev pub Behind : List Bracket → List ℕ → Type 0
-  Behind held l = IsBehind (λ m o. IsBegun level m o l) held
+  abbrev pub AfterValue : List Bracket → List ℕ → Type 0
+  AfterValue held l = IsAfterValue (λ m o. IsViablePrefix level m o l) held
 
   -- a value is to come, in whatever mode
   abbrev pub Started : List Bracket → List ℕ → Type 0
@@ -78,7 +79,7 @@ module _ (level : ℕ) where
 
   module _ (bytes l : List ℕ)
       (fewer : (mode : Mode) (held : List Bracket) → At mode held l → At mode held bytes) where
-    behind_front : (held : List Bracket) → Behind held l → Behind held bytes
+    behind_front : (held : List Bracket) → AfterValue held l → AfterValue held bytes
     behind_front [] y = tt
     behind_front (k ∷ held) y = fewer modes.After (k ∷ held) y
 
@@ -105,7 +106,7 @@ module _ (level : ℕ) where
         run_spells rest (At mode held) (λ c is. grind (arith, is))
         (λ b l is x. subst (λ s. Next held l s) (sym (goes b is)) x)
 
-    pub text_goes : (held : List Bracket) → Goes (λ p. At (modes.Text p) held) (Behind held)
+    pub text_goes : (held : List Bracket) → Goes (λ p. At (modes.Text p) held) (AfterValue held)
     text_goes held = record {
       goes = λ p q b l e x. subst (λ (i : Inner). Next held l (within_text i)) (sym e) x;
       ends = λ l x. x;
@@ -119,7 +120,7 @@ module _ (level : ℕ) where
 
     -- The position of a value: in brackets, or in none.
     pub record Place (held : List Bracket) (behind whole : List ℕ → Type 0) : Type 0 where
-      pub ends : (cs : List ℕ) → behind cs → Spells rest (Behind held) cs
+      pub ends : (cs : List ℕ) → behind cs → Spells rest (AfterValue held) cs
       pub starts : (cs : List ℕ) → Spells rest (Started held) cs → whole cs
       pub numbers : InFront NumberText behind whole
 
@@ -133,7 +134,7 @@ module _ (level : ℕ) where
           → Spells rest whole (c ∷ cs)
       letter = ascii_spells rest
 
-      null : (cs : List ℕ) → Spells rest (Behind held) cs
+      null : (cs : List ℕ) → Spells rest (AfterValue held) cs
           → Spells rest (Started held) (110 ∷ 117 ∷ 108 ∷ 108 ∷ cs)
       null cs x =
           letter (Word letters.Ull) (Started held) 110 (117 ∷ 108 ∷ 108 ∷ cs) (omega arith)
@@ -141,9 +142,9 @@ module _ (level : ℕ) where
           (letter (Word letters.Ll) (Word letters.Ull) 117 (108 ∷ 108 ∷ cs) (omega arith)
           (λ l y. y)
           (letter (Word letters.L) (Word letters.Ll) 108 (108 ∷ cs) (omega arith) (λ l y. y)
-          (letter (Behind held) (Word letters.L) 108 cs (omega arith) (λ l y. y) x)))
+          (letter (AfterValue held) (Word letters.L) 108 cs (omega arith) (λ l y. y) x)))
 
-      rue : (cs : List ℕ) → Spells rest (Behind held) cs
+      rue : (cs : List ℕ) → Spells rest (AfterValue held) cs
           → Spells rest (Started held) (116 ∷ 114 ∷ 117 ∷ 101 ∷ cs)
       rue cs x =
           letter (Word letters.Rue) (Started held) 116 (114 ∷ 117 ∷ 101 ∷ cs) (omega arith)
@@ -151,9 +152,9 @@ module _ (level : ℕ) where
           (letter (Word letters.Ue) (Word letters.Rue) 114 (117 ∷ 101 ∷ cs) (omega arith)
           (λ l y. y)
           (letter (Word letters.E) (Word letters.Ue) 117 (101 ∷ cs) (omega arith) (λ l y. y)
-          (letter (Behind held) (Word letters.E) 101 cs (omega arith) (λ l y. y) x)))
+          (letter (AfterValue held) (Word letters.E) 101 cs (omega arith) (λ l y. y) x)))
 
-      alse : (cs : List ℕ) → Spells rest (Behind held) cs
+      alse : (cs : List ℕ) → Spells rest (AfterValue held) cs
           → Spells rest (Started held) (102 ∷ 97 ∷ 108 ∷ 115 ∷ 101 ∷ cs)
       alse cs x =
           letter (Word letters.Alse) (Started held) 102 (97 ∷ 108 ∷ 115 ∷ 101 ∷ cs) (omega arith)
@@ -163,9 +164,9 @@ module _ (level : ℕ) where
           (letter (Word letters.Se) (Word letters.Lse) 108 (115 ∷ 101 ∷ cs) (omega arith)
           (λ l y. y)
           (letter (Word letters.E) (Word letters.Se) 115 (101 ∷ cs) (omega arith) (λ l y. y)
-          (letter (Behind held) (Word letters.E) 101 cs (omega arith) (λ l y. y) x))))
+          (letter (AfterValue held) (Word letters.E) 101 cs (omega arith) (λ l y. y) x))))
 
-      pub words : InFront WordText (Spells rest (Behind held)) (Spells rest (Started held))
+      pub words : InFront WordText (Spells rest (AfterValue held)) (Spells rest (Started held))
       words =
           either_front (spelled_front (110 ∷ 117 ∷ 108 ∷ 108 ∷ []) None null)
           (either_front (spelled_front (116 ∷ 114 ∷ 117 ∷ 101 ∷ []) (Some true) rue)
@@ -197,26 +198,26 @@ module _ (level : ℕ) where
           subst (λ u. Q u (goes_on b)) (sym fin) (subst (λ v. Q true v) (sym stops) x))
 
     inner_ends : (k : Bracket) (held : List Bracket) (f : Figure) (l : List ℕ)
-        → is_final f ≡ true → Behind (k ∷ held) l → At (modes.Number f) (k ∷ held) l
+        → is_final f ≡ true → AfterValue (k ∷ held) l → At (modes.Number f) (k ∷ held) l
     inner_ends k held f [] fin x = tt
     inner_ends k held f (b ∷ l) fin x = elim (both_ways (goes_on b)) [
       | inl goes ↦ absurd (subst (λ s. Next (k ∷ held) l s) (after_refuses k b goes) x)
       | inr stops ↦ ends_figure (k ∷ held) f b l fin stops x
     ]
 
-    outer_ends : (f : Figure) (l : List ℕ) → is_final f ≡ true → NotFirst GoesOn l
+    outer_ends : (f : Figure) (l : List ℕ) → is_final f ≡ true → NotFirst ContinuesNumber l
         → At (modes.Number f) [] l
     outer_ends f [] fin not = tt
     outer_ends f (b ∷ l) fin not = ends_figure [] f b l fin (stops b not) tt
       where
-        stops : (b : ℕ) → (GoesOn b → ⊥) → goes_on b ≡ false
+        stops : (b : ℕ) → (ContinuesNumber b → ⊥) → goes_on b ≡ false
         stops b not = elim (both_ways (goes_on b)) [
           | inl goes ↦ absurd (not (grind (arith, nat_tests, goes)))
           | inr e ↦ e
         ]
 
     inner_counts : (k : Bracket) (held : List Bracket)
-        → Counts (λ f. At (modes.Number f) (k ∷ held)) (Behind (k ∷ held)) (Started (k ∷ held))
+        → Counts (λ f. At (modes.Number f) (k ∷ held)) (AfterValue (k ∷ held)) (Started (k ∷ held))
     inner_counts k held = record {
       goes = goes_figure (k ∷ held);
       ends = inner_ends k held;
@@ -225,7 +226,7 @@ module _ (level : ℕ) where
       digit = starts_number (k ∷ held);
     }
 
-    outer_counts : Counts (λ f. At (modes.Number f) []) (NotFirst GoesOn) (Started [])
+    outer_counts : Counts (λ f. At (modes.Number f) []) (NotFirst ContinuesNumber) (Started [])
     outer_counts = record {
       goes = goes_figure [];
       ends = outer_ends;
@@ -236,7 +237,7 @@ module _ (level : ℕ) where
 
     -- in brackets
     pub inner : (k : Bracket) (held : List Bracket)
-        → Place (k ∷ held) (Spells rest (Behind (k ∷ held))) (Spells rest (Started (k ∷ held)))
+        → Place (k ∷ held) (Spells rest (AfterValue (k ∷ held))) (Spells rest (Started (k ∷ held)))
     inner k held = record {
       ends = λ cs x. x;
       starts = λ cs x. x;
@@ -245,7 +246,7 @@ module _ (level : ℕ) where
 
     -- outside brackets: the rest must not continue a number
     abbrev pub Stops : List ℕ → Type 0
-    Stops cs = Begins IsNumeric cs → NotFirst GoesOn rest
+    Stops cs = Begins IsNumeric cs → NotFirst ContinuesNumber rest
 
     abbrev pub Last : List ℕ → Type 0
     Last cs = encode_utf8_all cs ++ rest ≡ rest
@@ -257,7 +258,7 @@ module _ (level : ℕ) where
       numbers = record {
         makes = λ slice xs cs x same stops.
             (number_spells rest outer_counts).makes slice xs cs x
-            (λ scalars. subst (λ l. NotFirst GoesOn l) (sym same)
+            (λ scalars. subst (λ l. NotFirst ContinuesNumber l) (sym same)
             (stops (number_begins.makes slice xs cs x tt)));
       };
     }

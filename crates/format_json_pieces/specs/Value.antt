@@ -5,10 +5,10 @@ use Rattle.std.specs.Str.{IsUtf8, chars}
 use Rattle.std.proofs.Common.{refl, sym, ap, ◌∙◌, append_assoc}
 use Rattle.std.proofs.lemmas.List.{append-nil}
 use Rattle.winnow.specs.Fault.{refused_inner, refused_offset}
-use Rattle.winnow.specs.{ParseFault, Needed}
-use Rattle.winnow.specs.ParseFaultCases.{Refused, Incomplete}
+use Rattle.winnow.specs.{Needed, ParseFault}
+use Rattle.winnow.specs.ParseFaultCases.{Incomplete, Refused}
 use Rattle.winnow.specs.AsChar.{IsDecDigit, IsMultispace}
-use Rattle.format_json_texts.specs.Number.{GoesOn}
+use Rattle.format_json_texts.specs.Number.{ContinuesNumber}
 use Rattle.format_json_texts.specs.Values.{ValueText}
 use Rattle.format_json_texts.specs.declared.value.Value.{Value}
 use Rattle.winnow.specs.Grammar.{Grammar}
@@ -26,7 +26,7 @@ IsNumeric b = (b ≡ 45) ⊎ IsDecDigit b
 -- `IsEnded text rest`: if `text` starts as a number does, `rest` does not start with a byte that
 -- can continue a number: a digit, a point or an E.
 abbrev pub IsEnded : List ℕ → List ℕ → Type 0
-IsEnded text rest = Begins IsNumeric text → NotFirst GoesOn rest
+IsEnded text rest = Begins IsNumeric text → NotFirst ContinuesNumber rest
 
 -- a byte of numbers: a digit, a sign, a point or an E
 abbrev pub IsNumeral : ℕ → Type 0
@@ -69,7 +69,7 @@ HasInner inner (Incomplete needed) = ⊥
 -- An encoding of a value matches wherever no byte follows it that can continue a number.
 pub value_written : {A : Type 0} (level : ℕ)
     → IsGrammarOf (IsValueIn {A = A} level) (InUtf8 (ValueText HasCharacters level))
-    (NotFirst GoesOn)
+    (NotFirst ContinuesNumber)
 unfolding IsValueIn
 value_written level = record {
   there = λ bytes v rest (text, written, e, ended). (text, e, written);

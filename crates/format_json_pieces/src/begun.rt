@@ -1,6 +1,7 @@
 //! Whether cut bytes may go on to the text of a value: by a walk over them, one byte at a time,
 //! with the brackets that are open.
-ghost use Rattle.format_json_pieces.specs.Begun.{IsBegun, IsLacking, after_step, figure_step};
+ghost use Rattle.format_json_pieces.specs.Begun.{IsLacking, IsViablePrefix, after_step};
+ghost use Rattle.format_json_pieces.specs.Begun.{figure_step};
 ghost use Rattle.format_json_pieces.specs.Begun.{item_step};
 ghost use Rattle.format_json_pieces.specs.Begun.{name_step};
 ghost use Rattle.format_json_pieces.specs.Begun.{is_gap, letters_step, name_part_step, next_step};
@@ -223,7 +224,7 @@ pub fn next_step(mode: Mode, held: Option<Bracket>, byte: u8) -> Step
 /// Returns whether the bytes can continue to the text of a value whose arrays and objects are
 /// nested at most `level` deep, or already have one.
 pub fn is_begun<A: Allocator>(alloc: A, level: usize, bytes: &[u8]) -> Result<bool, AllocError>
-    ensures { IfOk result (λ begun. IsTrue begun ↔ IsBegun level modes.Value [] bytes.now) }
+    ensures { IfOk result (λ begun. IsTrue begun ↔ IsViablePrefix level modes.Value [] bytes.now) }
 {
     let mut brackets: Vec<Bracket, A> = Vec::new(alloc);
     let mut mode = Mode::Value;

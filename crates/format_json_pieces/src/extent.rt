@@ -25,7 +25,7 @@ pub enum Lack {
 }
 
 /// Skips a string, from after its first quote.
-fn behind_string<'i>(bytes: &'i [u8]) -> Option<&'i [u8]>
+fn skip_string<'i>(bytes: &'i [u8]) -> Option<&'i [u8]>
     ensures some { IfSome result (λ left. EndsString bytes.now left.now) }
     ensures none { result ≡ None → (rest : List ℕ) → EndsString bytes.now rest → ⊥ }
 {
@@ -58,7 +58,7 @@ fn open_behind(byte: u8, depth: usize) -> usize
 }
 
 /// Skips up to the bracket that closes the first one, from after that.
-fn behind_brackets<'i>(bytes: &'i [u8]) -> Option<&'i [u8]>
+fn skip_brackets<'i>(bytes: &'i [u8]) -> Option<&'i [u8]>
     ensures some { IfSome result (λ left. Closes 1 bytes.now left.now) }
     ensures none { result ≡ None → (rest : List ℕ) → Closes 1 bytes.now rest → ⊥ }
 {
@@ -67,7 +67,7 @@ fn behind_brackets<'i>(bytes: &'i [u8]) -> Option<&'i [u8]>
     'bytes: loop {
         let (first, more) = left.split_first()?;
         if *first == b'"' {
-            left = behind_string(more)?;
+            left = skip_string(more)?;
         } else {
             left = more;
             depth = open_behind(*first, depth);
@@ -104,7 +104,7 @@ fn word_of(letter: u8) -> &'static [u8]
 }
 
 /// Skips `word`, or returns why it does not match.
-fn behind_word<'i>(bytes: &'i [u8], word: &[u8]) -> Result<&'i [u8], Lack>
+fn skip_word<'i>(bytes: &'i [u8], word: &[u8]) -> Result<&'i [u8], Lack>
     ensures found { IfOk result (λ left. bytes.now ≡ word.now ++ left.now) }
     ensures none { IfErr result (λ _. (rest : List ℕ) → bytes.now ≡ word.now ++ rest → ⊥) }
     ensures never { IfErr result (λ lack. lack ≡ lacks.Text → (more rest : List ℕ)
@@ -118,7 +118,7 @@ fn behind_word<'i>(bytes: &'i [u8], word: &[u8]) -> Result<&'i [u8], Lack>
 }
 
 /// Skips a text that closes, or returns why there is none at the start.
-fn behind_closed<'i>(bytes: &'i [u8]) -> Result<&'i [u8], Lack>
+fn skip_closed<'i>(bytes: &'i [u8]) -> Result<&'i [u8], Lack>
     ensures found { IfOk result (λ left. IsClosed bytes.now left.now) }
     ensures none { IfErr result (λ _. (rest : List ℕ) → IsClosed bytes.now rest → ⊥) }
     ensures never { IfErr result (λ lack. lack ≡ lacks.Text → (more rest : List ℕ)
@@ -126,15 +126,15 @@ fn behind_closed<'i>(bytes: &'i [u8]) -> Result<&'i [u8], Lack>
 {
     match bytes.split_first() {
         None => Err(Lack::Bytes),
-        Some((first, more)) if *first == b'"' => match behind_string(more) {
+        Some((first, more)) if *first == b'"' => match skip_string(more) {
             Some(left) => Ok(left),
             None => Err(Lack::Bytes),
         },
-        Some((first, more)) if is_opening(*first) => match behind_brackets(more) {
+        Some((first, more)) if is_opening(*first) => match skip_brackets(more) {
             Some(left) => Ok(left),
             None => Err(Lack::Bytes),
         },
-        Some((first, _)) if is_letter(*first) => behind_word(bytes, word_of(*first)),
+        Some((first, _)) if is_letter(*first) => skip_word(bytes, word_of(*first)),
         Some(_) => Err(Lack::Text),
     }
 }
@@ -147,7 +147,7 @@ fn is_numeral(byte: u8) -> bool
 }
 
 /// Skips all bytes of numbers.
-fn behind_numerals<'i>(bytes: &'i [u8]) -> &'i [u8]
+fn skip_numerals<'i>(bytes: &'i [u8]) -> &'i [u8]
     ensures { (text : List ℕ) × (bytes.now ≡ text ++ result.now) × All IsNumeral text
         × NotFirst IsNumeral result.now }
 {
@@ -162,21 +162,21 @@ fn behind_numerals<'i>(bytes: &'i [u8]) -> &'i [u8]
 
 /// Skips the text of a value, if the bytes start with one. On partial input (`cut`), a text that
 /// more bytes may change is not accepted.
-fn behind_text<'i>(bytes: &'i [u8], cut: bool) -> Result<&'i [u8], Lack>
+fn skip_text<'i>(bytes: &'i [u8], cut: bool) -> Result<&'i [u8], Lack>
     ensures found { IfOk result (λ left. (text : List ℕ) × Ends cut bytes.now text left.now) }
     ensures lack { IfErr result (Lacks cut bytes.now) }
 {
     match bytes.first() {
         None => Err(if cut { Lack::Bytes } else { Lack::Text }),
         Some(first) if *first == b'-' || first.is_ascii_digit() => {
-            let left = behind_numerals(bytes);
+            let left = skip_numerals(bytes);
             if cut && left.is_empty() {
                 Err(Lack::Bytes)
             } else {
                 Ok(left)
             }
         }
-        Some(_) => match behind_closed(bytes) {
+        Some(_) => match skip_closed(bytes) {
             Ok(left) => Ok(left),
             Err(Lack::Bytes) if cut => Err(Lack::Bytes),
             Err(_) => Err(Lack::Text),
@@ -184,11 +184,11 @@ fn behind_text<'i>(bytes: &'i [u8], cut: bool) -> Result<&'i [u8], Lack>
     }
 }
 
-/// As [`behind_text`], with the text.
+/// As [`skip_text`], with the text.
 pub fn text_of<'i>(bytes: &'i [u8], cut: bool) -> Result<(&'i [u8], &'i [u8]), Lack>
     ensures found { IfOk result (λ r. Ends cut bytes.now r.0.now r.1.now) }
     ensures lack { IfErr result (Lacks cut bytes.now) }
 {
-    let left = behind_text(bytes, cut)?;
+    let left = skip_text(bytes, cut)?;
     Ok(bytes.split_at(bytes.len() - left.len()))
 }

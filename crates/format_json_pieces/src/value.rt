@@ -1,10 +1,10 @@
 //! JSON values (RFC 8259) at the start of bytes, and JSON texts in bytes.
-ghost use Rattle.format_json_pieces.specs.Begun.{IsBegun};
-ghost use Rattle.format_json_pieces.specs.Told.{Fails, Stands};
+ghost use Rattle.format_json_pieces.specs.Begun.{IsViablePrefix};
+ghost use Rattle.format_json_pieces.specs.Results.{Fails, MatchesAtStart};
 ghost use Rattle.format_json_pieces.specs.Value.{AreNumerals, HasInner, InUtf8, IsNext, IsNumeral};
 ghost use Rattle.format_json_pieces.specs.Value.{IsRefusedAt, IsValueIn};
 ghost use Rattle.format_json_pieces.specs.declared.begun.Mode.TheVariants as modes;
-ghost use Rattle.format_json_texts.specs.Number.{GoesOn};
+ghost use Rattle.format_json_texts.specs.Number.{ContinuesNumber};
 ghost use Rattle.format_json_texts.specs.Values.{JsonText, ValueText};
 ghost use Rattle.std.specs.List.{All};
 ghost use Rattle.std.specs.Prelude.{◌≡◌, ◌≤◌, ◌↔◌, ◌++◌, ℕ, List, length, false, IfErr, IfOk, []};
@@ -31,8 +31,8 @@ use winnow::stream::{Partial, Stream, StreamIsPartial};
 
 /// Returns whether the text starts with a character that can continue a number.
 fn goes_on(text: &str) -> bool
-    ensures yes { IsTrue result → Begins GoesOn (chars text.now) }
-    ensures no { result ≡ false → NotFirst GoesOn (chars text.now) }
+    ensures yes { IsTrue result → Begins ContinuesNumber (chars text.now) }
+    ensures no { result ≡ false → NotFirst ContinuesNumber (chars text.now) }
 {
     match text.chars().next() {
         Some(c) => c.is_ascii_digit() || c == '.' || c == 'e' || c == 'E',
@@ -48,14 +48,14 @@ fn value_in<'i, A: Allocator + Copy>(
     bytes: &'i [u8],
     cut: bool,
 ) -> Result<(Value<A>, &'i [u8]), ErrMode<EmptyError>>
-    ensures value { IfOk result (λ r. Stands (IsValueIn level) cut bytes.now r.0 r.1.now) }
+    ensures value { IfOk result (λ r. MatchesAtStart (IsValueIn level) cut bytes.now r.0 r.1.now) }
     ensures none { IfErr result (λ e. Fails (IsValueIn {A = A} level) cut bytes.now
         (⟦<ErrMode<EmptyError> as HasKind>⟧.kind e)) }
     ensures asks { IfErr result (λ e. Asks (⟦<ErrMode<EmptyError> as HasKind>⟧.kind e)
         → (v : Value A) (rest : List ℕ) → IsValueIn level bytes.now v rest
         → All IsNumeral bytes.now) }
     ensures begun { IfErr result (λ e. Asks (⟦<ErrMode<EmptyError> as HasKind>⟧.kind e)
-        → IsBegun level modes.Value [] bytes.now) }
+        → IsViablePrefix level modes.Value [] bytes.now) }
 {
     let text = match text_of(bytes, cut) {
         Ok((text, _)) => text,
@@ -84,7 +84,7 @@ fn is_space(byte: u8) -> bool
 }
 
 /// Skips whitespace.
-fn behind_gap<'i>(bytes: &'i [u8]) -> &'i [u8]
+fn skip_whitespace<'i>(bytes: &'i [u8]) -> &'i [u8]
     ensures { (gap : List ℕ) × (bytes.now ≡ gap ++ result.now) × All IsMultispace gap
         × NotFirst IsMultispace result.now }
 {
@@ -104,16 +104,16 @@ fn next_in<'i, A: Allocator + Copy>(
     bytes: &'i [u8],
     cut: bool,
 ) -> Result<(Option<Value<A>>, &'i [u8]), ErrMode<EmptyError>>
-    ensures value { IfOk result (λ r. Stands (IsNext level) cut bytes.now r.0 r.1.now) }
+    ensures value { IfOk result (λ r. MatchesAtStart (IsNext level) cut bytes.now r.0 r.1.now) }
     ensures none { IfErr result (λ e. Fails (IsNext {A = A} level) cut bytes.now
         (⟦<ErrMode<EmptyError> as HasKind>⟧.kind e)) }
     ensures asks { IfErr result (λ e. Asks (⟦<ErrMode<EmptyError> as HasKind>⟧.kind e)
         → (v : Value A) (rest : List ℕ) → IsNext level bytes.now (Some v) rest
         → AreNumerals bytes.now) }
     ensures begun { IfErr result (λ e. Asks (⟦<ErrMode<EmptyError> as HasKind>⟧.kind e)
-        → IsBegun level modes.Value [] bytes.now) }
+        → IsViablePrefix level modes.Value [] bytes.now) }
 {
-    let start = behind_gap(bytes);
+    let start = skip_whitespace(bytes);
     if start.is_empty() {
         return if cut {
             Err(ErrMode::Incomplete(Needed::Unknown))
@@ -138,7 +138,8 @@ fn next_in<'i, A: Allocator + Copy>(
 /// Fails with `Incomplete` if more input may follow, and the bytes (possibly none) begin the text
 /// of a value of the level, which may continue after them. Then there is no value of the level in
 /// them, or they are the bytes of a number. A walk over the bytes with the open brackets checks
-/// that each byte may occur there (clause `begun`, by `IsBegun`), so `[x`, `[1,,` and `01` are not
+/// that each byte may occur there (clause `begun`, by `IsViablePrefix`), so `[x`, `[1,,` and `01`
+/// are not
 /// `Incomplete`. (That bytes which pass the walk always begin some value is tested, not proved.)
 /// The caller must bound the bytes that it holds: a text that never closes is `Incomplete` again
 /// and again, and each call reads it anew.
@@ -178,7 +179,7 @@ pub fn read_value_in_pieces<'i, A: Allocator + Copy>(
         (⟦<Partial<&'static [u8]> as Stream>⟧.view input.old).left.tokens v rest
         → All IsNumeral (⟦<Partial<&'static [u8]> as Stream>⟧.view input.old).left.tokens) }
     ensures begun { IfErr result (λ e. Asks (⟦<ErrMode<EmptyError> as HasKind>⟧.kind e)
-        → IsBegun level modes.Value []
+        → IsViablePrefix level modes.Value []
         (⟦<Partial<&'static [u8]> as Stream>⟧.view input.old).left.tokens) }
     ensures kept { IfErr result (λ e. ⟦<Partial<&'static [u8]> as Stream>⟧.view input.new
         ≡ ⟦<Partial<&'static [u8]> as Stream>⟧.view input.old) }
@@ -231,7 +232,7 @@ pub fn read_next_in_pieces<'i, A: Allocator + Copy>(
         (⟦<Partial<&'static [u8]> as Stream>⟧.view input.old).left.tokens (Some v) rest
         → AreNumerals (⟦<Partial<&'static [u8]> as Stream>⟧.view input.old).left.tokens) }
     ensures begun { IfErr result (λ e. Asks (⟦<ErrMode<EmptyError> as HasKind>⟧.kind e)
-        → IsBegun level modes.Value []
+        → IsViablePrefix level modes.Value []
         (⟦<Partial<&'static [u8]> as Stream>⟧.view input.old).left.tokens) }
     ensures kept { IfErr result (λ e. ⟦<Partial<&'static [u8]> as Stream>⟧.view input.new
         ≡ ⟦<Partial<&'static [u8]> as Stream>⟧.view input.old) }
@@ -334,7 +335,7 @@ pub fn parse_value_of_bytes<'i, A: Allocator + Copy>(
 /// ```
 pub fn values_are_those_of_the_standard<A: Allocator>()
     ensures { (level : ℕ) → IsGrammarOf (IsValueIn {A = A} level)
-        (InUtf8 (ValueText HasCharacters level)) (NotFirst GoesOn) }
+        (InUtf8 (ValueText HasCharacters level)) (NotFirst ContinuesNumber) }
 {}
 
 /// A value at the start of bytes ends at one offset: the rest is the same suffix of the bytes for

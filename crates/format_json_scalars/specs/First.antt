@@ -1,13 +1,13 @@
 -- Which of two is read, by the character that is first.
 use Rattle.std.specs.Prelude.{◌≡◌, ◌⊎◌, ◌<◌, ℕ, List, [], ◌∷◌, Option, Some, None, Result, Ok, Err}
-use Rattle.std.specs.Prelude.{Bool, true, false}
-use Rattle.std.proofs.Common.{refl, subst, inl, inr, arith}
+use Rattle.std.specs.Prelude.{Bool, false, true}
+use Rattle.std.proofs.Common.{arith, inl, inr, refl, subst}
 use Rattle.std.specs.Str.{chars}
 use Rattle.winnow.specs.Input.{Input}
 use Rattle.winnow.specs.Kind.{Kind}
 use Rattle.winnow.specs.Text.{text_reading}
 use Rattle.winnow.specs.AsChar.{IsDecDigit}
-use Rattle.format_json_texts.specs.Number.{GoesOn, Number, number_begins, number_of}
+use Rattle.format_json_texts.specs.Number.{ContinuesNumber, Number, number_begins, number_of}
 use Rattle.format_json_texts.specs.Strings.{Quoted, string_begins, string_of}
 use Rattle.format_json_texts.specs.Values.{AnyValue, AnyWord, HasText, IsNumber, IsString, IsWord}
 use Rattle.format_json_texts.specs.Values.{Scalar}
@@ -140,6 +140,7 @@ module _ {A E : Type 0} {kind : E → Kind} {i j : Input ℕ} {result : Result (
 
 -- their grammar is that of their texts
 pub scalar_of : {A : Type 0}
-    → IsGrammarOf (Scalar {A = A} HasCharacters) (ScalarText HasCharacters) (NotFirst GoesOn)
+    → IsGrammarOf (Scalar {A = A} HasCharacters) (ScalarText HasCharacters)
+    (NotFirst ContinuesNumber)
 unfolding AnyValue ValueText
 scalar_of = value_of HasCharacters 0

@@ -1,6 +1,6 @@
 //! Numbers of JSON (RFC 8259, section 6).
 ghost use Rattle.format_json_scalars.specs.Numbers.{NumberOf};
-ghost use Rattle.format_json_texts.specs.Number.{GoesOn, IsLeading, Number, NumberText};
+ghost use Rattle.format_json_texts.specs.Number.{ContinuesNumber, IsLeading, Number, NumberText};
 ghost use Rattle.std.specs.Prelude.{◌≡◌};
 ghost use Rattle.winnow.specs.Exact.{IsSpared, Reads};
 ghost use Rattle.winnow.specs.Grammar.{InClass, Literally};
@@ -73,7 +73,7 @@ pub fn read_number<'i>(input: &mut &'i str) -> Result<&'i str, ErrMode<EmptyErro
     ensures grammar { Reads text_reading ⟦<ErrMode<EmptyError> as HasKind>⟧.kind Number
         (text_input input.old.now) result (text_input input.new.now) }
     ensures text { ReadsText text_reading ⟦<ErrMode<EmptyError> as HasKind>⟧.kind NumberText
-        (NotFirst GoesOn) (text_input input.old.now) result (text_input input.new.now) }
+        (NotFirst ContinuesNumber) (text_input input.old.now) result (text_input input.new.now) }
     ensures spared { IsSpared ⟦<ErrMode<EmptyError> as HasKind>⟧.kind (text_input input.old.now)
         result }
 {

@@ -1,6 +1,6 @@
 //! Values of JSON that have no others in them (RFC 8259, section 3).
 ghost use Rattle.format_json_scalars.specs.First.{IsNumeric};
-ghost use Rattle.format_json_texts.specs.Number.{GoesOn, Number};
+ghost use Rattle.format_json_texts.specs.Number.{ContinuesNumber, Number};
 ghost use Rattle.format_json_texts.specs.Strings.{Quoted};
 ghost use Rattle.format_json_texts.specs.Values.{AnyWord, HasText, IsNumber, IsString, IsWord};
 ghost use Rattle.format_json_texts.specs.Values.{Scalar};
@@ -158,7 +158,7 @@ pub fn read_scalar<A: Allocator + Copy>(
     ensures grammar { Reads text_reading ⟦<ErrMode<EmptyError> as HasKind>⟧.kind
         (Scalar HasCharacters) (text_input input.old.now) result (text_input input.new.now) }
     ensures text { ReadsText text_reading ⟦<ErrMode<EmptyError> as HasKind>⟧.kind
-        (ScalarText HasCharacters) (NotFirst GoesOn) (text_input input.old.now) result
+        (ScalarText HasCharacters) (NotFirst ContinuesNumber) (text_input input.old.now) result
         (text_input input.new.now) }
 {
     if begins_with(input, '"') {

@@ -78,8 +78,8 @@ Number =
 -- ---- the one reads the other
 
 -- a character that can continue a number: a digit, a point or an E
-abbrev pub GoesOn : ℕ → Type 0
-GoesOn c = IsDecDigit c ⊎ ((c ≡ 46) ⊎ IsE c)
+abbrev pub ContinuesNumber : ℕ → Type 0
+ContinuesNumber c = IsDecDigit c ⊎ ((c ≡ 46) ⊎ IsE c)
 
 integer_of : IsGrammarOf Integer IntegerText (NotFirst IsDecDigit)
 integer_of =
@@ -135,7 +135,7 @@ exponent_begins : BeginsIn IsE ExponentText
 exponent_begins = both_front latter (both_front pair (one_or_other_begins 101 69) front_any)
     front_any
 
-pub number_of : IsGrammarOf Number NumberText (NotFirst GoesOn)
+pub number_of : IsGrammarOf Number NumberText (NotFirst ContinuesNumber)
 number_of =
     taken_of text_reading
     (same_of (four_same (Optional (Char 45)) Integer (Optional Fraction) (Optional Exponent))
@@ -155,7 +155,8 @@ number_of =
         (λ rest not. none_begins fraction_of fraction_begins rest
         (not_first _ _ (λ c is. inr is) rest not))
 
-    exponent : IsGrammarOf (Optional Exponent) (OptionalText ExponentText) (NotFirst GoesOn)
+    exponent : IsGrammarOf (Optional Exponent) (OptionalText ExponentText)
+        (NotFirst ContinuesNumber)
     exponent = optional_of (behind_less (not_first _ _ (λ c is. inl is)) exponent_of)
         (λ rest not. none_begins exponent_of exponent_begins rest
         (not_first _ _ (λ c is. inr (inr is)) rest not))
@@ -166,23 +167,24 @@ number_of =
     no_point c (inl e) (inr d) = absurd (omega (arith, e, d))
     no_point c (inr e) (inr d) = absurd (omega (arith, e, d))
 
-    less : (c : ℕ) → IsPoint c → GoesOn c
+    less : (c : ℕ) → IsPoint c → ContinuesNumber c
     less c (inl d) = inl d
     less c (inr d) = inr (inl d)
 
-    before_exponent : InFront (OptionalText ExponentText) (NotFirst GoesOn) (NotFirst IsPoint)
-    before_exponent = front_behind (not_first IsPoint GoesOn less)
+    before_exponent : InFront (OptionalText ExponentText) (NotFirst ContinuesNumber)
+        (NotFirst IsPoint)
+    before_exponent = front_behind (not_first IsPoint ContinuesNumber less)
         (optional_front (front_begins no_point exponent_begins))
 
     behind_integer : InFront (BothText pair (OptionalText FractionText) (OptionalText ExponentText))
-        (NotFirst GoesOn) (NotFirst IsDecDigit)
+        (NotFirst ContinuesNumber) (NotFirst IsDecDigit)
     behind_integer = both_front pair
         (optional_front (front_begins (λ c is d. absurd (omega (arith, is, d))) fraction_begins))
         (front_whole (not_first _ _ (λ c is. inl is)) before_exponent)
 
     behind_minus : InFront (BothText pair IntegerText
         (BothText pair (OptionalText FractionText) (OptionalText ExponentText)))
-        (NotFirst GoesOn) (NotFirst (λ c. c ≡ 45))
+        (NotFirst ContinuesNumber) (NotFirst (λ c. c ≡ 45))
     behind_minus = both_front pair
         (front_begins (λ c is e. absurd (omega (arith, is, e))) integer_begins) front_any
 

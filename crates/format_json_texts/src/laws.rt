@@ -1,6 +1,6 @@
 //! Laws of the grammars of JSON: what stands by them is what RFC 8259 writes.
 
-ghost use Rattle.format_json_texts.specs.Number.{GoesOn, Number, NumberText};
+ghost use Rattle.format_json_texts.specs.Number.{ContinuesNumber, Number, NumberText};
 ghost use Rattle.format_json_texts.specs.Strings.{Quoted, StringText};
 ghost use Rattle.format_json_texts.specs.Values.{Json, JsonText};
 ghost use Rattle.format_json_texts.specs.Values.Texts.{Ended};
@@ -19,7 +19,7 @@ use std::alloc::Allocator;
 /// numbers_are_those_of_the_standard();
 /// ```
 pub fn numbers_are_those_of_the_standard()
-    ensures { IsGrammarOf Number NumberText (NotFirst GoesOn) }
+    ensures { IsGrammarOf Number NumberText (NotFirst ContinuesNumber) }
 {}
 
 /// A match of the grammar of strings is a string of RFC 8259 (section 7), for an output that holds

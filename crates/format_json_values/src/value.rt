@@ -1,5 +1,5 @@
 //! Values of JSON (RFC 8259, sections 2 to 7).
-ghost use Rattle.format_json_texts.specs.Number.{GoesOn};
+ghost use Rattle.format_json_texts.specs.Number.{ContinuesNumber};
 ghost use Rattle.format_json_texts.specs.Strings.{Quoted};
 ghost use Rattle.format_json_texts.specs.Values.{AnyValue, Json, JsonText, ValueText};
 ghost use Rattle.format_json_values.specs.First.{IsOpening, no_memory_kind};
@@ -115,7 +115,7 @@ pub fn read_value<'i, A: Allocator + Copy>(
         (AnyValue HasCharacters level) (text_input input.old.now) result
         (text_input input.new.now) }
     ensures text { ReadsText text_reading ⟦<ErrMode<EmptyError> as HasKind>⟧.kind
-        (ValueText HasCharacters level) (NotFirst GoesOn) (text_input input.old.now) result
+        (ValueText HasCharacters level) (NotFirst ContinuesNumber) (text_input input.old.now) result
         (text_input input.new.now) }
 {
     if !opens(level, input) {

@@ -1,6 +1,6 @@
 -- Lemmas about the text that is appended for a value, part by part.
 use Rattle.std.specs.Prelude.{◌≡◌, ◌≤◌, ◌<◌, ◌+◌, ℕ, suc, List, [], ◌∷◌, ◌++◌, Bool, true, false}
-use Rattle.std.specs.Prelude.{Option, Some, None, drop, length, slice_index_or}
+use Rattle.std.specs.Prelude.{None, Option, Some, drop, length, slice_index_or}
 use Rattle.std.specs.Prelude.{encode_utf8_all, string_bytes}
 use Rattle.std.specs.Char.{encode_utf8}
 use Rattle.std.specs.Str.{IsUtf8, chars}
@@ -160,13 +160,13 @@ joined_none {O} comma text os bytes none =
     (record { tokens = []; is = refl; behind = sym (append-nil bytes) })
 
 -- each after a comma
-abbrev pub Behind : {O : Type 0} → Text ℕ O → Text ℕ (List O)
-Behind text = EachText (BothText (λ d o. o) (One 44) text)
+abbrev pub CommaPrefixed : {O : Type 0} → Text ℕ O → Text ℕ (List O)
+CommaPrefixed text = EachText (BothText (λ d o. o) (One 44) text)
 
 -- the first, and the others
 pub joined_first : {O : Type 0} {text : Text ℕ O} {o : O} {all os : List O}
     {before between after : List ℕ} → all ≡ o ∷ os → Adds text o before between
-    → Adds (Behind text) os between after → Adds (PartedText (One 44) text) all before after
+    → Adds (CommaPrefixed text) os between after → Adds (PartedText (One 44) text) all before after
 unfolding PartedText
 joined_first {O} {text} {before = before} {after = after} is one rest =
     let P : List O → Type 0 = λ l. Adds (PartedText (One 44) text) l before after in
@@ -180,19 +180,19 @@ joined_first {O} {text} {before = before} {after = after} is one rest =
 pub behind_more : {O : Type 0} {text : Text ℕ O} (os : List O) (k : ℕ) (o : O)
     {before first second after : List ℕ} → k < length os → o ≡ slice_index_or os k o
     → first ≡ before ++ encode_utf8 44 → Adds text o first second
-    → Adds (Behind text) (drop (k + 1) os) second after
-    → Adds (Behind text) (drop k os) before after
+    → Adds (CommaPrefixed text) (drop (k + 1) os) second after
+    → Adds (CommaPrefixed text) (drop k os) before after
 behind_more {O} {text} os k o {before} {after = after} below is comma one more =
-    let P : List O → Type 0 = λ l. Adds (Behind text) l before after in
+    let P : List O → Type 0 = λ l. Adds (CommaPrefixed text) l before after in
     let here : drop k os ≡ o ∷ drop (k + 1) os =
     drop_more os k o below ∙ ap (λ y. y ∷ drop (k + 1) os) (sym is) in
     subst P (sym here) (adds_more (adds_then (λ d o. o) (one_added 44 comma) one) more)
 
 -- no more
 pub behind_end : {O : Type 0} (text : Text ℕ O) (os : List O) (k : ℕ) (bytes : List ℕ)
-    → length os ≤ k → Adds (Behind text) (drop k os) bytes bytes
+    → length os ≤ k → Adds (CommaPrefixed text) (drop k os) bytes bytes
 behind_end {O} text os k bytes most =
-    let P : List O → Type 0 = λ l. Adds (Behind text) l bytes bytes in
+    let P : List O → Type 0 = λ l. Adds (CommaPrefixed text) l bytes bytes in
     subst P (sym (drop_all k os most)) (adds_none (BothText (λ d o. o) (One 44) text) bytes)
 
 module _ {A : Type 0} (below : ℕ) {level : ℕ} {before first second after : List ℕ} where

@@ -1,6 +1,6 @@
 -- Lemmas about the continuation of a reply after the bytes passed.
 use Rattle.std.specs.Prelude.{◌≡◌, ◌↔◌, ◌≤◌, ◌+◌, ◌^◌, ⊤, ℕ, zero, suc, List, [], ◌∷◌, ◌++◌}
-use Rattle.std.specs.Prelude.{length, Option, Some, None}
+use Rattle.std.specs.Prelude.{None, Option, Some, length}
 use Rattle.std.specs.Borrow.{Bor}
 use Rattle.std.proofs.Common.{refl, sym, ap, subst, ◌∙◌, arith, append_assoc}
 use Rattle.std.proofs.lemmas.List.{append-nil}
@@ -12,7 +12,7 @@ use Rattle.format_resp.proofs.FirstBytes.{not_resp3}
 use Rattle.format_resp.proofs.FirstLines.{head_splits}
 use Rattle.format_resp.proofs.Integers.{size_small}
 use Rattle.format_resp.proofs.ReadParts.{data_unique}
-use Rattle.format_resp.specs.Extents.{AreDue, AreReplies, IsReply, Stands, count_after}
+use Rattle.format_resp.specs.Extents.{AreDue, AreReplies, IsReply, MatchesAtStart, count_after}
 use Rattle.format_resp.specs.Extents.{data_after}
 use Rattle.format_resp.specs.Heads.{HeadText, Says, array_head, bulk_head}
 use Rattle.format_resp.specs.Resp.{AggregateBehind, Body, DataBehind, DataText, Elements, Ended}
@@ -62,20 +62,20 @@ module _ {A : Type 0} (these : Text ℕ (Replies A))
 
 -- ---- the bytes after a first line
 
-abbrev pub Behind : Head → List ℕ → Type 0
-Behind heads.Ends xs = xs ≡ []
-Behind (heads.Data n) xs = (bulk : Bor (List ℕ)) × DataText n bulk xs
-Behind (heads.Replies n) xs = AreReplies n xs
+abbrev pub BodyAfterLine : Head → List ℕ → Type 0
+BodyAfterLine heads.Ends xs = xs ≡ []
+BodyAfterLine (heads.Data n) xs = (bulk : Bor (List ℕ)) × DataText n bulk xs
+BodyAfterLine (heads.Replies n) xs = AreReplies n xs
 
 module _ {A : Type 0} (elements : Text ℕ (List (Replies A)))
     (are : (os : List (Replies A)) (xs : List ℕ) → elements os xs → AreReplies (length os) xs) where
   bulk_there : (size : Option ℕ) (reply : Replies A) (xs : List ℕ)
-      → DataBehind Dollar size reply xs → Behind (bulk_head size) xs
+      → DataBehind Dollar size reply xs → BodyAfterLine (bulk_head size) xs
   bulk_there None reply xs (is, empty) = empty
   bulk_there (Some n) reply xs (bulk, says, t) = (bulk, t)
 
   array_there : (size : Option ℕ) (reply : Replies A) (xs : List ℕ)
-      → AggregateBehind elements Star size reply xs → Behind (array_head size) xs
+      → AggregateBehind elements Star size reply xs → BodyAfterLine (array_head size) xs
   array_there None reply xs (is, empty) = empty
   array_there (Some n) reply xs (list, is, (count, row)) =
       let P : ℕ → Type 0 = λ k. AreReplies k xs in subst P count (are list.items xs row)
@@ -83,7 +83,7 @@ module _ {A : Type 0} (elements : Text ℕ (List (Replies A)))
   body_there : (mark : Mark) (reply : Replies A) (xs : List ℕ) → IsIn Resp2 mark
       → Body elements mark reply xs
       → (head : Head) × (us : List ℕ) × (vs : List ℕ) × Ended (Says mark) head us
-      × Behind head vs × (xs ≡ us ++ vs)
+      × BodyAfterLine head vs × (xs ≡ us ++ vs)
   unfolding Led Ended SizeText Shown
   body_there (Line Plus) reply xs within (line, (text, is, (all, shown)), e) =
       (heads.Ends, xs, [], (line, (refl, all), e), refl, sym (append-nil xs))
@@ -107,7 +107,7 @@ module _ {A : Type 0} (elements : Text ℕ (List (Replies A)))
   body_there (Aggregate Bar) reply xs within x = not_resp3 within
 
   led_there : (reply : Replies A) (xs : List ℕ) → Led (MarkText Resp2) (Body elements) reply xs
-      → (head : Head) × (us : List ℕ) × (vs : List ℕ) × HeadText head us × Behind head vs
+      → (head : Head) × (us : List ℕ) × (vs : List ℕ) × HeadText head us × BodyAfterLine head vs
       × (xs ≡ us ++ vs)
   unfolding Led MarkText
   led_there reply xs (mark, ms, bs, (within, m), body, e) =
@@ -122,13 +122,14 @@ module _ {A : Type 0} (elements : Text ℕ (List (Replies A)))
 
 -- ---- and back
 
-bulk_back : (size : Option ℕ) (xs : List ℕ) → Behind (bulk_head size) xs
+bulk_back : (size : Option ℕ) (xs : List ℕ) → BodyAfterLine (bulk_head size) xs
     → (reply : Replies ⊤) × DataBehind Dollar size reply xs
 unfolding Shown
 bulk_back None xs empty = (made.NullBulk, (refl, empty))
 bulk_back (Some n) xs (bulk, t) = (made.Bulk bulk, (bulk, (bulk, refl, (tt, refl)), t))
 
-array_back : (size : Option ℕ) (us xs : List ℕ) → SizeText size us → Behind (array_head size) xs
+array_back : (size : Option ℕ) (us xs : List ℕ) → SizeText size us
+    → BodyAfterLine (array_head size) xs
     → (level : ℕ) × (reply : Replies ⊤)
     × AggregateBehind (Elements Resp2 level) Star size reply xs
 unfolding Elements
@@ -142,14 +143,14 @@ array_back (Some n) us xs s many =
     (suc level, made.Array list, (list, refl, subst P (sym same) (count, row)))
 
 -- the reply ends with this line
-flat : {head : Head} (us vs line : List ℕ) → head ≡ heads.Ends → Behind head vs
+flat : {head : Head} (us vs line : List ℕ) → head ≡ heads.Ends → BodyAfterLine head vs
     → us ≡ line ++ line_end → us ++ vs ≡ line ++ line_end
 flat {head} us vs line is behind e =
-    let P : Head → Type 0 = λ h. Behind h vs in
+    let P : Head → Type 0 = λ h. BodyAfterLine h vs in
     ap (λ l. us ++ l) (subst P is behind) ∙ append-nil us ∙ e
 
 body_back : (mark : Mark) (head : Head) (us vs : List ℕ) → Ended (Says mark) head us
-    → Behind head vs → (level : ℕ) × (reply : Replies ⊤)
+    → BodyAfterLine head vs → (level : ℕ) × (reply : Replies ⊤)
     × Body (Elements Resp2 level) mark reply (us ++ vs)
 unfolding Led Ended SizeText Shown
 body_back (Line Plus) head us vs (line, (is, all), e) behind =
@@ -161,11 +162,11 @@ body_back (Line Minus) head us vs (line, (is, all), e) behind =
 body_back (Line Colon) head us vs (line, (is, (n, a)), e) behind =
     (0, made.Integer n, (line, (n, refl, a), flat us vs line is behind e))
 body_back (Data Dollar) head us vs (line, (size, is, a), e) behind =
-    let P : Head → Type 0 = λ h. Behind h vs in
+    let P : Head → Type 0 = λ h. BodyAfterLine h vs in
     let (reply, b) = bulk_back size vs (subst P is behind) in
     (0, reply, (size, us, vs, (line, a, e), b, refl))
 body_back (Aggregate Star) head us vs (line, (size, is, a), e) behind =
-    let P : Head → Type 0 = λ h. Behind h vs in
+    let P : Head → Type 0 = λ h. BodyAfterLine h vs in
     let (level, reply, b) = array_back size us vs (line, a, e) (subst P is behind) in
     (level, reply, (size, us, vs, (line, a, e), b, refl))
 body_back (Line Underscore) head us vs (line, never, e) behind = absurd never
@@ -179,7 +180,7 @@ body_back (Aggregate Tilde) head us vs (line, never, e) behind = absurd never
 body_back (Aggregate Greater) head us vs (line, never, e) behind = absurd never
 body_back (Aggregate Bar) head us vs (line, never, e) behind = absurd never
 
-pub head_back : (head : Head) (us vs : List ℕ) → HeadText head us → Behind head vs
+pub head_back : (head : Head) (us vs : List ℕ) → HeadText head us → BodyAfterLine head vs
     → IsReply (us ++ vs)
 unfolding Led
 head_back head us vs (mark, ms, bs, m, says, d) behind =
@@ -211,12 +212,12 @@ module _ {A : Type 0} where
       subst P (sym e) (head_back head us vs text behind)
 
 pub head_there : (xs : List ℕ) → IsReply xs → (head : Head) × (us : List ℕ) × (vs : List ℕ)
-    × HeadText head us × Behind head vs × (xs ≡ us ++ vs)
+    × HeadText head us × BodyAfterLine head vs × (xs ≡ us ++ vs)
 head_there xs (level, reply, t) = led_there (Elements Resp2 level) (are_replies level) reply xs t
 
 -- a reply of any allocator is a reply
 pub stands_any : {A : Type 0} (level : ℕ) (reply : Replies A) (tokens rest : List ℕ)
-    → First (ReplyText Resp2 level) tokens reply rest → Stands IsReply tokens rest
+    → First (ReplyText Resp2 level) tokens reply rest → MatchesAtStart IsReply tokens rest
 unfolding First
 stands_any level reply tokens rest (front, t, e) = (front, reply_any level reply front t, e)
 
@@ -258,7 +259,7 @@ many_split (suc k) n zs all =
 
 -- ---- the continuation after a first line
 
-due_of : (head : Head) (n : ℕ) (us vs : List ℕ) → Behind head us → AreReplies n vs
+due_of : (head : Head) (n : ℕ) (us vs : List ℕ) → BodyAfterLine head us → AreReplies n vs
     → AreDue (data_after head) (count_after head n) (us ++ vs)
 due_of heads.Ends n us vs e many =
     let P : List ℕ → Type 0 = λ l. AreReplies n (l ++ vs) in subst P (sym e) many
@@ -268,7 +269,7 @@ due_of (heads.Replies k) n us vs some many =
     let same : k + n ≡ n + k = omega arith in subst P same (many_append k n us vs some many)
 
 of_due : (head : Head) (n : ℕ) (xs : List ℕ) → AreDue (data_after head) (count_after head n) xs
-    → (us : List ℕ) × (vs : List ℕ) × Behind head us × AreReplies n vs × (xs ≡ us ++ vs)
+    → (us : List ℕ) × (vs : List ℕ) × BodyAfterLine head us × AreReplies n vs × (xs ≡ us ++ vs)
 of_due heads.Ends n xs many = ([], xs, refl, many, refl)
 of_due (heads.Data k) n xs (bulk, us, vs, t, many, e) = (us, vs, (bulk, t), many, e)
 of_due (heads.Replies k) n xs many =
@@ -277,8 +278,8 @@ of_due (heads.Replies k) n xs many =
 
 -- a first line is passed
 pub line_passed : (head : Head) (n : ℕ) (tokens left : List ℕ) → First HeadText tokens head left
-    → (rest : List ℕ) → Stands (AreReplies (suc n)) tokens rest
-    ↔ Stands (AreDue (data_after head) (count_after head n)) left rest
+    → (rest : List ℕ) → MatchesAtStart (AreReplies (suc n)) tokens rest
+    ↔ MatchesAtStart (AreDue (data_after head) (count_after head n)) left rest
 unfolding First
 line_passed head n tokens left (hs, text, f) rest = (
   λ (front, (xs, ys, reply, many, e), d).
@@ -288,7 +289,7 @@ line_passed head n tokens left (hs, text, f) rest = (
       ∙ append_assoc us (vs ++ ys) rest in
       let (same, lefts) = head_splits.one other head tokens ((vs ++ ys) ++ rest) left
       (us, first, split) (hs, text, f) in
-      let P : Head → Type 0 = λ h. Behind h vs in
+      let P : Head → Type 0 = λ h. BodyAfterLine h vs in
       (vs ++ ys, due_of head n vs ys (subst P same behind) many, sym lefts),
   λ (front, due, d).
       let (us, vs, behind, many, e) = of_due head n front due in (
@@ -302,8 +303,8 @@ line_passed head n tokens left (hs, text, f) rest = (
 -- the data of a bulk string is passed
 pub data_passed : (size n : ℕ) (bulk : Bor (List ℕ)) (tokens left : List ℕ)
     → First (DataText size) tokens bulk left
-    → (rest : List ℕ) → Stands (AreDue (Some size) n) tokens rest
-    ↔ Stands (AreDue None n) left rest
+    → (rest : List ℕ) → MatchesAtStart (AreDue (Some size) n) tokens rest
+    ↔ MatchesAtStart (AreDue None n) left rest
 unfolding First
 data_passed size n bulk tokens left (hs, text, f) rest = (
   λ (front, (other, xs, ys, t, many, e), d).

@@ -9,7 +9,7 @@ use Rattle.format_resp.proofs.EndedLines.{IsPlain, ended_splits}
 use Rattle.format_resp.proofs.FirstBytes.{mark_splits, one_mark}
 use Rattle.format_resp.proofs.Integers.{one_size, signed_plain, size_plain}
 use Rattle.format_resp.proofs.LineEnds.{open_endless, return_ends, until_end}
-use Rattle.format_resp.specs.Heads.{HeadText, IsBegun, Says, array_head, bulk_head}
+use Rattle.format_resp.specs.Heads.{HeadText, IsLinePrefix, Says, array_head, bulk_head}
 use Rattle.format_resp.specs.Lines.{EndsLine, IsOpen}
 use Rattle.format_resp.specs.Resp.{Ended, InLine, IsIn, MarkText, byte_of, line_end}
 use Rattle.format_resp.specs.declared.heads.Head.{Head}
@@ -129,7 +129,7 @@ start_none head rest (front, (mark, xs, ys, (within, is), says, d), e) =
     cc
 
 -- none where it is not ended
-pub begun_none : (tokens : List ℕ) → IsBegun tokens → (head : Head) (rest : List ℕ)
+pub begun_none : (tokens : List ℕ) → IsLinePrefix tokens → (head : Head) (rest : List ℕ)
     → First HeadText tokens head rest → ⊥
 begun_none [] b head rest x = start_none head rest x
 begun_none (byte ∷ text) b head rest x =
@@ -139,7 +139,7 @@ begun_none (byte ∷ text) b head rest x =
 nil_cons : (b : ℕ) (t : List ℕ) → [] ≡ b ∷ t → ⊥
 nil_cons b t e = cc
 
-pub none_begun : (tokens : List ℕ) → tokens ≡ [] → IsBegun tokens
+pub none_begun : (tokens : List ℕ) → tokens ≡ [] → IsLinePrefix tokens
 none_begun tokens e = record {
   marked = λ b t d. absurd (nil_cons b t (sym e ∙ d));
   begun = ([], tt, inl (ap (λ l. drop 1 l) e));
@@ -196,7 +196,7 @@ pub text_sought : (tokens text : List ℕ) (byte n : ℕ) (mark : Mark) → toke
     → IsIn Resp2 mark → byte ≡ byte_of mark
     → (n ≤ length text) × AllByRecursion InLine (take n text) × IsOpen text
     → (n ≤ length (drop 1 tokens)) × AllByRecursion InLine (take n (drop 1 tokens))
-    × IsBegun tokens
+    × IsLinePrefix tokens
 text_sought tokens text byte n mark e within is (enough, all, begun) =
     let P : List ℕ → Type 0 = λ l. AllByRecursion InLine (take n l) in
     let Q : List ℕ → Type 0 = λ l. n ≤ length l in

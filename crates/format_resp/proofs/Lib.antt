@@ -20,8 +20,8 @@ pub mod Putting
 pub mod ReadBack
 pub mod ReadParts
 pub mod Refusals
+pub mod Results
 pub mod Rows
 pub mod Sayings
-pub mod Told
 pub mod Writing
 pub mod WrittenTexts

@@ -17,7 +17,7 @@ use Rattle.winnow.specs.Stream.{AnswersSeen}
 use Rattle.winnow.specs.Texts.{Members, NotFirst}
 use Rattle.winnow.specs.Texts.Tokens.{class_of, divides_seen, divides_where}
 use Rattle.format_resp.specs.Numbers.{AreDigits, IsBigNumber, IsDecimal, IsExponent, IsSign}
-use Rattle.format_resp.specs.Numbers.{IsTail, Leaves, NoneStands, SignsOff}
+use Rattle.format_resp.specs.Numbers.{IsTail, NoneStands, RestAfter, SignsOff}
 
 -- ---- digits
 
@@ -44,7 +44,7 @@ not_first (t ∷ ts) n ends = elim (ends t ts refl) [
 ]
 
 pub digits_there : (tokens rest : List ℕ) (slice : Bor (List ℕ)) → DigitsRead tokens slice rest
-    → Leaves AreDigits tokens rest
+    → RestAfter AreDigits tokens rest
 unfolding Members Longest
 digits_there tokens rest slice x =
     let (front, e, (all, least, shown)) =
@@ -107,7 +107,7 @@ leads c (d ∷ ds) rest more a e small = absurd (omega (arith, a.0.0.0, same_fir
 -- ---- digits with a sign before them
 
 number_signed : (c : ℕ) (more tokens rest : List ℕ) → (c ≡ 43) ⊎ (c ≡ 45)
-    → tokens ≡ c ∷ more → Leaves AreDigits more rest → Leaves IsBigNumber tokens rest
+    → tokens ≡ c ∷ more → RestAfter AreDigits more rest → RestAfter IsBigNumber tokens rest
 unfolding IsBigNumber
 number_signed c more tokens rest is e (front, a, d, not) = (
   c ∷ front,
@@ -120,8 +120,8 @@ number_signed c more tokens rest is e (front, a, d, not) = (
     sign (inl plus) = inr (inl (ap (λ b. b ∷ []) plus))
     sign (inr minus) = inr (inr (ap (λ b. b ∷ []) minus))
 
-number_alone : (tokens rest : List ℕ) → Leaves AreDigits tokens rest
-    → Leaves IsBigNumber tokens rest
+number_alone : (tokens rest : List ℕ) → RestAfter AreDigits tokens rest
+    → RestAfter IsBigNumber tokens rest
 unfolding IsBigNumber
 number_alone tokens rest (front, a, d, not) = (front, ([], front, inl refl, a, refl), d, not)
 
@@ -162,11 +162,11 @@ no_number tokens unsigned none front rest (sign, digits, s, a, d) f = by s
         unsigned 45 (digits ++ rest) (inr refl) (whole ∙ ap (λ l. l ++ (digits ++ rest)) minus)
 
 pub number_is : (tokens digits rest : List ℕ) → SignsOff tokens digits
-    → Leaves AreDigits digits rest → Leaves IsBigNumber tokens rest
+    → RestAfter AreDigits digits rest → RestAfter IsBigNumber tokens rest
 unfolding SignsOff
 number_is tokens digits rest (inl (sign, is, e)) it = number_signed sign digits tokens rest is e it
 number_is tokens digits rest (inr (same, unsigned)) it =
-    let P : List ℕ → Type 0 = λ l. Leaves AreDigits l rest in
+    let P : List ℕ → Type 0 = λ l. RestAfter AreDigits l rest in
     number_alone tokens rest (subst P same it)
 
 pub number_none : (tokens digits : List ℕ) → SignsOff tokens digits → NoneStands AreDigits digits
@@ -241,17 +241,17 @@ pub none_whole : (these : List ℕ → Type 0) (tokens : List ℕ) → NoneStand
     → these tokens → ⊥
 none_whole these tokens none is = none tokens [] is (sym (append-nil tokens))
 
-pub all_whole : (these : List ℕ → Type 0) (tokens rest : List ℕ) → Leaves these tokens rest
+pub all_whole : (these : List ℕ → Type 0) (tokens rest : List ℕ) → RestAfter these tokens rest
     → rest ≡ [] → these tokens
 all_whole these tokens rest (front, a, e, not) none =
     subst these (sym (append-nil front) ∙ ap (λ l. front ++ l) (sym none) ∙ sym e) a
 
-pub digits_more : (tokens rest : List ℕ) → Leaves AreDigits tokens rest → (rest ≡ [] → ⊥)
+pub digits_more : (tokens rest : List ℕ) → RestAfter AreDigits tokens rest → (rest ≡ [] → ⊥)
     → AreDigits tokens → ⊥
 digits_more tokens rest (front, a, e, not) some b =
     some (same_digits front tokens rest [] a.0 b.0 not tt (sym e ∙ sym (append-nil tokens)))
 
-pub number_more : (tokens rest : List ℕ) → Leaves IsBigNumber tokens rest → (rest ≡ [] → ⊥)
+pub number_more : (tokens rest : List ℕ) → RestAfter IsBigNumber tokens rest → (rest ≡ [] → ⊥)
     → IsBigNumber tokens → ⊥
 number_more tokens rest (front, a, e, not) some b =
     some (same_number front tokens rest [] a b not tt (sym e ∙ sym (append-nil tokens)))
@@ -295,7 +295,7 @@ exponent_not_first (c ∷ cs) (inr (letter, power, inr e, a, d)) =
 -- ---- fractions and exponents
 
 pub tail_point : (c : ℕ) (more rest tokens : List ℕ) → c ≡ 46 → tokens ≡ c ∷ more
-    → Leaves AreDigits more rest → IsExponent rest → IsTail tokens
+    → RestAfter AreDigits more rest → IsExponent rest → IsTail tokens
 unfolding IsTail
 tail_point c more rest tokens is e (front, a, d, not) x = (
   46 ∷ front,
@@ -335,7 +335,7 @@ tail_behind c more tokens is e (fraction, exponent, inl none, inr (letter, power
     ))
 
 pub tail_point_back : (c : ℕ) (more rest tokens : List ℕ) → c ≡ 46 → tokens ≡ c ∷ more
-    → Leaves AreDigits more rest → IsTail tokens → IsExponent rest
+    → RestAfter AreDigits more rest → IsTail tokens → IsExponent rest
 tail_point_back c more rest tokens is e (front, a, d, not) x =
     let (digits, exponent, b, y, f) = tail_behind c more tokens is e x in
     let P : List ℕ → Type 0 = λ l. IsExponent l in
@@ -374,12 +374,12 @@ tail_not_first tokens (fraction, exponent, inr (digits, a, f), x, d) =
 
 -- ---- both
 
-pub decimal_is : (tokens rest : List ℕ) → Leaves IsBigNumber tokens rest → IsTail rest
+pub decimal_is : (tokens rest : List ℕ) → RestAfter IsBigNumber tokens rest → IsTail rest
     → IsDecimal tokens
 unfolding IsDecimal
 decimal_is tokens rest (front, a, e, not) x = (front, rest, a, x, e)
 
-pub decimal_back : (tokens rest : List ℕ) → Leaves IsBigNumber tokens rest → IsDecimal tokens
+pub decimal_back : (tokens rest : List ℕ) → RestAfter IsBigNumber tokens rest → IsDecimal tokens
     → IsTail rest
 unfolding IsDecimal
 decimal_back tokens rest (front, a, e, not) (whole, tail, b, x, d) =

@@ -11,7 +11,7 @@ use Rattle.format_resp.proofs.FirstBytes.{not_resp3}
 use Rattle.format_resp.proofs.Integers.{size_plain}
 use Rattle.format_resp.proofs.Made.{array_is, bulk_is, error_is, integer_is, null_array_is}
 use Rattle.format_resp.proofs.Made.{null_bulk_is, simple_is}
-use Rattle.format_resp.specs.Parts.{IsBehindFeed, IsLine, NoFeed, Stands, StandsBy}
+use Rattle.format_resp.specs.Parts.{IsBehindFeed, IsLine, IsReplyAt, NoFeed, StandsBy}
 use Rattle.format_resp.specs.Resp.{AggregateBehind, DataBehind, DataText, Elements, Ended, InLine}
 use Rattle.format_resp.specs.Resp.{MarkText, Opened, Replies, ReplyText, Shown, SizeText, line_end}
 use Rattle.format_resp.specs.declared.marks.AggregateMark.TheVariants.{Bar, Greater, Percent, Star}
@@ -88,14 +88,14 @@ module _ {A : Type 0} (level : ℕ) (input rest : List ℕ) where
   -- the contents of a reply of this form
   stands_made : (kind : Opened A) {reply form : Replies A} → reply ≡ form
       → out-Reply (Bor (List ℕ)) A form ≡ kind → StandsBy level input kind rest
-      → Stands level input reply rest
+      → IsReplyAt level input reply rest
   stands_made kind same is =
       let P : Opened A → Type 0 = λ k. StandsBy level input k rest in
       subst P (sym (ap (out-Reply (Bor (List ℕ)) A) same ∙ is))
 
   bulk_stands : (reply : Replies A) (size : Option ℕ) (front first others us vs : List ℕ)
       → first ≡ 36 ∷ [] → SizeText size us → DataBehind Dollar size reply vs → others ≡ us ++ vs
-      → front ≡ first ++ others → input ≡ front ++ rest → Stands level input reply rest
+      → front ≡ first ++ others → input ≡ front ++ rest → IsReplyAt level input reply rest
   unfolding SizeText DataText Ended CountedText Shown
   bulk_stands reply None front first others us vs m s (same, none) f g h =
       stands_made Reply-F.NullBulk same null_bulk_is tt
@@ -108,7 +108,7 @@ module _ {A : Type 0} (level : ℕ) (input rest : List ℕ) where
   array_stands : (reply : Replies A) (size : Option ℕ) (front first others us vs : List ℕ)
       → first ≡ 42 ∷ [] → SizeText size us
       → AggregateBehind (Elements Resp2 level) Star size reply vs → others ≡ us ++ vs
-      → front ≡ first ++ others → input ≡ front ++ rest → Stands level input reply rest
+      → front ≡ first ++ others → input ≡ front ++ rest → IsReplyAt level input reply rest
   unfolding SizeText Ended
   array_stands reply None front first others us vs m s (same, none) f g h =
       stands_made Reply-F.NullArray same null_array_is tt
@@ -125,7 +125,7 @@ module _ {A : Type 0} (level : ℕ) (input rest : List ℕ) where
       )
 
   pub parts_stand : (reply : Replies A) → First (ReplyText Resp2 level) input reply rest
-      → Stands level input reply rest
+      → IsReplyAt level input reply rest
   unfolding First Led MarkText Ended
   parts_stand reply (front, (Line Plus, us, vs, (in2, m), (xs, (text, same, line), e), f), g) =
       stands_made (Reply-F.Simple text) same (simple_is text)

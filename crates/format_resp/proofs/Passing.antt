@@ -12,8 +12,8 @@ use Rattle.winnow.specs.InTurn.{First, Led}
 use Rattle.format_resp.proofs.Dues.{data_passed, head_there, line_passed, small_head}
 use Rattle.format_resp.proofs.LineEnds.{unseen_rest}
 use Rattle.format_resp.specs.Extents.{AreDue, AreReplies, IsOf, IsPart}
-use Rattle.format_resp.specs.Extents.{IsReply, IsTold, PartFound, Passed}
-use Rattle.format_resp.specs.Extents.{Stands, count_after, data_after}
+use Rattle.format_resp.specs.Extents.{IsReply, PartFound, Passed, ReplyResult}
+use Rattle.format_resp.specs.Extents.{MatchesAtStart, count_after, data_after}
 use Rattle.format_resp.specs.Heads.{HeadText}
 use Rattle.format_resp.specs.Resp.{DataText, Ended, InLine, MarkText}
 use Rattle.format_resp.specs.declared.extent.Extent.{Extent}
@@ -23,7 +23,7 @@ use Rattle.format_resp.specs.declared.heads.Head.{Head}
 -- an error that is passed on
 pub err_part : (f : Extent) (tokens rest : List ℕ) (r : PartFound) {e : Refused}
     → IsErrAnd r (λ y. y ≡ e)
-    → ((more left : List ℕ) → Stands IsReply (tokens ++ more) left → ⊥)
+    → ((more left : List ℕ) → MatchesAtStart IsReply (tokens ++ more) left → ⊥)
     → IsPart f tokens rest r
 err_part f tokens rest (Ok o) is none = absurd is
 err_part f tokens rest (Err y) is none = none
@@ -38,7 +38,7 @@ all_none (x ∷ xs) = tt
 -- if there is no first line, there are no replies
 no_line : (n : ℕ) (tokens : List ℕ)
     → ((head : Head) (rest : List ℕ) → First HeadText tokens head rest → ⊥) → (left : List ℕ)
-    → Stands (AreReplies (suc n)) tokens left → ⊥
+    → MatchesAtStart (AreReplies (suc n)) tokens left → ⊥
 unfolding First
 no_line n tokens none left (front, (xs, ys, reply, many, e), d) =
     let (head, us, vs, text, behind, g) = head_there xs reply in
@@ -52,7 +52,7 @@ no_line n tokens none left (front, (xs, ys, reply, many, e), d) =
 -- if there is no bulk string, nothing that follows it matches either
 no_data : (size n : ℕ) (tokens : List ℕ)
     → ((bulk : Bor (List ℕ)) (rest : List ℕ) → First (DataText size) tokens bulk rest → ⊥)
-    → (left : List ℕ) → Stands (AreDue (Some size) n) tokens left → ⊥
+    → (left : List ℕ) → MatchesAtStart (AreDue (Some size) n) tokens left → ⊥
 unfolding First
 no_data size n tokens none left (front, (bulk, xs, ys, t, many, e), d) =
     none bulk (ys ++ left) (xs, t, d ∙ ap (λ l. l ++ left) e ∙ append_assoc xs ys left)
@@ -69,24 +69,25 @@ data_some size bulk xs (ys, many, e) =
 
 module _ (e : Extent) (tokens rest : List ℕ) (p : Passed e tokens rest) where
   -- if the expected continuation does not match, there is no reply
-  none_due : ((left : List ℕ) → Stands (AreDue e.bulk e.replies) rest left → ⊥)
-      → (left : List ℕ) → Stands IsReply tokens left → ⊥
+  none_due : ((left : List ℕ) → MatchesAtStart (AreDue e.bulk e.replies) rest left → ⊥)
+      → (left : List ℕ) → MatchesAtStart IsReply tokens left → ⊥
   none_due none left x =
-      let P : List ℕ → Type 0 = λ l. Stands IsReply l left in
+      let P : List ℕ → Type 0 = λ l. MatchesAtStart IsReply l left in
       none left ((p.leads rest left).0 (subst P p.split x))
 
-  never_due : ((more left : List ℕ) → Stands (AreDue e.bulk e.replies) (rest ++ more) left → ⊥)
-      → (more left : List ℕ) → Stands IsReply (tokens ++ more) left → ⊥
+  never_due : ((more left : List ℕ)
+      → MatchesAtStart (AreDue e.bulk e.replies) (rest ++ more) left → ⊥)
+      → (more left : List ℕ) → MatchesAtStart IsReply (tokens ++ more) left → ⊥
   never_due none more left x =
-      let P : List ℕ → Type 0 = λ l. Stands IsReply l left in
+      let P : List ℕ → Type 0 = λ l. MatchesAtStart IsReply l left in
       none more left ((p.leads (rest ++ more) left).0
       (subst P (ap (λ l. l ++ more) p.split ∙ append_assoc p.front rest more) x))
 
   -- the part at the start of the rest is passed
   part_passed : (f : Extent) (part left : List ℕ) → rest ≡ part ++ left → 0 < length part
       → f.passed ≡ length tokens - length left → f.sought ≡ 0
-      → ((xs r : List ℕ) → Stands (AreDue e.bulk e.replies) (part ++ xs) r
-      ↔ Stands (AreDue f.bulk f.replies) xs r)
+      → ((xs r : List ℕ) → MatchesAtStart (AreDue e.bulk e.replies) (part ++ xs) r
+      ↔ MatchesAtStart (AreDue f.bulk f.replies) xs r)
       → f.replies ≤ e.replies + 2 ^ 63 → Passed f tokens left
   part_passed f part left split some count sought step few = record {
     front = p.front ++ part;
@@ -94,10 +95,10 @@ module _ (e : Extent) (tokens rest : List ℕ) (p : Passed e tokens rest) where
     count = omega (arith, count, ap (λ l. length l) all, length-append (p.front ++ part) left);
     leads = λ xs r. (
       λ x.
-          let P : List ℕ → Type 0 = λ l. Stands IsReply l r in
+          let P : List ℕ → Type 0 = λ l. MatchesAtStart IsReply l r in
           (step xs r).0 ((p.leads (part ++ xs) r).0 (subst P (append_assoc p.front part xs) x)),
       λ y.
-          let P : List ℕ → Type 0 = λ l. Stands IsReply l r in
+          let P : List ℕ → Type 0 = λ l. MatchesAtStart IsReply l r in
           subst P (sym (append_assoc p.front part xs))
           ((p.leads (part ++ xs) r).1 ((step xs r).1 y)),
     );
@@ -132,14 +133,15 @@ module _ (e : Extent) (tokens rest : List ℕ) (p : Passed e tokens rest) where
   unfolding First
   line_part f n head left none one (part, text, split) count sought bulk replies =
       let P : Option ℕ → Type 0 = λ d. (xs r : List ℕ)
-      → Stands (AreDue d e.replies) (part ++ xs) r
-      ↔ Stands (AreDue f.bulk f.replies) xs r in
-      let Q : ℕ → Type 0 = λ m. (xs r : List ℕ) → Stands (AreDue None m) (part ++ xs) r
-      ↔ Stands (AreDue f.bulk f.replies) xs r in
+      → MatchesAtStart (AreDue d e.replies) (part ++ xs) r
+      ↔ MatchesAtStart (AreDue f.bulk f.replies) xs r in
+      let Q : ℕ → Type 0 = λ m. (xs r : List ℕ) → MatchesAtStart (AreDue None m) (part ++ xs) r
+      ↔ MatchesAtStart (AreDue f.bulk f.replies) xs r in
       let R : Option ℕ → Type 0 = λ d. (xs r : List ℕ)
-      → Stands (AreReplies (suc n)) (part ++ xs) r ↔ Stands (AreDue d f.replies) xs r in
-      let S : ℕ → Type 0 = λ m. (xs r : List ℕ) → Stands (AreReplies (suc n)) (part ++ xs) r
-      ↔ Stands (AreDue (data_after head) m) xs r in
+      → MatchesAtStart (AreReplies (suc n)) (part ++ xs) r
+      ↔ MatchesAtStart (AreDue d f.replies) xs r in
+      let S : ℕ → Type 0 = λ m. (xs r : List ℕ) → MatchesAtStart (AreReplies (suc n)) (part ++ xs) r
+      ↔ MatchesAtStart (AreDue (data_after head) m) xs r in
       part_passed f part left split (head_some head part text) count sought
       (subst P (sym none) (subst Q (sym one) (subst R (sym bulk) (subst S (sym replies)
       (λ xs r. line_passed head n (part ++ xs) xs (part, text, refl) r)))))
@@ -148,21 +150,23 @@ module _ (e : Extent) (tokens rest : List ℕ) (p : Passed e tokens rest) where
   -- and is none as yet
   pub line_open : (n : ℕ) → e.bulk ≡ None → e.replies ≡ suc n
       → ((head : Head) (left : List ℕ) → First HeadText rest head left → ⊥) → (left : List ℕ)
-      → Stands IsReply tokens left → ⊥
+      → MatchesAtStart IsReply tokens left → ⊥
   line_open n none one never =
-      let P : Option ℕ → Type 0 = λ d. (left : List ℕ) → Stands (AreDue d e.replies) rest left
+      let P : Option ℕ → Type 0 =
+      λ d. (left : List ℕ) → MatchesAtStart (AreDue d e.replies) rest left
       → ⊥ in
-      let Q : ℕ → Type 0 = λ m. (left : List ℕ) → Stands (AreDue None m) rest left → ⊥ in
+      let Q : ℕ → Type 0 = λ m. (left : List ℕ) → MatchesAtStart (AreDue None m) rest left → ⊥ in
       none_due (subst P (sym none) (subst Q (sym one) (no_line n rest never)))
 
   -- and never will be
   pub line_never : (n : ℕ) → e.bulk ≡ None → e.replies ≡ suc n
       → ((more : List ℕ) (head : Head) (left : List ℕ) → First HeadText (rest ++ more) head left
-      → ⊥) → (more left : List ℕ) → Stands IsReply (tokens ++ more) left → ⊥
+      → ⊥) → (more left : List ℕ) → MatchesAtStart IsReply (tokens ++ more) left → ⊥
   line_never n none one never =
       let P : Option ℕ → Type 0 = λ d. (more left : List ℕ)
-      → Stands (AreDue d e.replies) (rest ++ more) left → ⊥ in
-      let Q : ℕ → Type 0 = λ m. (more left : List ℕ) → Stands (AreDue None m) (rest ++ more) left
+      → MatchesAtStart (AreDue d e.replies) (rest ++ more) left → ⊥ in
+      let Q : ℕ → Type 0 =
+      λ m. (more left : List ℕ) → MatchesAtStart (AreDue None m) (rest ++ more) left
       → ⊥ in
       never_due (subst P (sym none) (subst Q (sym one)
       (λ more. no_line n (rest ++ more) (never more))))
@@ -175,14 +179,14 @@ module _ (e : Extent) (tokens rest : List ℕ) (p : Passed e tokens rest) where
   unfolding First
   data_part f size bulk left some (part, text, split) count sought none replies =
       let P : Option ℕ → Type 0 = λ d. (xs r : List ℕ)
-      → Stands (AreDue d e.replies) (part ++ xs) r
-      ↔ Stands (AreDue f.bulk f.replies) xs r in
+      → MatchesAtStart (AreDue d e.replies) (part ++ xs) r
+      ↔ MatchesAtStart (AreDue f.bulk f.replies) xs r in
       let R : Option ℕ → Type 0 = λ d. (xs r : List ℕ)
-      → Stands (AreDue (Some size) e.replies) (part ++ xs) r
-      ↔ Stands (AreDue d f.replies) xs r in
+      → MatchesAtStart (AreDue (Some size) e.replies) (part ++ xs) r
+      ↔ MatchesAtStart (AreDue d f.replies) xs r in
       let S : ℕ → Type 0 = λ m. (xs r : List ℕ)
-      → Stands (AreDue (Some size) e.replies) (part ++ xs) r
-      ↔ Stands (AreDue None m) xs r in
+      → MatchesAtStart (AreDue (Some size) e.replies) (part ++ xs) r
+      ↔ MatchesAtStart (AreDue None m) xs r in
       part_passed f part left split (data_some size bulk part text) count sought
       (subst P (sym some) (subst R (sym none) (subst S (sym replies)
       (λ xs r. data_passed size e.replies bulk (part ++ xs) xs (part, text, refl) r))))
@@ -190,30 +194,31 @@ module _ (e : Extent) (tokens rest : List ℕ) (p : Passed e tokens rest) where
 
   pub data_open : (size : ℕ) → e.bulk ≡ Some size
       → ((bulk : Bor (List ℕ)) (left : List ℕ) → First (DataText size) rest bulk left → ⊥)
-      → (left : List ℕ) → Stands IsReply tokens left → ⊥
+      → (left : List ℕ) → MatchesAtStart IsReply tokens left → ⊥
   data_open size some never =
-      let P : Option ℕ → Type 0 = λ d. (left : List ℕ) → Stands (AreDue d e.replies) rest left
+      let P : Option ℕ → Type 0 =
+      λ d. (left : List ℕ) → MatchesAtStart (AreDue d e.replies) rest left
       → ⊥ in
       none_due (subst P (sym some) (no_data size e.replies rest never))
 
   pub data_never : (size : ℕ) → e.bulk ≡ Some size
       → ((more : List ℕ) (bulk : Bor (List ℕ)) (left : List ℕ)
       → First (DataText size) (rest ++ more) bulk left → ⊥) → (more left : List ℕ)
-      → Stands IsReply (tokens ++ more) left → ⊥
+      → MatchesAtStart IsReply (tokens ++ more) left → ⊥
   data_never size some never =
       let P : Option ℕ → Type 0 = λ d. (more left : List ℕ)
-      → Stands (AreDue d e.replies) (rest ++ more) left → ⊥ in
+      → MatchesAtStart (AreDue d e.replies) (rest ++ more) left → ⊥ in
       never_due (subst P (sym some) (λ more. no_data size e.replies (rest ++ more) (never more)))
 
   -- if nothing more is expected, the reply is the passed bytes
-  pub all_passed : e.bulk ≡ None → e.replies ≡ 0 → IsTold tokens (Ok (Some e.passed))
+  pub all_passed : e.bulk ≡ None → e.replies ≡ 0 → ReplyResult tokens (Ok (Some e.passed))
   all_passed none zeros =
       let P : Option ℕ → Type 0 = λ d. (xs left : List ℕ)
-      → Stands IsReply (p.front ++ xs) left ↔ Stands (AreDue d e.replies) xs left in
+      → MatchesAtStart IsReply (p.front ++ xs) left ↔ MatchesAtStart (AreDue d e.replies) xs left in
       let Q : ℕ → Type 0 = λ n. (xs left : List ℕ)
-      → Stands IsReply (p.front ++ xs) left ↔ Stands (AreDue None n) xs left in
+      → MatchesAtStart IsReply (p.front ++ xs) left ↔ MatchesAtStart (AreDue None n) xs left in
       let leads : (xs left : List ℕ)
-      → Stands IsReply (p.front ++ xs) left ↔ Stands (AreReplies 0) xs left =
+      → MatchesAtStart IsReply (p.front ++ xs) left ↔ MatchesAtStart (AreReplies 0) xs left =
       subst Q zeros (subst P none p.leads) in
       let (whole, reply, same) = (leads [] []).1 ([], refl, refl) in
       let R : List ℕ → Type 0 = λ l. IsReply l in (
@@ -223,7 +228,7 @@ module _ (e : Extent) (tokens rest : List ℕ) (p : Passed e tokens rest) where
         p.count,
         subst R (sym (sym (append-nil p.front) ∙ same ∙ append-nil whole)) reply,
         λ more left x.
-            let S : List ℕ → Type 0 = λ l. Stands IsReply l left in
+            let S : List ℕ → Type 0 = λ l. MatchesAtStart IsReply l left in
             let (xs, empty, d) = (leads (rest ++ more) left).0
             (subst S (ap (λ l. l ++ more) p.split ∙ append_assoc p.front rest more) x) in
             sym (d ∙ ap (λ l. l ++ left) empty),
@@ -282,9 +287,9 @@ none_passed e tokens passed sought none one = (
     count = sym passed;
     leads =
         let P : Option ℕ → Type 0 = λ d. (xs left : List ℕ)
-        → Stands IsReply xs left ↔ Stands (AreDue d e.replies) xs left in
+        → MatchesAtStart IsReply xs left ↔ MatchesAtStart (AreDue d e.replies) xs left in
         let Q : ℕ → Type 0 = λ n. (xs left : List ℕ)
-        → Stands IsReply xs left ↔ Stands (AreReplies n) xs left in
+        → MatchesAtStart IsReply xs left ↔ MatchesAtStart (AreReplies n) xs left in
         subst P (sym none) (subst Q (sym one) one_due);
     few = omega (arith, one);
     within = omega (arith, sought);
@@ -294,7 +299,8 @@ none_passed e tokens passed sought none one = (
   },
 )
   where
-    one_due : (xs left : List ℕ) → Stands IsReply xs left ↔ Stands (AreReplies 1) xs left
+    one_due : (xs left : List ℕ)
+        → MatchesAtStart IsReply xs left ↔ MatchesAtStart (AreReplies 1) xs left
     one_due xs left = (
       λ (front, reply, d). (front, (front, [], reply, refl, sym (append-nil front)), d),
       λ (front, (us, vs, reply, empty, d), f). (

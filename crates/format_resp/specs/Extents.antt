@@ -5,7 +5,7 @@ use Rattle.std.specs.Prelude.{◌∷◌, ◌++◌, length, take, drop, Option, S
 use Rattle.std.specs.Borrow.{Bor}
 use Rattle.std.specs.List.{AllByRecursion}
 use Rattle.winnow.specs.InTurn.{First}
-use Rattle.format_resp.specs.Heads.{IsBegun}
+use Rattle.format_resp.specs.Heads.{IsLinePrefix}
 use Rattle.format_resp.specs.Resp.{DataText, InLine, Replies, ReplyText, line_end}
 use Rattle.format_resp.specs.declared.extent.Extent.{Extent}
 use Rattle.format_resp.specs.declared.extent.Refused.{Refused}
@@ -18,9 +18,10 @@ use Rattle.format_resp.specs.declared.reply.Protocol.TheVariants.{Resp2}
 abbrev pub IsReply : List ℕ → Type 0
 IsReply tokens = (level : ℕ) × (reply : Replies ⊤) × ReplyText Resp2 level reply tokens
 
--- `Stands these tokens rest`: `tokens` starts with bytes that satisfy `these`, followed by `rest`.
-abbrev pub Stands : (List ℕ → Type 0) → List ℕ → List ℕ → Type 0
-Stands these tokens rest = (front : List ℕ) × these front × (tokens ≡ front ++ rest)
+-- `MatchesAtStart these tokens rest`: `tokens` starts with bytes that satisfy `these`, followed by
+-- `rest`.
+abbrev pub MatchesAtStart : (List ℕ → Type 0) → List ℕ → List ℕ → Type 0
+MatchesAtStart these tokens rest = (front : List ℕ) × these front × (tokens ≡ front ++ rest)
 
 -- `n` consecutive replies
 abbrev pub AreReplies : ℕ → List ℕ → Type 0
@@ -43,7 +44,8 @@ pub record Passed (extent : Extent) (tokens rest : List ℕ) : Type 0 where
   pub split : tokens ≡ front ++ rest
   pub count : length front ≡ extent.passed
   pub leads : (xs left : List ℕ)
-      → Stands IsReply (front ++ xs) left ↔ Stands (AreDue extent.bulk extent.replies) xs left
+      → MatchesAtStart IsReply (front ++ xs) left
+      ↔ MatchesAtStart (AreDue extent.bulk extent.replies) xs left
   pub few : extent.replies ≤ 2 ^ 64 * extent.passed + 1
   -- the first `sought` bytes after the next one have no byte of a line ending
   pub within : extent.sought ≤ length (drop 1 rest)
@@ -56,14 +58,14 @@ IsOf extent tokens = (rest : List ℕ) × Passed extent tokens rest
 -- The contract of a scan: the length of a reply at the start, whose rest is the only one for any
 -- continuation; or `None`, if the bytes do not start with a reply; or an error, if no continuation
 -- does.
-abbrev pub IsTold : List ℕ → Result (Option ℕ) Refused → Type 0
-IsTold tokens (Ok (Some n)) =
+abbrev pub ReplyResult : List ℕ → Result (Option ℕ) Refused → Type 0
+ReplyResult tokens (Ok (Some n)) =
     (front : List ℕ) × (rest : List ℕ) × (tokens ≡ front ++ rest) × (length front ≡ n)
-    × IsReply front × ((more left : List ℕ) → Stands IsReply (tokens ++ more) left
+    × IsReply front × ((more left : List ℕ) → MatchesAtStart IsReply (tokens ++ more) left
     → left ≡ rest ++ more)
-IsTold tokens (Ok None) = (left : List ℕ) → Stands IsReply tokens left → ⊥
-IsTold tokens (Err refused) =
-    (more left : List ℕ) → Stands IsReply (tokens ++ more) left → ⊥
+ReplyResult tokens (Ok None) = (left : List ℕ) → MatchesAtStart IsReply tokens left → ⊥
+ReplyResult tokens (Err refused) =
+    (more left : List ℕ) → MatchesAtStart IsReply (tokens ++ more) left → ⊥
 
 -- The bytes are a proper prefix of a bulk string's data of `size` bytes.
 pub record IsPartOfData (size : ℕ) (tokens : List ℕ) : Type 0 where
@@ -74,7 +76,7 @@ pub record IsPartOfData (size : ℕ) (tokens : List ℕ) : Type 0 where
 
 -- The missing bytes after the passed ones: the end of a line, or bytes of a bulk string.
 abbrev pub Wants : Option ℕ → List ℕ → Type 0
-Wants None rest = IsBegun rest
+Wants None rest = IsLinePrefix rest
 Wants (Some size) rest = IsPartOfData size rest
 
 -- If the result is `None`, the rest of the bytes is an incomplete line or an incomplete bulk
@@ -129,7 +131,7 @@ IsLessPart n (Err refused) = ⊤
 abbrev pub IsPart : Extent → List ℕ → List ℕ → PartFound → Type 0
 IsPart extent tokens rest (Ok (Some left)) = Passed extent tokens left.now
 IsPart extent tokens rest (Ok None) =
-    Passed extent tokens rest × ((left : List ℕ) → Stands IsReply tokens left → ⊥)
+    Passed extent tokens rest × ((left : List ℕ) → MatchesAtStart IsReply tokens left → ⊥)
     × Wants extent.bulk rest
 IsPart extent tokens rest (Err refused) =
-    (more left : List ℕ) → Stands IsReply (tokens ++ more) left → ⊥
+    (more left : List ℕ) → MatchesAtStart IsReply (tokens ++ more) left → ⊥

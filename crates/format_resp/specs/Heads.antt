@@ -1,6 +1,6 @@
 -- The first lines of RESP2 replies, and their information about the bytes after them.
 use Rattle.std.specs.Prelude.{◌≡◌, ◌≤◌, ◌<◌, ⊤, ℕ, ℤ, List, ◌∷◌, ◌++◌, length, take, drop, Option}
-use Rattle.std.specs.Prelude.{Some, None}
+use Rattle.std.specs.Prelude.{None, Some}
 use Rattle.std.specs.List.{AllByRecursion}
 use Rattle.winnow.specs.InTurn.{First, Led}
 use Rattle.winnow.specs.Texts.{Text}
@@ -41,7 +41,7 @@ abbrev pub HeadText : Text ℕ Head
 HeadText = Led (MarkText Resp2) (λ mark. Ended (Says mark))
 
 -- The tokens are a first line without its end.
-pub record IsBegun (tokens : List ℕ) : Type 0 where
+pub record IsLinePrefix (tokens : List ℕ) : Type 0 where
   pub marked : (byte : ℕ) (text : List ℕ) → tokens ≡ byte ∷ text
       → (mark : Mark) × IsIn Resp2 mark × (byte ≡ byte_of mark)
   pub begun : IsOpen (drop 1 tokens)
@@ -52,7 +52,7 @@ abbrev pub IsStart : List ℕ → Start → Type 0
 IsStart tokens (Whole head left) = First HeadText tokens head left.now
 IsStart tokens (Open n) =
     (n ≤ length (drop 1 tokens)) × AllByRecursion InLine (take n (drop 1 tokens))
-    × IsBegun tokens
+    × IsLinePrefix tokens
 IsStart tokens Never =
     (more : List ℕ) (head : Head) (rest : List ℕ) → First HeadText (tokens ++ more) head rest → ⊥
 

@@ -91,8 +91,8 @@ IsDouble tokens =
 -- ---- what functions answer of them
 
 -- The tokens start with bytes that satisfy `these`, and the rest does not start with a digit.
-abbrev pub Leaves : (List ℕ → Type 0) → List ℕ → List ℕ → Type 0
-Leaves these tokens rest =
+abbrev pub RestAfter : (List ℕ → Type 0) → List ℕ → List ℕ → Type 0
+RestAfter these tokens rest =
     (front : List ℕ) × these front × (tokens ≡ front ++ rest) × NotFirst IsDecDigit rest
 
 -- The tokens do not start with bytes that satisfy `these`.

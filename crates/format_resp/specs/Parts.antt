@@ -34,5 +34,5 @@ StandsBy level input (Reply-F.Array list) rest =
 StandsBy level input Reply-F.NullArray rest = ⊤
 StandsBy level input kind rest = ⊥
 
-abbrev pub Stands : {A : Type 0} → ℕ → List ℕ → Replies A → List ℕ → Type 0
-Stands {A} level input reply rest = StandsBy level input (out-Reply (Bor (List ℕ)) A reply) rest
+abbrev pub IsReplyAt : {A : Type 0} → ℕ → List ℕ → Replies A → List ℕ → Type 0
+IsReplyAt {A} level input reply rest = StandsBy level input (out-Reply (Bor (List ℕ)) A reply) rest

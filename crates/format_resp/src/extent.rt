@@ -4,7 +4,8 @@
 //! string are not examined. So the time to find a reply is linear in its bytes. One call of
 //! [`read_reply`](crate::read::read_reply) then reads it.
 ghost use Rattle.format_resp.specs.Extents.{IsDataEnd, IsLessPart, IsLineEnd, IsOf, IsPart};
-ghost use Rattle.format_resp.specs.Extents.{IsReply, IsTold, IsWanting, Passed, Stands};
+ghost use Rattle.format_resp.specs.Extents.{IsReply, IsWanting, MatchesAtStart, Passed};
+ghost use Rattle.format_resp.specs.Extents.{ReplyResult};
 ghost use Rattle.format_resp.specs.Extents.{count_after, data_after};
 ghost use Rattle.format_resp.specs.Resp.{Replies, ReplyText};
 ghost use Rattle.format_resp.specs.declared.reply.Protocol.TheVariants.{Resp2};
@@ -48,7 +49,7 @@ pub struct Extent {
 }
 
 /// Skips a line ending and returns the rest.
-fn behind_end<'i>(bytes: &'i [u8]) -> Result<Option<&'i [u8]>, Refused>
+fn skip_line_ending<'i>(bytes: &'i [u8]) -> Result<Option<&'i [u8]>, Refused>
     ensures told { IsLineEnd bytes.now result }
     ensures less { IsLessPart (length bytes.now) result }
 {
@@ -73,13 +74,13 @@ fn behind_end<'i>(bytes: &'i [u8]) -> Result<Option<&'i [u8]>, Refused>
 }
 
 /// Skips the data of a bulk string of `size` bytes and its line ending, and returns the rest.
-fn behind_data<'i>(size: usize, bytes: &'i [u8]) -> Result<Option<&'i [u8]>, Refused>
+fn skip_data<'i>(size: usize, bytes: &'i [u8]) -> Result<Option<&'i [u8]>, Refused>
     ensures told { IsDataEnd size bytes.now result }
     ensures less { IsLessPart (length bytes.now) result }
 {
     match bytes.get(size..) {
         None => Ok(None),
-        Some(behind) => behind_end(behind),
+        Some(behind) => skip_line_ending(behind),
     }
 }
 
@@ -124,7 +125,7 @@ impl Extent {
             → IsPart self.new bytes.now rest.now result }
         ensures less { IsLessPart (length rest.now) result }
     {
-        match behind_data(size, rest)? {
+        match skip_data(size, rest)? {
             None => Ok(None),
             Some(left) => {
                 *self = Extent {
@@ -176,7 +177,7 @@ impl Extent {
     /// Continues with `from`, the rest after the bytes passed.
     fn walk(&mut self, bytes: &[u8], from: &[u8]) -> Result<Option<usize>, Refused>
         requires within { length from.now ≤ length bytes.now }
-        ensures told { Passed self.old bytes.now from.now → IsTold bytes.now result }
+        ensures told { Passed self.old bytes.now from.now → ReplyResult bytes.now result }
         ensures kept { OnOk result (Passed self.old bytes.now from.now
             → (rest : List ℕ) × Passed self.new bytes.now rest) }
         ensures wants { Passed self.old bytes.now from.now
@@ -226,7 +227,7 @@ impl Extent {
     /// assert!(rt; read_reply(alloc, Protocol::Resp2, SAFE_LEVEL, &mut whole).is_ok());
     /// ```
     pub fn advance(&mut self, bytes: &[u8]) -> Result<Option<usize>, Refused>
-        ensures told { IsOf self.old bytes.now → IsTold bytes.now result }
+        ensures told { IsOf self.old bytes.now → ReplyResult bytes.now result }
         ensures kept { OnOk result (IsOf self.old bytes.now
             → (more : List ℕ) → IsOf self.new (bytes.now ++ more)) }
         ensures wants { IsOf self.old bytes.now → IfOk result (IsWanting self.new bytes.now) }
@@ -248,7 +249,7 @@ impl Extent {
 /// assert!(rt; reply_length(b":x\r\n").is_err());
 /// ```
 pub fn reply_length(bytes: &[u8]) -> Result<Option<usize>, Refused>
-    ensures { IsTold bytes.now result }
+    ensures { ReplyResult bytes.now result }
 {
     Extent::new().advance(bytes)
 }
@@ -267,5 +268,5 @@ pub fn reply_length(bytes: &[u8]) -> Result<Option<usize>, Refused>
 /// ```
 pub fn a_reply_that_is_read_stands<A: Allocator>()
     ensures { (level : ℕ) (reply : Replies A) (tokens rest : List ℕ)
-        → First (ReplyText Resp2 level) tokens reply rest → Stands IsReply tokens rest }
+        → First (ReplyText Resp2 level) tokens reply rest → MatchesAtStart IsReply tokens rest }
 {}

@@ -11,7 +11,7 @@ ghost use Rattle.winnow.specs.Exact.{IsSpared, Reads};
 ghost use Rattle.winnow.specs.Grammar.{Class};
 ghost use Rattle.format_resp.specs.Numbers.{AreDigits, DigitsText, IsBigNumber, IsDecimal};
 ghost use Rattle.format_resp.specs.Numbers.{IsDouble};
-ghost use Rattle.format_resp.specs.Numbers.{IsExponent, IsTail, Leaves, NoneStands, SignedText};
+ghost use Rattle.format_resp.specs.Numbers.{IsExponent, IsTail, NoneStands, RestAfter, SignedText};
 ghost use Rattle.format_resp.specs.Numbers.{SignsOff, SizeLine, UnsignedText, signed};
 
 use winnow::Parser;
@@ -31,9 +31,9 @@ fn read_digits<'i>(bytes: &mut &'i [u8]) -> Result<&'i [u8], ErrMode<EmptyError>
 }
 
 /// Skips one or more digits and returns the rest.
-fn behind_digits<'i>(bytes: &'i [u8]) -> Option<&'i [u8]>
+fn skip_digits<'i>(bytes: &'i [u8]) -> Option<&'i [u8]>
     ensures { MatchOption result (NoneStands AreDigits bytes.now)
-        (λ rest. Leaves AreDigits bytes.now rest.now) }
+        (λ rest. RestAfter AreDigits bytes.now rest.now) }
 {
     let mut left = bytes;
     match read_digits(&mut left) {
@@ -46,7 +46,7 @@ fn behind_digits<'i>(bytes: &'i [u8]) -> Option<&'i [u8]>
 fn are_digits(bytes: &[u8]) -> bool
     ensures { MatchBool result (AreDigits bytes.now) (AreDigits bytes.now → ⊥) }
 {
-    match behind_digits(bytes) {
+    match skip_digits(bytes) {
         Some(rest) => rest.is_empty(),
         None => false,
     }
@@ -171,11 +171,11 @@ fn without_sign<'i>(bytes: &'i [u8]) -> &'i [u8]
 }
 
 /// Skips an optional sign and digits, and returns the rest.
-fn behind_number<'i>(bytes: &'i [u8]) -> Option<&'i [u8]>
+fn skip_number<'i>(bytes: &'i [u8]) -> Option<&'i [u8]>
     ensures { MatchOption result (NoneStands IsBigNumber bytes.now)
-        (λ rest. Leaves IsBigNumber bytes.now rest.now) }
+        (λ rest. RestAfter IsBigNumber bytes.now rest.now) }
 {
-    behind_digits(without_sign(bytes))
+    skip_digits(without_sign(bytes))
 }
 
 /// Whether the bytes, all of them, are the text of a big number of RESP3: digits, and a sign before
@@ -190,7 +190,7 @@ fn behind_number<'i>(bytes: &'i [u8]) -> Option<&'i [u8]>
 pub fn is_big_number(bytes: &[u8]) -> bool
     ensures { MatchBool result (IsBigNumber bytes.now) (IsBigNumber bytes.now → ⊥) }
 {
-    match behind_number(bytes) {
+    match skip_number(bytes) {
         Some(rest) => rest.is_empty(),
         None => false,
     }
@@ -217,7 +217,7 @@ fn is_tail(bytes: &[u8]) -> bool
     match bytes.split_first() {
         Some((first, more)) => {
             if *first == b'.' {
-                match behind_digits(more) {
+                match skip_digits(more) {
                     Some(rest) => is_exponent(rest),
                     None => false,
                 }
@@ -233,7 +233,7 @@ fn is_tail(bytes: &[u8]) -> bool
 fn is_decimal(bytes: &[u8]) -> bool
     ensures { MatchBool result (IsDecimal bytes.now) (IsDecimal bytes.now → ⊥) }
 {
-    match behind_number(bytes) {
+    match skip_number(bytes) {
         Some(rest) => is_tail(rest),
         None => false,
     }

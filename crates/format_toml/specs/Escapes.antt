@@ -4,7 +4,7 @@ use Rattle.format_parts.specs.Unique.{char_takes, char_unique}
 use Rattle.format_parts.specs.Words.{latter, pair}
 use Rattle.format_toml.specs.Grammars.{Character, Escape, Short, WideUnits}
 use Rattle.format_toml.specs.Led.{led_unique}
-use Rattle.format_toml.specs.Toml.{IsWide, StandsFor, Tells}
+use Rattle.format_toml.specs.Toml.{IsWide, SetResult, StandsFor}
 use Rattle.format_toml.specs.declared.characters.Characters.TheVariants.{Basic}
 use Rattle.winnow.specs.OneOf.Laws.{token_of_takes}
 use Rattle.winnow.specs.Grammar.{IsUnique, TakesTokens}
@@ -37,10 +37,10 @@ escape_unique =
 
 pub character_unique : IsUnique Character
 character_unique =
-    either_unique (token_of_unique (λ c. c) Tells Basic)
+    either_unique (token_of_unique (λ c. c) SetResult Basic)
     (both_unique latter (char_unique 92) escape_unique)
 
 pub character_takes : TakesTokens Character
 character_takes =
-    either_takes (token_of_takes (λ c. c) Tells Basic)
+    either_takes (token_of_takes (λ c. c) SetResult Basic)
     (both_take latter (char_unique 92) escape_unique (inl (char_takes 92)))

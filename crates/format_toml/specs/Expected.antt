@@ -1,9 +1,9 @@
 -- The part that is missing in a line that is not TOML.
 use Rattle.std.specs.Prelude.{◌≡◌, ◌⊎◌, ◌<◌, ℕ, zero, suc, List, [], length, Option}
-use Rattle.std.specs.Prelude.{Some, None}
+use Rattle.std.specs.Prelude.{None, Some}
 use Rattle.std.specs.Borrow.{Bor}
 use Rattle.std.specs.Str.{chars}
-use Rattle.std.proofs.Common.{ap, inl, arith, length-append}
+use Rattle.std.proofs.Common.{ap, arith, inl, length-append}
 use Rattle.format_parts.specs.Unique.{char_takes, char_unique}
 use Rattle.format_parts.specs.Words.{Char, latter}
 use Rattle.format_toml.specs.Grammars.{AnyItem, AnyKey, AnyValue, DoubleHeader, Entry, Header, Line}
@@ -15,24 +15,24 @@ use Rattle.format_toml.specs.declared.expected.Expected.TheVariants.{Key, LineEn
 use Rattle.format_toml.specs.declared.expected.Expected.TheVariants as expected
 use Rattle.format_toml.specs.declared.expected.Lack.{Lack}
 use Rattle.format_toml.specs.declared.expected.Outcome as ways
-use Rattle.format_toml.specs.declared.expected.Outcome.TheVariants.{Last, Before}
+use Rattle.format_toml.specs.declared.expected.Outcome.TheVariants.{Before, Last}
 use Rattle.format_toml.specs.declared.expected.Outcome.TheVariants as lines
 use Rattle.winnow.specs.Grammar.{Both, Grammar, NoneStands, TakesTokens}
 use Rattle.winnow.specs.Grammar.Unique.{both_take, either_takes}
 use Rattle.winnow.specs.Texts.{Begins, NotFirst}
 
 -- `tokens` starts with a match of `grammar`, followed by `rest`
-abbrev pub Stands : {O : Type 0} → Grammar ℕ O → List ℕ → List ℕ → Type 0
-Stands {O} grammar tokens rest = (o : O) × grammar tokens o rest
+abbrev pub MatchesAtStart : {O : Type 0} → Grammar ℕ O → List ℕ → List ℕ → Type 0
+MatchesAtStart {O} grammar tokens rest = (o : O) × grammar tokens o rest
 
 -- `tokens` starts with a match of `grammar`
-abbrev pub Begun : {O : Type 0} → Grammar ℕ O → List ℕ → Type 0
-Begun grammar tokens = (rest : List ℕ) × Stands grammar tokens rest
+abbrev pub HasMatch : {O : Type 0} → Grammar ℕ O → List ℕ → Type 0
+HasMatch grammar tokens = (rest : List ℕ) × MatchesAtStart grammar tokens rest
 
 -- the rest after a match, or `None` if there is no match
 abbrev pub IsPast : {O : Type 0} → Grammar ℕ O → List ℕ → Option (Bor (List ℕ)) → Type 0
 IsPast grammar tokens (Some rest) =
-    Stands grammar tokens (chars rest.now)
+    MatchesAtStart grammar tokens (chars rest.now)
 IsPast grammar tokens None = NoneStands grammar tokens
 
 -- the missing part, or `None` if the whole matches
@@ -44,23 +44,24 @@ module _ (A : Type 0) where
   -- After the bracket that opens the name of a table: the parts that match before the missing one,
   -- in sequence, and the one that does not match.
   abbrev pub HeaderLacks : List ℕ → Expected → List ℕ → Type 0
-  HeaderLacks text TableName rest = Stands Ws text rest × NoneStands (AnyKey {A = A}) rest
+  HeaderLacks text TableName rest = MatchesAtStart Ws text rest × NoneStands (AnyKey {A = A}) rest
   HeaderLacks text ClosingBracket rest =
-      (name : List ℕ) × Stands Ws text name × Stands (AnyKey {A = A}) name rest
+      (name : List ℕ) × MatchesAtStart Ws text name × MatchesAtStart (AnyKey {A = A}) name rest
       × NoneStands (Char 93) rest
   HeaderLacks text expected rest = ⊥
 
   -- The same after two brackets: the name lacks something, or the second bracket after it.
   abbrev pub DoubleLacks : List ℕ → Expected → List ℕ → Type 0
   DoubleLacks text what rest =
-      (name : List ℕ) × Stands (Char 91) text name
+      (name : List ℕ) × MatchesAtStart (Char 91) text name
       × (HeaderLacks name what rest
-      ⊎ ((what ≡ ClosingBracket) × Stands (Header {A = A}) name rest × NoneStands (Char 93) rest))
+      ⊎ ((what ≡ ClosingBracket) × MatchesAtStart (Header {A = A}) name rest
+      × NoneStands (Char 93) rest))
 
   -- Likewise for a table with its first bracket.
   abbrev pub TableLacks : List ℕ → Expected → List ℕ → Type 0
   TableLacks text what rest =
-      (name : List ℕ) × Stands (Char 91) text name
+      (name : List ℕ) × MatchesAtStart (Char 91) text name
       × ((Begins (λ c. c ≡ 91) name × DoubleLacks name what rest)
       ⊎ (NotFirst (λ c. c ≡ 91) name × HeaderLacks name what rest))
 
@@ -71,23 +72,24 @@ module _ (A : Type 0) where
         (rest ≡ text) × NotFirst (λ c. c ≡ 91) text × NotFirst (λ c. c ≡ 35) text
         × NoneStands (AnyKey {A = A}) text
     EntryLacks text EqualsSign rest =
-        Stands (AnyKey {A = A}) text rest × NoneStands (Mark 61) rest
+        MatchesAtStart (AnyKey {A = A}) text rest × NoneStands (Mark 61) rest
     EntryLacks text expected.Value rest =
-        (behind : List ℕ) × Stands (AnyKey {A = A}) text behind × Stands (Mark 61) behind rest
+        (behind : List ℕ) × MatchesAtStart (AnyKey {A = A}) text behind
+        × MatchesAtStart (Mark 61) behind rest
         × NoneStands (AnyValue {A = A} level) rest
     EntryLacks text expected rest = ⊥
 
     -- The missing part of a table or an entry after whitespace.
     abbrev pub ItemLacks : List ℕ → Expected → List ℕ → Type 0
     ItemLacks line what rest =
-        (text : List ℕ) × Stands Ws line text
+        (text : List ℕ) × MatchesAtStart Ws line text
         × (TableLacks text what rest ⊎ EntryLacks text what rest)
 
     -- After whitespace, a table or an entry matches, or a comment starts.
     abbrev pub ItemWhole : List ℕ → Type 0
     ItemWhole line =
-        (text : List ℕ) × Stands Ws line text
-        × (Begun (AnyItem {A = A} level) text ⊎ Begins (λ c. c ≡ 35) text)
+        (text : List ℕ) × MatchesAtStart Ws line text
+        × (HasMatch (AnyItem {A = A} level) text ⊎ Begins (λ c. c ≡ 35) text)
 
     -- The missing part of a line that is not TOML. The part of the line that matches is followed
     -- neither by the end of the text nor by a line ending. Either its table or its entry lacks the
@@ -95,18 +97,19 @@ module _ (A : Type 0) where
     -- after the part that matches.
     abbrev pub Lacks : List ℕ → Expected → List ℕ → Type 0
     Lacks line what rest =
-        (end : List ℕ) × Stands (Line {A = A} level) line end × (end ≡ [] → ⊥)
+        (end : List ℕ) × MatchesAtStart (Line {A = A} level) line end × (end ≡ [] → ⊥)
         × NoneStands Newline end
         × (ItemLacks line what rest ⊎ ((what ≡ LineEnd) × (rest ≡ end) × ItemWhole line))
 
     -- `LineStands line behind`: a line with its line ending, followed by `behind`.
     abbrev pub LineStands : List ℕ → List ℕ → Type 0
     LineStands line behind =
-        (end : List ℕ) × Stands (Line {A = A} level) line end × Stands Newline end behind
+        (end : List ℕ) × MatchesAtStart (Line {A = A} level) line end
+        × MatchesAtStart Newline end behind
 
     -- The last line, a line that is followed by more, or a line that lacks a part.
     abbrev pub IsLine : List ℕ → ways.Outcome → Type 0
-    IsLine line Last = Stands (Line {A = A} level) line []
+    IsLine line Last = MatchesAtStart (Line {A = A} level) line []
     IsLine line (Before behind) = LineStands line (chars behind.now)
     IsLine line (lines.Lacks lack) = Lacks line lack.expected (chars lack.rest.now)
 
@@ -122,7 +125,8 @@ module _ (A : Type 0) where
         (n : ℕ) × (line : List ℕ) × LinesBefore n text line
         × Lacks line lack.expected (chars lack.rest.now)
     IsFirstLack text None =
-        (n : ℕ) × (line : List ℕ) × LinesBefore n text line × Stands (Line {A = A} level) line []
+        (n : ℕ) × (line : List ℕ) × LinesBefore n text line
+        × MatchesAtStart (Line {A = A} level) line []
 
 -- ---- lemmas
 

@@ -10,7 +10,8 @@ use Rattle.format_parts.specs.Words.{Char, RunOf, Slice, Word, former, latter, p
 use Rattle.format_toml.specs.Led.{Led}
 use Rattle.format_toml.specs.LongGrammars.{Long, Part}
 use Rattle.format_toml.specs.Toml.{IsArray, IsBoolean, IsEntry, IsInline, IsKey}
-use Rattle.format_toml.specs.Toml.{IsTable, IsTables, IsText, IsWide, PlainText, StandsFor, Tells}
+use Rattle.format_toml.specs.Toml.{IsTable, IsTables, IsText, IsWide, PlainText, SetResult}
+use Rattle.format_toml.specs.Toml.{StandsFor}
 use Rattle.format_toml.specs.Toml.{false_word, true_word}
 use Rattle.format_toml.specs.declared.characters.Characters.{Characters}
 use Rattle.format_toml.specs.declared.characters.Characters.TheVariants.{Bare, Basic, Comment}
@@ -35,11 +36,11 @@ Newline = Either (Char 10) (Both latter (Char 13) (Char 10))
 
 abbrev pub AnyComment : Grammar ℕ Slice
 AnyComment =
-    Both latter (Char 35) (Longest text_reading (λ c. c) Tells Comment (from_to 0 None))
+    Both latter (Char 35) (Longest text_reading (λ c. c) SetResult Comment (from_to 0 None))
 
 -- a character of white space, or a line end with a comment before it or none
 abbrev pub GapPart : Grammar ℕ ℕ
-GapPart = Either (TokenOf (λ c. c) Tells White) (Both latter (Optional AnyComment) Newline)
+GapPart = Either (TokenOf (λ c. c) SetResult White) (Both latter (Optional AnyComment) Newline)
 
 abbrev pub Gap : Grammar ℕ ⊤
 Gap = Gathered (λ all parts. ⊤) (Many GapPart (from_to 0 None))
@@ -83,11 +84,11 @@ Escape =
     (Led (λ c. c ≡ 85) (Both latter (Char 85) (Meaning IsWide WideUnits)) Short)
 
 abbrev pub Character : Grammar ℕ ℕ
-Character = Either (TokenOf (λ c. c) Tells Basic) (Both latter (Char 92) Escape)
+Character = Either (TokenOf (λ c. c) SetResult Basic) (Both latter (Char 92) Escape)
 
 -- a whitespace character, or a line ending
 abbrev pub Blank : Grammar ℕ ℕ
-Blank = Either (TokenOf (λ c. c) Tells White) Newline
+Blank = Either (TokenOf (λ c. c) SetResult White) Newline
 
 -- a backslash, a line ending, and the blanks after it
 abbrev pub EscapedLine : Grammar ℕ ⊤
@@ -106,7 +107,7 @@ abbrev pub BasicContent : Grammar ℕ ℕ
 BasicContent = Either Character Newline
 
 abbrev pub LiteralContent : Grammar ℕ ℕ
-LiteralContent = Either (TokenOf (λ c. c) Tells Literal) Newline
+LiteralContent = Either (TokenOf (λ c. c) SetResult Literal) Newline
 
 abbrev pub BasicPart : Grammar ℕ ℕ
 BasicPart = Part 34 BasicContent Skips
@@ -116,12 +117,12 @@ LiteralPart = Part 39 LiteralContent NoSkips
 
 -- the longest run of characters of numbers, dates and times, at least `least` of them
 abbrev pub UnquotedRun : ℕ → Grammar ℕ Slice
-UnquotedRun least = Longest text_reading (λ c. c) Tells Unquoted (from_to least None)
+UnquotedRun least = Longest text_reading (λ c. c) SetResult Unquoted (from_to least None)
 
 -- a space, two digits and a colon, and all these characters after them
 abbrev pub SpacedTime : Grammar ℕ (ℕ × Slice × ℕ × Slice)
 SpacedTime =
-    Four (Char 32) (Longest text_reading (λ c. c) Tells Digit (from_to 2 (Some 2))) (Char 58)
+    Four (Char 32) (Longest text_reading (λ c. c) SetResult Digit (from_to 2 (Some 2))) (Char 58)
     (UnquotedRun 0)
 
 -- the longest run of these characters, at least one, and the time that may follow it
@@ -131,7 +132,7 @@ Unquoteds = Taken text_reading (Both pair (UnquotedRun 1) (Optional SpacedTime))
 module _ {A : Type 0} where
   abbrev pub AnyCharacters : Characters → ℕ → Grammar ℕ (String A)
   AnyCharacters set least =
-      Gathered HasCharacters (Many (TokenOf (λ c. c) Tells set) (from_to least None))
+      Gathered HasCharacters (Many (TokenOf (λ c. c) SetResult set) (from_to least None))
 
   abbrev pub BasicString : Grammar ℕ (String A)
   BasicString =

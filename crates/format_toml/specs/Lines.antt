@@ -1,13 +1,13 @@
 -- The grammars of lines and documents are those of what is written.
 use Rattle.std.specs.Prelude.{◌≡◌, ◌⊎◌, ◌<◌, ℕ, [], None}
-use Rattle.std.proofs.Common.{refl, inl, inr, arith}
+use Rattle.std.proofs.Common.{arith, inl, inr, refl}
 use Rattle.winnow.specs.AsChar.{IsSpace}
 use Rattle.winnow.specs.Range.{from_to}
 use Rattle.format_parts.specs.Words.{between_of, char_of, for_front, for_of, latter}
 use Rattle.format_toml.specs.Grammars.{AnyItem, Document, Line}
 use Rattle.format_toml.specs.Keys.{OpensKey, opens_key_is, pair_begins, table_of}
 use Rattle.format_toml.specs.Led.{led_of}
-use Rattle.format_toml.specs.Scalars.{Goes, GoesOn, tail_goes, white_front}
+use Rattle.format_toml.specs.Scalars.{ContinuesScalar, Goes, tail_goes, white_front}
 use Rattle.format_toml.specs.Spaces.{IsBreak, IsTail, comment_begins, maybe_comment_of}
 use Rattle.format_toml.specs.Spaces.{newline_begins, newline_of, no_space, spaced_begins}
 use Rattle.format_toml.specs.Spaces.{spaced_of, tail_is, ws_of}
@@ -28,7 +28,7 @@ opens_is : (c : ℕ) → OpensItem c → (33 < c) × (c < 123) × (c ≡ 35 → 
 opens_is c (inl e) = omega (arith, e)
 opens_is c (inr o) = let is = opens_key_is c o in (is.0, is.1, is.2)
 
-tail_past : (c : ℕ) → IsTail c → IsSpace c ⊎ GoesOn c → ⊥
+tail_past : (c : ℕ) → IsTail c → IsSpace c ⊎ ContinuesScalar c → ⊥
 tail_past c is (inl s) = (tail_is c is).1 s
 tail_past c is (inr g) = tail_goes c is g
 
@@ -54,7 +54,8 @@ module _ {A : Type 0} (level : ℕ) where
   line_of : IsGrammarOf (Line {A = A} level) (LineText level) (MayBegin IsBreak)
   line_of =
       between_of ws_of
-      (optional_of (behind_less (may_begin_more IsTail (λ c. IsSpace c ⊎ GoesOn c → ⊥) tail_past)
+      (optional_of (behind_less
+      (may_begin_more IsTail (λ c. IsSpace c ⊎ ContinuesScalar c → ⊥) tail_past)
       (spaced_of white_front item_of))
       (λ rest b. none_begins (spaced_of white_front item_of) item_begins rest
       (may_begin_more IsTail (λ c. OpensItem c → ⊥) tail_opens rest b)))

@@ -6,7 +6,7 @@ use Rattle.std.proofs.Math.Seq.{take-append_seam}
 use Rattle.std.proofs.lemmas.Str.{IsCharBoundary-at_seam, IsUtf8-take, encodes-append}
 use Rattle.std.proofs.lemmas.Str.{encodes-chars}
 use Rattle.format_toml.specs.Expected.{DoubleLacks, EntryLacks, HeaderLacks, IsFirstLack, Lacks}
-use Rattle.format_toml.specs.Expected.{LinesBefore, Stands, TableLacks}
+use Rattle.format_toml.specs.Expected.{LinesBefore, MatchesAtStart, TableLacks}
 use Rattle.format_toml.specs.Messages.{LacksAt}
 use Rattle.format_toml.specs.Unique.{header_unique, key_unique, line_unique}
 use Rattle.format_toml.specs.UniqueSpaces.{mark_unique, newline_unique, ws_unique}
@@ -27,7 +27,7 @@ abbrev pub IsEnd : List ℕ → List ℕ → Type 0
 IsEnd tokens rest = (front : List ℕ) × (tokens ≡ front ++ rest)
 
 left_end : {O : Type 0} {g : Grammar ℕ O} → IsUnique g → {tokens rest : List ℕ}
-    → Stands g tokens rest → IsEnd tokens rest
+    → MatchesAtStart g tokens rest → IsEnd tokens rest
 left_end unique {tokens} {rest} (o, x) = unique.ends tokens o rest x
 
 module _ (A : Type 0) where

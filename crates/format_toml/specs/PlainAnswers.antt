@@ -1,6 +1,6 @@
 -- The results for the text of a value without quotes, and for the parsed input.
 use Rattle.std.specs.Prelude.{◌≡◌, ◌⊎◌, ℕ, ℤ, List, [], ◌∷◌, ◌++◌, length, None, Some}
-use Rattle.std.specs.Prelude.{Result, Ok, Err, FitsSigned, encode_utf8_all}
+use Rattle.std.specs.Prelude.{Err, FitsSigned, Ok, Result, encode_utf8_all}
 use Rattle.std.specs.Int.{w64}
 use Rattle.std.proofs.Common.{refl, sym, ap, subst, inl, inr, ◌∙◌, arith, length-append}
 use Rattle.format_parts.specs.Words.{For, Slice}
@@ -9,7 +9,7 @@ use Rattle.format_toml.specs.Grammars.{IsPlain, Plain, Unquoteds}
 use Rattle.format_toml.specs.Numbers.{IntegerText, IsIntegerOf}
 use Rattle.format_toml.specs.Times.{unquoteds_unique}
 use Rattle.format_toml.specs.Toml.{DateTimeText, MeansFloat, OtherText, PlainText}
-use Rattle.format_toml_tree.specs.Dates.{IsDateTime, Tells}
+use Rattle.format_toml_tree.specs.Dates.{FoundResult, IsDateTime}
 use Rattle.format_toml_tree.specs.declared.value.DateTime.{DateTime}
 use Rattle.format_toml_tree.specs.declared.value.Value.{Value}
 use Rattle.format_toml_tree.specs.declared.value.Value as values
@@ -43,14 +43,15 @@ module _ (A : Type 0) where
   unfolding MadeText IsIntegerOf IntegerText EitherText
   integer_told n v bytes is same = inl (n, is, same is.1)
 
-  pub date_found : (d : DateTime A) (bytes : List ℕ) → Tells (λ d. IsDateTime d bytes) (Some d)
+  pub date_found : (d : DateTime A) (bytes : List ℕ)
+      → FoundResult (λ d. IsDateTime d bytes) (Some d)
       → DateTimeText (values.DateTime d) bytes
-  unfolding MadeText Tells
+  unfolding MadeText FoundResult
   date_found d bytes x = (d, x, refl)
 
   pub no_date : (v : Value A) (bytes : List ℕ)
-      → Tells (λ (d : DateTime A). IsDateTime d bytes) None → DateTimeText v bytes → ⊥
-  unfolding MadeText Tells
+      → FoundResult (λ (d : DateTime A). IsDateTime d bytes) None → DateTimeText v bytes → ⊥
+  unfolding MadeText FoundResult
   no_date v bytes none (d, x, e) = none d x
 
 module _ {A E : Type 0} (kind : E → Kind) (bytes : List ℕ) where

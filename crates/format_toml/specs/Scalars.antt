@@ -1,7 +1,7 @@
 -- The grammars of values that have no others in them are those of what is written.
 use Rattle.std.specs.Prelude.{◌≡◌, ◌⊎◌, ◌<◌, ℕ, Bool, true, false, List, [], ◌∷◌, ◌++◌}
 use Rattle.std.specs.List.{All}
-use Rattle.std.proofs.Common.{refl, sym, ap, subst, inl, inr, arith}
+use Rattle.std.proofs.Common.{ap, arith, inl, inr, refl, subst, sym}
 use Rattle.std.proofs.lemmas.List.Elements.{All-tail}
 use Rattle.winnow.specs.AsChar.{IsSpace}
 use Rattle.format_parts.specs.Words.{For, Run, Word, for_front, for_of}
@@ -29,10 +29,10 @@ use Rattle.winnow.specs.Texts.Parts.{behind_less}
 -- ---- what goes on with a word or a number
 
 -- letters, digits, and + - . : _, and quotation marks
-abbrev pub GoesOn : ℕ → Type 0
-GoesOn c = IsUnquoted c ⊎ ((c ≡ 34) ⊎ (c ≡ 39))
+abbrev pub ContinuesScalar : ℕ → Type 0
+ContinuesScalar c = IsUnquoted c ⊎ ((c ≡ 34) ⊎ (c ≡ 39))
 
-pub goes_is : (c : ℕ) → GoesOn c
+pub goes_is : (c : ℕ) → ContinuesScalar c
     → (33 < c) × (c < 123) × (c ≡ 44 → ⊥) × (c ≡ 93 → ⊥) × (c ≡ 35 → ⊥)
 goes_is c (inl (inl e)) = omega (arith, e)
 goes_is c (inl (inr (inl e))) = omega (arith, e)
@@ -46,26 +46,26 @@ goes_is c (inr (inr e)) = omega (arith, e)
 -- `Goes rest`: the input after a value does not start with one of these, nor with a space and a
 -- time, which would continue a date.
 abbrev pub Goes : List ℕ → Type 0
-Goes rest = NotFirst GoesOn rest × NoTime rest
+Goes rest = NotFirst ContinuesScalar rest × NoTime rest
 
-pub space_goes : (c : ℕ) → IsSpace c → GoesOn c → ⊥
+pub space_goes : (c : ℕ) → IsSpace c → ContinuesScalar c → ⊥
 space_goes c s g =
     let above = (goes_is c g).0 in no_space c (omega (arith, above)) s
 
-pub tail_goes : (c : ℕ) → IsTail c → GoesOn c → ⊥
+pub tail_goes : (c : ℕ) → IsTail c → ContinuesScalar c → ⊥
 tail_goes c (inl e) g = (goes_is c g).4 e
 tail_goes c (inr (inl e)) g = absurd (omega (arith, e, (goes_is c g).0))
 tail_goes c (inr (inr e)) g = absurd (omega (arith, e, (goes_is c g).0))
 
 -- what ends a number, a date or a string
 goes_plain : (rest : List ℕ) → Goes rest → EndsPlain rest
-goes_plain rest goes = (not_first IsUnquoted GoesOn (λ c u. inl u) rest goes.0, goes.1)
+goes_plain rest goes = (not_first IsUnquoted ContinuesScalar (λ c u. inl u) rest goes.0, goes.1)
 
 goes_basic : (rest : List ℕ) → Goes rest → NotFirst (λ c. c ≡ 34) rest
-goes_basic rest goes = not_first (λ c. c ≡ 34) GoesOn (λ c e. inr (inl e)) rest goes.0
+goes_basic rest goes = not_first (λ c. c ≡ 34) ContinuesScalar (λ c e. inr (inl e)) rest goes.0
 
 goes_literal : (rest : List ℕ) → Goes rest → NotFirst (λ c. c ≡ 39) rest
-goes_literal rest goes = not_first (λ c. c ≡ 39) GoesOn (λ c e. inr (inr e)) rest goes.0
+goes_literal rest goes = not_first (λ c. c ≡ 39) ContinuesScalar (λ c e. inr (inr e)) rest goes.0
 
 -- ---- white space after a value
 
@@ -79,34 +79,35 @@ space_more : (c : ℕ) (rest : List ℕ) → IsSpace c → Goes rest → Goes (c
 space_more c rest is goes = (
   space_goes c is,
   λ a b more one other e.
-      let P : List ℕ → Type 0 = λ l. NotFirst GoesOn l in
+      let P : List ℕ → Type 0 = λ l. NotFirst ContinuesScalar l in
       subst P (same_others e) goes.0 (inl (inl (omega (arith, one)))),
 )
 
-past_goes : (rest : List ℕ) → Past GoesOn rest → Goes rest
+past_goes : (rest : List ℕ) → Past ContinuesScalar rest → Goes rest
 past_goes rest past = (
-  not_first GoesOn (λ c. IsSpace c ⊎ GoesOn c) (λ c g. inr g) rest past,
-  no_time rest (not_first IsSpace (λ c. IsSpace c ⊎ GoesOn c) (λ c s. inl s) rest past),
+  not_first ContinuesScalar (λ c. IsSpace c ⊎ ContinuesScalar c) (λ c g. inr g) rest past,
+  no_time rest (not_first IsSpace (λ c. IsSpace c ⊎ ContinuesScalar c) (λ c s. inl s) rest past),
 )
 
-wide_goes : (rest : List ℕ) → WidePast GoesOn rest → Goes rest
+wide_goes : (rest : List ℕ) → WidePast ContinuesScalar rest → Goes rest
 wide_goes rest past = (
-  not_first GoesOn (λ c. OpensGap c ⊎ GoesOn c) (λ c g. inr g) rest past,
-  no_time rest (not_first IsSpace (λ c. OpensGap c ⊎ GoesOn c) (λ c s. inl (inl s)) rest past),
+  not_first ContinuesScalar (λ c. OpensGap c ⊎ ContinuesScalar c) (λ c g. inr g) rest past,
+  no_time rest (not_first IsSpace (λ c. OpensGap c ⊎ ContinuesScalar c) (λ c s. inl (inl s))
+      rest past),
 )
 
 tail_more : (tokens : List ℕ) → Begins IsTail tokens → Goes tokens
 tail_more tokens begins = (
-  may_begin IsTail (λ c. GoesOn c → ⊥) tail_goes tokens begins,
+  may_begin IsTail (λ c. ContinuesScalar c → ⊥) tail_goes tokens begins,
   no_time tokens (may_begin IsTail (λ c. IsSpace c → ⊥) (λ c is. (tail_is c is).1) tokens begins),
 )
 
 -- it may be on the line
-pub white_front : InFront WsText (Past GoesOn) Goes
+pub white_front : InFront WsText (Past ContinuesScalar) Goes
 unfolding Run
 white_front = record { makes = λ slice xs rest x past. first xs rest x.0 past }
   where
-    first : (xs rest : List ℕ) → All IsSpace xs → Past GoesOn rest → Goes (xs ++ rest)
+    first : (xs rest : List ℕ) → All IsSpace xs → Past ContinuesScalar rest → Goes (xs ++ rest)
     first [] rest all past = past_goes rest past
     first (x ∷ xs) rest all past =
         space_more x (xs ++ rest) (all 0 x (omega arith))
@@ -124,7 +125,7 @@ part_front = record { makes = makes }
         tail_more (xs ++ rest) (ended_begins.makes c xs rest ended tt)
 
 -- or over lines
-pub wide_front : InFront GapText (WidePast GoesOn) Goes
+pub wide_front : InFront GapText (WidePast ContinuesScalar) Goes
 wide_front = front_behind wide_goes (gap_front part_front)
 
 -- ---- values that have no others in them

@@ -1,7 +1,7 @@
 -- Proofs that the grammars of whitespace, comments and line endings match their written form.
 use Rattle.std.specs.Prelude.{◌≡◌, ◌⊎◌, ◌<◌, ⊤, ℕ, List, [], ◌∷◌, ◌++◌, None}
 use Rattle.std.specs.List.{All}
-use Rattle.std.proofs.Common.{refl, subst, inl, inr, arith}
+use Rattle.std.proofs.Common.{arith, inl, inr, refl, subst}
 use Rattle.winnow.specs.Text.{text_reading}
 use Rattle.winnow.specs.AsChar.{IsSpace}
 use Rattle.winnow.specs.Range.{from_to}
@@ -10,7 +10,7 @@ use Rattle.format_toml.specs.Grammars.{AnyComment, Gap, GapPart, GappedOut, Mark
 use Rattle.format_toml.specs.Grammars.{SpacedOut, WideMark, Ws}
 use Rattle.format_toml.specs.Strings.{one_of_set, set_begins}
 use Rattle.format_toml.specs.Toml.{CommentText, GapPartText, GapText, Gapped, IsOf, MarkText}
-use Rattle.format_toml.specs.Toml.{NewlineText, Spaced, Tells, WideMarkText, WsText}
+use Rattle.format_toml.specs.Toml.{NewlineText, SetResult, Spaced, WideMarkText, WsText}
 use Rattle.format_toml.specs.declared.characters.Characters.TheVariants.{Comment, White}
 use Rattle.winnow.specs.Grammar.{Both, Grammar, Optional}
 use Rattle.winnow.specs.Texts.{Anything, BeginsIn, BothText, InFront, IsGrammarOf, MayBegin}
@@ -113,8 +113,9 @@ break_hash c (inr e) f = absurd (omega (arith, e, f))
 
 comment_of : IsGrammarOf AnyComment CommentText (NotFirst (IsOf Comment))
 comment_of =
-    both_of latter (char_of 35) (longest_of text_reading (λ c. c) Tells Comment (from_to 0 None) 0
-    refl (divides_seen (Tells Comment) (divides_where (IsOf Comment)))) front_any
+    both_of latter (char_of 35)
+    (longest_of text_reading (λ c. c) SetResult Comment (from_to 0 None) 0
+    refl (divides_seen (SetResult Comment) (divides_where (IsOf Comment)))) front_any
 
 pub comment_begins : BeginsIn (λ c. c ≡ 35) CommentText
 comment_begins = both_front latter (spelled_begins 35 [] 35) front_any

@@ -4,7 +4,7 @@ use Rattle.std.specs.Borrow.{Bor}
 use Rattle.std.specs.Str.{chars}
 use Rattle.std.proofs.Common.{sym, subst, inl, inr, ◌∙◌, arith}
 use Rattle.std.proofs.lemmas.Bool.{cases_order}
-use Rattle.format_toml.specs.Expected.{LineStands, LinesBefore, Stands}
+use Rattle.format_toml.specs.Expected.{LineStands, LinesBefore, MatchesAtStart}
 use Rattle.format_toml.specs.Grammars.{Line, Newline}
 use Rattle.format_toml.specs.Unique.{line_unique}
 use Rattle.format_toml.specs.UniqueSpaces.{newline_unique}
@@ -46,7 +46,7 @@ module _ (A : Type 0) (level : ℕ) where
       ]
 
   pub none_starts : (n m : ℕ) (text left end : List ℕ) → LinesBefore A level n text left → n < m
-      → Stands (Line {A = A} level) left end → NoneStands Newline end → (line : List ℕ)
+      → MatchesAtStart (Line {A = A} level) left end → NoneStands Newline end → (line : List ℕ)
       → LinesBefore A level m text line → ⊥
   none_starts n m text left end here few (o, x) none line there =
       let (behind, (other, (p, z), (d, w))) = start_goes_on n m text left line here few there in

@@ -9,7 +9,7 @@ use Rattle.format_toml.specs.Grammars.{AnyCharacters, BasicString, Character, Es
 use Rattle.format_toml.specs.Grammars.{LiteralString, WideUnits}
 use Rattle.format_toml.specs.Led.{led_of}
 use Rattle.format_toml.specs.Toml.{BasicText, CharacterText, CharactersText, IsOf, LiteralText}
-use Rattle.format_toml.specs.Toml.{EscapeText, IsWide, StandsFor, Tells}
+use Rattle.format_toml.specs.Toml.{EscapeText, IsWide, SetResult, StandsFor}
 use Rattle.format_toml.specs.declared.characters.Characters.{Characters}
 use Rattle.format_toml.specs.declared.characters.Characters.TheVariants.{Basic, Literal}
 use Rattle.winnow.specs.Grammar.{Both, NoneStands, TokenOf}
@@ -27,16 +27,16 @@ use Rattle.winnow.specs.Texts.Tokens.{divides_where, token_of}
 -- ---- characters of a set
 
 module _ (set : Characters) where
-  pub one_of_set : IsGrammarOf (TokenOf (λ c. c) Tells set) (TokenOfText (λ c. c) (IsOf set))
+  pub one_of_set : IsGrammarOf (TokenOf (λ c. c) SetResult set) (TokenOfText (λ c. c) (IsOf set))
       Anything
-  one_of_set = token_of (λ c. c) Tells set (divides_where (IsOf set))
+  one_of_set = token_of (λ c. c) SetResult set (divides_where (IsOf set))
 
   pub set_begins : BeginsIn (IsOf set) (TokenOfText (λ c. c) (IsOf set))
   set_begins =
       begins_wider (λ c (k, e, is). subst (IsOf set) e is) (token_of_begins (λ c. c) (IsOf set))
 
   none_first : (rest : List ℕ) → NotFirst (IsOf set) rest
-      → NoneStands (TokenOf (λ c. c) Tells set) rest
+      → NoneStands (TokenOf (λ c. c) SetResult set) rest
   none_first rest not = none_begins one_of_set set_begins rest not
 
   row_begins : BeginsIn (IsOf set) (AtLeast 1 (EachText (TokenOfText (λ c. c) (IsOf set))))

@@ -13,7 +13,7 @@ use Rattle.std.proofs.lemmas.Str.Ascii.{IsAscii-cons, IsAscii-nil}
 use Rattle.format_parts.specs.Unique.{char_unique}
 use Rattle.format_parts.specs.Words.{Char, FourTexts, One, Slice, char_of, four_same, pair, to_four}
 use Rattle.format_toml.specs.Grammars.{SpacedTime, UnquotedRun, Unquoteds}
-use Rattle.format_toml.specs.Toml.{IsOf, IsUnquoted, Tells}
+use Rattle.format_toml.specs.Toml.{IsOf, IsUnquoted, SetResult}
 use Rattle.format_toml.specs.UniqueSpaces.{members_unique}
 use Rattle.format_toml.specs.declared.characters.Characters.TheVariants.{Digit, Unquoted}
 use Rattle.format_toml_tree.specs.Dates.{IsDigit}
@@ -62,18 +62,18 @@ ascii (x ∷ xs) all =
 run_of : (least : ℕ) → IsGrammarOf (UnquotedRun least) (Members text_reading IsUnquoted least)
     (NotFirst IsUnquoted)
 run_of least =
-    longest_of text_reading (λ c. c) Tells Unquoted (from_to least None) least refl
-    (divides_seen (Tells Unquoted) (divides_where (IsOf Unquoted)))
+    longest_of text_reading (λ c. c) SetResult Unquoted (from_to least None) least refl
+    (divides_seen (SetResult Unquoted) (divides_where (IsOf Unquoted)))
 
 -- ---- a time after a space
 
 abbrev Hour : List ℕ → Slice → List ℕ → Type 0
-Hour = Longest text_reading (λ c. c) Tells Digit (from_to 2 (Some 2))
+Hour = Longest text_reading (λ c. c) SetResult Digit (from_to 2 (Some 2))
 
 hour_of : IsGrammarOf Hour (SoManyOf text_reading IsDigit 2) Anything
 hour_of =
-    exactly_of text_reading (λ c. c) Tells Digit (from_to 2 (Some 2)) 2 refl
-    (divides_seen (Tells Digit) (divides_where (IsOf Digit)))
+    exactly_of text_reading (λ c. c) SetResult Digit (from_to 2 (Some 2)) 2 refl
+    (divides_seen (SetResult Digit) (divides_where (IsOf Digit)))
 
 -- what is written of it
 abbrev pub SpacedTimeText : Text ℕ (ℕ × Slice × ℕ × Slice)

@@ -69,8 +69,8 @@ abbrev pub IsWide : ℕ × ℕ → ℕ → Type 0
 IsWide units c = IsAlone (units.0 * 65536 + units.1) c
 
 -- what a set of them tells
-abbrev pub Tells : Characters → ℕ → Bool → Type 0
-Tells set c b = IsTrue b ↔ IsOf set c
+abbrev pub SetResult : Characters → ℕ → Bool → Type 0
+SetResult set c b = IsTrue b ↔ IsOf set c
 
 -- ---- what is meant
 

@@ -10,7 +10,7 @@ use Rattle.format_toml.specs.Grammars.{Names, Pair, Scalar, Table}
 use Rattle.format_toml.specs.Led.{led_unique}
 use Rattle.format_toml.specs.Times.{unquoteds_unique}
 use Rattle.format_toml.specs.Toml.{IsArray, IsBoolean, IsEntry, IsInline, IsKey}
-use Rattle.format_toml.specs.Toml.{IsTable, IsTables, IsText, Tells, false_word, true_word}
+use Rattle.format_toml.specs.Toml.{IsTable, IsTables, IsText, SetResult, false_word, true_word}
 use Rattle.format_toml.specs.UniqueLong.{long_basic_unique, long_literal_unique}
 use Rattle.format_toml.specs.UniqueSpaces.{comment_unique, gapped_unique, mark_unique}
 use Rattle.format_toml.specs.UniqueSpaces.{spaced_unique, wide_mark_unique, ws_unique}
@@ -27,7 +27,7 @@ use Rattle.winnow.specs.Accumulator.Holds.{HasCharacters}
 module _ {A : Type 0} where
   characters_unique : (set : Characters) (least : ℕ) → IsUnique (AnyCharacters {A = A} set least)
   characters_unique set least =
-      gathered_unique HasCharacters (many_unique (token_of_unique (λ c. c) Tells set)
+      gathered_unique HasCharacters (many_unique (token_of_unique (λ c. c) SetResult set)
       (from_to least None))
 
   pub basic_unique : IsUnique (BasicString {A = A})

@@ -9,7 +9,7 @@ use Rattle.format_toml.specs.Grammars.{BasicString, EscapedLine, LiteralContent,
 use Rattle.format_toml.specs.Grammars.{LiteralString, LongBasic, LongLiteral, Newline, NoSkips}
 use Rattle.format_toml.specs.Grammars.{Skips}
 use Rattle.format_toml.specs.LongGrammars.{Delimiter, Long, Part, Quote}
-use Rattle.format_toml.specs.Toml.{Tells}
+use Rattle.format_toml.specs.Toml.{SetResult}
 use Rattle.format_toml.specs.UniqueSpaces.{newline_unique, ws_unique}
 use Rattle.format_toml.specs.declared.characters.Characters.TheVariants.{Literal, White}
 use Rattle.winnow.specs.Accumulator.Holds.{HasCharacters}
@@ -59,7 +59,7 @@ module _ (quote : ℕ) {content : Grammar ℕ ℕ} {skips : Grammar ℕ ⊤}
 -- ---- literal ones
 
 literal_content_unique : IsUnique LiteralContent
-literal_content_unique = either_unique (token_of_unique (λ c. c) Tells Literal) newline_unique
+literal_content_unique = either_unique (token_of_unique (λ c. c) SetResult Literal) newline_unique
 
 pub literal_part_unique : IsUnique LiteralPart
 literal_part_unique = part_unique 39 literal_content_unique (unique_nothing tt)
@@ -67,12 +67,12 @@ literal_part_unique = part_unique 39 literal_content_unique (unique_nothing tt)
 pub literal_part_takes : TakesTokens LiteralPart
 literal_part_takes =
     part_takes 39 literal_content_unique (unique_nothing tt)
-    (either_takes (token_of_takes (λ c. c) Tells Literal) newline_takes)
+    (either_takes (token_of_takes (λ c. c) SetResult Literal) newline_takes)
 
 -- ---- basic ones
 
 blank_unique : IsUnique Blank
-blank_unique = either_unique (token_of_unique (λ c. c) Tells White) newline_unique
+blank_unique = either_unique (token_of_unique (λ c. c) SetResult White) newline_unique
 
 pub escaped_line_unique : IsUnique EscapedLine
 escaped_line_unique =

@@ -7,7 +7,7 @@ use Rattle.format_parts.specs.Unique.{char_unique, run_unique}
 use Rattle.format_parts.specs.Words.{former, latter, pair}
 use Rattle.format_toml.specs.Grammars.{AnyComment, Gap, GapPart, GappedOut, Mark, Newline}
 use Rattle.format_toml.specs.Grammars.{SpacedOut, WideMark, Ws}
-use Rattle.format_toml.specs.Toml.{IsOf, Tells}
+use Rattle.format_toml.specs.Toml.{IsOf, SetResult}
 use Rattle.format_toml.specs.declared.characters.Characters.{Characters}
 use Rattle.format_toml.specs.declared.characters.Characters.TheVariants.{Comment, White}
 use Rattle.winnow.specs.TakeWhile.Exact.{longest_unique}
@@ -31,17 +31,17 @@ newline_unique =
 
 -- characters of a set, as they stand in the text
 pub members_unique : (set : Characters) (bounds : Bounds)
-    → IsUnique (Longest text_reading (λ c. c) Tells set bounds)
+    → IsUnique (Longest text_reading (λ c. c) SetResult set bounds)
 members_unique set bounds =
-    longest_unique text_reading (λ c. c) Tells set bounds
-    (seen_once (λ c. c) (Tells set) (λ c d e. e) (holds_once (IsOf set)))
+    longest_unique text_reading (λ c. c) SetResult set bounds
+    (seen_once (λ c. c) (SetResult set) (λ c d e. e) (holds_once (IsOf set)))
 
 pub comment_unique : IsUnique AnyComment
 comment_unique = both_unique latter (char_unique 35) (members_unique Comment (from_to 0 None))
 
 gap_part_unique : IsUnique GapPart
 gap_part_unique =
-    either_unique (token_of_unique (λ c. c) Tells White)
+    either_unique (token_of_unique (λ c. c) SetResult White)
     (both_unique latter (optional_unique comment_unique) newline_unique)
 
 pub gap_unique : IsUnique Gap

@@ -10,7 +10,8 @@ use Rattle.format_toml.specs.Grammars.{SpacedOut, WideMark}
 use Rattle.format_toml.specs.Keys.{OpensKey, opens_key_is, pair_begins, pair_of}
 use Rattle.format_toml.specs.Led.{led_of}
 use Rattle.format_toml.specs.Rows.{joined_begins, parted_ends_of}
-use Rattle.format_toml.specs.Scalars.{Goes, GoesOn, goes_is, scalar_begins, scalar_of, white_front}
+use Rattle.format_toml.specs.Scalars.{ContinuesScalar, Goes, goes_is, scalar_begins, scalar_of}
+use Rattle.format_toml.specs.Scalars.{white_front}
 use Rattle.format_toml.specs.Scalars.{wide_front}
 use Rattle.format_toml.specs.Spaces.{OpensGap, Past, WidePast, gap_is, gapped_begins, gapped_of}
 use Rattle.format_toml.specs.Spaces.{mark_begins, mark_of, no_space, past, spaced_begins}
@@ -45,7 +46,7 @@ opens_gap c o g = absurd (no_gap c o g)
 
 module _ {A : Type 0} {g : Grammar ℕ (Value A)} {value : Text ℕ (Value A)}
     (of : IsGrammarOf g value Goes) (opens : BeginsIn Opens value) where
-  element_of : IsGrammarOf (GappedOut g) (Gapped value) (WidePast GoesOn)
+  element_of : IsGrammarOf (GappedOut g) (Gapped value) (WidePast ContinuesScalar)
   element_of = gapped_of wide_front of
 
   element_begins : BeginsIn Opens (Gapped value)
@@ -54,12 +55,12 @@ module _ {A : Type 0} {g : Grammar ℕ (Value A)} {value : Text ℕ (Value A)}
   -- the rest after the values does not start with a comma and a value
   EndsValues : List ℕ → Type 0
   EndsValues rest =
-      WidePast GoesOn rest × NoneStands (Both (λ d o. o) (WideMark 44) (GappedOut g)) rest
+      WidePast ContinuesScalar rest × NoneStands (Both (λ d o. o) (WideMark 44) (GappedOut g)) rest
 
-  closing_past : (rest : List ℕ) → Begins (λ c. c ≡ 93) rest → WidePast GoesOn rest
+  closing_past : (rest : List ℕ) → Begins (λ c. c ≡ 93) rest → WidePast ContinuesScalar rest
   closing_past =
-      may_begin (λ c. c ≡ 93) (λ c. OpensGap c ⊎ GoesOn c → ⊥)
-      (wide_past GoesOn 93 (omega arith) (λ goes. (goes_is 93 goes).3 refl))
+      may_begin (λ c. c ≡ 93) (λ c. OpensGap c ⊎ ContinuesScalar c → ⊥)
+      (wide_past ContinuesScalar 93 (omega arith) (λ goes. (goes_is 93 goes).3 refl))
 
   closing_gap : (rest : List ℕ) → Begins (λ c. c ≡ 93) rest → NotFirst OpensGap rest
   closing_gap =
@@ -90,8 +91,9 @@ module _ {A : Type 0} {g : Grammar ℕ (Value A)} {value : Text ℕ (Value A)}
             none_both (λ d o. o) (WideMark 44) (GappedOut g) rest (closing_comma rest b),
           )
       makes (Some mark) xs rest x b = (
-        may_begin (λ c. c ≡ 44) (λ c. OpensGap c ⊎ GoesOn c → ⊥)
-            (wide_past GoesOn 44 (omega arith) (λ goes. (goes_is 44 goes).2 refl)) (xs ++ rest)
+        may_begin (λ c. c ≡ 44) (λ c. OpensGap c ⊎ ContinuesScalar c → ⊥)
+            (wide_past ContinuesScalar 44 (omega arith) (λ goes. (goes_is 44 goes).2 refl))
+            (xs ++ rest)
             ((wide_mark_begins 44).makes mark xs rest x tt),
         λ o other (d, element, mid, m, y, out).
             let P : List ℕ → Type 0 = λ l. GappedOut g l element other in
@@ -105,7 +107,7 @@ module _ {A : Type 0} {g : Grammar ℕ (Value A)} {value : Text ℕ (Value A)}
   values_of =
       both_of former (list_of (parted_ends_of element_of (wide_mark_of 44)
       (both_front pair (front_begins
-      (wide_past GoesOn 44 (omega arith) (λ goes. (goes_is 44 goes).2 refl))
+      (wide_past ContinuesScalar 44 (omega arith) (λ goes. (goes_is 44 goes).2 refl))
       (spelled_begins 44 [] 44)) front_any) (front_begins opens_gap element_begins)
       (λ rest ends. ends.0) (λ rest ends. ends.1)))
       (optional_of (behind_less closing_gap (wide_mark_of 44)) closing_comma) last_front
@@ -148,7 +150,7 @@ commas_front {O} {A} {element} closing above begins =
 
 module _ {A : Type 0} {g : Grammar ℕ (Value A)} {value : Text ℕ (Value A)}
     (of : IsGrammarOf g value Goes) (opens : BeginsIn Opens value) where
-  spaced_pair_of : IsGrammarOf (SpacedOut (Pair g)) (Spaced (PairText value)) (Past GoesOn)
+  spaced_pair_of : IsGrammarOf (SpacedOut (Pair g)) (Spaced (PairText value)) (Past ContinuesScalar)
   spaced_pair_of =
       spaced_of white_front
       (pair_of of (front_begins (λ c o. no_space c (omega (arith, o.0))) opens))
@@ -157,12 +159,13 @@ module _ {A : Type 0} {g : Grammar ℕ (Value A)} {value : Text ℕ (Value A)}
   inline_of =
       between_of (mark_of 123) (list_of (parted_of spaced_pair_of (mark_of 44)
       (both_front pair (front_begins
-      (past GoesOn 44 (omega arith) (λ goes. (goes_is 44 goes).2 refl))
+      (past ContinuesScalar 44 (omega arith) (λ goes. (goes_is 44 goes).2 refl))
       (spelled_begins 44 [] 44)) front_any)
       (front_begins (λ c o. no_space c (omega (arith, (opens_key_is c o).0)))
       (spaced_begins (pair_begins value))) (from_to 0 None) 0 refl
-      (may_begin (λ c. c ≡ 125) (λ c. IsSpace c ⊎ GoesOn c → ⊥)
-      (past GoesOn 125 (omega arith) (λ goes. absurd (omega (arith, (goes_is 125 goes).1)))))
+      (may_begin (λ c. c ≡ 125) (λ c. IsSpace c ⊎ ContinuesScalar c → ⊥)
+      (past ContinuesScalar 125 (omega arith)
+      (λ goes. absurd (omega (arith, (goes_is 125 goes).1)))))
       (λ rest b. none_begins (mark_of 44) (mark_begins 44) rest
       (may_begin (λ c. c ≡ 125) (λ c. c ≡ 44 → ⊥) (λ c e f. absurd (omega (arith, e, f))) rest b))
       (λ rest least b. none_begins spaced_pair_of (spaced_begins (pair_begins value)) rest

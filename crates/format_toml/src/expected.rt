@@ -2,16 +2,16 @@
 ghost use Rattle.std.specs.Prelude.{◌≡◌, [], false, IfOk, IsTrue};
 ghost use Rattle.std.specs.Str.{chars};
 ghost use Rattle.format_parts.specs.Words.{Char, latter};
-ghost use Rattle.format_toml.specs.Expected.{Begun, DoubleLacks, EntryLacks, HeaderLacks};
+ghost use Rattle.format_toml.specs.Expected.{DoubleLacks, EntryLacks, HasMatch, HeaderLacks};
 ghost use Rattle.format_toml.specs.Expected.{IsFirstLack, IsLack, IsLine, ItemLacks, ItemWhole};
-ghost use Rattle.format_toml.specs.Expected.{Lacks, Stands, TableLacks};
+ghost use Rattle.format_toml.specs.Expected.{Lacks, MatchesAtStart, TableLacks};
 ghost use Rattle.format_toml.specs.Grammars.{DoubleHeader, Entry, Header, Line, Newline, Table};
 ghost use Rattle.winnow.specs.Grammar.{Both, NoneStands};
 ghost use Rattle.winnow.specs.Texts.{NotFirst};
 
 use crate::passed::{
-    behind_bracket, behind_header, behind_line, behind_white, closes, lacks_value, past_equals,
-    past_key, past_newline,
+    closes, lacks_value, past_equals, past_key, past_newline, skip_bracket, skip_header, skip_line,
+    skip_whitespace,
 };
 use crate::strings::begins_with;
 use std::alloc::Allocator;
@@ -78,9 +78,9 @@ fn lack_of_header<'i, A: Allocator + Copy>(
     text: &'i str,
 ) -> Result<Option<Lack<'i>>, ErrMode<EmptyError>>
     ensures { IfOk result (λ o. IsLack (HeaderLacks A (chars text.now))
-        (Begun (Header {A = A}) (chars text.now)) o) }
+        (HasMatch (Header {A = A}) (chars text.now)) o) }
 {
-    let name = behind_white(text)?;
+    let name = skip_whitespace(text)?;
     let Some(end) = past_key(alloc, name)? else {
         return Ok(Some(Lack {
             expected: Expected::TableName,
@@ -102,14 +102,14 @@ fn lack_of_double<'i, A: Allocator + Copy>(
     text: &'i str,
 ) -> Result<Option<Lack<'i>>, ErrMode<EmptyError>>
     ensures { IfOk result (λ o. IsLack (DoubleLacks A (chars text.now))
-        (Begun (DoubleHeader {A = A}) (chars text.now)) o) }
+        (HasMatch (DoubleHeader {A = A}) (chars text.now)) o) }
 {
-    let name = behind_bracket(text)?;
+    let name = skip_bracket(text)?;
     match lack_of_header(alloc, name)? {
         Some(lack) => return Ok(Some(lack)),
         None => {}
     }
-    let end = behind_header(alloc, name)?;
+    let end = skip_header(alloc, name)?;
     match closes(end)? {
         Some(_) => Ok(None),
         None => Ok(Some(Lack {
@@ -126,9 +126,9 @@ fn lack_of_table<'i, A: Allocator + Copy>(
     text: &'i str,
 ) -> Result<Option<Lack<'i>>, ErrMode<EmptyError>>
     ensures { IfOk result (λ o. IsLack (TableLacks A (chars text.now))
-        (Begun (Both latter (Char 91) (Table {A = A})) (chars text.now)) o) }
+        (HasMatch (Both latter (Char 91) (Table {A = A})) (chars text.now)) o) }
 {
-    let name = behind_bracket(text)?;
+    let name = skip_bracket(text)?;
     if begins_with(name, '[') {
         return lack_of_double(alloc, name);
     }
@@ -144,7 +144,7 @@ fn lack_of_entry<'i, A: Allocator + Copy>(
     requires table { NotFirst (λ c. c ≡ 91) (chars text.now) }
     requires comment { NotFirst (λ c. c ≡ 35) (chars text.now) }
     ensures { IfOk result (λ o. IsLack (EntryLacks A level (chars text.now))
-        (Begun (Entry {A = A} level) (chars text.now)) o) }
+        (HasMatch (Entry {A = A} level) (chars text.now)) o) }
 {
     let Some(behind) = past_key(alloc, text)? else {
         return Ok(Some(Lack {
@@ -177,7 +177,7 @@ fn lack_of_item<'i, A: Allocator + Copy>(
     ensures { IfOk result (λ o. IsLack (ItemLacks A level (chars line.now))
         (ItemWhole A level (chars line.now)) o) }
 {
-    let text = behind_white(line)?;
+    let text = skip_whitespace(line)?;
     if begins_with(text, '[') {
         return lack_of_table(alloc, text);
     }
@@ -214,7 +214,7 @@ fn lack_of_line<'i, A: Allocator + Copy>(
     line: &'i str,
     end: &'i str,
 ) -> Result<Lack<'i>, ErrMode<EmptyError>>
-    requires stands { Stands (Line {A = A} level) (chars line.now) (chars end.now) }
+    requires stands { MatchesAtStart (Line {A = A} level) (chars line.now) (chars end.now) }
     requires some { chars end.now ≡ [] → ⊥ }
     requires none { NoneStands Newline (chars end.now) }
     ensures { IfOk result (λ l. Lacks A level (chars line.now) l.expected (chars l.rest.now)) }
@@ -236,7 +236,7 @@ fn line_of<'i, A: Allocator + Copy>(
 ) -> Result<Outcome<'i>, ErrMode<EmptyError>>
     ensures { IfOk result (λ l. IsLine A level (chars text.now) l) }
 {
-    let end = behind_line(alloc, level, text)?;
+    let end = skip_line(alloc, level, text)?;
     if is_end(end) {
         return Ok(Outcome::Last);
     }

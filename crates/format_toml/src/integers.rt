@@ -55,7 +55,7 @@ fn unsigned(text: &[u8]) -> Option<u64>
 
 /// Returns the number for the text after a leading zero: nothing, or a letter and digits of its
 /// base.
-fn behind_zero(text: &[u8]) -> Option<u64>
+fn after_zero(text: &[u8]) -> Option<u64>
     ensures { IsNumber BehindZero text.now result }
 {
     let Some((letter, digits)) = text.split_first() else {
@@ -101,7 +101,7 @@ pub(crate) fn integer(text: &[u8]) -> Option<i64>
         return negative(unsigned(rest)?);
     }
     if first == b'0' {
-        return positive(behind_zero(rest)?);
+        return positive(after_zero(rest)?);
     }
     positive(unsigned(text)?)
 }

@@ -2,7 +2,7 @@
 ghost use Rattle.std.specs.Prelude.{◌≡◌, ℕ, false, IfOk, IsTrue, List};
 ghost use Rattle.std.specs.Str.{chars};
 ghost use Rattle.format_parts.specs.Words.{Char};
-ghost use Rattle.format_toml.specs.Expected.{IsPast, Stands};
+ghost use Rattle.format_toml.specs.Expected.{IsPast, MatchesAtStart};
 ghost use Rattle.format_toml.specs.Grammars.{AnyKey, AnyValue, Header, Line, Mark, Newline, Ws};
 ghost use Rattle.winnow.specs.Grammar.{NoneStands};
 
@@ -48,7 +48,8 @@ fn behind<'i, O: Drop, P: Parser<&'i str, O, ErrMode<EmptyError>> + Drop>(
 ) -> Result<&'i str, ErrMode<EmptyError>>
     requires { P.can_parse parser × (P.claim (P.state parser)).premise
         × (P.claim (P.state parser)).backtracks }
-    ensures { IfOk result (λ rest. Stands (P.claim (P.state parser)).grammar (chars text.now)
+    ensures { IfOk result
+        (λ rest. MatchesAtStart (P.claim (P.state parser)).grammar (chars text.now)
         (chars rest.now)) }
 {
     let mut parser = parser;
@@ -60,15 +61,15 @@ fn behind<'i, O: Drop, P: Parser<&'i str, O, ErrMode<EmptyError>> + Drop>(
 }
 
 /// Skips optional whitespace, and returns the remaining text.
-pub fn behind_white<'i>(text: &'i str) -> Result<&'i str, ErrMode<EmptyError>>
-    ensures { IfOk result (λ rest. Stands Ws (chars text.now) (chars rest.now)) }
+pub fn skip_whitespace<'i>(text: &'i str) -> Result<&'i str, ErrMode<EmptyError>>
+    ensures { IfOk result (λ rest. MatchesAtStart Ws (chars text.now) (chars rest.now)) }
 {
     behind(Space0, text)
 }
 
 /// Skips an opening bracket, and returns the remaining text.
-pub fn behind_bracket<'i>(text: &'i str) -> Result<&'i str, ErrMode<EmptyError>>
-    ensures { IfOk result (λ rest. Stands (Char 91) (chars text.now) (chars rest.now)) }
+pub fn skip_bracket<'i>(text: &'i str) -> Result<&'i str, ErrMode<EmptyError>>
+    ensures { IfOk result (λ rest. MatchesAtStart (Char 91) (chars text.now) (chars rest.now)) }
 {
     behind('[', text)
 }
@@ -88,11 +89,12 @@ pub fn past_key<'i, A: Allocator + Copy>(
 
 /// Skips the name of a table and its bracket, and returns the remaining text. Fails if they do not
 /// match, or if memory allocation fails.
-pub fn behind_header<'i, A: Allocator + Copy>(
+pub fn skip_header<'i, A: Allocator + Copy>(
     alloc: A,
     text: &'i str,
 ) -> Result<&'i str, ErrMode<EmptyError>>
-    ensures { IfOk result (λ rest. Stands (Header {A = A}) (chars text.now) (chars rest.now)) }
+    ensures { IfOk result
+        (λ rest. MatchesAtStart (Header {A = A}) (chars text.now) (chars rest.now)) }
 {
     behind(
         Headers(alloc).by(|input: &mut &str| read_header(alloc, input)),
@@ -124,7 +126,7 @@ pub fn lacks_value<'i, A: Allocator + Copy>(
     ensures none { IfOk result (λ o. IsTrue o
         → NoneStands (AnyValue {A = A} level) (chars text.now)) }
     ensures some { IfOk result (λ o. o ≡ false
-        → (rest : List ℕ) × Stands (AnyValue {A = A} level) (chars text.now) rest) }
+        → (rest : List ℕ) × MatchesAtStart (AnyValue {A = A} level) (chars text.now) rest) }
 {
     let mut rest = text;
     // Each branch returns by itself: of the three joined the prover does not find what is claimed.
@@ -148,12 +150,12 @@ pub fn past_newline<'i>(text: &'i str) -> Result<Option<&'i str>, ErrMode<EmptyE
 
 /// Skips the part of a line that matches, and returns the remaining text. A part always matches, so
 /// the only error is out of memory.
-pub fn behind_line<'i, A: Allocator + Copy>(
+pub fn skip_line<'i, A: Allocator + Copy>(
     alloc: A,
     level: usize,
     text: &'i str,
 ) -> Result<&'i str, ErrMode<EmptyError>>
-    ensures { IfOk result (λ rest. Stands (Line {A = A} level) (chars text.now)
+    ensures { IfOk result (λ rest. MatchesAtStart (Line {A = A} level) (chars text.now)
         (chars rest.now)) }
 {
     let line = AnyLine(alloc, level).by(|input: &mut &str| read_line(alloc, level, input));

@@ -3,7 +3,7 @@ ghost use Rattle.std.specs.Prelude.{IfOk};
 ghost use Rattle.std.specs.Str.{chars};
 ghost use Rattle.format_toml.specs.Starts.{IsStart};
 
-use crate::passed::{behind_line, past_newline};
+use crate::passed::{past_newline, skip_line};
 use std::alloc::Allocator;
 use winnow::error::{EmptyError, ErrMode};
 
@@ -31,7 +31,7 @@ pub fn line_start<'i, A: Allocator + Copy>(
 {
     let mut left = text;
     for _ in 0..number {
-        let end = behind_line(alloc, level, left)?;
+        let end = skip_line(alloc, level, left)?;
         match past_newline(end)? {
             Some(behind) => left = behind,
             None => return Ok(None),

@@ -69,14 +69,14 @@ module _ (A : Type 0) (level : ℕ) (text : List ℕ) where
   -- Why a text is not a document. It is not lines: the missing part of the first that is not TOML.
   -- Or it is lines: the first that the standard rejects, and why. Or it is not UTF-8: its longest
   -- prefix that is.
-  abbrev pub Tells : Fault → Type 0
-  Tells (faults.Unexpected at expected) =
+  abbrev pub IsErrorOf : Fault → Type 0
+  IsErrorOf (faults.Unexpected at expected) =
       ((lines : Vec (Option (Item A)) A) → DocumentText level lines (chars text) → ⊥)
       × IsLack (faults.Unexpected at expected)
-  Tells (faults.Refused at why) =
+  IsErrorOf (faults.Refused at why) =
       (lines : Vec (Option (Item A)) A) × DocumentText level lines (chars text)
       × ((n : ℕ) × Gives (empty, []) 0 lines.items (Err (n, why))
       × ((rest : List ℕ) × LinesBefore A level n (chars text) (chars rest)
       × IsAfter text rest at))
-  Tells (faults.NotUtf8 at) = IsBroken text (faults.NotUtf8 at)
-  Tells faults.OutOfMemory = ⊤
+  IsErrorOf (faults.NotUtf8 at) = IsBroken text (faults.NotUtf8 at)
+  IsErrorOf faults.OutOfMemory = ⊤

@@ -1,5 +1,5 @@
 //! Laws that follow from the contracts.
-ghost use Rattle.format_toml_document.specs.Fault.{IsDocument, Tells};
+ghost use Rattle.format_toml_document.specs.Fault.{IsDocument, IsErrorOf};
 ghost use Rattle.format_toml_document.specs.declared.fault.Fault.{Fault};
 ghost use Rattle.format_toml_document.specs.declared.fault.Fault.TheVariants as faults;
 ghost use Rattle.format_toml_document.specs.declared.fault.Location.{Location};
@@ -25,7 +25,7 @@ use std::alloc::Allocator;
 /// ```
 pub fn a_document_is_lines_of_text<A: Allocator>()
     ensures { (level : ℕ) (bytes : List ℕ) (tree : Tree A) (fault : Fault)
-        → IsUtf8 bytes → IsDocument A level bytes tree → Tells A level bytes fault
+        → IsUtf8 bytes → IsDocument A level bytes tree → IsErrorOf A level bytes fault
         → (fault ≡ faults.OutOfMemory)
         ⊎ ((at : Location) × (why : Refusal) × (fault ≡ faults.Refused at why)) }
 {}

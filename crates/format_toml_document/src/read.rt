@@ -1,7 +1,7 @@
 //! Documents from text and from bytes.
 ghost use Rattle.std.specs.Prelude.{◌≡◌, [], IfErr, IfOk, IsTrue};
 ghost use Rattle.std.specs.Str.{IsUtf8};
-ghost use Rattle.format_toml_document.specs.Fault.{IsBroken, IsDocument, Tells};
+ghost use Rattle.format_toml_document.specs.Fault.{IsBroken, IsDocument, IsErrorOf};
 ghost use Rattle.winnow.specs.Exact.Whole.{IsWant};
 
 use crate::fault::{Fault, fault_of_build, fault_of_bytes, fault_of_text};
@@ -76,7 +76,7 @@ pub fn from_text<'l, A: Allocator + Copy>(
     document: &'l mut Document<A>,
 ) -> Result<Tree<'l, A>, Fault>
     ensures tree { IfOk result (λ tree. IsDocument A level text.now tree) }
-    ensures fault { IfErr result (λ fault. Tells A level text.now fault) }
+    ensures fault { IfErr result (λ fault. IsErrorOf A level text.now fault) }
 {
     match parse_lines(alloc, level, text) {
         Ok(lines) => document.lines = lines,
@@ -111,7 +111,7 @@ pub fn from_bytes<'l, A: Allocator + Copy>(
     document: &'l mut Document<A>,
 ) -> Result<Tree<'l, A>, Fault>
     ensures tree { IfOk result (λ tree. IsUtf8 bytes.now × IsDocument A level bytes.now tree) }
-    ensures fault { IfErr result (λ fault. Tells A level bytes.now fault) }
+    ensures fault { IfErr result (λ fault. IsErrorOf A level bytes.now fault) }
     ensures broken { (IsUtf8 bytes.now → ⊥) → IfErr result (λ fault. IsBroken bytes.now fault) }
 {
     match str::from_utf8(bytes) {

@@ -2,7 +2,7 @@
 use Rattle.std.specs.Prelude.{◌≡◌, ℕ, ◌<◌}
 use Rattle.std.specs.Prelude.{List, ◌∷◌, ◌++◌}
 use Rattle.std.proofs.Common.{refl, sym, ap, subst, inl, inr, ◌∙◌}
-use Rattle.format_toml_nodes.specs.Laying.{ChangesAt, Each, IsNamedAs, IsNumbered, Keeps, Leads}
+use Rattle.format_toml_nodes.specs.Laying.{ChangesAt, Each, InParent, IsNamedAs, IsNumbered, Keeps}
 use Rattle.format_toml_nodes.specs.Nodes.{IsIn, StandsAt}
 use Rattle.format_toml_nodes.specs.declared.node.Span.{Span}
 use Rattle.format_toml_nodes.specs.declared.node.TomlNode.{TomlNode}
@@ -61,14 +61,14 @@ module _ (text : List ℕ) (path : ℕ → Path) (count parent : ℕ) (within : 
       ),
     )
 
-    pub named_others : (k : ℕ) → Leads text path count old k
-        → Leads (text ++ more) path count new k
+    pub named_others : (k : ℕ) → InParent text path count old k
+        → InParent (text ++ more) path count new k
     named_others k leads it g = elim (changes.each k it g) [
       | inl (a, (was, h, is)) ↦ in_named k it was a is
       | inr (a, h) ↦ in_more text path count k it more (leads it h)
     ]
 
-    pub named_here : Leads (text ++ more) path count new j
+    pub named_here : InParent (text ++ more) path count new j
     named_here it g = elim (changes.each j it g) [
       | inl (a, (was, h, is)) ↦ in_named j it was a is
       | inr (a, h) ↦ absurd (a refl)
@@ -90,13 +90,13 @@ module _ (text : List ℕ) (path : ℕ → Path) (count parent : ℕ) (within : 
       ),
     )
 
-    pub numbered_others : (k : ℕ) → Leads text path count old k → Leads text path count new k
+    pub numbered_others : (k : ℕ) → InParent text path count old k → InParent text path count new k
     numbered_others k leads it g = elim (changes.each k it g) [
       | inl (a, (was, h, is)) ↦ in_numbered k it was a is
       | inr (a, h) ↦ leads it h
     ]
 
-    pub numbered_here : Leads text path count new j
+    pub numbered_here : InParent text path count new j
     numbered_here it g = elim (changes.each j it g) [
       | inl (a, (was, h, is)) ↦ in_numbered j it was a is
       | inr (a, h) ↦ absurd (a refl)

@@ -1,8 +1,8 @@
 -- The elements of a slot, in sequence, and everything below slots.
 use Rattle.std.specs.Prelude.{◌≡◌, ◌⊎◌, ℕ, zero, suc, ◌+◌, ◌<◌, ◌≤◌}
-use Rattle.std.specs.Prelude.{List, length, slice_get, Some, take}
+use Rattle.std.specs.Prelude.{List, Some, length, slice_get, take}
 use Rattle.std.proofs.Common.{refl, sym, ap, subst, inl, inr, ◌∙◌, arith}
-use Rattle.format_toml_nodes.specs.Laying.{Below, ChangesAt, IsNumbered, Leads}
+use Rattle.format_toml_nodes.specs.Laying.{Below, ChangesAt, InParent, IsNumbered}
 use Rattle.format_toml_nodes.specs.Laying.{PutsElements, PutsEntries}
 use Rattle.format_toml_nodes.specs.declared.node.TomlNode.{TomlNode}
 use Rattle.format_toml_nodes.proofs.Changes.{numbered_here, numbered_others}
@@ -30,10 +30,10 @@ module _ {A : Type 0} (slots : List (Slot A)) (parent : ℕ) (before : List Toml
   abbrev pub NumbersSo : ℕ → List TomlNode → Type 0
   NumbersSo index nodes = (tree : Tree A) (path : ℕ → Path) → Holds slots tree path
       → (text : List ℕ) → (s : Slot A) → slice_get slots parent ≡ Some s
-      → ((j : ℕ) → Leads text path (length slots) before j
-      → Leads text path (length slots) nodes j)
+      → ((j : ℕ) → InParent text path (length slots) before j
+      → InParent text path (length slots) nodes j)
       × ((k j : ℕ) → k < index → slice_get s.elements.items k ≡ Some j
-      → Leads text path (length slots) nodes j)
+      → InParent text path (length slots) nodes j)
 
   pub number_more : (within : parent < length slots) (s : Slot A)
       → slice_get slots parent ≡ Some s → (index j : ℕ)
@@ -44,7 +44,7 @@ module _ {A : Type 0} (slots : List (Slot A)) (parent : ℕ) (before : List Toml
       let (stay, numbers) = so tree path holds text t g in
       let count = length slots in
       let here = (holds.elements parent s at index j e).1 in
-      let others : (i : ℕ) → Leads text path count nodes i → Leads text path count after i =
+      let others : (i : ℕ) → InParent text path count nodes i → InParent text path count after i =
       λ i leads. numbered_others text path count parent within index j nodes after changes here
       i leads in
       let same : s ≡ t = some_same (sym at ∙ g) in (
@@ -53,7 +53,7 @@ module _ {A : Type 0} (slots : List (Slot A)) (parent : ℕ) (before : List Toml
           | inl is ↦
               let is_j : j ≡ i = some_same (sym e ∙ ap (λ u. slice_get u.elements.items index) same
               ∙ ap (λ n. slice_get t.elements.items n) (sym is) ∙ f) in
-              subst (λ n. Leads text path count after n) is_j
+              subst (λ n. InParent text path count after n) is_j
               (numbered_here text path count parent within index j nodes after changes here)
           | inr less ↦ others i (numbers k i less f)
         ],
@@ -64,7 +64,7 @@ module _ {A : Type 0} (slots : List (Slot A)) where
   abbrev pub LeadsSo : ℕ → ℕ → List ℕ → List TomlNode → Type 0
   LeadsSo place end buffer nodes = (tree : Tree A) (path : ℕ → Path) → Holds slots tree path
       → end ≤ length buffer → (i : ℕ) (s : Slot A) → i < place → slice_get slots i ≡ Some s
-      → Below s (Leads (take end buffer) path (length slots) nodes)
+      → Below s (InParent (take end buffer) path (length slots) nodes)
 
   pub leads_more : (parent end : ℕ) (buffer : List ℕ) (nodes : List TomlNode) (next : ℕ)
       (new : List ℕ) (mid after : List TomlNode) → parent < length slots
@@ -78,12 +78,12 @@ module _ {A : Type 0} (slots : List (Slot A)) where
       let (stay, names) = entries.names tree path holds room t at in
       let (keep, numbers) = elements.numbers tree path holds (take next new) t at in
       let count = length slots in
-      let kept : (j : ℕ) → Leads (take end buffer) path count nodes j
-      → Leads (take next new) path count after j = λ j leads. keep j (stay j leads) in
+      let kept : (j : ℕ) → InParent (take end buffer) path count nodes j
+      → InParent (take next new) path count after j = λ j leads. keep j (stay j leads) in
       elim (last i parent w) [
         | inl is ↦
             let same : t ≡ s = some_same (sym at ∙ ap (λ n. slice_get slots n) (sym is) ∙ g) in
-            subst (λ u. Below u (Leads (take next new) path count after)) same
+            subst (λ u. Below u (InParent (take next new) path count after)) same
             ((λ name j f. keep j (names name j f)), numbers)
         | inr less ↦
             let (a, b) = so tree path holds (omega (arith, entries.grows.up, room)) i s less g

@@ -9,7 +9,7 @@ use Rattle.std.specs.Map.{lookup}
 use Rattle.std.specs.Ordering.{nat_cmp}
 use Rattle.std.proofs.Common.{refl, sym, ap, subst, inl, inr, ◌∙◌, arith}
 use Rattle.std.proofs.lemmas.Option.{get_or_from_slice_get, slice_get_within}
-use Rattle.format_toml_nodes.specs.Laying.{ChangesAt, IsNamedAs, Leads, Puts, name_len}
+use Rattle.format_toml_nodes.specs.Laying.{ChangesAt, InParent, IsNamedAs, Puts, name_len}
 use Rattle.format_toml_nodes.specs.Laying.{names_len, total}
 use Rattle.format_toml_nodes.specs.Nodes.{StandsAt}
 use Rattle.format_toml_nodes.specs.declared.node.Span.{Span}
@@ -44,10 +44,10 @@ module _ {A : Type 0} (slots : List (Slot A)) (parent at : ℕ) (old : List ℕ)
   abbrev pub NamesSo : List (Bor (List ℕ) × ℕ) → ℕ → List ℕ → List TomlNode → Type 0
   NamesSo left end buffer nodes = (tree : Tree A) (path : ℕ → Path) → Holds slots tree path
       → end ≤ length buffer → (s : Slot A) → slice_get slots parent ≡ Some s
-      → ((j : ℕ) → Leads (take at old) path (length slots) before j
-      → Leads (take end buffer) path (length slots) nodes j)
+      → ((j : ℕ) → InParent (take at old) path (length slots) before j
+      → InParent (take end buffer) path (length slots) nodes j)
       × ((name : List ℕ) (j : ℕ) → find s.places name ≡ Some j
-      → (find_in left name ≡ Some j) ⊎ Leads (take end buffer) path (length slots) nodes j)
+      → (find_in left name ≡ Some j) ⊎ InParent (take end buffer) path (length slots) nodes j)
 
   -- Each remaining entry is the one that the slot has at its name.
   abbrev pub FoundSo : List (Bor (List ℕ) × ℕ) → Type 0
@@ -74,9 +74,9 @@ module _ {A : Type 0} (slots : List (Slot A)) (parent at : ℕ) (old : List ℕ)
         (holds.found parent s g e.0.now e.1 (found s g 0 e (ap (λ l. slice_get l 0) is))).1 in
         let stands = stands_put e.0.now end buffer next new place puts room begins ends in
         let text = sym (puts.there room) in
-        let T : List ℕ → ℕ → Type 0 = λ l j. Leads l path (length slots) after j in
-        let others_so : (j : ℕ) → Leads (take end buffer) path (length slots) nodes j
-        → Leads (take next new) path (length slots) after j = λ j leads.
+        let T : List ℕ → ℕ → Type 0 = λ l j. InParent l path (length slots) after j in
+        let others_so : (j : ℕ) → InParent (take end buffer) path (length slots) nodes j
+        → InParent (take next new) path (length slots) after j = λ j leads.
         subst (λ l. T l j) text (named_others (take end buffer) path (length slots)
         parent within place e.1 nodes after e.0.now
         e.0.now changes (subst (λ l. StandsAt l place e.0.now) (sym text) stands) here j leads)
@@ -84,7 +84,8 @@ module _ {A : Type 0} (slots : List (Slot A)) (parent at : ℕ) (old : List ℕ)
           λ j leads. others_so j (stay j leads),
           λ name j f. elim (names name j f) [
             | inl h ↦ elim (find_more name e others j (ap (λ l. find_in l name) (sym is) ∙ h)) [
-              | inl same ↦ inr (subst (λ i. Leads (take next new) path (length slots) after i) same
+              | inl same
+                  ↦ inr (subst (λ i. InParent (take next new) path (length slots) after i) same
                   (subst (λ l. T l e.1) text (named_here (take end buffer) path (length slots)
                   parent within place e.1 nodes after
                   e.0.now e.0.now changes
@@ -137,10 +138,10 @@ module _ {A : Type 0} (slots : List (Slot A)) (parent at : ℕ) (old : List ℕ)
       (nodes : List TomlNode) → NamesSo slots parent at old before left end buffer nodes
       → (tree : Tree A) (path : ℕ → Path) → Holds slots tree path → end ≤ length buffer
       → (s : Slot A) → slice_get slots parent ≡ Some s
-      → ((j : ℕ) → Leads (take at old) path (length slots) before j
-      → Leads (take end buffer) path (length slots) nodes j)
+      → ((j : ℕ) → InParent (take at old) path (length slots) before j
+      → InParent (take end buffer) path (length slots) nodes j)
       × ((name : List ℕ) (j : ℕ) → find s.places name ≡ Some j
-      → Leads (take end buffer) path (length slots) nodes j)
+      → InParent (take end buffer) path (length slots) nodes j)
   names_end left is end buffer nodes so tree path holds fits s g =
       let (stay, names) = so tree path holds fits s g in (
         stay,

@@ -5,7 +5,7 @@ use Rattle.std.proofs.Common.{sym, ap, subst, inl, inr, ◌∙◌, arith}
 use Rattle.std.proofs.Common.{length-take}
 use Rattle.std.proofs.lemmas.List.{take-append-le, take_all}
 use Rattle.std.proofs.lemmas.Option.{slice_get_within}
-use Rattle.format_toml_nodes.specs.Laying.{JoinsFrom, Leads, PutsAll, PutsLinks}
+use Rattle.format_toml_nodes.specs.Laying.{InParent, JoinsFrom, PutsAll, PutsLinks}
 use Rattle.format_toml_nodes.specs.Laying.{PutsValues, Stays, most, names_len, text_len, total}
 use Rattle.format_toml_nodes.specs.Nodes.{AreNodesOf, IsIn, Shows}
 use Rattle.format_toml_nodes.specs.Nodes.{StandsAt}
@@ -75,7 +75,7 @@ nodes_of slots old before end text mid new given sized fits puts joins (path, ho
     let count : length new ≡ length slots = joins.stays.same ∙ puts.same.1 ∙ sized in
     let within : (j : ℕ) (it : TomlNode) → slice_get new j ≡ Some it → j < length slots =
     λ j it g. omega (arith, slice_get_within new j it g, count) in
-    let leads = each_below holds some (Leads (take end text) path (length slots) mid)
+    let leads = each_below holds some (InParent (take end text) path (length slots) mid)
     (puts.leads given path holds fits) in
     let is_in : (j : ℕ) (it : TomlNode) → slice_get new j ≡ Some it → 0 < j
     → IsIn (take end text) path (length new) j it = λ j it g more.

@@ -65,8 +65,8 @@ pub record Each (so : TomlNode → TomlNode → Type 0) (old new : List TomlNode
       → (was : TomlNode) × (slice_get old k ≡ Some was) × so was it
 
 -- If there is a node of this number, it is in another, at the position that its path gives.
-abbrev pub Leads : List ℕ → (ℕ → Path) → ℕ → List TomlNode → ℕ → Type 0
-Leads text path count nodes j = (it : TomlNode) → slice_get nodes j ≡ Some it
+abbrev pub InParent : List ℕ → (ℕ → Path) → ℕ → List TomlNode → ℕ → Type 0
+InParent text path count nodes j = (it : TomlNode) → slice_get nodes j ≡ Some it
     → IsIn text path count j it
 
 abbrev pub name_len : Bor (List ℕ) × ℕ → ℕ
@@ -105,10 +105,10 @@ module _ {A : Type 0} where
     pub keeps : Each Keeps before after
     pub names : (tree : Tree A) (path : ℕ → Path) → Holds slots tree path → end ≤ length old
         → (s : Slot A) → slice_get slots parent ≡ Some s
-        → ((j : ℕ) → Leads (take at old) path (length slots) before j
-        → Leads (take end new) path (length slots) after j)
+        → ((j : ℕ) → InParent (take at old) path (length slots) before j
+        → InParent (take end new) path (length slots) after j)
         × ((name : List ℕ) (j : ℕ) → find s.places name ≡ Some j
-        → Leads (take end new) path (length slots) after j)
+        → InParent (take end new) path (length slots) after j)
 
   -- The elements of a slot get their numbers.
   pub record PutsElements (slots : List (Slot A)) (parent : ℕ) (before after : List TomlNode)
@@ -116,10 +116,10 @@ module _ {A : Type 0} where
     pub keeps : Each Keeps before after
     pub numbers : (tree : Tree A) (path : ℕ → Path) → Holds slots tree path → (text : List ℕ)
         → (s : Slot A) → slice_get slots parent ≡ Some s
-        → ((j : ℕ) → Leads text path (length slots) before j
-        → Leads text path (length slots) after j)
+        → ((j : ℕ) → InParent text path (length slots) before j
+        → InParent text path (length slots) after j)
         × ((k j : ℕ) → slice_get s.elements.items k ≡ Some j
-        → Leads text path (length slots) after j)
+        → InParent text path (length slots) after j)
 
   -- Everything below each slot gets its position.
   pub record PutsLinks (slots : List (Slot A)) (at : ℕ) (old : List ℕ) (before : List TomlNode)
@@ -129,7 +129,7 @@ module _ {A : Type 0} where
     pub keeps : Each Keeps before after
     pub leads : (tree : Tree A) (path : ℕ → Path) → Holds slots tree path → end ≤ length old
         → (i : ℕ) (s : Slot A) → slice_get slots i ≡ Some s
-        → Below s (Leads (take end new) path (length slots) after)
+        → Below s (InParent (take end new) path (length slots) after)
 
   -- All is put, but the first and the next of each.
   pub record PutsAll (slots : List (Slot A)) (old : List ℕ) (before : List TomlNode) (end : ℕ)
@@ -143,7 +143,7 @@ module _ {A : Type 0} where
         → it.first ≡ 0
     pub leads : (tree : Tree A) (path : ℕ → Path) → Holds slots tree path → end ≤ length old
         → (i : ℕ) (s : Slot A) → slice_get slots i ≡ Some s
-        → Below s (Leads (take end new) path (length slots) after)
+        → Below s (InParent (take end new) path (length slots) after)
 
   -- It is the size of a tree: as many nodes as places, and the bytes of all.
   abbrev pub IsSizeOf : TreeOf A → Size → Type 0

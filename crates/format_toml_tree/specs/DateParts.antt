@@ -1,12 +1,13 @@
 -- Proofs that the parts of dates and times leave a unique rest, and the results of functions for
 -- them.
 use Rattle.std.specs.Prelude.{◌≡◌, ◌≤◌, ◌+◌, ◌*◌, ◌-◌, ℕ, List, [], ◌∷◌, length}
-use Rattle.std.specs.Prelude.{Option, Some, None}
+use Rattle.std.specs.Prelude.{None, Option, Some}
 use Rattle.std.specs.Borrow.{Bor}
 use Rattle.std.specs.Char.{IsNotAsciiDigit}
 use Rattle.std.proofs.Common.{refl, sym, ap, subst, inl, inr, ◌∙◌, arith}
 use Rattle.format_toml_tree.specs.Dates.{Clock, Finds, FourDigits, FullDate, HourAndMinute, InTurn}
-use Rattle.format_toml_tree.specs.Dates.{IsDigitOf, Marked, Standing, Tells, TwoDigits, days_in}
+use Rattle.format_toml_tree.specs.Dates.{FoundResult, IsDigitOf, Marked, Standing, TwoDigits}
+use Rattle.format_toml_tree.specs.Dates.{days_in}
 use Rattle.format_toml_tree.specs.declared.value.Date.{Date}
 
 -- ---- lists
@@ -100,12 +101,12 @@ date_one = record {
 
 -- ---- what is found
 
-pub digit_some : (c : ℕ) → 48 ≤ c → c ≤ 57 → Tells (λ n. IsDigitOf n c) (Some (c - 48))
-unfolding Tells
+pub digit_some : (c : ℕ) → 48 ≤ c → c ≤ 57 → FoundResult (λ n. IsDigitOf n c) (Some (c - 48))
+unfolding FoundResult
 digit_some c least most = (omega (arith, least, most), omega (arith, least, most))
 
-pub digit_none : (c : ℕ) → IsNotAsciiDigit c → Tells {O = ℕ} (λ n. IsDigitOf n c) None
-unfolding Tells
+pub digit_none : (c : ℕ) → IsNotAsciiDigit c → FoundResult {O = ℕ} (λ n. IsDigitOf n c) None
+unfolding FoundResult
 digit_none c (inl low) n (l, e) = omega (arith, l, e, low)
 digit_none c (inr high) n (l, e) = omega (arith, l, e, high)
 
@@ -126,12 +127,12 @@ module _ (text r : List ℕ) (t : ℕ) (f : text ≡ t ∷ r) where
       absurd (omega (arith, none, ap (λ l. length l) (same_others (sym f ∙ e))))
 
   module _ (s : List ℕ) (u : ℕ) (g : r ≡ u ∷ s) where
-    pub two_tens : Tells {O = ℕ} (λ n. IsDigitOf n t) None → Finds TwoDigits text None
-    unfolding Finds TwoDigits Tells
+    pub two_tens : FoundResult {O = ℕ} (λ n. IsDigitOf n t) None → Finds TwoDigits text None
+    unfolding Finds TwoDigits FoundResult
     two_tens not n rest (x, y, c, d, (l, a), b, e, is) = not x (l, same_first (sym f ∙ e) ∙ a)
 
-    pub two_ones : Tells {O = ℕ} (λ n. IsDigitOf n u) None → Finds TwoDigits text None
-    unfolding Finds TwoDigits Tells
+    pub two_ones : FoundResult {O = ℕ} (λ n. IsDigitOf n u) None → Finds TwoDigits text None
+    unfolding Finds TwoDigits FoundResult
     two_ones not n rest (x, y, c, d, a, (l, b), e, is) =
         not y (l, same_first (sym g ∙ same_others (sym f ∙ e)) ∙ b)
 

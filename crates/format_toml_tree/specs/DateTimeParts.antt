@@ -1,12 +1,12 @@
 -- The results of functions for dates followed by times, and for times without dates.
 use Rattle.std.specs.Prelude.{◌≡◌, ℕ, List, [], ◌∷◌, length, Option, Some, None}
-use Rattle.std.specs.Prelude.{Result, Ok, Err, IfOk}
+use Rattle.std.specs.Prelude.{Err, IfOk, Ok, Result}
 use Rattle.std.specs.List.{All}
 use Rattle.std.proofs.Common.{refl, sym, subst, inl, inr, ◌∙◌, arith}
 use Rattle.format_toml_tree.specs.Dates.{Clock, Finds, FindsTime, FourDigits, Fraction, FullDate}
 use Rattle.format_toml_tree.specs.Dates.{InTurn, IsAlone, IsBehind, IsDateTime, IsDelimiter}
 use Rattle.format_toml_tree.specs.Dates.{IsDigit, IsOffset, IsTimeOf, IsTimed, Marked, MaybeOffset}
-use Rattle.format_toml_tree.specs.Dates.{SplitsFraction, Tells, TimeText, TwoDigits}
+use Rattle.format_toml_tree.specs.Dates.{FoundResult, SplitsFraction, TimeText, TwoDigits}
 use Rattle.format_toml_tree.specs.DateParts.{clock_one, date_one, is_nothing, no_cons, same_first}
 use Rattle.format_toml_tree.specs.DateParts.{same_others}
 use Rattle.format_toml_tree.specs.TimeParts.{left_of, offset_begins}
@@ -71,13 +71,14 @@ module _ (A : Type 0) where
   -- ---- after a date
 
   pub behind_nothing : (date : Date) (text : List ℕ) → length text ≡ 0
-      → Tells (λ (d : DateTime A). IsBehind date d text) (Some (dates.Date date))
-  unfolding Tells IsBehind
+      → FoundResult (λ (d : DateTime A). IsBehind date d text) (Some (dates.Date date))
+  unfolding FoundResult IsBehind
   behind_nothing date text none = (refl, is_nothing text none)
 
   module _ (date : Date) (text rest : List ℕ) (c : ℕ) (f : text ≡ c ∷ rest) where
-    pub behind_other : (IsDelimiter c → ⊥) → Tells (λ (d : DateTime A). IsBehind date d text) None
-    unfolding Tells IsBehind
+    pub behind_other : (IsDelimiter c → ⊥)
+        → FoundResult (λ (d : DateTime A). IsBehind date d text) None
+    unfolding FoundResult IsBehind
     behind_other not (dates.Offset day time o) (same, (b, more, is, e, x)) =
         not (subst (λ k. IsDelimiter k) (same_first (sym e ∙ f)) is)
     behind_other not (dates.Local day time) (same, (b, more, is, e, x)) =
@@ -85,8 +86,9 @@ module _ (A : Type 0) where
     behind_other not (dates.Date day) (same, e) = no_cons (sym e ∙ f)
     behind_other not (dates.Time time) never = never
 
-    pub behind_none : FindsTime rest None → Tells (λ (d : DateTime A). IsBehind date d text) None
-    unfolding Tells IsBehind FindsTime TimeText
+    pub behind_none : FindsTime rest None
+        → FoundResult (λ (d : DateTime A). IsBehind date d text) None
+    unfolding FoundResult IsBehind FindsTime TimeText
     behind_none none (dates.Offset day time o) (same, (b, more, is, e, (clock, digits, t, x))) =
         none clock digits (Some o)
         (subst (λ l. IsTimed clock digits (Some o) l) (same_others (sym e ∙ f)) x)
@@ -99,32 +101,32 @@ module _ (A : Type 0) where
     module _ (is : IsDelimiter c) (clock : ℕ × ℕ × ℕ) (digits : List ℕ) (time : Time A)
         (t : IsTimeOf time clock digits) where
       pub behind_offset : (o : Offset) → IsTimed clock digits (Some o) rest
-          → Tells (λ (d : DateTime A). IsBehind date d text) (Some (dates.Offset date time o))
-      unfolding Tells IsBehind TimeText
+          → FoundResult (λ (d : DateTime A). IsBehind date d text) (Some (dates.Offset date time o))
+      unfolding FoundResult IsBehind TimeText
       behind_offset o x = (refl, (c, rest, is, f, (clock, digits, t, x)))
 
       pub behind_local : IsTimed clock digits None rest
-          → Tells (λ (d : DateTime A). IsBehind date d text) (Some (dates.Local date time))
-      unfolding Tells IsBehind TimeText
+          → FoundResult (λ (d : DateTime A). IsBehind date d text) (Some (dates.Local date time))
+      unfolding FoundResult IsBehind TimeText
       behind_local x = (refl, (c, rest, is, f, (clock, digits, t, x)))
 
   -- ---- times without dates
 
   pub alone_none : (text : List ℕ) → FindsTime text None
-      → Tells (λ (d : DateTime A). IsAlone d text) None
-  unfolding Tells IsAlone FindsTime TimeText
+      → FoundResult (λ (d : DateTime A). IsAlone d text) None
+  unfolding FoundResult IsAlone FindsTime TimeText
   alone_none text none d (time, e, (clock, digits, t, x)) = none clock digits None x
 
   pub alone_offset : (text : List ℕ) (clock : ℕ × ℕ × ℕ) (digits : List ℕ) (o : Offset)
-      → IsTimed clock digits (Some o) text → Tells (λ (d : DateTime A). IsAlone d text) None
-  unfolding Tells IsAlone TimeText
+      → IsTimed clock digits (Some o) text → FoundResult (λ (d : DateTime A). IsAlone d text) None
+  unfolding FoundResult IsAlone TimeText
   alone_offset text clock digits o x d (time, e, (other, more, t, y)) =
       offset_or_none clock other digits more o text x y
 
   pub alone_some : (text : List ℕ) (clock : ℕ × ℕ × ℕ) (digits : List ℕ) (time : Time A)
       → IsTimeOf time clock digits → IsTimed clock digits None text
-      → Tells (λ (d : DateTime A). IsAlone d text) (Some (dates.Time time))
-  unfolding Tells IsAlone TimeText
+      → FoundResult (λ (d : DateTime A). IsAlone d text) (Some (dates.Time time))
+  unfolding FoundResult IsAlone TimeText
   alone_some text clock digits time t x = (time, refl, (clock, digits, t, x))
 
   -- ---- either
@@ -180,9 +182,9 @@ module _ (A : Type 0) where
       absurd (omega (arith, less, u2, same_first (sym e2 ∙ here ∙ e4)))
 
   pub dated : (text rest : List ℕ) (date : Date) (o : Option (DateTime A))
-      → FullDate text date rest → Tells (λ d. IsBehind date d rest) o
-      → Tells (λ d. IsDateTime d text) o
-  unfolding Tells IsDateTime
+      → FullDate text date rest → FoundResult (λ d. IsBehind date d rest) o
+      → FoundResult (λ d. IsDateTime d text) o
+  unfolding FoundResult IsDateTime
   dated text rest date None x none = no
     where
       no : (d : DateTime A) → IsDateTime d text → ⊥
@@ -194,8 +196,8 @@ module _ (A : Type 0) where
   dated text rest date (Some d) x b = inl (date, rest, x, b)
 
   pub undated : (text : List ℕ) (o : Option (DateTime A)) → Finds FullDate text None
-      → Tells (λ d. IsAlone d text) o → Tells (λ d. IsDateTime d text) o
-  unfolding Tells IsDateTime Finds
+      → FoundResult (λ d. IsAlone d text) o → FoundResult (λ d. IsDateTime d text) o
+  unfolding FoundResult IsDateTime Finds
   undated text None not none = no
     where
       no : (d : DateTime A) → IsDateTime d text → ⊥

@@ -158,10 +158,10 @@ unfoldable pub Finds : {O : Type 0} → Standing O → List ℕ → Option (O ×
 Finds {O} stands tokens None = (o : O) (rest : List ℕ) → stands tokens o rest → ⊥
 Finds stands tokens (Some found) = stands tokens found.0 found.1.now
 
--- `Tells is o`: `o` satisfies `is`; or it is `None`, and nothing does.
-unfoldable pub Tells : {O : Type 0} → (O → Type 0) → Option O → Type 0
-Tells {O} is None = (o : O) → is o → ⊥
-Tells is (Some o) = is o
+-- `FoundResult is o`: `o` satisfies `is`; or it is `None`, and nothing does.
+unfoldable pub FoundResult : {O : Type 0} → (O → Type 0) → Option O → Type 0
+FoundResult {O} is None = (o : O) → is o → ⊥
+FoundResult is (Some o) = is o
 
 -- `CountsDigits tokens n`: `tokens` starts with `n` digits, and no more.
 unfoldable pub CountsDigits : List ℕ → ℕ → Type 0

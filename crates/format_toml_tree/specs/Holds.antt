@@ -1,15 +1,15 @@
 -- The tree that slots hold, and proofs that slots that are changed or added hold the new contents.
 use Rattle.std.specs.Prelude.{◌≡◌, ℕ, suc, ◌+◌, ◌<◌, ◌≤◌}
 use Rattle.std.specs.Prelude.{List, [], ◌∷◌, ◌++◌, length, Option, Some, None, slice_get}
-use Rattle.std.specs.Prelude.{Result, Ok, Err, MatchResult}
+use Rattle.std.specs.Prelude.{Err, MatchResult, Ok, Result}
 use Rattle.std.specs.declared.string.String.{String}
 use Rattle.std.specs.Borrow.{Bor}
 use Rattle.std.specs.BTreeMap.{BTreeMap, get_by}
 use Rattle.std.specs.Cmp.Lexicographic.{slice_cmp}
 use Rattle.std.specs.Ordering.{nat_cmp}
 use Rattle.format_toml_tree.specs.Paths.{Path, Step, named, placed, put}
-use Rattle.format_toml_tree.specs.Rules.{Node, Says, nothing, valued, super, header, dotted, tables}
-use Rattle.format_toml_tree.specs.Rules.{ruled, passes, defines, adds, dots, gives}
+use Rattle.format_toml_tree.specs.Rules.{Node, Says, dotted, header, nothing, super, tables, valued}
+use Rattle.format_toml_tree.specs.Rules.{adds, defines, dots, gives, passes, ruled}
 use Rattle.format_toml_tree.specs.Runs.{Runs, State, Tree, empty, opened, say, say_key}
 use Rattle.format_toml_tree.specs.declared.roles.Refusal.{Refusal}
 use Rattle.format_toml_tree.specs.declared.roles.Role.{Role}
@@ -67,8 +67,8 @@ module _ {A : Type 0} where
     pub below : (p : Path) (e : Step) → tree p ≡ nothing → tree (e ∷ p) ≡ nothing
 
   -- Places hold a tree, and one of them is within.
-  abbrev pub Stands : List (Slot A) → ℕ → Type 0
-  Stands slots at =
+  abbrev pub IsTreeAt : List (Slot A) → ℕ → Type 0
+  IsTreeAt slots at =
       (tree : Tree A) × (path : ℕ → Path) × Holds slots tree path × (at < length slots)
 
   -- Places hold a state after one that others held, and these keep their paths.
@@ -82,11 +82,11 @@ module _ {A : Type 0} where
     pub grown : length old ≤ length new
 
   -- The result of a call is the slot of a state, or why a statement is rejected.
-  abbrev pub Told : List (Slot A) → (ℕ → Path) → Result (State A) Refusal → Result ℕ Stop
+  abbrev pub SlotResult : List (Slot A) → (ℕ → Path) → Result (State A) Refusal → Result ℕ Stop
       → List (Slot A) → Type 0
-  Told old path r (Ok j) new = (s : State A) × (r ≡ Ok s) × Goes old path s j new
-  Told old path r (Err OutOfMemory) new = Unit {0}
-  Told old path r (Err (Refused why)) new = r ≡ Err why
+  SlotResult old path r (Ok j) new = (s : State A) × (r ≡ Ok s) × Goes old path s j new
+  SlotResult old path r (Err OutOfMemory) new = Unit {0}
+  SlotResult old path r (Err (Refused why)) new = r ≡ Err why
 
   -- ---- what calls do
 
@@ -143,13 +143,13 @@ module _ {A : Type 0} where
   abbrev pub SaysName : List (Slot A) → ℕ → List ℕ → Says A → Result ℕ Stop → List (Slot A) → Type 0
   SaysName old table name says result new =
       (tree : Tree A) (path : ℕ → Path) → Holds old tree path
-      → Told old path (say says (tree, path table) name) result new
+      → SlotResult old path (say says (tree, path table) name) result new
 
   abbrev pub SaysKey : List (Slot A) → ℕ → List (String A) → Says A → Says A → Result ℕ Stop
       → List (Slot A) → Type 0
   SaysKey old table names before last result new =
       (tree : Tree A) (path : ℕ → Path) → Holds old tree path
-      → Told old path (say_key before last (tree, path table) names) result new
+      → SlotResult old path (say_key before last (tree, path table) names) result new
 
   -- values stay
   abbrev pub Keeps : Tree A → Tree A → Type 0

@@ -1,13 +1,13 @@
 -- Statements over the names of a key, in sequence.
 use Rattle.std.specs.Prelude.{◌≡◌, ℕ, suc, ◌+◌, ◌<◌, ◌≤◌, List, [], ◌∷◌, length, drop}
-use Rattle.std.specs.Prelude.{get_or, Result, Ok, Err, string_bytes}
+use Rattle.std.specs.Prelude.{Err, Ok, Result, get_or, string_bytes}
 use Rattle.std.specs.declared.string.String.{String}
 use Rattle.std.proofs.Common.{refl, sym, ap, ◌∙◌, arith, length-drop}
 use Rattle.std.proofs.Math.Seq.{drop-cons}
 use Rattle.format_toml_tree.specs.Paths.{Path}
 use Rattle.format_toml_tree.specs.Rules.{Says}
 use Rattle.format_toml_tree.specs.Runs.{State, Tree, say, say_key, then}
-use Rattle.format_toml_tree.specs.Holds.{Goes, Holds, Told}
+use Rattle.format_toml_tree.specs.Holds.{Goes, Holds, SlotResult}
 use Rattle.format_toml_tree.specs.Calls.{goes_on}
 use Rattle.format_toml_tree.specs.declared.roles.Refusal.{Refusal}
 use Rattle.format_toml_tree.specs.declared.tree.Slot.{Slot}
@@ -76,7 +76,7 @@ module _ {A : Type 0} (before last : Says A) where
 
       pub said_more : (k : ℕ) (new : List (Slot A))
           → ((tree : Tree A) (path : ℕ → Path) → Holds mid tree path
-          → Told mid path (say here (tree, path j) (string_bytes name)) (Ok k) new)
+          → SlotResult mid path (say here (tree, path j) (string_bytes name)) (Ok k) new)
           → LeftToSay old table names (i + 1) k new
       said_more k new said tree path holds =
           let (s, e, goes) = left tree path holds in
@@ -90,9 +90,9 @@ module _ {A : Type 0} (before last : Says A) where
 
       pub said_refused : (stop : Stop) (new : List (Slot A))
           → ((tree : Tree A) (path : ℕ → Path) → Holds mid tree path
-          → Told mid path (say here (tree, path j) (string_bytes name)) (Err stop) new)
+          → SlotResult mid path (say here (tree, path j) (string_bytes name)) (Err stop) new)
           → (tree : Tree A) (path : ℕ → Path) → Holds old tree path
-          → Told old path (say_key before last (tree, path table) names) (Err stop) new
+          → SlotResult old path (say_key before last (tree, path table) names) (Err stop) new
       said_refused OutOfMemory new said tree path holds = tt
       said_refused (Refused why) new said tree path holds =
           let (s, e, goes) = left tree path holds in
@@ -103,7 +103,7 @@ module _ {A : Type 0} (before last : Says A) where
   pub all_said : (old : List (Slot A)) (table : ℕ) (names : List (String A)) (i j : ℕ)
       (new : List (Slot A)) → LeftToSay old table names i j new → length names ≤ i
       → (tree : Tree A) (path : ℕ → Path) → Holds old tree path
-      → Told old path (say_key before last (tree, path table) names) (Ok j) new
+      → SlotResult old path (say_key before last (tree, path table) names) (Ok j) new
   all_said old table names i j new left past tree path holds =
       let (s, e, goes) = left tree path holds in
       (s, e ∙ ap (λ l. say_key before last s l) (drop_past names i past), goes)

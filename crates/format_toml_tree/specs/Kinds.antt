@@ -1,13 +1,13 @@
 -- The results of nodes for their kind: a table, or an array.
 use Rattle.std.specs.Prelude.{◌≡◌, ◌↔◌, ◌≤◌, ⊤, ℕ, Bool, true, false, IsTrue, length}
-use Rattle.std.specs.Prelude.{Option, Some, None, slice_get}
+use Rattle.std.specs.Prelude.{None, Option, Some, slice_get}
 use Rattle.std.specs.Borrow.{Bor}
 use Rattle.std.specs.declared.vec.Vec.{Vec}
 use Rattle.std.proofs.Common.{sym, ap, subst, ◌∙◌, refl}
 use Rattle.format_toml_tree.specs.Holds.{node_at, node_of}
 use Rattle.format_toml_tree.specs.Nodes.{IsAt}
 use Rattle.format_toml_tree.specs.Paths.{Path}
-use Rattle.format_toml_tree.specs.Rules.{Node as Given, nothing, valued, super, header, dotted}
+use Rattle.format_toml_tree.specs.Rules.{Node as Given, dotted, header, nothing, super, valued}
 use Rattle.format_toml_tree.specs.Rules.{tables}
 use Rattle.format_toml_tree.specs.Runs.{Tree}
 use Rattle.format_toml_tree.specs.declared.node.Node.{Node}
@@ -37,9 +37,9 @@ module _ {A : Type 0} where
   IsArray dotted = ⊥
   IsArray (tables n) = ⊤
 
-  -- `Tells so node b`: `b` is true if and only if `so` holds for the contents of `node`.
-  abbrev pub Tells : (Given A → Type 0) → Node A → Bool → Type 0
-  Tells so node b =
+  -- `KindResult so node b`: `b` is true if and only if `so` holds for the contents of `node`.
+  abbrev pub KindResult : (Given A → Type 0) → Node A → Bool → Type 0
+  KindResult so node b =
       (tree : Tree A) (path : ℕ → Path) (p : Path) → IsAt node tree path p
       → IsTrue b ↔ so (tree p)
 
@@ -60,7 +60,7 @@ module _ {A : Type 0} where
 
   module _ (so : Given A → Type 0) (node : Node A) (b : Bool) where
     pub tells_at : (slot : Bor (Slot A)) → IsSlot node (Some slot)
-        → (IsTrue b ↔ so (node_at slot.now)) → Tells so node b
+        → (IsTrue b ↔ so (node_at slot.now)) → KindResult so node b
     tells_at slot there told tree path p is =
         subst (λ n. IsTrue b ↔ so n) (sym (is.holds.there node.place slot.now there)
         ∙ ap tree is.at) told
@@ -68,11 +68,11 @@ module _ {A : Type 0} where
     true_false : true ≡ false → ⊥
     true_false e = cc
 
-    pub itself_none : b ≡ false → Tells so node b → AnswersItself so node None
+    pub itself_none : b ≡ false → KindResult so node b → AnswersItself so node None
     itself_none not told tree path p is x =
         true_false (sym ((told tree path p is).1 x) ∙ not)
 
-    pub itself_some : b ≡ true → Tells so node b → AnswersItself so node (Some node)
+    pub itself_some : b ≡ true → KindResult so node b → AnswersItself so node (Some node)
     itself_some so_is told = (refl, λ tree path p is. (told tree path p is).0 so_is)
 
   -- ---- values that are tables, and arrays

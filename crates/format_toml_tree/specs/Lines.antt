@@ -1,13 +1,13 @@
 -- Lines that are added to a tree, in sequence.
 use Rattle.std.specs.Prelude.{◌≡◌, ℕ, zero, suc, ◌+◌, ◌<◌, ◌≤◌, List, [], ◌∷◌, length, drop}
-use Rattle.std.specs.Prelude.{get_or, slice_get, Option, Some, None, Result, Ok, Err, IsErr}
-use Rattle.std.specs.Prelude.{IsErrAnd, true, false}
+use Rattle.std.specs.Prelude.{Err, IsErr, None, Ok, Option, Result, Some, get_or, slice_get}
+use Rattle.std.specs.Prelude.{IsErrAnd, false, true}
 use Rattle.std.proofs.Common.{refl, sym, ap, subst, ◌∙◌, arith}
 use Rattle.format_toml_tree.specs.Paths.{Path, Step}
-use Rattle.format_toml_tree.specs.Rules.{nothing, passes, defines, adds}
+use Rattle.format_toml_tree.specs.Rules.{adds, defines, nothing, passes}
 use Rattle.format_toml_tree.specs.Runs.{FillsEntry, Gives, Runs, State, Tree, empty, say_key, then}
 use Rattle.format_toml_tree.specs.Runs as runs
-use Rattle.format_toml_tree.specs.Holds.{AddsItem, FillsBy, Holds, Pushes, SaysKey, Stands}
+use Rattle.format_toml_tree.specs.Holds.{AddsItem, FillsBy, Holds, IsTreeAt, Pushes, SaysKey}
 use Rattle.format_toml_tree.specs.Holds.{StartsEmpty, find, node_at}
 use Rattle.format_toml_tree.specs.Calls.{fresh_node, fresh_none}
 use Rattle.format_toml_tree.specs.Keys.{drop_here, drop_past}
@@ -157,7 +157,7 @@ module _ {A : Type 0} where
 
   module _ (lines : List (Option (Item A))) (k table : ℕ) (slots : List (Slot A))
       (left : LeftToAdd lines k table slots) where
-    pub stands : Stands slots table
+    pub stands : IsTreeAt slots table
     stands = (left.tree, left.path, left.holds, left.within)
 
     module _ (line : Option (Item A)) (within : k < length lines) (is : line ≡ get_or lines k line)

@@ -1,13 +1,13 @@
 -- The effect of a statement on a name, over slots.
 use Rattle.std.specs.Prelude.{◌≡◌, ℕ, zero, suc, ◌+◌, ◌<◌, List, ◌∷◌, length, set, slice_get}
-use Rattle.std.specs.Prelude.{Some, None, Result, Ok, Err, IfOk, IsErr, IsErrAnd, true, false}
+use Rattle.std.specs.Prelude.{Err, IfOk, IsErr, IsErrAnd, None, Ok, Result, Some, false, true}
 use Rattle.std.proofs.Common.{refl, sym, ap, subst, ◌∙◌, arith}
 use Rattle.std.proofs.lemmas.List.{length-set}
 use Rattle.std.proofs.lemmas.Option.{slice_get_within}
 use Rattle.format_toml_tree.specs.Paths.{Path, named, placed, put, put_here}
 use Rattle.format_toml_tree.specs.Rules.{Node, Says, nothing, ruled}
 use Rattle.format_toml_tree.specs.Runs.{State, Tree, entered, grown, opened, say, then}
-use Rattle.format_toml_tree.specs.Holds.{Goes, Holds, IsInside, Told, find, node_at, node_of}
+use Rattle.format_toml_tree.specs.Holds.{Goes, Holds, IsInside, SlotResult, find, node_at, node_of}
 use Rattle.format_toml_tree.specs.Holds.{says_of}
 use Rattle.format_toml_tree.specs.Places.{altered}
 use Rattle.format_toml_tree.specs.Calls.{goes_on, stays}
@@ -176,21 +176,21 @@ module _ {A : Type 0} where
 
   pub told_stop : (old new : List (Slot A)) (path : ℕ → Path) (r : Result (State A) Refusal)
       (stop : Stop) → ((why : Refusal) → stop ≡ Refused why → r ≡ Err why)
-      → Told old path r (Err stop) new
+      → SlotResult old path r (Err stop) new
   told_stop old new path r OutOfMemory is = tt
   told_stop old new path r (Refused why) is = is why refl
 
   -- what fails with a stop tells it
   pub told_err : (old new : List (Slot A)) (path : ℕ → Path) (r : Result (State A) Refusal)
       (answer : Result ℕ Stop) (stop : Stop)
-      → IsErr answer × IsErrAnd answer (λ e. e ≡ stop) → Told old path r (Err stop) new
-      → Told old path r answer new
+      → IsErr answer × IsErrAnd answer (λ e. e ≡ stop) → SlotResult old path r (Err stop) new
+      → SlotResult old path r answer new
   told_err old new path r (Ok j) stop is told = absurd (no is.0)
     where
       no : false ≡ true → ⊥
       no e = cc
   told_err old new path r (Err e) stop is told =
-      subst (λ s. Told old path r (Err s) new) (sym is.1) told
+      subst (λ s. SlotResult old path r (Err s) new) (sym is.1) told
 
   pub say_refused : (says : Says A) (s : State A) (name : List ℕ) (why : Refusal)
       → ruled says (s.0 (named name ∷ s.1)) ≡ Err why → say says s name ≡ Err why
@@ -205,7 +205,7 @@ module _ {A : Type 0} where
       → Goes mid goes.paths
       (opened says (put tree (named name ∷ path table) node (goes.paths place))
       (put tree (named name ∷ path table) node) (goes.paths place)) j new
-      → Told old path (say says (tree, path table) name) (Ok j) new
+      → SlotResult old path (say says (tree, path table) name) (Ok j) new
   say_done {mid = mid} {tree = tree} {path = path} table name says place j new node rule goes next =
       let q : Path = named name ∷ path table in
       let then_tree : Tree A = put tree q node in (

@@ -12,7 +12,7 @@ use Rattle.std.proofs.lemmas.List.Elements.{All-append, All-cons, All-tail}
 use Rattle.format_toml_tree.specs.Dates.{Clock, CountsDigits, Finds, FindsTime, Fraction}
 use Rattle.format_toml_tree.specs.Dates.{HourAndMinute}
 use Rattle.format_toml_tree.specs.Dates.{IsDigit, IsOffset, IsTimed, Marked, MaybeOffset}
-use Rattle.format_toml_tree.specs.Dates.{NoDigit, SplitsFraction, Tells}
+use Rattle.format_toml_tree.specs.Dates.{FoundResult, NoDigit, SplitsFraction}
 use Rattle.format_toml_tree.specs.Dates.{TwoDigits}
 use Rattle.format_toml_tree.specs.DateParts.{clock_one, is_nothing, marked_one, no_cons}
 use Rattle.format_toml_tree.specs.DateParts.{same_first, same_others, two_one}
@@ -126,14 +126,14 @@ minute_one text h m k n rest other (a, x, y, hours, minutes) (b, z, w, less, few
     (e, g, d)
 
 pub zulu_some : (letter : ℕ) → (letter ≡ 90) ⊎ (letter ≡ 122)
-    → Tells (λ o. MaybeOffset o (letter ∷ [])) (Some (Some Zulu))
-unfolding Tells MaybeOffset IsOffset
+    → FoundResult (λ o. MaybeOffset o (letter ∷ [])) (Some (Some Zulu))
+unfolding FoundResult MaybeOffset IsOffset
 zulu_some letter (inl e) = inl (ap (λ c. c ∷ []) e)
 zulu_some letter (inr e) = inr (ap (λ c. c ∷ []) e)
 
 pub zulu_none : (letter : ℕ) → (letter ≡ 90 → ⊥) → (letter ≡ 122 → ⊥)
-    → Tells (λ o. MaybeOffset o (letter ∷ [])) None
-unfolding Tells MaybeOffset IsOffset HourAndMinute
+    → FoundResult (λ o. MaybeOffset o (letter ∷ [])) None
+unfolding FoundResult MaybeOffset IsOffset HourAndMinute
 zulu_none letter not nor None e = no_cons (sym e)
 zulu_none letter not nor (Some Zulu) (inl e) = not (same_first e)
 zulu_none letter not nor (Some Zulu) (inr e) = nor (same_first e)
@@ -144,8 +144,8 @@ zulu_none letter not nor (Some (Minutes z)) (h, m, mid, (a, x, y, hours, minutes
 
 module _ (sign : ℕ) (text : List ℕ) (some : text ≡ [] → ⊥) where
   pub signed_none : ((h m : ℕ) → HourAndMinute text (h, m) [] → (sign ≡ 43) ⊎ (sign ≡ 45) → ⊥)
-      → Tells (λ o. MaybeOffset o (sign ∷ text)) None
-  unfolding Tells MaybeOffset IsOffset
+      → FoundResult (λ o. MaybeOffset o (sign ∷ text)) None
+  unfolding FoundResult MaybeOffset IsOffset
   signed_none not None e = no_cons (sym e)
   signed_none not (Some Zulu) (inl e) = some (same_others e)
   signed_none not (Some Zulu) (inr e) = some (same_others e)
@@ -157,20 +157,20 @@ module _ (sign : ℕ) (text : List ℕ) (some : text ≡ [] → ⊥) where
       (inr (same_first e))
 
   module _ (h m : ℕ) (rest : List ℕ) (x : HourAndMinute text (h, m) rest) where
-    pub signed_more : (rest ≡ [] → ⊥) → Tells (λ o. MaybeOffset o (sign ∷ text)) None
+    pub signed_more : (rest ≡ [] → ⊥) → FoundResult (λ o. MaybeOffset o (sign ∷ text)) None
     signed_more more =
         signed_none (λ k n y is. more (minute_one text h m k n rest [] x y).2)
 
     pub signed_other : (sign ≡ 43 → ⊥) → (sign ≡ 45 → ⊥)
-        → Tells (λ o. MaybeOffset o (sign ∷ text)) None
+        → FoundResult (λ o. MaybeOffset o (sign ∷ text)) None
     signed_other not nor = signed_none (λ k n y is. elim is [
       | inl e ↦ not e
       | inr e ↦ nor e
     ])
 
     pub signed_plus : (z : ℤ) → rest ≡ [] → sign ≡ 43 → z ≡ pos (h * 60 + m)
-        → Tells (λ o. MaybeOffset o (sign ∷ text)) (Some (Some (Minutes z)))
-    unfolding Tells MaybeOffset IsOffset
+        → FoundResult (λ o. MaybeOffset o (sign ∷ text)) (Some (Some (Minutes z)))
+    unfolding FoundResult MaybeOffset IsOffset
     signed_plus z none is e = (
       h,
       m,
@@ -180,8 +180,8 @@ module _ (sign : ℕ) (text : List ℕ) (some : text ≡ [] → ⊥) where
     )
 
     pub signed_minus : (z : ℤ) → rest ≡ [] → sign ≡ 45 → z ≡ neg_ℤ (pos (h * 60 + m))
-        → Tells (λ o. MaybeOffset o (sign ∷ text)) (Some (Some (Minutes z)))
-    unfolding Tells MaybeOffset IsOffset
+        → FoundResult (λ o. MaybeOffset o (sign ∷ text)) (Some (Some (Minutes z)))
+    unfolding FoundResult MaybeOffset IsOffset
     signed_minus z none is e = (
       h,
       m,
@@ -191,8 +191,8 @@ module _ (sign : ℕ) (text : List ℕ) (some : text ≡ [] → ⊥) where
     )
 
 pub offset_none : (text : List ℕ) → length text ≡ 0
-    → Tells (λ o. MaybeOffset o text) (Some None)
-unfolding Tells MaybeOffset
+    → FoundResult (λ o. MaybeOffset o text) (Some None)
+unfolding FoundResult MaybeOffset
 offset_none text none = is_nothing text none
 
 -- ---- times
@@ -262,12 +262,12 @@ module _ (text mid digits rest : List ℕ) (clock : ℕ × ℕ × ℕ) (x : Cloc
       let here = subst (λ l. Fraction l more b) (sym left) w in
       subst (λ l. MaybeOffset o l) (sym (left_of mid digits rest more b o y here m)) m
 
-  pub time_none : Tells (λ o. MaybeOffset o rest) None → FindsTime text None
-  unfolding Tells FindsTime
+  pub time_none : FoundResult (λ o. MaybeOffset o rest) None → FindsTime text None
+  unfolding FoundResult FindsTime
   time_none none other more o z = none o (behind_time other more o z)
 
   pub time_some : (o : Option Offset) (slice : Bor (List ℕ)) → slice.now ≡ digits
-      → Tells (λ o. MaybeOffset o rest) (Some o) → FindsTime text (Some (clock, slice, o))
-  unfolding Tells FindsTime IsTimed
+      → FoundResult (λ o. MaybeOffset o rest) (Some o) → FindsTime text (Some (clock, slice, o))
+  unfolding FoundResult FindsTime IsTimed
   time_some o slice e m =
       (mid, rest, x, subst (λ l. Fraction mid l rest) (sym e) (split_is mid digits rest y), m)

@@ -3,7 +3,7 @@
 ghost use Rattle.std.specs.List.{All};
 ghost use Rattle.std.specs.Prelude.{◌≡◌, IfOk, string_bytes};
 ghost use Rattle.format_toml_tree.specs.Dates.{IsAlone, IsBehind, IsDateTime, IsDigit};
-ghost use Rattle.format_toml_tree.specs.Dates.{IsTimeOf, Tells};
+ghost use Rattle.format_toml_tree.specs.Dates.{FoundResult, IsTimeOf};
 
 use crate::dates::date;
 use crate::times::parts;
@@ -42,12 +42,12 @@ fn time_of<A: Allocator>(
 }
 
 /// Parses the rest of a date: nothing, or a delimiter and a time.
-fn behind_date<A: Allocator>(
+fn after_date<A: Allocator>(
     alloc: A,
     date: Date,
     text: &[u8],
 ) -> Result<Option<DateTime<A>>, AllocError>
-    ensures { IfOk result (λ o. Tells (λ d. IsBehind date d text.now) o) }
+    ensures { IfOk result (λ o. FoundResult (λ d. IsBehind date d text.now) o) }
 {
     let Some((delimiter, rest)) = text.split_first() else {
         return Ok(Some(DateTime::Date(date)));
@@ -68,7 +68,7 @@ fn behind_date<A: Allocator>(
 
 /// The time with no date that a text is.
 fn time_alone<A: Allocator>(alloc: A, text: &[u8]) -> Result<Option<DateTime<A>>, AllocError>
-    ensures { IfOk result (λ o. Tells (λ d. IsAlone d text.now) o) }
+    ensures { IfOk result (λ o. FoundResult (λ d. IsAlone d text.now) o) }
 {
     let Some((clock, digits, offset)) = parts(text) else {
         return Ok(None);
@@ -103,10 +103,10 @@ fn time_alone<A: Allocator>(alloc: A, text: &[u8]) -> Result<Option<DateTime<A>>
 /// assert!(rt; matches!(both, Ok(Some(DateTime::Offset(_, time, _))) if time.hour == 7));
 /// ```
 pub fn date_time<A: Allocator>(alloc: A, text: &[u8]) -> Result<Option<DateTime<A>>, AllocError>
-    ensures { IfOk result (λ o. Tells (λ d. IsDateTime d text.now) o) }
+    ensures { IfOk result (λ o. FoundResult (λ d. IsDateTime d text.now) o) }
 {
     match date(text) {
-        Some((date, rest)) => behind_date(alloc, date, rest),
+        Some((date, rest)) => after_date(alloc, date, rest),
         None => time_alone(alloc, text),
     }
 }

@@ -1,14 +1,14 @@
 //! Dates (TOML 1.0: Local Date), from their bytes.
 ghost use Rattle.std.specs.Prelude.{◌≡◌};
 ghost use Rattle.format_toml_tree.specs.Dates.{Finds, FourDigits, FullDate, IsDigitOf, Marked};
-ghost use Rattle.format_toml_tree.specs.Dates.{Tells, TwoDigits};
+ghost use Rattle.format_toml_tree.specs.Dates.{FoundResult, TwoDigits};
 ghost use Rattle.format_toml_tree.specs.Dates.{days_in as days_of, is_leap as leap_year};
 
 use crate::value::Date;
 
 /// The number of a digit.
 fn digit(byte: u8) -> Option<u8>
-    ensures { Tells (λ n. IsDigitOf n byte) result }
+    ensures { FoundResult (λ n. IsDigitOf n byte) result }
 {
     if byte.is_ascii_digit() {
         return Some(byte - 48);

@@ -4,7 +4,7 @@ ghost use Rattle.format_toml_tree.specs.declared.value.DateTime.{DateTime as Dat
 ghost use Rattle.format_toml_tree.specs.declared.value.Float.{Float as FloatOf};
 ghost use Rattle.format_toml_tree.specs.declared.value.Value.TheVariants as values;
 ghost use Rattle.format_toml_tree.specs.Holds.{node_of};
-ghost use Rattle.format_toml_tree.specs.Kinds.{AnswersItself, IsArray, IsSlot, IsTable, Tells};
+ghost use Rattle.format_toml_tree.specs.Kinds.{AnswersItself, IsArray, IsSlot, IsTable, KindResult};
 ghost use Rattle.std.specs.Borrow.{Bor};
 ghost use Rattle.std.specs.Prelude.{◌↔◌, ℕ, IsTrue};
 
@@ -137,7 +137,7 @@ impl<'d, 't, A: Allocator + Copy> Node<'d, 't, A> {
 
     /// Whether it is a table, by headers, by dotted keys or inline.
     pub fn is_table(&self) -> bool
-        ensures { Tells IsTable self.now result }
+        ensures { KindResult IsTable self.now result }
     {
         match self.slot() {
             None => false,
@@ -147,7 +147,7 @@ impl<'d, 't, A: Allocator + Copy> Node<'d, 't, A> {
 
     /// Whether it is an array, of tables or of values.
     pub fn is_array(&self) -> bool
-        ensures { Tells IsArray self.now result }
+        ensures { KindResult IsArray self.now result }
     {
         match self.slot() {
             None => false,

@@ -3,7 +3,8 @@ ghost use Rattle.std.specs.Prelude.{◌≡◌, ◌≤◌, ◌+◌, ◌*◌, [], 
 ghost use Rattle.std.specs.Prelude.{FitsSigned};
 ghost use Rattle.std.specs.Int.{w16};
 ghost use Rattle.format_toml_tree.specs.Dates.{Clock, CountsDigits, Finds, FindsTime};
-ghost use Rattle.format_toml_tree.specs.Dates.{HourAndMinute, MaybeOffset, SplitsFraction, Tells};
+ghost use Rattle.format_toml_tree.specs.Dates.{FoundResult, HourAndMinute, MaybeOffset};
+ghost use Rattle.format_toml_tree.specs.Dates.{SplitsFraction};
 
 use crate::dates::{marked, two_digits};
 use crate::value::Offset;
@@ -84,7 +85,7 @@ fn west(hour: u8, minute: u8) -> i16
 
 /// The letter of an offset, if it is one.
 fn zulu(letter: u8) -> Option<Option<Offset>>
-    ensures { Tells (λ o. MaybeOffset o (letter ∷ [])) result }
+    ensures { FoundResult (λ o. MaybeOffset o (letter ∷ [])) result }
 {
     if letter == b'Z' || letter == b'z' {
         return Some(Some(Offset::Zulu));
@@ -95,7 +96,7 @@ fn zulu(letter: u8) -> Option<Option<Offset>>
 /// The offset that a sign and an hour and a minute are.
 fn signed(sign: u8, text: &[u8]) -> Option<Option<Offset>>
     requires { text.now ≡ [] → ⊥ }
-    ensures { Tells (λ o. MaybeOffset o (sign ∷ text.now)) result }
+    ensures { FoundResult (λ o. MaybeOffset o (sign ∷ text.now)) result }
 {
     let ((hour, minute), rest) = hour_and_minute(text)?;
     if !rest.is_empty() {
@@ -112,7 +113,7 @@ fn signed(sign: u8, text: &[u8]) -> Option<Option<Offset>>
 
 /// The offset that a text is, or that it is nothing.
 fn offset(text: &[u8]) -> Option<Option<Offset>>
-    ensures { Tells (λ o. MaybeOffset o text.now) result }
+    ensures { FoundResult (λ o. MaybeOffset o text.now) result }
 {
     let Some((first, rest)) = text.split_first() else {
         return Some(None);

@@ -3,7 +3,7 @@ ghost use Rattle.std.specs.Prelude.{◌≡◌, ◌<◌, ◌≤◌, length, IfOk,
 ghost use Rattle.format_toml_tree.specs.Runs.{Fills, FillsEntry, FillsNames, FillsPlaces};
 ghost use Rattle.format_toml_tree.specs.Holds.{AddsElement, AddsEntry, AddsItem, FillsBy, IsInside};
 ghost use Rattle.format_toml_tree.specs.Holds.{IsValueAt, Opens};
-ghost use Rattle.format_toml_tree.specs.Holds.{Pushes, SaysKey, SaysName, Sets, Stands};
+ghost use Rattle.format_toml_tree.specs.Holds.{IsTreeAt, Pushes, SaysKey, SaysName, Sets};
 ghost use Rattle.format_toml_tree.specs.Holds.{StartsEmpty, node_at};
 ghost use Rattle.format_toml_tree.specs.Holds.{says_of};
 
@@ -154,7 +154,7 @@ impl<'t, A: Allocator + Copy> Tree<'t, A> {
         name: &'t str,
         role: Role<'t, A>,
     ) -> Result<usize, Stop>
-        requires { Stands self.old.slots.items table }
+        requires { IsTreeAt self.old.slots.items table }
         ensures { Sets self.old.slots.items table name.now (says_of role.entry) result
             self.new.slots.items }
     {
@@ -198,7 +198,7 @@ impl<'t, A: Allocator + Copy> Tree<'t, A> {
         name: &'t str,
         role: Role<'t, A>,
     ) -> Result<usize, Stop>
-        requires { Stands self.old.slots.items table }
+        requires { IsTreeAt self.old.slots.items table }
         ensures { SaysName self.old.slots.items table name.now (says_of role.entry) result
             self.new.slots.items }
     {
@@ -215,7 +215,7 @@ impl<'t, A: Allocator + Copy> Tree<'t, A> {
         passes: Role<'t, A>,
         role: Role<'t, A>,
     ) -> Result<usize, Stop>
-        requires { Stands self.old.slots.items table }
+        requires { IsTreeAt self.old.slots.items table }
         ensures { SaysKey self.old.slots.items table key.now.names.items (says_of passes.entry)
             (says_of role.entry) result self.new.slots.items }
     {
@@ -232,7 +232,7 @@ impl<'t, A: Allocator + Copy> Tree<'t, A> {
     /// inline table.
     #[cycle(fill)]
     fn fill(&mut self, alloc: A, place: usize, value: &'t Value<A>) -> Result<(), Stop>
-        requires { Stands self.old.slots.items place }
+        requires { IsTreeAt self.old.slots.items place }
         ensures { FillsBy (λ t p r. Fills t p value.now r) self.old.slots.items place result
             self.new.slots.items }
     {
@@ -249,7 +249,7 @@ impl<'t, A: Allocator + Copy> Tree<'t, A> {
     /// Adds elements to an array, with their parts.
     #[cycle(fill)]
     fn fill_elements(&mut self, alloc: A, place: usize, parts: &'t [Value<A>]) -> Result<(), Stop>
-        requires stands { Stands self.old.slots.items place }
+        requires stands { IsTreeAt self.old.slots.items place }
         requires valued { IsValueAt self.old.slots.items place }
         ensures { FillsBy (λ t p r. FillsPlaces t p parts.now r) self.old.slots.items place result
             self.new.slots.items }
@@ -269,7 +269,7 @@ impl<'t, A: Allocator + Copy> Tree<'t, A> {
         place: usize,
         parts: &'t [(Key<A>, Value<A>)],
     ) -> Result<(), Stop>
-        requires { Stands self.old.slots.items place }
+        requires { IsTreeAt self.old.slots.items place }
         ensures { FillsBy (λ t p r. FillsNames t p parts.now r) self.old.slots.items place result
             self.new.slots.items }
     {
@@ -287,7 +287,7 @@ impl<'t, A: Allocator + Copy> Tree<'t, A> {
         place: usize,
         part: &'t (Key<A>, Value<A>),
     ) -> Result<(), Stop>
-        requires { Stands self.old.slots.items place }
+        requires { IsTreeAt self.old.slots.items place }
         ensures { FillsBy (λ t p r. FillsEntry t p part.now.0 part.now.1 r) self.old.slots.items
             place
             result self.new.slots.items }
@@ -299,7 +299,7 @@ impl<'t, A: Allocator + Copy> Tree<'t, A> {
 
     /// Adds what a line says, and answers the table that the next line is in.
     pub(crate) fn add(&mut self, alloc: A, table: usize, item: &'t Item<A>) -> Result<usize, Stop>
-        requires { Stands self.old.slots.items table }
+        requires { IsTreeAt self.old.slots.items table }
         ensures { AddsItem self.old.slots.items table item.now result self.new.slots.items }
     {
         match item {

@@ -2,7 +2,7 @@
 
 ghost use Rattle.std.specs.Prelude.{◌≡◌, ◌+◌, ◌⊎◌, ◌++◌, List, length, ℕ};
 ghost use Rattle.format_http_chunked.specs.Decoded.{IsAt};
-ghost use Rattle.format_http_chunked.specs.Stands.{Stands};
+ghost use Rattle.format_http_chunked.specs.Outputs.{OutputBeforeRest};
 ghost use Rattle.format_http_chunked.specs.State.{decoder_of};
 ghost use Rattle.exported.specs.Chunked.{Call, CallsInTurn, IsFirst, TellsStep, Writes};
 ghost use Rattle.exported.specs.Chunked.{fault_number};
@@ -95,7 +95,7 @@ fn place_of(bytes: &[u8], text: &[u8], rest: &[u8]) -> Span
 
 /// Returns the code and the output for the decoder's result `said`, after which `rest` remains.
 fn step_of(bytes: &[u8], rest: &[u8], said: Result<Step<'_>, Fault>) -> (u32, ChunkedStep)
-    requires { Stands bytes.now rest.now said }
+    requires { OutputBeforeRest bytes.now rest.now said }
     ensures writes { Writes bytes.now rest.now said.entry result.0 result.1 }
     ensures taken { length bytes.now ≡ result.1.taken + length rest.now }
 {

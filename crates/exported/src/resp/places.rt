@@ -13,7 +13,7 @@ use format_resp::reply;
 use std::alloc::Global;
 
 /// Returns the bytes after the first line feed.
-fn behind_feed<'i>(bytes: &'i [u8]) -> &'i [u8]
+fn skip_line<'i>(bytes: &'i [u8]) -> &'i [u8]
     ensures { (line rest : List ℕ) → NoFeed line → bytes.now ≡ line ++ 10 ∷ rest
         → result.now ≡ rest }
 {
@@ -72,7 +72,7 @@ pub fn reply_at(
             ..NONE
         },
         reply::Reply::Bulk(text) => {
-            let place = first_of(bytes, behind_feed(bytes), text.len());
+            let place = first_of(bytes, skip_line(bytes), text.len());
             Reply {
                 kind: RESP_BULK,
                 span: place,
@@ -86,7 +86,7 @@ pub fn reply_at(
             ..NONE
         },
         reply::Reply::Array(elements) => {
-            let behind = behind_feed(bytes);
+            let behind = skip_line(bytes);
             Reply {
                 kind: RESP_ARRAY,
                 elements: elements.len(),

@@ -20,7 +20,7 @@ use Rattle.format_json_extents.specs.Strings.{BeginHigh, BeginLow, BeginOnly, Is
 use Rattle.format_json_extents.specs.Strings.{IsEscape, IsEscaped, IsHexDigit}
 use Rattle.format_json_extents.specs.Strings.{IsPiece, IsQuote, IsString, IsStringTail}
 use Rattle.format_json_extents.specs.Strings.{IsU, IsUnescaped, IsUnit}
-use Rattle.format_json_extents.specs.Texts.{IsByte, Many, Stands, Then, nothing, one_more}
+use Rattle.format_json_extents.specs.Texts.{IsByte, Many, MatchesAtStart, Then, nothing, one_more}
 use Rattle.winnow.specs.Utf8.{four_bytes, three_bytes, two_bytes}
 
 -- ---- escapes
@@ -138,7 +138,8 @@ plain : (c : ℕ) → IsUnescaped c → IsPiece (c ∷ [])
 plain c is = inl (record { byte = c; is_byte = is; alone = refl })
 
 -- the last quote
-quoted : (cs bytes rest : List ℕ) → encode_utf8_all cs ≡ bytes → Stands (IsByte IsQuote) bytes rest
+quoted : (cs bytes rest : List ℕ) → encode_utf8_all cs ≡ bytes
+    → MatchesAtStart (IsByte IsQuote) bytes rest
     → Tail cs rest
 quoted cs bytes rest e quote =
     let (es, f, g) = first_char cs rest 34 (omega arith)
@@ -170,23 +171,24 @@ not_empty P Q text is =
 -- what is shown of fewer characters is so of one more
 abbrev Shows : ℕ → Type 0
 Shows n =
-    (cs rest : List ℕ) → length cs ≤ n → Stands IsStringTail (encode_utf8_all cs) rest
+    (cs rest : List ℕ) → length cs ≤ n → MatchesAtStart IsStringTail (encode_utf8_all cs) rest
     → Tail cs rest
 
 module _ (n : ℕ) (shows : Shows n) (c : ℕ) (cs rest : List ℕ) (few : length cs ≤ n) where
-  ahead : Stands IsStringTail (encode_utf8_all cs) rest → IsUnescaped c → Tail (c ∷ cs) rest
+  ahead : MatchesAtStart IsStringTail (encode_utf8_all cs) rest → IsUnescaped c → Tail (c ∷ cs) rest
   ahead at is = tail_more (c ∷ []) (c ∷ cs) cs rest (plain c is) refl (shows cs rest few at)
 
   escaped : (at text : List ℕ) → c < 128 → IsPiece text
-      → encode_utf8_all (c ∷ cs) ≡ text ++ at → Stands IsStringTail at rest → Tail (c ∷ cs) rest
+      → encode_utf8_all (c ∷ cs) ≡ text ++ at → MatchesAtStart IsStringTail at rest
+      → Tail (c ∷ cs) rest
   escaped at text small (inl one) e tail =
       let (same, left) = same_byte _ _ _ _
       (sym (first_byte c cs small) ∙ e ∙ ap (λ l. l ++ at) one.alone) in
-      let P : List ℕ → Type 0 = λ l. Stands IsStringTail l rest in
+      let P : List ℕ → Type 0 = λ l. MatchesAtStart IsStringTail l rest in
       ahead (subst P (sym left) tail) (subst IsUnescaped (sym same) one.is_byte)
   escaped at text small (inr escape) e tail =
       let f = slashed_alike.chars (c ∷ cs) text at escape e in
-      let P : List ℕ → Type 0 = λ l. Stands IsStringTail l rest in
+      let P : List ℕ → Type 0 = λ l. MatchesAtStart IsStringTail l rest in
       let some = not_empty IsBackslash IsEscape f.first f.is in
       tail_more f.first (c ∷ cs) f.second rest (inr f.is) f.splits
       (shows f.second rest
@@ -198,7 +200,8 @@ module _ (n : ℕ) (shows : Shows n) (c : ℕ) (cs rest : List ℕ) (few : lengt
         length-append f.first f.second,
       )) (subst P (sym f.rest_of) tail))
 
-  tail_one_more : Stands IsStringTail (encode_utf8_all (c ∷ cs)) rest → (c < 128) ⊎ (128 ≤ c)
+  tail_one_more : MatchesAtStart IsStringTail (encode_utf8_all (c ∷ cs)) rest
+      → (c < 128) ⊎ (128 ≤ c)
       → Tail (c ∷ cs) rest
   tail_one_more it (inl small) =
       let (mid, pieces, quote) = then_split (Many IsPiece) (IsByte IsQuote) _ rest it in

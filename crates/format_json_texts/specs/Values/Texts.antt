@@ -1,7 +1,7 @@
 -- The grammar of values is that of their texts.
 use Rattle.std.specs.Prelude.{◌≡◌, ◌⊎◌, ◌<◌, ℕ, zero, suc, true, false, List, [], ◌∷◌}
 use Rattle.std.specs.Prelude.{◌++◌}
-use Rattle.std.specs.Prelude.{Some, None}
+use Rattle.std.specs.Prelude.{None, Some}
 use Rattle.std.specs.declared.string.String.{String}
 use Rattle.std.specs.List.{All}
 use Rattle.std.proofs.Common.{refl, sym, ap, subst, inl, inr, ◌∙◌, arith, append_assoc}
@@ -16,7 +16,7 @@ use Rattle.winnow.specs.Texts.Fronts.{front_begins, may_begin, none_begins, not_
 use Rattle.winnow.specs.Texts.Fronts.{spelled_begins}
 use Rattle.winnow.specs.Texts.Parts.{behind_less, both_of, either_apart, same_of}
 use Rattle.winnow.specs.Texts.Rows.{list_of, parted_of}
-use Rattle.format_json_texts.specs.Number.{GoesOn, number_begins}
+use Rattle.format_json_texts.specs.Number.{ContinuesNumber, number_begins}
 use Rattle.format_json_texts.specs.Number.{number_of}
 use Rattle.format_json_texts.specs.Strings.{Quoted, string_begins, string_of}
 use Rattle.format_json_texts.specs.Values.{AnyValue, AnyWord, Array, ArrayText, Commas, Gap}
@@ -39,10 +39,10 @@ NoGap = NotFirst IsMultispace
 
 -- the characters start neither with whitespace nor with one that can continue a number
 abbrev pub Ended : List ℕ → Type 0
-Ended = NotFirst (λ c. IsMultispace c ⊎ GoesOn c)
+Ended = NotFirst (λ c. IsMultispace c ⊎ ContinuesNumber c)
 
 no_gap : (rest : List ℕ) → Ended rest → NoGap rest
-no_gap = not_first IsMultispace (λ c. IsMultispace c ⊎ GoesOn c) (λ c is. inl is)
+no_gap = not_first IsMultispace (λ c. IsMultispace c ⊎ ContinuesNumber c) (λ c is. inl is)
 
 gap_front : {these : ℕ → Type 0} {behind : List ℕ → Type 0}
     → ((c : ℕ) → IsMultispace c → these c → ⊥)
@@ -146,7 +146,7 @@ scalar_opens c (inr (inl (inr e))) = omega (arith, e)
 scalar_opens c (inr (inr e)) = omega (arith, e)
 
 module _ {A : Type 0} (holds : String A → List ℕ → Type 0) where
-  scalar_of : IsGrammarOf (Scalar holds) (ScalarText holds) (NotFirst GoesOn)
+  scalar_of : IsGrammarOf (Scalar holds) (ScalarText holds) (NotFirst ContinuesNumber)
   scalar_of =
       either_apart (behind_less (λ rest b. tt) (for_of IsWord words_of))
       (either_apart (for_of IsNumber (for_of HasText number_of))
@@ -186,7 +186,7 @@ commas_front {O} {A} {element} {these} close most apart begins =
         (may_begin these (λ c. IsMultispace c → ⊥) apart (xs ++ (ys ++ rest))
         (begins.makes o xs (ys ++ rest) a tt))
 
-comma_goes_on : (c : ℕ) → c ≡ 44 → IsMultispace c ⊎ GoesOn c → ⊥
+comma_goes_on : (c : ℕ) → c ≡ 44 → IsMultispace c ⊎ ContinuesNumber c → ⊥
 comma_goes_on c e (inl w) = no_white c 44 e (omega arith) w
 comma_goes_on c e (inr (inl d)) = absurd (omega (arith, e, d))
 comma_goes_on c e (inr (inr (inl d))) = absurd (omega (arith, e, d))
@@ -194,7 +194,7 @@ comma_goes_on c e (inr (inr (inr (inl d)))) = absurd (omega (arith, e, d))
 comma_goes_on c e (inr (inr (inr (inr d)))) = absurd (omega (arith, e, d))
 
 close_goes_on : (close c : ℕ) → (close ≡ 93) ⊎ (close ≡ 125) → c ≡ close
-    → IsMultispace c ⊎ GoesOn c → ⊥
+    → IsMultispace c ⊎ ContinuesNumber c → ⊥
 close_goes_on close c is e (inl w) = no_white c close e (brackets is) w
   where
     brackets : (close ≡ 93) ⊎ (close ≡ 125) → 33 < close
@@ -238,23 +238,24 @@ bracketed_of {O} {A} {g} {element} {these} opening close is apart begins of =
     ]
 
     ended : (rest : List ℕ) → Begins (λ c. c ≡ close) rest → Ended rest
-    ended rest b = may_begin (λ c. c ≡ close) (λ c. IsMultispace c ⊎ GoesOn c → ⊥)
+    ended rest b = may_begin (λ c. c ≡ close) (λ c. IsMultispace c ⊎ ContinuesNumber c → ⊥)
         (λ c e. close_goes_on close c is e) rest b
 
 -- ---- values
 
-goes_on_white : (c : ℕ) → IsMultispace c → GoesOn c → ⊥
+goes_on_white : (c : ℕ) → IsMultispace c → ContinuesNumber c → ⊥
 goes_on_white c w (inl d) = above_white c (omega (arith, d)) w
 goes_on_white c w (inr (inl d)) = above_white c (omega (arith, d)) w
 goes_on_white c w (inr (inr (inl d))) = above_white c (omega (arith, d)) w
 goes_on_white c w (inr (inr (inr d))) = above_white c (omega (arith, d)) w
 
-spaced_of : {O : Type 0} {g : Grammar ℕ O} {text : Text ℕ O} → IsGrammarOf g text (NotFirst GoesOn)
+spaced_of : {O : Type 0} {g : Grammar ℕ O} {text : Text ℕ O}
+    → IsGrammarOf g text (NotFirst ContinuesNumber)
     → IsGrammarOf (SpacedOut g) (Spaced text) Ended
 spaced_of is =
     both_of former is (behind_less no_gap gap_of)
     (gap_front goes_on_white
-    (not_first GoesOn (λ c. IsMultispace c ⊎ GoesOn c) (λ c d. inr d)))
+    (not_first ContinuesNumber (λ c. IsMultispace c ⊎ ContinuesNumber c) (λ c d. inr d)))
 
 spaced_begins : {O : Type 0} {text : Text ℕ O} {these : ℕ → Type 0} → BeginsIn these text
     → BeginsIn these (Spaced text)
@@ -271,7 +272,7 @@ member_same {O1} g1 g2 g3 = record {
 }
 
 module _ {A : Type 0} (holds : String A → List ℕ → Type 0) {g : Grammar ℕ (Value A)}
-    {value : Text ℕ (Value A)} (of : IsGrammarOf g value (NotFirst GoesOn))
+    {value : Text ℕ (Value A)} (of : IsGrammarOf g value (NotFirst ContinuesNumber))
     (opens : BeginsIn Opens value) where
   array_of : IsGrammarOf (Array holds g) (ArrayText holds value) Anything
   array_of = bracketed_of 91 93 (inl refl) (λ c b. b) (spaced_begins opens) (spaced_of of)
@@ -308,7 +309,7 @@ module _ {A : Type 0} (holds : String A → List ℕ → Type 0) where
       front_any)))
 
   pub value_of : (level : ℕ)
-      → IsGrammarOf (AnyValue holds level) (ValueText holds level) (NotFirst GoesOn)
+      → IsGrammarOf (AnyValue holds level) (ValueText holds level) (NotFirst ContinuesNumber)
   unfolding ValueText AnyValue
   value_of zero = scalar_of holds
   value_of (suc level) =

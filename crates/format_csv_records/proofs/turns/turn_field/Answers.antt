@@ -2,7 +2,7 @@ use mathlib.Core.Bool.{false≢true}
 use Rattle.format_csv_records.proofs.Stepping.{field_text, goes_step, grows_open}
 use Rattle.format_csv_records.proofs.Stepping.{turn_text}
 use Rattle.format_csv_records.proofs.Stuck.{first_field, stuck}
-use Rattle.format_csv_records.specs.Extents.{IsBegun}
+use Rattle.format_csv_records.specs.Extents.{IsFieldPrefix}
 use Rattle.std.proofs.Common.{arith}
 use Rattle.format_csv_records.specs.declared.extent.RecordPlace.TheVariants as place
 use Rattle.format_csv_records.proofs.turns.turn_field.Goals as goal
@@ -20,7 +20,7 @@ pub returns-in-None : goal.returns-in-None
 returns-in-None c = (
   λ e. cc,
   stuck c.args.dialect c.args.dialect.apart c.args.byte c.why_byte.result
-      (IsBegun c.args.dialect place.Field)
+      (IsFieldPrefix c.args.dialect place.Field)
       (first_field c.args.dialect c.args.dialect.apart c.args.byte c.if-byte-dialect.false
       (λ t. false≢true (c.if-is_plain.ensures.1 t)))
       c.in-None.ensures.0 c.in-None.ensures.1 c.why_byte.ensures,

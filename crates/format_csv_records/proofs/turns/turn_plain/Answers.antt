@@ -4,7 +4,7 @@ use Rattle.std.proofs.lemmas.List.Elements.{All-cons, All-nil}
 use Rattle.format_csv_records.proofs.Stepping.{goes_step, grows_plain, plain_text, turn_text}
 use Rattle.format_csv_records.proofs.Stuck.{first_plain, stuck}
 use Rattle.format_csv_records.specs.Dialects.{IsPlain}
-use Rattle.format_csv_records.specs.Extents.{IsBegun}
+use Rattle.format_csv_records.specs.Extents.{IsFieldPrefix}
 use Rattle.format_csv_records.specs.declared.extent.RecordPlace.TheVariants as place
 use Rattle.format_csv_records.proofs.turns.turn_plain.Goals as goal
 
@@ -22,7 +22,7 @@ pub returns-in-None : goal.returns-in-None
 returns-in-None c = (
   λ e. cc,
   stuck c.args.dialect c.args.dialect.apart c.args.byte c.why_byte.result
-      (IsBegun c.args.dialect place.Plain)
+      (IsFieldPrefix c.args.dialect place.Plain)
       (first_plain c.args.dialect c.args.dialect.apart c.args.byte
       (λ t. false≢true (c.if-is_plain.ensures.1 t)))
       c.in-None.ensures.0 c.in-None.ensures.1 c.why_byte.ensures,

@@ -2,7 +2,7 @@ use Rattle.std.proofs.Common.{arith}
 use Rattle.format_csv_records.proofs.Stepping.{goes_step, grows_two, quote_text}
 use Rattle.format_csv_records.proofs.Stepping.{turn_text}
 use Rattle.format_csv_records.proofs.Stuck.{first_quote, stuck}
-use Rattle.format_csv_records.specs.Extents.{IsBegun}
+use Rattle.format_csv_records.specs.Extents.{IsFieldPrefix}
 use Rattle.format_csv_records.specs.declared.extent.RecordPlace.TheVariants as place
 use Rattle.format_csv_records.proofs.turns.turn_quote.Goals as goal
 
@@ -19,7 +19,7 @@ pub returns-in-None : goal.returns-in-None
 returns-in-None c = (
   λ e. cc,
   stuck c.args.dialect c.args.dialect.apart c.args.byte c.why_byte.result
-      (IsBegun c.args.dialect place.Quote)
+      (IsFieldPrefix c.args.dialect place.Quote)
       (first_quote c.args.dialect c.args.dialect.apart c.args.byte c.if-byte-dialect.false)
       c.in-None.ensures.0 c.in-None.ensures.1 c.why_byte.ensures,
 )

@@ -3,16 +3,16 @@ use Rattle.format_http_chunked.proofs.Digits.{digit_goes, digits_end, fault_larg
 use Rattle.format_http_chunked.proofs.Turns.{both_ways}
 use Rattle.format_http_chunked.proofs.framing.after_digit.Goals as goal
 
-pub returns-in-Some-behind_in_line-clause-ok : goal.returns-in-Some-behind_in_line-clause-ok
-returns-in-Some-behind_in_line-clause-ok c content trailers bytes = both_ways
+pub returns-in-Some-after_in_line-clause-ok : goal.returns-in-Some-after_in_line-clause-ok
+returns-in-Some-after_in_line-clause-ok c content trailers bytes = both_ways
     (digits_end c.args.number c.args.byte (c.in-None.ensures.none refl) content trailers bytes)
-    (c.in-Some-behind_in_line.ensures.some content trailers bytes)
+    (c.in-Some-after_in_line.ensures.some content trailers bytes)
 
-pub returns-in-None-behind_in_line-clause-err : goal.returns-in-None-behind_in_line-clause-err
-returns-in-None-behind_in_line-clause-err c room left = (
+pub returns-in-None-after_in_line-clause-err : goal.returns-in-None-after_in_line-clause-err
+returns-in-None-after_in_line-clause-err c room left = (
   tt,
   λ content trailers bytes x.
-      c.in-None-behind_in_line.ensures.none refl content trailers bytes
+      c.in-None-after_in_line.ensures.none refl content trailers bytes
       ((digits_end c.args.number c.args.byte (c.in-None.ensures.none refl) content trailers bytes).0
       x),
 )

@@ -24,7 +24,7 @@ returns-in-Digits-clause-err c =
     (λ why. (room left : ℕ) → IsFault (place.Framing a) room left c.args.byte why) in
     subst P (sym c.in-Digits.is) c.after_digit.ensures.err
 
-pub returns-in-None-behind_in_line-clause-err : goal.returns-in-None-behind_in_line-clause-err
-returns-in-None-behind_in_line-clause-err c =
+pub returns-in-None-after_in_line-clause-err : goal.returns-in-None-after_in_line-clause-err
+returns-in-None-after_in_line-clause-err c =
     fault_at c.args.at (framing.Line c.in-Line.line c.in-Line.size) c.args.byte fault.SizeLine
-    c.in-Line.is (λ room left. (tt, c.in-None-behind_in_line.ensures.none refl))
+    c.in-Line.is (λ room left. (tt, c.in-None-after_in_line.ensures.none refl))

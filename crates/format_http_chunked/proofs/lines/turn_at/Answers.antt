@@ -1,9 +1,9 @@
 use Rattle.format_http_chunked.proofs.Turns.{turn_in}
 use Rattle.format_http_chunked.proofs.lines.turn_at.Goals as goal
 
-pub returns-in-Behind : goal.returns-in-Behind
-returns-in-Behind c size =
-    turn_in c.in-Behind.is size c.args.byte c.turn_behind.result (c.turn_behind.ensures size)
+pub returns-in-AfterSize : goal.returns-in-AfterSize
+returns-in-AfterSize c size =
+    turn_in c.in-AfterSize.is size c.args.byte c.turn_behind.result (c.turn_behind.ensures size)
 
 pub returns-in-White : goal.returns-in-White
 returns-in-White c size =

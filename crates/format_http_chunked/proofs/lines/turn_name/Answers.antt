@@ -1,7 +1,7 @@
 use mathlib.Core.Bool.{false≢true}
 use Rattle.std.proofs.Common.{refl}
 use Rattle.format_http_chunked.proofs.Turns.{counted, name_other, name_return, name_token, turn_by}
-use Rattle.format_http_chunked.specs.Bodies.{Behind}
+use Rattle.format_http_chunked.specs.Bodies.{ChunksAfterSize}
 use Rattle.format_http_chunked.specs.declared.places.Framing.TheVariants as framing
 use Rattle.format_http_chunked.specs.declared.places.InLine.TheVariants as line
 use Rattle.format_http_chunked.proofs.lines.turn_name.Goals as goal
@@ -19,5 +19,6 @@ pub returns : goal.returns
 returns c size = turn_by (framing.Line line.Name size) (framing.Line line.NameWhite size) size
     c.args.byte c.turn_name_white.result
     (λ content trailers bytes. counted (λ n. name_other
-    (Behind n content trailers size) c.args.byte bytes (λ t. false≢true (c.if-is_token.ensures.1 t))
+    (ChunksAfterSize n content trailers size) c.args.byte bytes
+    (λ t. false≢true (c.if-is_token.ensures.1 t))
     c.if-byte-eq13.false)) (c.turn_name_white.ensures size)

@@ -1,33 +1,33 @@
 use Rattle.std.proofs.Common.{[], ◌∷◌}
 use Rattle.format_http_places.specs.Extents.{Due}
 use Rattle.format_http_places.specs.declared.extent.HeadPlace.TheVariants as place
-use Rattle.format_http_places.proofs.Behind.{behind_byte, none_byte}
+use Rattle.format_http_places.proofs.EquivalentAfter.{behind_byte, none_byte}
 use Rattle.format_http_places.proofs.PlaceSteps.{major_step, method_step, minor_step, name_step}
 use Rattle.format_http_places.proofs.PlaceSteps.{start_step, step_at, step_only, target_start_step}
 use Rattle.format_http_places.proofs.PlaceSteps.{target_step, value_step, version_step}
 use Rattle.format_http_places.proofs.extent.place_after.Goals as goal
 
 pub returns-in-Start : goal.returns-in-Start
-returns-in-Start c = step_at c.args.place place.Start c.args.byte c.if_so.result
+returns-in-Start c = step_at c.args.place place.Start c.args.byte c.then_some.result
     c.in-Start.is (start_step c.args.byte c.is_token.result c.is_token.ensures
-    c.if_so.result c.if_so.ensures)
+    c.then_some.result c.then_some.ensures)
 
 pub returns-in-Method : goal.returns-in-Method
-returns-in-Method c = step_at c.args.place place.Method c.args.byte c.run_or.result
+returns-in-Method c = step_at c.args.place place.Method c.args.byte c.or_run.result
     c.in-Method.is (method_step c.args.byte c.is_token-in-Method.result c.is_token-in-Method.ensures
-    c.run_or.result c.run_or.ensures)
+    c.or_run.result c.or_run.ensures)
 
 pub returns-in-TargetStart : goal.returns-in-TargetStart
 returns-in-TargetStart c =
-    step_at c.args.place place.TargetStart c.args.byte c.if_so-in-TargetStart.result
+    step_at c.args.place place.TargetStart c.args.byte c.then_some-in-TargetStart.result
     c.in-TargetStart.is (target_start_step c.args.byte c.is_visible.result c.is_visible.ensures
-    c.if_so-in-TargetStart.result c.if_so-in-TargetStart.ensures)
+    c.then_some-in-TargetStart.result c.then_some-in-TargetStart.ensures)
 
 pub returns-in-Target : goal.returns-in-Target
-returns-in-Target c = step_at c.args.place place.Target c.args.byte c.run_or-in-Target.result
+returns-in-Target c = step_at c.args.place place.Target c.args.byte c.or_run-in-Target.result
     c.in-Target.is (target_step c.args.byte c.is_visible-in-Target.result
     c.is_visible-in-Target.ensures
-    c.run_or-in-Target.result c.run_or-in-Target.ensures)
+    c.or_run-in-Target.result c.or_run-in-Target.ensures)
 
 pub returns-in-Version : goal.returns-in-Version
 returns-in-Version c = step_at c.args.place place.Version c.args.byte c.only.result
@@ -58,9 +58,9 @@ returns-in-AfterP c = step_at c.args.place place.AfterP c.args.byte c.only-in-Af
     c.only-in-AfterP.result c.only-in-AfterP.ensures)
 
 pub returns-in-Major : goal.returns-in-Major
-returns-in-Major c = step_at c.args.place place.Major c.args.byte c.if_so-in-Major.result
+returns-in-Major c = step_at c.args.place place.Major c.args.byte c.then_some-in-Major.result
     c.in-Major.is (major_step c.args.byte c.is_digit.result c.is_digit.ensures
-    c.if_so-in-Major.result c.if_so-in-Major.ensures)
+    c.then_some-in-Major.result c.then_some-in-Major.ensures)
 
 pub returns-in-Point : goal.returns-in-Point
 returns-in-Point c = step_at c.args.place place.Point c.args.byte c.only-in-Point.result
@@ -69,9 +69,9 @@ returns-in-Point c = step_at c.args.place place.Point c.args.byte c.only-in-Poin
     c.only-in-Point.result c.only-in-Point.ensures)
 
 pub returns-in-Minor : goal.returns-in-Minor
-returns-in-Minor c = step_at c.args.place place.Minor c.args.byte c.if_so-in-Minor.result
+returns-in-Minor c = step_at c.args.place place.Minor c.args.byte c.then_some-in-Minor.result
     c.in-Minor.is (minor_step c.args.byte c.is_digit-in-Minor.result c.is_digit-in-Minor.ensures
-    c.if_so-in-Minor.result c.if_so-in-Minor.ensures)
+    c.then_some-in-Minor.result c.then_some-in-Minor.ensures)
 
 pub returns-in-Return : goal.returns-in-Return
 returns-in-Return c = step_at c.args.place place.Return c.args.byte c.only-in-Return.result
@@ -90,14 +90,14 @@ returns-in-Fields c = step_at c.args.place place.Fields c.args.byte
     c.place_in_fields.result c.in-Fields.is c.place_in_fields.ensures
 
 pub returns-in-Name : goal.returns-in-Name
-returns-in-Name c = step_at c.args.place place.Name c.args.byte c.run_or-in-Name.result
+returns-in-Name c = step_at c.args.place place.Name c.args.byte c.or_run-in-Name.result
     c.in-Name.is (name_step c.args.byte c.is_token-in-Name.result c.is_token-in-Name.ensures
-    c.run_or-in-Name.result c.run_or-in-Name.ensures)
+    c.or_run-in-Name.result c.or_run-in-Name.ensures)
 
 pub returns-in-Value : goal.returns-in-Value
-returns-in-Value c = step_at c.args.place place.Value c.args.byte c.run_or-in-Value.result
+returns-in-Value c = step_at c.args.place place.Value c.args.byte c.or_run-in-Value.result
     c.in-Value.is (value_step c.args.byte c.is_value.result c.is_value.ensures
-    c.run_or-in-Value.result c.run_or-in-Value.ensures)
+    c.or_run-in-Value.result c.or_run-in-Value.ensures)
 
 pub returns-in-LastLineFeed : goal.returns-in-LastLineFeed
 returns-in-LastLineFeed c =

@@ -6,4 +6,4 @@ returns-then-byte-eq13 c = fields_end c.args.byte c.if-byte-eq13.true
 
 pub returns-else-byte-eq13 : goal.returns-else-byte-eq13
 returns-else-byte-eq13 c = fields_step c.args.byte c.if-byte-eq13.false c.is_token.result
-    c.is_token.ensures c.if_so.result c.if_so.ensures
+    c.is_token.ensures c.then_some.result c.then_some.ensures

@@ -1,4 +1,4 @@
-use Rattle.format_json.proofs.Told.{unwritten_memory}
+use Rattle.format_json.proofs.ErrorResults.{unwritten_memory}
 use Rattle.format_json.proofs.write.to_text.Goals as goal
 
 pub returns-in-Err-clause-none : goal.returns-in-Err-clause-none

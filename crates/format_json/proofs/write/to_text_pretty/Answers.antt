@@ -1,5 +1,5 @@
 use Rattle.format_json.proofs.Laid.{laid_within}
-use Rattle.format_json.proofs.Told.{unwritten_memory}
+use Rattle.format_json.proofs.ErrorResults.{unwritten_memory}
 use Rattle.format_json_writer.specs.Built.{added_alone, adds_as}
 use Rattle.format_json_writer.specs.Refused.{refused_text}
 use Rattle.format_json.proofs.write.to_text_pretty.Goals as goal

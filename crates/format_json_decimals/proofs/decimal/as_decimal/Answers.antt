@@ -1,7 +1,7 @@
 use Rattle.std.proofs.Common.{◌∙◌, ◌<◌, ◌^◌, FitsSigned, length, of_z, rules, subst, sym}
 use Rattle.std.proofs.Common.{Bool, to_z}
 use Rattle.std.proofs.lemmas.Int.{to_z-of_z}
-use Rattle.std.specs.Int.{w32, w128}
+use Rattle.std.specs.Int.{w128, w32}
 use Rattle.format_json_decimals.proofs.Scaled.{is_zero, moved_is, not_fitting, not_wide}
 use Rattle.format_json_decimals.proofs.Scaled.{reduced_decimal, too_long}
 use Rattle.format_json_decimals.specs.Decimals.{IsDecimal}
@@ -10,18 +10,18 @@ use Rattle.format_json_decimals.proofs.decimal.as_decimal.Goals as goal
 
 pub returns-in_default : goal.returns-in_default
 returns-in_default c = λ n is.
-    let (_, split) = c.behind_sign-negative.ensures n is in
+    let (_, split) = c.skip_sign-negative.ensures n is in
     too_long n (c.in_default.ensures _ n is split)
 
 pub returns-then-read-eq0 : goal.returns-then-read-eq0
 returns-then-read-eq0 c = λ n is.
-    let (_, split) = c.behind_sign-negative.ensures n is in
+    let (_, split) = c.skip_sign-negative.ensures n is in
     let (_, _, small) = c.in-Some.ensures _ n is split in
     is_zero n c.in-Some.read.digits c.in-Some.read.zeros c.if-read-eq0.true small
 
 pub returns-in_default-power_of : goal.returns-in_default-power_of
 returns-in_default-power_of c = λ n is.
-    let (_, split) = c.behind_sign-negative.ensures n is in
+    let (_, split) = c.skip_sign-negative.ensures n is in
     let (behind, places, small) = c.in-Some.ensures _ n is split in
     let digits : c.in-Some.read.digits < 2 ^ 64 = search rules in
     let zeros : c.in-Some.read.zeros < 2 ^ 64 = search rules in
@@ -33,7 +33,7 @@ returns-in_default-power_of c = λ n is.
 
 pub returns-in-Some-shifted : goal.returns-in-Some-shifted
 returns-in-Some-shifted c = λ n is.
-    let (signed, split) = c.behind_sign-negative.ensures n is in
+    let (signed, split) = c.skip_sign-negative.ensures n is in
     let (behind, places, small) = c.in-Some.ensures _ n is split in
     let power = subst (λ t. IsExponent t n.power) (sym behind) is.is_exponent in
     let (wide, said) = c.in-Some-power_of.ensures n.power power in
@@ -52,7 +52,7 @@ returns-in-Some-shifted c = λ n is.
 
 pub returns-in-None : goal.returns-in-None
 returns-in-None c = λ n is.
-    let (_, split) = c.behind_sign-negative.ensures n is in
+    let (_, split) = c.skip_sign-negative.ensures n is in
     let (behind, places, small) = c.in-Some.ensures _ n is split in
     let digits : c.in-Some.read.digits < 2 ^ 64 = search rules in
     let power = subst (λ t. IsExponent t n.power) (sym behind) is.is_exponent in

@@ -4,7 +4,7 @@ use Rattle.format_json_extents.proofs.steps.is_over.Goals as goal
 
 pub returns : goal.returns
 returns c =
-    let tells = empty_tells c.is_empty.result c.behind_gap.result.now c.is_empty.ensures in (
-      λ yes. over_is _ _ c.behind_gap.ensures (tells.0 yes),
-      λ is. tells.1 (over_left _ _ c.behind_gap.ensures is),
+    let tells = empty_tells c.is_empty.result c.skip_whitespace.result.now c.is_empty.ensures in (
+      λ yes. over_is _ _ c.skip_whitespace.ensures (tells.0 yes),
+      λ is. tells.1 (over_left _ _ c.skip_whitespace.ensures is),
     )

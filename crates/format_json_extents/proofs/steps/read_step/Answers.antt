@@ -5,8 +5,8 @@ use Rattle.format_json_extents.proofs.steps.read_step.Goals as goal
 pub returns-in_err-rest-clause-none : goal.returns-in_err-rest-clause-none
 returns-in_err-rest-clause-none c =
     if_none _ c.from_residual.result
-    (no_token _ _ c.behind_lead-start.ensures c.in_err-rest.ensures)
+    (no_token _ _ c.skip_separator-start.ensures c.in_err-rest.ensures)
 
 pub returns-clause-found : goal.returns-clause-found
 returns-clause-found c =
-    next_step _ _ _ _ c.behind_lead-start.ensures c.in_ok-rest.ensures c.of_text.ensures
+    next_step _ _ _ _ c.skip_separator-start.ensures c.in_ok-rest.ensures c.of_text.ensures

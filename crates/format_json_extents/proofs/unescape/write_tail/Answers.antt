@@ -13,10 +13,10 @@ pieces-init c =
 
 pub pieces-preserved : goal.pieces-preserved
 pieces-preserved c = record {
-  leads = escape_leads _ _ _ _ _ c.pieces.invariant.leads c.behind_unescaped-ahead.ensures
+  leads = escape_leads _ _ _ _ _ c.pieces.invariant.leads c.skip_unescaped-ahead.ensures
       c.in_ok-escape-in-None.ensures c.in_ok-rest-in-None.ensures;
   wrote = wrote_escape _ _ _ _ _ _ _ _ _ _
-      (wrote_run _ _ _ _ _ _ _ _ c.pieces.invariant.wrote c.behind_unescaped-ahead.ensures refl
+      (wrote_run _ _ _ _ _ _ _ _ c.pieces.invariant.wrote c.skip_unescaped-ahead.ensures refl
       c.put.ensures) c.in_ok-escape-in-None.ensures c.in_ok-rest-in-None.ensures refl
       c.put_escape-count.ensures;
 }
@@ -24,21 +24,21 @@ pieces-preserved c = record {
 pub returns-in-Some : goal.returns-in-Some
 returns-in-Some c =
     tail_written _ _ _ _ _ _
-    (wrote_run _ _ _ _ _ _ _ _ c.pieces.invariant.wrote c.behind_unescaped-ahead.ensures refl
+    (wrote_run _ _ _ _ _ _ _ _ c.pieces.invariant.wrote c.skip_unescaped-ahead.ensures refl
     c.put.ensures) c.in-Some.ensures
 
 pub returns-in_err-escape-in-None : goal.returns-in_err-escape-in-None
 returns-in_err-escape-in-None c =
     let none = leads_none IsStringTail c.args.bytes.now _
-    (tail_ahead _ _ _ c.pieces.invariant.leads c.behind_unescaped-ahead.ensures)
-    (tail_none _ (piece_other _ _ c.behind_unescaped-ahead.ensures c.in_err-escape-in-None.ensures)
+    (tail_ahead _ _ _ c.pieces.invariant.leads c.skip_unescaped-ahead.ensures)
+    (tail_none _ (piece_other _ _ c.skip_unescaped-ahead.ensures c.in_err-escape-in-None.ensures)
     c.in-None.ensures) in
     search rules
 
 pub returns-in_err-rest-in-None : goal.returns-in_err-rest-in-None
 returns-in_err-rest-in-None c =
     let none = leads_none IsStringTail c.args.bytes.now _
-    (tail_ahead _ _ _ c.pieces.invariant.leads c.behind_unescaped-ahead.ensures)
+    (tail_ahead _ _ _ c.pieces.invariant.leads c.skip_unescaped-ahead.ensures)
     (tail_none _
     (piece_none _ _ c.in_ok-escape-in-None.ensures c.in_err-rest-in-None.ensures)
     c.in-None.ensures) in

@@ -13,90 +13,90 @@ use Rattle.format_json_extents.specs.Texts.{Never}
 use Rattle.format_json_extents.specs.Value.{IsItemsTail, IsValue}
 use Rattle.format_json_extents.proofs.value.+nesting.Goals as goal
 
-pub behind_items-returns-in_err-named : goal.behind_items-returns-in_err-named
-behind_items-returns-in_err-named t c =
+pub skip_items-returns-in_err-named : goal.skip_items-returns-in_err-named
+skip_items-returns-in_err-named t c =
     let none = leads_none (IsItemsTail c.args.keyed (IsValue c.args.level)) c.args.bytes.now _
     c.items.invariant
     (items_none c.args.keyed (IsValue c.args.level) _
     (item_no_name c.args.keyed (IsValue c.args.level) _ c.in_err-named.ensures)) in
     search rules
 
-pub behind_items-returns-in_err-item : goal.behind_items-returns-in_err-item
-behind_items-returns-in_err-item t c =
+pub skip_items-returns-in_err-item : goal.skip_items-returns-in_err-item
+skip_items-returns-in_err-item t c =
     let none = leads_none (IsItemsTail c.args.keyed (IsValue c.args.level)) c.args.bytes.now _
     c.items.invariant
     (items_none c.args.keyed (IsValue c.args.level) _
-    (item_no_value c.args.keyed c.args.level _ _ _ c.in_ok-named.ensures c.behind_gap.ensures
+    (item_no_value c.args.keyed c.args.level _ _ _ c.in_ok-named.ensures c.skip_whitespace.ensures
     c.in_err-item.ensures)) in
     search rules
 
-pub behind_items-returns-in-Some : goal.behind_items-returns-in-Some
-behind_items-returns-in-Some t c =
+pub skip_items-returns-in-Some : goal.skip_items-returns-in-Some
+skip_items-returns-in-Some t c =
     leads_leaves (IsItemsTail c.args.keyed (IsValue c.args.level)) Never c.args.bytes.now _ _
     c.items.invariant
     (items_end c.args.keyed (IsValue c.args.level) _ _ _
-    (item_parts c.args.keyed c.args.level _ _ _ _ _ c.in_ok-named.ensures c.behind_gap.ensures
-    c.in_ok-item.ensures c.behind_gap-ahead.ensures)
+    (item_parts c.args.keyed c.args.level _ _ _ _ _ c.in_ok-named.ensures c.skip_whitespace.ensures
+    c.in_ok-item.ensures c.skip_whitespace-ahead.ensures)
     c.in-Some.ensures)
 
-pub behind_items-returns-in_err-rest-in-None : goal.behind_items-returns-in_err-rest-in-None
-behind_items-returns-in_err-rest-in-None t c =
+pub skip_items-returns-in_err-rest-in-None : goal.skip_items-returns-in_err-rest-in-None
+skip_items-returns-in_err-rest-in-None t c =
     let none = leads_none (IsItemsTail c.args.keyed (IsValue c.args.level)) c.args.bytes.now _
     c.items.invariant
     (items_stop c.args.keyed (IsValue c.args.level) _ _
-    (item_parts c.args.keyed c.args.level _ _ _ _ _ c.in_ok-named.ensures c.behind_gap.ensures
-    c.in_ok-item.ensures c.behind_gap-ahead.ensures)
+    (item_parts c.args.keyed c.args.level _ _ _ _ _ c.in_ok-named.ensures c.skip_whitespace.ensures
+    c.in_ok-item.ensures c.skip_whitespace-ahead.ensures)
     c.in-None.ensures c.in_err-rest-in-None.ensures) in
     search rules
 
-pub behind_items-items-preserved : goal.behind_items-items-preserved
-behind_items-items-preserved t c =
+pub skip_items-items-preserved : goal.skip_items-items-preserved
+skip_items-items-preserved t c =
     leads_on (IsItemsTail c.args.keyed (IsValue c.args.level)) c.args.bytes.now _ _
     c.items.invariant
     (items_more c.args.keyed (IsValue c.args.level) _ _ _
-    (item_parts c.args.keyed c.args.level _ _ _ _ _ c.in_ok-named.ensures c.behind_gap.ensures
-    c.in_ok-item.ensures c.behind_gap-ahead.ensures)
+    (item_parts c.args.keyed c.args.level _ _ _ _ _ c.in_ok-named.ensures c.skip_whitespace.ensures
+    c.in_ok-item.ensures c.skip_whitespace-ahead.ensures)
     c.in_ok-rest-in-None.ensures)
 
-pub behind_items-items-smaller : goal.behind_items-items-smaller
-behind_items-items-smaller t c =
+pub skip_items-items-smaller : goal.skip_items-items-smaller
+skip_items-items-smaller t c =
     items_less c.args.keyed c.args.level _ _ _
-    (item_parts c.args.keyed c.args.level _ _ _ _ _ c.in_ok-named.ensures c.behind_gap.ensures
-    c.in_ok-item.ensures c.behind_gap-ahead.ensures)
+    (item_parts c.args.keyed c.args.level _ _ _ _ _ c.in_ok-named.ensures c.skip_whitespace.ensures
+    c.in_ok-item.ensures c.skip_whitespace-ahead.ensures)
     c.in_ok-rest-in-None.ensures
 
-pub behind_value-returns-then-level-eq0 : goal.behind_value-returns-then-level-eq0
-behind_value-returns-then-level-eq0 t c =
+pub skip_value-returns-then-level-eq0 : goal.skip_value-returns-then-level-eq0
+skip_value-returns-then-level-eq0 t c =
     value_lowest c.args.level c.args.bytes.now c.if-level-eq0.true
     (opening_no_scalar c.in-Some.keyed _ _ c.in-Some.ensures)
 
-pub behind_value-returns-in-None : goal.behind_value-returns-in-None
-behind_value-returns-in-None t c =
-    match_on _ _ _ _ c.behind_scalar.result
+pub skip_value-returns-in-None : goal.skip_value-returns-in-None
+skip_value-returns-in-None t c =
+    match_on _ _ _ _ c.skip_scalar.result
     (λ none. value_no_other c.args.level c.args.bytes.now c.in-None.ensures none)
-    (λ rest it. value_scalar c.args.level c.args.bytes.now rest.now it) c.behind_scalar.ensures
+    (λ rest it. value_scalar c.args.level c.args.bytes.now rest.now it) c.skip_scalar.ensures
 
-pub behind_value-returns-in-Some-behind_empty : goal.behind_value-returns-in-Some-behind_empty
-behind_value-returns-in-Some-behind_empty t c =
+pub skip_value-returns-in-Some-skip_empty : goal.skip_value-returns-in-Some-skip_empty
+skip_value-returns-in-Some-skip_empty t c =
     let below = c.args.level - 1 in
     let keyed = c.in-Some.keyed in
     let above : c.args.level ≡ suc (c.args.level - 1) = omega arith in
     value_nested c.args.level below c.args.bytes.now _ above
     (opening_no_scalar keyed _ _ c.in-Some.ensures)
     (nested_is keyed (IsValue below) c.args.bytes.now _ _ c.in-Some.ensures
-    (tail_empty keyed (IsValue below) _ _ (value_starts below) c.in-Some-behind_empty.ensures))
+    (tail_empty keyed (IsValue below) _ _ (value_starts below) c.in-Some-skip_empty.ensures))
 
-pub behind_value-returns-in-None-behind_empty : goal.behind_value-returns-in-None-behind_empty
-behind_value-returns-in-None-behind_empty t c =
+pub skip_value-returns-in-None-skip_empty : goal.skip_value-returns-in-None-skip_empty
+skip_value-returns-in-None-skip_empty t c =
     let below = c.args.level - 1 in
     let keyed = c.in-Some.keyed in
     let above : c.args.level ≡ suc (c.args.level - 1) = omega arith in
     let scalar = opening_no_scalar keyed _ _ c.in-Some.ensures in
-    match_on _ _ _ _ c.behind_items.result
+    match_on _ _ _ _ c.skip_items.result
     (λ none. value_none c.args.level below c.args.bytes.now above scalar
     (nested_none keyed (IsValue below) c.args.bytes.now _ c.in-Some.ensures
-    (tail_none keyed (IsValue below) _ c.in-None-behind_empty.ensures none)))
+    (tail_none keyed (IsValue below) _ c.in-None-skip_empty.ensures none)))
     (λ rest it. value_nested c.args.level below c.args.bytes.now rest.now above scalar
     (nested_is keyed (IsValue below) c.args.bytes.now _ rest.now c.in-Some.ensures
-    (tail_items keyed (IsValue below) _ rest.now c.in-None-behind_empty.ensures it)))
-    c.behind_items.ensures
+    (tail_items keyed (IsValue below) _ rest.now c.in-None-skip_empty.ensures it)))
+    c.skip_items.ensures

@@ -9,8 +9,8 @@ use Rattle.format_json_extents.proofs.value.is_text.Goals as goal
 pub returns-in-Some-clause-text : goal.returns-in-Some-clause-text
 returns-in-Some-clause-text c =
     let whole = element_is (IsValue c.args.level) c.args.bytes.now _ _ _
-    (value_starts c.args.level) c.behind_gap.ensures c.in-Some.ensures
-    c.behind_gap-in-Some.ensures in
+    (value_starts c.args.level) c.skip_whitespace.ensures c.in-Some.ensures
+    c.skip_whitespace-in-Some.ensures in
     let empty = empty_tells c.is_empty.result _ c.is_empty.ensures in (
       λ yes. text_is c.args.level IsItemByte c.args.bytes.now _ whole (empty.0 yes),
       λ is. empty.1 (text_ends c.args.level IsItemByte c.args.bytes.now _ whole is),
@@ -19,7 +19,7 @@ returns-in-Some-clause-text c =
 pub returns-in-None-clause-text : goal.returns-in-None-clause-text
 returns-in-None-clause-text c =
     let none = element_none (IsValue c.args.level) c.args.bytes.now _ (value_starts c.args.level)
-    c.behind_gap.ensures c.in-None.ensures in
+    c.skip_whitespace.ensures c.in-None.ensures in
     (λ yes. cc, λ is. absurd (text_not c.args.level c.args.bytes.now none is))
 
 pub returns-in-Some-clause-standard : goal.returns-in-Some-clause-standard

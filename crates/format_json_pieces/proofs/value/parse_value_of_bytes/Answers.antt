@@ -1,4 +1,4 @@
-use Rattle.format_json_pieces.specs.Told.{broken_told, fault_told, text_told}
+use Rattle.format_json_pieces.specs.Results.{broken_told, fault_told, text_told}
 use Rattle.format_json_texts.specs.Values.{JsonText}
 use Rattle.winnow.specs.Accumulator.Holds.{HasCharacters}
 use Rattle.format_json_pieces.proofs.value.parse_value_of_bytes.Goals as goal

@@ -1,5 +1,5 @@
 use Rattle.std.proofs.Common.{refl, rules}
-use Rattle.format_json_pieces.specs.Told.{fails_told, stands_told}
+use Rattle.format_json_pieces.specs.Results.{fails_told, stands_told}
 use Rattle.format_json_pieces.specs.Value.{IsValueIn, value_ends}
 use Rattle.format_json_pieces.proofs.value.read_value_in_pieces.Goals as goal
 

@@ -1,6 +1,6 @@
 use Rattle.format_resp.proofs.LeafTexts.{is_none, is_some}
 use Rattle.format_resp.proofs.NumberTexts.{all_whole, digits_more, none_whole}
-use Rattle.format_resp.proofs.Told.{bool_on}
+use Rattle.format_resp.proofs.Results.{bool_on}
 use Rattle.format_resp.specs.Numbers.{AreDigits}
 use Rattle.format_resp.proofs.numbers.are_digits.Goals as goal
 

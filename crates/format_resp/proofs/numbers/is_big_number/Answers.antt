@@ -1,6 +1,6 @@
 use Rattle.format_resp.proofs.LeafTexts.{is_none, is_some}
 use Rattle.format_resp.proofs.NumberTexts.{all_whole, none_whole, number_more}
-use Rattle.format_resp.proofs.Told.{bool_on}
+use Rattle.format_resp.proofs.Results.{bool_on}
 use Rattle.format_resp.specs.Numbers.{IsBigNumber}
 use Rattle.format_resp.proofs.numbers.is_big_number.Goals as goal
 

@@ -1,5 +1,5 @@
 use Rattle.format_resp.proofs.NumberTexts.{decimal_back, decimal_is, decimal_none}
-use Rattle.format_resp.proofs.Told.{bool_as}
+use Rattle.format_resp.proofs.Results.{bool_as}
 use Rattle.format_resp.proofs.numbers.is_decimal.Goals as goal
 
 pub returns-in-Some : goal.returns-in-Some

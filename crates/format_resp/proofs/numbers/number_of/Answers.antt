@@ -1,7 +1,7 @@
 use Rattle.std.proofs.lemmas.List.{nil_from_length}
 use Rattle.format_resp.proofs.Digits.{minus_back, minus_first, no_integer, no_sign_back}
 use Rattle.format_resp.proofs.Digits.{no_sign_first, plus_back, plus_first}
-use Rattle.format_resp.proofs.Told.{some_as}
+use Rattle.format_resp.proofs.Results.{some_as}
 use Rattle.format_resp.proofs.numbers.number_of.Goals as goal
 
 pub returns-in_err-first-clause-none : goal.returns-in_err-first-clause-none

@@ -29,15 +29,15 @@ returns-then-first-eq45 c =
     ∙ ap (λ k. k ∷ c.in_ok-first.rest.now) c.if-first-eq45.true)) _ _ c.in_ok-unsigned-2.ensures
     c.negative.ensures
 
-pub returns-in_err-behind_zero : goal.returns-in_err-behind_zero
-returns-in_err-behind_zero c = rw c.from_residual-in_err-behind_zero.ensures
+pub returns-in_err-after_zero : goal.returns-in_err-after_zero
+returns-in_err-after_zero c = rw c.from_residual-in_err-after_zero.ensures
     (no_number fits_pos (zeroed (c.in_ok-first.ensures.cases.0
-    ∙ ap (λ k. k ∷ c.in_ok-first.rest.now) c.if-first-eq48.true)) c.in_err-behind_zero.ensures)
+    ∙ ap (λ k. k ∷ c.in_ok-first.rest.now) c.if-first-eq48.true)) c.in_err-after_zero.ensures)
 
 pub returns-then-first-eq48 : goal.returns-then-first-eq48
 returns-then-first-eq48 c =
     by_sign fits_pos (zeroed (c.in_ok-first.ensures.cases.0
-    ∙ ap (λ k. k ∷ c.in_ok-first.rest.now) c.if-first-eq48.true)) _ _ c.in_ok-behind_zero.ensures
+    ∙ ap (λ k. k ∷ c.in_ok-first.rest.now) c.if-first-eq48.true)) _ _ c.in_ok-after_zero.ensures
     c.positive-then-first-eq48.ensures
 
 pub returns-in_err-unsigned-3 : goal.returns-in_err-unsigned-3

@@ -5,7 +5,7 @@ use Rattle.format_toml.specs.Starts.{IsStart}
 use Rattle.format_toml_document.specs.Fault.{IsRefusal}
 use Rattle.format_toml_document.specs.contracts.fault.fault_of_build.{A-type}
 use Rattle.format_toml_document.specs.declared.fault.Fault.TheVariants.{Refused}
-use Rattle.format_toml_document.proofs.Told.{refusal_told}
+use Rattle.format_toml_document.proofs.ErrorResults.{refusal_told}
 use Rattle.format_toml_document.proofs.fault.fault_of_build.Goals as goal
 use Rattle.format_toml_tree.specs.declared.build.Fault.{Fault}
 

@@ -3,7 +3,7 @@ use Rattle.std.specs.Str.{chars}
 use Rattle.std.proofs.Common.{rules}
 use Rattle.format_toml.specs.Expected.{IsFirstLack}
 use Rattle.format_toml_document.specs.contracts.fault.fault_of_text.{A-type}
-use Rattle.format_toml_document.proofs.Told.{lack_told}
+use Rattle.format_toml_document.proofs.ErrorResults.{lack_told}
 use Rattle.format_toml_document.proofs.fault.fault_of_text.Goals as goal
 
 pub returns-in-Ok-Some : goal.returns-in-Ok-Some

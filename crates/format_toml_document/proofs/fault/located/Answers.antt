@@ -1,7 +1,7 @@
 use Rattle.std.specs.Prelude.{ℕ, List}
 use Rattle.std.proofs.Common.{rules, subst}
 use Rattle.format_toml_document.specs.Fault.{IsLocation}
-use Rattle.format_toml_document.proofs.Told.{after_of}
+use Rattle.format_toml_document.proofs.ErrorResults.{after_of}
 use Rattle.format_toml_document.proofs.fault.located.Goals as goal
 
 pub returns : goal.returns

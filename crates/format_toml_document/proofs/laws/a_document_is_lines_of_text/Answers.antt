@@ -1,4 +1,4 @@
-use Rattle.format_toml_document.proofs.Told.{document_faults}
+use Rattle.format_toml_document.proofs.ErrorResults.{document_faults}
 use Rattle.format_toml_document.proofs.laws.a_document_is_lines_of_text.Goals as goal
 
 pub returns : goal.returns

@@ -1,5 +1,5 @@
 use Rattle.format_toml_document.specs.contracts.read.from_bytes.{A-type}
-use Rattle.format_toml_document.proofs.Told.{document_told}
+use Rattle.format_toml_document.proofs.ErrorResults.{document_told}
 use Rattle.format_toml_document.proofs.read.from_bytes.Goals as goal
 
 pub returns-in-Ok-clause-tree : goal.returns-in-Ok-clause-tree

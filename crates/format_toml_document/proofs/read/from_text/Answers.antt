@@ -1,7 +1,7 @@
 use Rattle.std.specs.Prelude.{List, [], Option, Err, Ok}
 use Rattle.std.proofs.Common.{ap, subst, ◌∙◌}
 use Rattle.format_toml_document.specs.contracts.read.from_text.{A-type}
-use Rattle.format_toml_document.proofs.Told.{lines_told}
+use Rattle.format_toml_document.proofs.ErrorResults.{lines_told}
 use Rattle.format_toml_document.proofs.read.from_text.Goals as goal
 use Rattle.format_toml_tree.specs.Holds.{HoldsTree}
 use Rattle.format_toml_tree.specs.Runs.{Gives, Tree as Given, empty}

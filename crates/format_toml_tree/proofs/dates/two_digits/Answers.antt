@@ -1,5 +1,5 @@
 use Rattle.std.proofs.Common.{arith}
-use Rattle.format_toml_tree.specs.Dates.{Finds, Tells}
+use Rattle.format_toml_tree.specs.Dates.{Finds, FoundResult}
 use Rattle.format_toml_tree.specs.DateParts.{two_empty, two_ones, two_short, two_some, two_tens}
 use Rattle.format_toml_tree.proofs.dates.two_digits.Goals as goal
 
@@ -21,17 +21,17 @@ returns-in_err-ones-2 c = rw c.from_residual-in_err-ones-2.ensures
     c.in_err-ones-2.ensures)
 
 pub overflow_mul-result : goal.overflow_mul-result
-unfolding Tells
+unfolding FoundResult
 overflow_mul-result c = let is = c.in_ok-tens-2.ensures in omega (arith, is.0)
 
 pub overflow_add-result : goal.overflow_add-result
-unfolding Tells
+unfolding FoundResult
 overflow_add-result c =
     let tens = c.in_ok-tens-2.ensures in
     let ones = c.in_ok-ones-2.ensures in omega (arith, tens.0, ones.0)
 
 pub returns : goal.returns
-unfolding Finds Tells
+unfolding Finds FoundResult
 returns c =
     two_some _ _ _ c.in_ok-tens.ensures.cases.0 _ _ c.in_ok-ones.ensures.cases.0 _ _
     c.in_ok-tens-2.ensures c.in_ok-ones-2.ensures

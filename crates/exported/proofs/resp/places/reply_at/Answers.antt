@@ -12,7 +12,7 @@ overflow_sub-length c = omega (arith, reply_long _ _ _ _ c.requires.1, c.require
 pub first_of-place-requires : goal.first_of-place-requires
 first_of-place-requires c =
     let (line, none, e) = bulk_stands _ _ _ _ c.requires.1 _ c.in-Bulk.is in
-    record { ends = feed_ends _ _ _ (line, none, e) (c.behind_feed.ensures line _ none e) }
+    record { ends = feed_ends _ _ _ (line, none, e) (c.skip_line.ensures line _ none e) }
 
 pub overflow_sub-behind : goal.overflow_sub-behind
 overflow_sub-behind c =
@@ -20,7 +20,7 @@ overflow_sub-behind c =
     array_stands _ _ _ _ c.requires.1 _ c.in-Array.is in
     omega (
       arith,
-      elements_long bytes c.requires.0 _ (c.behind_feed-behind.ensures line _ none e),
+      elements_long bytes c.requires.0 _ (c.skip_line-behind.ensures line _ none e),
       c.requires.2,
     )
 
@@ -28,7 +28,7 @@ pub first_of-requires : goal.first_of-requires
 first_of-requires c =
     let (inner, deeper, bytes, row, (line, none, e)) =
     array_stands _ _ _ _ c.requires.1 _ c.in-Array.is in
-    record { ends = feed_ends _ _ _ (line, none, e) (c.behind_feed-behind.ensures line _ none e) }
+    record { ends = feed_ends _ _ _ (line, none, e) (c.skip_line-behind.ensures line _ none e) }
 
 pub returns-in-Simple-clause-shown : goal.returns-in-Simple-clause-shown
 returns-in-Simple-clause-shown c rest is left =
@@ -54,7 +54,7 @@ returns-in-Bulk-clause-shown c rest is left =
     let (line, none, e) = bulk_stands _ _ _ _ is _ c.in-Bulk.is in
     bulk_shown _ _ _ _ _ c.in-Bulk.text c.in-Bulk.is (
       record { is_kind = refl; is_number = refl; count = refl },
-      c.first_of-place.ensures _ _ (c.behind_feed.ensures line _ none e) refl,
+      c.first_of-place.ensures _ _ (c.skip_line.ensures line _ none e) refl,
     )
 
 pub returns-in-NullBulk-clause-shown : goal.returns-in-NullBulk-clause-shown
@@ -66,7 +66,7 @@ pub returns-in-Array-clause-shown : goal.returns-in-Array-clause-shown
 returns-in-Array-clause-shown c rest is left =
     let (inner, deeper, bytes, row, (line, none, e)) =
     array_stands _ _ _ _ is _ c.in-Array.is in
-    let behind = c.behind_feed-behind.ensures line _ none e in
+    let behind = c.skip_line-behind.ensures line _ none e in
     array_shown _ _ _ _ _ c.in-Array.elements c.in-Array.is (record {
       is_kind = refl;
       is_number = refl;

@@ -1,19 +1,19 @@
 use Rattle.std.proofs.Common.{arith, subst}
 use Rattle.format_csv_records.proofs.Closing.{refused_open, refused_return, sized_end}
-use Rattle.format_csv_records.specs.Extents.{IsBegun, Passed}
+use Rattle.format_csv_records.specs.Extents.{IsFieldPrefix, Passed}
 use Rattle.format_csv_records.specs.declared.extent.RecordPlace.{RecordPlace}
 use Rattle.format_csv_records.proofs.extent.RecordExtent.end.Goals as goal
 
 pub returns-in-Quoted : goal.returns-in-Quoted
 returns-in-Quoted c d not it all =
-    let P : RecordPlace → Type 0 = λ p. Passed d (IsBegun d p) c.args.self.now.text
+    let P : RecordPlace → Type 0 = λ p. Passed d (IsFieldPrefix d p) c.args.self.now.text
     c.args.self.now.fields c.args.bytes.now in
     refused_open d d.apart c.args.self.now.text c.args.self.now.fields c.args.bytes.now
     (subst P c.in-Quoted.is it)
 
 pub returns-in-Return : goal.returns-in-Return
 returns-in-Return c d not it all =
-    let P : RecordPlace → Type 0 = λ p. Passed d (IsBegun d p) c.args.self.now.text
+    let P : RecordPlace → Type 0 = λ p. Passed d (IsFieldPrefix d p) c.args.self.now.text
     c.args.self.now.fields c.args.bytes.now in
     refused_return d d.apart c.args.self.now.text c.args.self.now.fields c.args.bytes.now
     (subst P c.in-Return.is it)

@@ -1,4 +1,4 @@
-use Rattle.format_http_chunked.proofs.Told.{told}
+use Rattle.format_http_chunked.proofs.Results.{told}
 use Rattle.format_http_chunked.proofs.decoder.Decoder.advance.Goals as goal
 
 pub returns-clause-told : goal.returns-clause-told

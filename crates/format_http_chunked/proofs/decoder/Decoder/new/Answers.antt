@@ -1,4 +1,4 @@
-use Rattle.format_http_chunked.proofs.Told.{begins}
+use Rattle.format_http_chunked.proofs.Results.{begins}
 use Rattle.format_http_chunked.proofs.decoder.Decoder.new.Goals as goal
 
 pub returns-clause-told : goal.returns-clause-told

@@ -6,7 +6,7 @@ use Rattle.format_http_chunked.specs.Room.{PartSpends}
 use Rattle.format_http_chunked.specs.Steps.{IsPart}
 use Rattle.format_http_chunked.specs.declared.decoder.Step.{Step}
 use Rattle.format_http_chunked.proofs.Standing.{stands_then}
-use Rattle.format_http_chunked.specs.Stands.{PartStands}
+use Rattle.format_http_chunked.specs.Outputs.{PartBeforeRest}
 use Rattle.format_http_chunked.proofs.decoder.Decoder.run.Goals as goal
 
 pub returns-in-Err-clause-told : goal.returns-in-Err-clause-told
@@ -56,7 +56,8 @@ returns-in-Err-clause-stands c = stands_then c.bytes.invariant.0.0 c.args.input.
 
 pub returns-in-Some-clause-stands : goal.returns-in-Some-clause-stands
 returns-in-Some-clause-stands c =
-    let P : Option Step → Type 0 = λ o. PartStands c.bytes.input.now c.part.new.input.now (Ok o) in
+    let P : Option Step → Type 0 =
+    λ o. PartBeforeRest c.bytes.input.now c.part.new.input.now (Ok o) in
     stands_then c.bytes.invariant.0.0 c.args.input.now.now c.bytes.input.now
     c.part.new.input.now (Ok c.in-Some.step) c.bytes.invariant.0.1
     (subst P c.in-Some.is c.in-Ok.ensures.stands)

@@ -1,11 +1,11 @@
 use Rattle.std.proofs.Common.{◌≡◌, ◌<◌, ◌≤◌, ◌+◌, length, Err, Ok, refl, ap, subst, arith}
 use Rattle.format_toml_tree.specs.Calls.{stays}
-use Rattle.format_toml_tree.specs.Holds.{Told, says_of}
+use Rattle.format_toml_tree.specs.Holds.{SlotResult, says_of}
 use Rattle.format_toml_tree.specs.Keys.{all_said, said_more, said_refused}
 use Rattle.format_toml_tree.specs.Opened.{told_err}
 use Rattle.format_toml_tree.specs.Runs.{say, say_key}
 use Rattle.format_toml_tree.proofs.tree.Tree.say_key.Goals as goal
-use Rattle.format_toml_tree.proofs.tree.Tree.say_key.Goals.{then-i-names, else-i-names}
+use Rattle.format_toml_tree.proofs.tree.Tree.say_key.Goals.{else-i-names, then-i-names}
 
 pub loop-i-init : goal.loop-i-init
 loop-i-init g c tree path holds =
@@ -39,11 +39,13 @@ returns-in_err-table g c tree path holds =
       )
     ] in
     told_err old new path _ c.from_residual.result stop c.from_residual.ensures
-    (subst (λ l. Told old path (say_key before last (tree, path c.args.table) l) (Err stop) new)
+    (subst (λ l. SlotResult old path (say_key before last (tree, path c.args.table) l)
+    (Err stop) new)
     c.as_slice-names.ensures.value
     (said_refused before last old c.args.table names c.loop-i.i c.loop-i.table mid
     c.loop-i.invariant c.index-names-i.result c.loop-i-test.true c.index-names-i.is here which
-    stop new (λ t p h. subst (λ n. Told mid p (say here (t, p c.loop-i.table) n) (Err stop) new)
+    stop new (λ t p h. subst
+    (λ n. SlotResult mid p (say here (t, p c.loop-i.table) n) (Err stop) new)
     c.as_str.ensures.value (c.in_err-table.ensures t p h)) tree path holds))
 
 pub loop-i-preserved : goal.loop-i-preserved
@@ -68,7 +70,8 @@ loop-i-preserved g c =
     said_more before last c.args.self.now.slots.items c.args.table names c.loop-i.i c.loop-i.table
     mid c.loop-i.invariant c.index-names-i.result c.loop-i-test.true c.index-names-i.is here which
     c.in_ok-table.table new
-    (λ t p h. subst (λ n. Told mid p (say here (t, p c.loop-i.table) n) (Ok c.in_ok-table.table)
+    (λ t p h. subst (λ n. SlotResult mid p (say here (t, p c.loop-i.table) n)
+    (Ok c.in_ok-table.table)
     new)
     c.as_str.ensures.value (c.in_ok-table.ensures t p h))
 
@@ -79,7 +82,7 @@ returns g c tree path holds =
     let new = c.loop-i.self.slots.items in
     let before = says_of c.args.passes in
     let last = says_of c.args.role in
-    subst (λ l. Told old path (say_key before last (tree, path c.args.table) l)
+    subst (λ l. SlotResult old path (say_key before last (tree, path c.args.table) l)
     (Ok c.loop-i.table) new) c.as_slice-names.ensures.value
     (all_said before last old c.args.table names c.loop-i.i c.loop-i.table new c.loop-i.invariant
     c.loop-i-test.false tree path holds)

@@ -1,0 +1,50 @@
+-- Lemmas that a `Fault` is correct for its offset.
+use Rattle.std.specs.Prelude.{◌≡◌, ◌⊎◌, ◌≤◌, ℕ, suc, List, [], ◌∷◌, drop, length, take}
+use Rattle.std.proofs.Common.{ap, arith, inl, inr, subst, sym, ◌∙◌}
+use Rattle.std.proofs.lemmas.List.{take-append-drop, take-append-le}
+use Rattle.std.specs.Str.{IsUtf8}
+use Rattle.std.specs.Str.Lossy.{utf8_valid_len}
+use Rattle.format_json.specs.Fault.{IsErrorOf, IsLocation, write_fault}
+use Rattle.format_json.specs.declared.fault.Fault.TheVariants as faults
+use Rattle.format_json.specs.declared.fault.Location.{Location}
+use Rattle.format_json.specs.declared.fault.WriteFault.{WriteFault}
+use Rattle.format_json.specs.declared.fault.WriteFault.TheVariants as unwritten
+use Rattle.format_json_pieces.specs.Begun.{MayBegin}
+use Rattle.format_json_pieces.specs.Place.{IsPlace}
+use Rattle.format_json_pieces.specs.Stepped.{begun_front}
+use Rattle.format_json_pieces.specs.declared.begun.Bracket.TheVariants.{Whole}
+use Rattle.format_json_pieces.specs.declared.begun.Mode.TheVariants.{Value}
+use Rattle.format_json_pieces.specs.declared.expected.Expected.{Expected}
+use Rattle.format_json_writer.specs.declared.error.WriteError.{WriteError}
+use Rattle.format_json_writer.specs.declared.error.WriteError.TheVariants as errors
+
+module _ (level : ℕ) where
+  -- fewer bytes may begin a text too
+  fewer : (front : List ℕ) (m : ℕ) → MayBegin level front → MayBegin level (take m front)
+  fewer front m x =
+      begun_front (suc level) (take m front) (drop m front) Value (Whole ∷ [])
+      (subst (λ l. MayBegin level l) (sym (take-append-drop m front)) x)
+
+  before_place : (bytes : List ℕ) (n : ℕ) (expected : Expected) (m : ℕ)
+      → IsPlace level bytes n expected → m ≤ n → MayBegin level (take m bytes)
+  before_place bytes n expected m (front, rest, e, size, x, stops, asks) few =
+      let le : m ≤ length front = omega (arith, size, few) in
+      subst (λ l. MayBegin level l)
+      (sym (ap (λ l. take m l) e ∙ take-append-le m front rest le)) (fewer front m x)
+
+  pub told_utf8 : (bytes : List ℕ) (at : Location) (valid n : ℕ) (expected : Expected)
+      → (IsUtf8 bytes → ⊥) → valid ≡ utf8_valid_len bytes → IsLocation bytes valid at
+      → IsPlace level bytes n expected → valid ≤ n → IsErrorOf level bytes (faults.NotUtf8 at)
+  told_utf8 bytes at valid n expected broken is location place before =
+      let P : ℕ → Type 0 = λ m.
+      (IsUtf8 bytes → ⊥) × (m ≡ utf8_valid_len bytes) × MayBegin level (take m bytes)
+      × IsLocation bytes m at in
+      subst P (sym location.0)
+      (broken, is, before_place bytes n expected valid place before, location)
+
+-- ---- what is not written
+
+pub unwritten_memory : {P : Type 0} (error : WriteError) (fault : WriteFault)
+    → fault ≡ write_fault error → (error ≡ errors.Memory) ⊎ P → (fault ≡ unwritten.NoMemory) ⊎ P
+unwritten_memory error fault is (inl memory) = inl (is ∙ ap write_fault memory)
+unwritten_memory error fault is (inr none) = inr none

@@ -1,9 +1,0 @@
-use Rattle.format_json_extents.proofs.Numbers.{fraction_is, fraction_none}
-use Rattle.format_json_extents.proofs.Answered.{match_on}
-use Rattle.format_json_extents.proofs.number.behind_fraction.Goals as goal
-
-pub returns : goal.returns
-returns c =
-    match_on _ _ _ _ c.behind_some_digits.result
-    (λ none. fraction_none _ _ c.in_ok-digits.ensures none)
-    (λ rest it. fraction_is _ _ rest.now c.in_ok-digits.ensures it) c.behind_some_digits.ensures

@@ -1,0 +1,102 @@
+-- Lemmas about the position and the contents of a `Fault`.
+use Rattle.std.specs.Prelude.{◌≡◌, ◌⊎◌, ◌-◌, ℕ, List, [], ◌++◌, Option, Some, length, take}
+use Rattle.std.specs.Prelude.{Err, IfOk, Ok, Result}
+use Rattle.std.specs.Borrow.{Bor}
+use Rattle.std.specs.Str.{IsCharBoundary, IsUtf8, chars, encode_utf8_all}
+use Rattle.std.specs.declared.vec.Vec.{Vec}
+use Rattle.std.proofs.Common.{inl, inr, refl, sym, ap, subst, ◌∙◌, arith, length-append}
+use Rattle.std.proofs.Math.Seq.{take-append_seam}
+use Rattle.std.proofs.lemmas.Str.{IsCharBoundary-at_seam, IsUtf8-take, encodes-append}
+use Rattle.std.proofs.lemmas.Str.{encodes-chars}
+use Rattle.format_toml.specs.Expected.{IsFirstLack}
+use Rattle.format_toml.specs.Places.{lack_end, line_end}
+use Rattle.format_toml.specs.Starts.{IsStart}
+use Rattle.format_toml.specs.Toml.{DocumentText}
+use Rattle.format_toml.specs.declared.expected.Lack.{Lack}
+use Rattle.format_toml_document.specs.Fault.{IsAfter, IsDocument, IsLack}
+use Rattle.format_toml_document.specs.Fault.{IsLocation}
+use Rattle.format_toml_document.specs.Fault.{IsErrorOf, IsRefusal}
+use Rattle.format_toml_document.specs.declared.fault.Fault.{Fault}
+use Rattle.format_toml_document.specs.declared.fault.Fault.TheVariants as faults
+use Rattle.format_toml_document.specs.declared.fault.Location.{Location}
+use Rattle.format_toml_tree.specs.Runs.{Gives, empty}
+use Rattle.format_toml_tree.specs.declared.build.Fault.{Fault as BuildFault}
+use Rattle.format_toml_tree.specs.declared.build.Fault.TheVariants as built
+use Rattle.format_toml_tree.specs.declared.roles.Refusal.{Refusal}
+use Rattle.format_toml_tree.specs.declared.tree.Tree.{Tree}
+use Rattle.format_toml_tree.specs.declared.value.Item.{Item}
+use Rattle.winnow.specs.Grammar.Unique.{end_of_end}
+use Rattle.winnow.specs.Position.{IsPosition}
+
+pub after_of : (text rest front : List ℕ) (offset : ℕ) (at : Location) → IsUtf8 text
+    → IsUtf8 rest → chars text ≡ front ++ chars rest → offset ≡ length text - length rest
+    → IsLocation text offset at → IsAfter text rest at
+after_of text rest front offset at utf8 too e size location =
+    let bytes = encode_utf8_all front in
+    let split : text ≡ bytes ++ rest =
+    sym (encodes-chars text utf8) ∙ ap encode_utf8_all e ∙ encodes-append front (chars rest)
+    ∙ ap (λ l. bytes ++ l) (encodes-chars rest too) in
+    let place : offset ≡ length bytes =
+    omega (arith, size, ap (λ l. length l) split, length-append bytes rest) in
+    let is : take offset text ≡ bytes =
+    ap (λ n. take n text) place ∙ ap (λ l. take (length bytes) l) split
+    ∙ take-append_seam bytes rest in
+    let B : ℕ → Type 0 = λ n. IsCharBoundary text n in
+    let boundary : IsCharBoundary text offset =
+    subst B (sym place) (IsCharBoundary-at_seam text bytes rest split too) in
+    let P : List ℕ → Type 0 = λ l. IsPosition (chars l) at.line at.column in (
+      bytes,
+      split,
+      subst (λ l. IsUtf8 l) is (IsUtf8-take text offset utf8 boundary),
+      location.0 ∙ place,
+      subst P is (location.1 utf8 boundary),
+    )
+
+module _ (A : Type 0) (level : ℕ) (text : List ℕ) where
+  pub lack_told : (lack : Lack) (at : Location) → IsFirstLack A level (chars text) (Some lack)
+      → ((front : List ℕ) → chars text ≡ front ++ chars lack.rest.now
+      → IsAfter text lack.rest.now at)
+      → IsLack A level text (faults.Unexpected at lack.expected)
+  lack_told lack at (n, line, before, lacks) after =
+      let rest = chars lack.rest.now in
+      let (front, e) =
+      end_of_end (line_end A level n (chars text) line before)
+      (lack_end A level line lack.expected rest lacks) in
+      (n, line, lack.rest.now, before, lacks, after front e)
+
+  pub refusal_told : (n : ℕ) (why : Refusal) (rest : Bor (List ℕ)) (at : Location)
+      → IsStart A level (chars text) n (Some rest)
+      → ((front : List ℕ) → chars text ≡ front ++ chars rest.now → IsAfter text rest.now at)
+      → IsRefusal A level text (built.Refused n why) (faults.Refused at why)
+  refusal_told n why rest at start after =
+      let (front, e) = line_end A level n (chars text) (chars rest.now) start in
+      (n, refl, rest.now, start, after front e)
+
+  pub lines_told : (lines : Vec (Option (Item A)) A) (fault : BuildFault) (told : Fault)
+      → DocumentText level lines (chars text)
+      → ((n : ℕ) (why : Refusal) → fault ≡ built.Refused n why
+      → Gives (empty, []) 0 lines.items (Err (n, why)))
+      → IsRefusal A level text fault told → IsErrorOf A level text told
+  lines_told lines fault (faults.Refused at why) stands refused (n, is, rest, before, after) =
+      (lines, stands, (n, refused n why is, (rest, before, after)))
+  lines_told lines fault (faults.Unexpected at expected) stands refused never = absurd never
+  lines_told lines fault (faults.NotUtf8 at) stands refused never = absurd never
+  lines_told lines fault faults.OutOfMemory stands refused told = tt
+
+  -- a text is its bytes
+  pub document_told : (bytes : List ℕ) (result : Result (Tree A) Fault) → IsUtf8 bytes
+      → text ≡ bytes → IfOk result (λ tree. IsDocument A level text tree)
+      → IfOk result (λ tree. IsUtf8 bytes × IsDocument A level bytes tree)
+  document_told bytes (Ok tree) utf8 e stands =
+      let P : List ℕ → Type 0 = λ l. IsDocument A level l tree in (utf8, subst P e stands)
+  document_told bytes (Err fault) utf8 e stands = tt
+
+  pub document_faults : (tree : Tree A) (fault : Fault) → IsUtf8 text
+      → IsDocument A level text tree → IsErrorOf A level text fault
+      → (fault ≡ faults.OutOfMemory)
+      ⊎ ((at : Location) × (why : Refusal) × (fault ≡ faults.Refused at why))
+  document_faults tree (faults.Unexpected at expected) utf8 (lines, stands, given) told =
+      absurd (told.0 lines stands)
+  document_faults tree (faults.Refused at why) utf8 is told = inr (at, why, refl)
+  document_faults tree (faults.NotUtf8 at) utf8 is told = absurd (told.0 utf8)
+  document_faults tree faults.OutOfMemory utf8 is told = inl refl
