@@ -2,7 +2,7 @@
 use Rattle.std.specs.Prelude.{◌≡◌, ◌⊎◌, ◌↔◌, ◌<◌, ◌≤◌, ℕ, List, ◌∷◌}
 use Rattle.std.proofs.Common.{arith, inl, inr, subst, sym}
 use Rattle.format_http_chunked.proofs.Splits.{extension, opens, quoted_byte}
-use Rattle.format_http_chunked.specs.Bodies.{ChunksAfterSize, Extended, Extension, Given}
+use Rattle.format_http_chunked.specs.Bodies.{Extended, Extension, Given}
 use Rattle.format_http_chunked.specs.Bodies.{IsQuotedByte}
 use Rattle.format_http_chunked.specs.Bodies.{IsTokenByte, IsValueByte, IsWhite, LineEnd, QuotedByte}
 use Rattle.format_http_chunked.specs.Bodies.{Spaced, Value}

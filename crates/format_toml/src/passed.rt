@@ -42,7 +42,7 @@ fn past<'i, O: Drop, P: Parser<&'i str, O, ErrMode<EmptyError>> + Drop>(
 
 /// Returns the text after a match of a parser. Fails if it does not match, or if memory allocation
 /// fails.
-fn behind<'i, O: Drop, P: Parser<&'i str, O, ErrMode<EmptyError>> + Drop>(
+fn skip<'i, O: Drop, P: Parser<&'i str, O, ErrMode<EmptyError>> + Drop>(
     parser: P,
     text: &'i str,
 ) -> Result<&'i str, ErrMode<EmptyError>>
@@ -64,14 +64,14 @@ fn behind<'i, O: Drop, P: Parser<&'i str, O, ErrMode<EmptyError>> + Drop>(
 pub fn skip_whitespace<'i>(text: &'i str) -> Result<&'i str, ErrMode<EmptyError>>
     ensures { IfOk result (λ rest. MatchesAtStart Ws (chars text.now) (chars rest.now)) }
 {
-    behind(Space0, text)
+    skip(Space0, text)
 }
 
 /// Skips an opening bracket, and returns the remaining text.
 pub fn skip_bracket<'i>(text: &'i str) -> Result<&'i str, ErrMode<EmptyError>>
     ensures { IfOk result (λ rest. MatchesAtStart (Char 91) (chars text.now) (chars rest.now)) }
 {
-    behind('[', text)
+    skip('[', text)
 }
 
 /// Skips a key and whitespace, and returns the remaining text, or `None` if there is no key.
@@ -96,7 +96,7 @@ pub fn skip_header<'i, A: Allocator + Copy>(
     ensures { IfOk result
         (λ rest. MatchesAtStart (Header {A = A}) (chars text.now) (chars rest.now)) }
 {
-    behind(
+    skip(
         Headers(alloc).by(|input: &mut &str| read_header(alloc, input)),
         text,
     )
@@ -159,5 +159,5 @@ pub fn skip_line<'i, A: Allocator + Copy>(
         (chars rest.now)) }
 {
     let line = AnyLine(alloc, level).by(|input: &mut &str| read_line(alloc, level, input));
-    behind(line, text)
+    skip(line, text)
 }
