@@ -7,7 +7,7 @@ ADAPTERS = """Parser::map Parser::value Parser::default_value Parser::void Parse
 Parser::parse_to Parser::take Parser::with_taken Parser::span Parser::with_span"""
 
 PAGES = [
-    ("parser", "Parsers, and how they are run", "", "Parser Func ModalParser *"),
+    ("parser", "Parsers, and how they are run", "", "Parser Func FuncWith ModalParser *"),
     ("parser_outputs", "Calls of a parser: another output", "", ADAPTERS),
     (
         "parser_tests",

@@ -280,6 +280,7 @@ pub use Rattle.winnow_exact.specs.Longer
 pub use Rattle.winnow_exact.specs.Read
 pub use Rattle.winnow_exact.specs.Rule
 pub use Rattle.winnow_exact.specs.RulePieces
+pub use Rattle.winnow_exact.specs.RuleWith
 pub use Rattle.winnow_exact.specs.RunByRun
 pub use Rattle.winnow_exact.specs.Spans
 pub use Rattle.winnow_exact.specs.Steps

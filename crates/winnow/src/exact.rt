@@ -2,6 +2,7 @@
 //! as, between which places, when more is asked for, and how it fails. winnow has no such traits.
 pub use winnow_begun::begun::Begun;
 pub use winnow_exact::by_pieces::ByPieces;
+pub use winnow_exact::by_with::ByWith;
 pub use winnow_exact::pieces::ReadsPieces;
 pub use winnow_exact::rule::{By, Rule};
 pub use winnow_exact::spans::ReadsSpanned;

@@ -5,9 +5,11 @@ ghost use Rattle.grammars.specs.Grammar.{Grammar, IsUnique, TakesTokens};
 ghost use Rattle.winnow_exact.specs.Rule.{by_rule, by_run};
 ghost use Rattle.winnow_exact.specs.Rule.{ByRuns, CallsRead, CallsSpared, by_exact, by_fails};
 ghost use Rattle.winnow_exact.specs.RulePieces.{pieces_rule, pieces_run};
+ghost use Rattle.winnow_exact.specs.RuleWith.{with_argument, with_rule, with_run};
 ghost use Rattle.winnow_core.specs.Says.{nothing_done, nothing_said};
 
 use crate::by_pieces::ByPieces;
+use crate::by_with::ByWith;
 use stream_errors::parser_error::ParserError;
 use streams::stream::Stream;
 use winnow_core::parser::Parser;
@@ -37,6 +39,17 @@ pub trait Rule<I: Stream, O>: Sized {
         ensures run { by_run result ≡ run }
     {
         By { rule: self, run }
+    }
+
+    /// As [`by`](Rule::by), of a function with an argument, as an allocator: each run calls it at a
+    /// copy of the argument. No closure is needed, so what it reads may borrow from the input.
+    #[inline(always)]
+    final fn by_with<A, F>(self, argument: A, run: F) -> ByWith<Self, A, F>
+        ensures rule { with_rule result ≡ self }
+        ensures argument { with_argument result ≡ argument }
+        ensures run { with_run result ≡ run }
+    {
+        ByWith::new(self, argument, run)
     }
 
     /// As [`by`](Rule::by), of a function whose clause says what it answers on a cut input too: the

@@ -1,6 +1,6 @@
 //! Closures as parsers.
 ghost use Rattle.std.specs.Fn.{CalledAtMut};
-ghost use Rattle.winnow_core.specs.Func.{CalledWithMut, FuncRuns, FuncWithRuns, LeavesEndsFrom};
+ghost use Rattle.winnow_core.specs.Func.{CalledWithMut, FuncRuns, LeavesEndsFrom};
 ghost use Rattle.winnow_core.specs.Claim.{no_claim, nothing_claimed};
 ghost use Rattle.winnow_core.specs.Says.{nothing_done, nothing_said};
 
@@ -92,19 +92,19 @@ pub struct FuncWith<A, F>(pub A, pub F);
 impl<A: Copy, F: FnMut(A, &mut I) -> Result<O, E>, I: Stream, O, E: ParserError<I>> Parser<I, O, E>
     for FuncWith<A, F> {
     ghost can_parse = { λ s. F.IsAlwaysCallable s.1
-        × LeavesEndsFrom I.reading I.view (CalledWithMut F.FnMut s.0) s.1 };
+        × LeavesEndsFrom I.reading I.view (CalledWithMut F.FnMut) (s.0, s.1) };
 
     ghost State = { A × F };
 
     ghost state = { λ s. (s.0, s.1) };
 
-    ghost meaning = { λ _. FuncWithRuns I.reading I.view E.kind (CalledWithMut F.FnMut) };
+    ghost meaning = { λ _. FuncRuns I.reading I.view E.kind (CalledWithMut F.FnMut) };
 
     ghost says = { λ _. nothing_said };
 
     ghost claim = { λ _. no_claim };
 
-    ghost leaves_ends = { λ form s i answer t j r. r.0.1 };
+    ghost leaves_ends = { λ form s i answer t j r. r.1 };
 
     ghost said = { λ _. nothing_done };
 

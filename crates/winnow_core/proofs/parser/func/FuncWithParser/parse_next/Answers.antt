@@ -12,6 +12,7 @@ returns-clause-again g c = (
         shows = refl;
         left = _;
         called = c.call_mut.ensures;
+        kept = refl;
         leaves = refl;
       }),
 )
@@ -19,34 +20,33 @@ returns-clause-again g c = (
 pub returns-clause-ran : goal.returns-clause-ran
 returns-clause-ran g c = (
   (
-    (
-      _,
-      _,
-      _,
-      record {
+    _,
+    _,
+    _,
+    record {
+      shown = _;
+      shows = refl;
+      left = _;
+      called = c.call_mut.ensures;
+      kept = refl;
+      leaves = refl;
+    },
+    refl,
+    refl,
+    refl,
+  ),
+  leaves_now _ _ _ _ c.requires.1 _ _ _ _
+      (record {
         shown = _;
         shows = refl;
         left = _;
         called = c.call_mut.ensures;
+        kept = refl;
         leaves = refl;
-      },
-      refl,
-      refl,
-      refl,
-    ),
-    leaves_now _ _ _ _ c.requires.1 _ _ _ _
-        (record {
-          shown = _;
-          shows = refl;
-          left = _;
-          called = c.call_mut.ensures;
-          leaves = refl;
-        }),
-  ),
-  refl,
+      }),
 )
 
 pub returns-clause-ends : goal.returns-clause-ends
 returns-clause-ends g c =
     leaves_now _ _ _ _ c.requires.1 _ _ _ _
-    (record { shown = _; shows = refl; left = _; called = c.call_mut.ensures; leaves = refl })
+    (record { shown = _; shows = refl; left = _; called = c.call_mut.ensures; kept = refl; leaves = refl })
