@@ -4,7 +4,7 @@ use Rattle.std.proofs.Common.{None, Ok, Err, refl, sym, ap, subst, arith, inl, i
 use Rattle.std.specs.Borrow.{Bor, MutBor}
 use Rattle.std.specs.Fn.{CalledAtMut, Mut}
 use Rattle.std.specs.List.{All}
-use Rattle.std.specs.Prelude.{Result}
+use Rattle.std.specs.Prelude.{MatchOption, Result}
 use Rattle.std.specs.Str.{IsUtf8}
 use Rattle.std.proofs.lemmas.Bool.{cases_eq}
 use Rattle.std.proofs.lemmas.List.Elements.{All-cons, All-head, All-nil, All-tail}
@@ -14,7 +14,7 @@ use Rattle.winnow.specs.Form.{Answer}
 use Rattle.winnow.specs.Form.Known.{at_output, ok_is_err, same_kind}
 use Rattle.winnow.specs.InOrder.Known.{three_err}
 use Rattle.winnow.specs.Opt.{OptRuns}
-use Rattle.winnow.specs.Opt.Known.{opt_err}
+use Rattle.winnow.specs.Opt.Known.{opt_err, opt_ok}
 use Rattle.winnow.specs.Func.{FuncRuns}
 use Rattle.winnow.specs.Reading.{Reading}
 use Rattle.winnow.specs.SeparatedPair.{SeparatedPairRuns}
@@ -206,22 +206,29 @@ pub remark_read : {F I E S : Type 0} {reading : Reading ℕ S} {view : I → Inp
     → CallsBy view kind g CommentRuns
     → (remark : List ℕ) × IsRemark remark × (i.left.tokens ≡ remark ++ j.left.tokens)
     × EndsLine j.left.tokens
-remark_read i o j stops ran by_comment = elim ran [
-  | inl (x, r, is) ↦ elim (run_by CommentRuns r by_comment).1 [
-    | inl (text, begins, same) ↦
-        (59 ∷ text, inr (text, refl, begins.1.0), begins.0, begins.1.1)
-    | inr (none, same) ↦ ok_is_err refl same
-  ]
-  | inr (inl (m, r, is, back)) ↦ elim (run_by CommentRuns r by_comment).1 [
-    | inl (text, begins, same) ↦ ok_is_err same refl
-    | inr (none, same) ↦
-        let P : List ℕ → Type 0 = λ l. (i.left.tokens ≡ l) × EndsLine l in
-        let there = subst P (sym (ap (λ x. x.left.tokens) back))
-        (refl, remark_ends i.left.tokens stops none) in
-        ([], inl refl, there.0, there.1)
-  ]
-  | inr (inr (k, r, other, is)) ↦ ok_is_err refl is
-]
+remark_read {reading = reading} {view = view} {kind = kind} {g = g} {s = s} {t = t} i o j stops
+    ran by_comment = by_output o (opt_ok o ran)
+  where
+    by_output : (o : Option (Unit {0}))
+        → MatchOption o
+        ((m : Input ℕ) × FuncRuns reading view kind (CalledAtMut g) s i (Err backtrack) t m
+        × (j ≡ back_at i.left m))
+        (λ x. FuncRuns reading view kind (CalledAtMut g) s i (Ok x) t j)
+        → (remark : List ℕ) × IsRemark remark × (i.left.tokens ≡ remark ++ j.left.tokens)
+        × EndsLine j.left.tokens
+    by_output (Some x) child = elim (run_by CommentRuns child by_comment).1 [
+      | inl (text, begins, is) ↦
+          (59 ∷ text, inr (text, refl, begins.1.0), begins.0, begins.1.1)
+      | inr (none, is) ↦ ok_is_err refl is
+    ]
+    by_output None (m, child, back) = elim (run_by CommentRuns child by_comment).1 [
+      | inl (text, begins, is) ↦ ok_is_err is refl
+      | inr (none, is) ↦
+          let P : List ℕ → Type 0 = λ l. (i.left.tokens ≡ l) × EndsLine l in
+          let there = subst P (sym (ap (λ x. x.left.tokens) back))
+          (refl, remark_ends i.left.tokens stops none) in
+          ([], inl refl, there.0, there.1)
+    ]
 
 -- it never fails
 pub remark_never_fails : {P F I E S : Type 0} {reading : Reading ℕ S} {view : I → Input ℕ}

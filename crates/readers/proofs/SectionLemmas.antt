@@ -26,7 +26,8 @@ use Rattle.winnow.specs.Reading.{Reading}
 use Rattle.winnow.specs.Func.{CalledWithMut, FuncRuns}
 use Rattle.readers.specs.Document.{SectionText, PairBytes, Part, white, comment, section, pair}
 use Rattle.readers.specs.Document.{Begins, BeginsWith, NoPairBegins, NoSectionBegins}
-use Rattle.readers.specs.Document.{pairs_of, sections_of, NoPairBeforeSections, SectionBegins}
+use Rattle.readers.specs.Document.{pairs_of, sections_of, NoPairBeforeSections}
+use Rattle.readers.specs.Document.{SectionBegins}
 use Rattle.readers.specs.DocumentRuns.{IsGapPart, NoGapBegins, HasNoSection, CategoryRuns, GapRuns}
 use Rattle.readers.specs.DocumentRuns.{KeyValueRuns, PairsRuns}
 use Rattle.readers.specs.Sections.{pair_text}
@@ -199,7 +200,8 @@ pairs_repeated run assert_kind range s i (Err k) t j e ends ran reads =
 -- ---- one section
 
 -- a name with the gap after it
-name_gap_ok : {A B F1 F2 I E S : Type 0} {reading : Reading ℕ S} {view : I → Input ℕ} {kind : E → Kind}
+name_gap_ok : {A B F1 F2 I E S : Type 0} {reading : Reading ℕ S} {view : I → Input ℕ}
+    {kind : E → Kind}
     {g1 : Mut F1 (B × (MutBor I × Unit {0})) (Result (Bor (List ℕ)) E × (MutBor I × Unit {0}))}
     {g2 : Mut F2 (A × (MutBor I × Unit {0})) (Result (Unit {0}) E × (MutBor I × Unit {0}))}
     {s1 t1 : B × F1} {s2 t2 : A × F2}
@@ -222,7 +224,8 @@ name_gap_ok i name j ran by_name by_gap =
     category_ok a (ends, inr (none, back, is)) = ok_is_err refl is
 
 -- where they fail, there is no section
-name_gap_err : {A B F1 F2 I E S : Type 0} {reading : Reading ℕ S} {view : I → Input ℕ} {kind : E → Kind}
+name_gap_err : {A B F1 F2 I E S : Type 0} {reading : Reading ℕ S} {view : I → Input ℕ}
+    {kind : E → Kind}
     {g1 : Mut F1 (B × (MutBor I × Unit {0})) (Result (Bor (List ℕ)) E × (MutBor I × Unit {0}))}
     {g2 : Mut F2 (A × (MutBor I × Unit {0})) (Result (Unit {0}) E × (MutBor I × Unit {0}))}
     {s1 t1 : B × F1} {s2 t2 : A × F2}

@@ -10,9 +10,11 @@ use Rattle.readers.proofs.ini.parts.key_value.Goals as goal
 pub returns-in-Ok : goal.returns-in-Ok
 returns-in-Ok c =
     elim c.in-Ok.ensures.ran [
-      | inl (o1, o2, a, r1, r2, e) ↦ elim (front_read _ _ _ r1 (λ f x r y h met. met) (λ f x r y h met. met) (λ f x r y h met. met)) [
+      | inl (o1, o2, a, r1, r2, e) ↦ elim (front_read _ _ _ r1 (λ f x r y h met. met)
+      (λ f x r y h met. met) (λ f x r y h met. met)) [
         | inl (key, value, before, lead, body, laid, some, trail, text, is) ↦
-            let (remark, is_remark, rest, ends) = remark_read _ _ _ laid.body_ends r2 (λ f x r y h met. met) in
+            let (remark, is_remark, rest, ends) =
+            remark_read _ _ _ laid.body_ends r2 (λ f x r y h met. met) in
             let (p, begins, keys, values) =
             pair_read _ _ _ _ _ _ _ _ _ laid some trail text is_remark rest ends in
             (c.in-Ok.ensures.ends, inl (p, key, value, begins, keys, values, e ∙ is))
@@ -26,7 +28,8 @@ pub returns-in-Err : goal.returns-in-Err
 returns-in-Err c =
     elim c.in-Err.ensures.ran [
       | inl (o1, o2, a, r1, r2, e) ↦ ok_is_err e refl
-      | inr (inl (k, r1, s2, e)) ↦ elim (front_read _ _ _ r1 (λ f x r y h met. met) (λ f x r y h met. met) (λ f x r y h met. met)) [
+      | inr (inl (k, r1, s2, e)) ↦ elim (front_read _ _ _ r1 (λ f x r y h met. met)
+      (λ f x r y h met. met) (λ f x r y h met. met)) [
         | inl (key, value, before, lead, body, laid, some, trail, text, is) ↦ ok_is_err is refl
         | inr (none, is) ↦ (is_end_of_refl bytes_reading _, inr (none, refl, e ∙ is))
       ]

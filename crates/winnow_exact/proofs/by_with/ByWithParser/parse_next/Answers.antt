@@ -7,7 +7,14 @@ pub returns-clause-again : goal.returns-clause-again
 returns-clause-again g c = (
   mut_next _ _ _ _ _ _ c.run.ensures refl c.requires.0,
   read_again _ _ _ _ _ _ _ _ _ _ c.requires.1
-      (record { shown = _; shows = refl; left = _; called = c.run.ensures; kept = refl; leaves = refl }),
+      (record {
+        shown = _;
+        shows = refl;
+        left = _;
+        called = c.run.ensures;
+        kept = refl;
+        leaves = refl;
+      }),
 )
 
 pub returns-clause-ran : goal.returns-clause-ran
@@ -17,13 +24,27 @@ returns-clause-ran g c = (
       _,
       _,
       _,
-      record { shown = _; shows = refl; left = _; called = c.run.ensures; kept = refl; leaves = refl },
+      record {
+        shown = _;
+        shows = refl;
+        left = _;
+        called = c.run.ensures;
+        kept = refl;
+        leaves = refl;
+      },
       refl,
       refl,
       refl,
     ),
     (c.requires.1.reads _ _ _ _
-        (record { shown = _; shows = refl; left = _; called = c.run.ensures; kept = refl; leaves = refl })).ends,
+        (record {
+          shown = _;
+          shows = refl;
+          left = _;
+          called = c.run.ensures;
+          kept = refl;
+          leaves = refl;
+        })).ends,
   ),
   refl,
 )
@@ -31,4 +52,11 @@ returns-clause-ran g c = (
 pub returns-clause-ends : goal.returns-clause-ends
 returns-clause-ends g c =
     (c.requires.1.reads _ _ _ _
-    (record { shown = _; shows = refl; left = _; called = c.run.ensures; kept = refl; leaves = refl })).ends
+    (record {
+      shown = _;
+      shows = refl;
+      left = _;
+      called = c.run.ensures;
+      kept = refl;
+      leaves = refl;
+    })).ends

@@ -1,8 +1,8 @@
 use denote.Param.Always.{mut_total}
-use Rattle.std.proofs.Common.{◌≡◌, ◌∙◌, Err, ap, refl, inl, inr, rules}
+use Rattle.std.proofs.Common.{◌≡◌, ◌∙◌, ap, refl, inl, inr, rules}
 use Rattle.std.specs.Prelude.{map}
 use Rattle.winnow.specs.Bytes.{bytes_input}
-use Rattle.winnow.specs.Form.Known.{ok_is_err, same_kind, same_ok}
+use Rattle.winnow.specs.Form.Known.{fails_as, ok_is_err, same_ok}
 use Rattle.readers.specs.Sections.{pair_text}
 use Rattle.winnow.specs.Func.Known.{calls_with_leave}
 use Rattle.readers.proofs.SectionLemmas.{parts_read, same_text}
@@ -28,7 +28,8 @@ returns-clause-ran g c =
       | inl (o, u, seq, step, e) ↦
           let named : u.name ≡ o.0 = search rules in
           let paired : u.pairs ≡ o.1 = search rules in
-          elim (parts_read (λ all. map pair_text all.items) input _ rest seq (λ s x r y t met. met) (λ s x r y t met. met)) [
+          elim (parts_read (λ all. map pair_text all.items) input _ rest seq
+          (λ s x r y t met. met) (λ s x r y t met. met)) [
             | inl (name, all, parts, begins, no_section, no_gap, no_pair, texts, f) ↦
                 let is = same_ok refl f in (
                   c.parse_next.ensures.ends,
@@ -49,10 +50,13 @@ returns-clause-ran g c =
             | inr (inr (some, f)) ↦ ok_is_err refl f
           ]
       | inr (k, seq, same, e) ↦
-          elim (parts_read (λ all. map pair_text all.items) input _ rest seq (λ s x r y t met. met) (λ s x r y t met. met)) [
+          elim (parts_read (λ all. map pair_text all.items) input _ rest seq
+          (λ s x r y t met. met) (λ s x r y t met. met)) [
             | inl (name, all, parts, begins, no_section, no_gap, no_pair, texts, f) ↦
                 ok_is_err f refl
-            | inr (inl (none, f)) ↦ (c.parse_next.ensures.ends, inr (inl (none, e ∙ ap Err (same_kind f))))
-            | inr (inr (some, f)) ↦ (c.parse_next.ensures.ends, inr (inr (some, e ∙ ap Err (same_kind f))))
+            | inr (inl (none, f)) ↦
+                (c.parse_next.ensures.ends, inr (inl (none, fails_as e refl f refl)))
+            | inr (inr (some, f)) ↦
+                (c.parse_next.ensures.ends, inr (inr (some, fails_as e refl f refl)))
           ]
     ]

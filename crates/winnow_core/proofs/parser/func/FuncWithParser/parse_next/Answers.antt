@@ -49,4 +49,11 @@ returns-clause-ran g c = (
 pub returns-clause-ends : goal.returns-clause-ends
 returns-clause-ends g c =
     leaves_now _ _ _ _ c.requires.1 _ _ _ _
-    (record { shown = _; shows = refl; left = _; called = c.call_mut.ensures; kept = refl; leaves = refl })
+    (record {
+      shown = _;
+      shows = refl;
+      left = _;
+      called = c.call_mut.ensures;
+      kept = refl;
+      leaves = refl;
+    })
