@@ -10,8 +10,8 @@ use streams::stream::Stream;
 
 /// A parser that runs the caller's closure, which owes that it leaves an end of its input: from the
 /// state that it is in, and from each that its calls lead to (`LeavesEndsFrom`). What a call owes
-/// beside that is the caller's own clause. `leaves_always` and `leaves_within` in `specs/Func.antt`
-/// show it for closures whose every state leaves ends, and for a set of states that calls keep.
+/// beside that is the caller's own clause. In `specs/Func/Known.antt` `calls_leave` shows it where
+/// each call leaves an end, and `run_by` gives of a run what the clause says of a call.
 ///
 /// A plain function owes one clause, over bytes, or over any stream where it is then used at one:
 ///
@@ -69,7 +69,8 @@ impl<F: FnMut(&mut I) -> Result<O, E>, I: Stream, O, E: ParserError<I>> Parser<I
 }
 
 /// A parser that runs the caller's function at an argument, as an allocator: each run calls it
-/// once, at a copy of the argument. The function owes what that of a [`Func`] owes.
+/// once, at a copy of the argument. The function owes what that of a [`Func`] owes, and
+/// `calls_with_leave` and `run_with_by` are its lemmas.
 ///
 /// A closure whose output borrows from the input is refused, and this takes the function itself:
 ///
