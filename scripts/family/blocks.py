@@ -7,7 +7,7 @@ from registry.common import CRATES, split
 from registry.parsers import closing
 
 # Parsers that call a function of one stream, or whose parts have laws of their own.
-LEFT = {"Func<F>", "Expression<I, O, P, Pre, Post, Pix, F, G, H, E, A>", "AltParser<A, I, O, E>", "OperandPlace<P, R>", "OperatorPlace<P, R>"}
+LEFT = {"Func<F>", "FuncWith<A, F>", "Expression<I, O, P, Pre, Post, Pix, F, G, H, E, A>", "AltParser<A, I, O, E>", "OperandPlace<P, R>", "OperatorPlace<P, R>"}
 # The names in laws of values that are parsers themselves.
 NAMES = {
     "&'t [u8]": "bytes",

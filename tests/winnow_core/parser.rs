@@ -1,4 +1,5 @@
 //! Tuples, closures, and the calls of a parser.
+use std::alloc::Global;
 use std::fmt::Debug;
 use std::process::Abort;
 use stream_errors::empty::EmptyError;
@@ -15,9 +16,11 @@ use test_support::outcomes::{Outcome, outcome_of};
 use test_support::rows::{Modal, ModalAt, answers, answers_each, same};
 use test_support::texts::{OfText, whole};
 use test_support::{at_bytes, at_text};
-use winnow_ascii::ascii::impls::Digit1;
+use winnow_ascii::ascii::impls::{Alpha1, Digit1};
 use winnow_comb::combinator;
-use winnow_core::parser::{Func, ModalParser, Parser};
+use winnow_comb::combinator::preceded;
+use winnow_core::parser::{Func, FuncWith, ModalParser, Parser};
+use winnow_repeat::combinator::repeat;
 use winnow_token::token;
 use winnow_token::token::impls::{Any, Rest, RestLen};
 
@@ -59,6 +62,43 @@ fn func(rt: HostRuntime) {
     });
     let got = outcome_of::<&[u8], u8, EmptyError, _>(&mut first, b"ab");
     same(&rt, "Func", "ab", got, (Ok(b'a'), b"b".as_slice()));
+}
+
+/// A name and its numbers, slices of the input.
+#[derive(Debug, PartialEq, Drop)]
+struct User<'i> {
+    name: &'i str,
+    numbers: Vec<&'i str>,
+}
+
+/// Parses a user up to a semicolon.
+fn user<'i>(alloc: Global, input: &mut &'i str) -> Result<User<'i>, Modal> {
+    let name = Alpha1.parse_next(input)?;
+    let numbers = repeat(alloc, Range::from(0..), preceded(',', Digit1)).parse_next(input)?;
+    let _end = ';'.parse_next(input)?;
+    Ok(User { name, numbers })
+}
+
+/// A function with an allocator as a parser in a repetition: its output borrows from the input, and
+/// if it fails the repetition resets the input.
+#[test]
+fn func_with(rt: HostRuntime) {
+    let alloc = rt.alloc();
+    let mut input = "ann,1,22;bob;eve,3";
+    let mut parser = repeat(alloc, Range::from(0..), FuncWith(alloc, user));
+    let users: Result<Vec<User<'_>>, Modal> = parser.parse_next(&mut input);
+    let Ok(users) = users else {
+        panic!(rt; "no users");
+    };
+    assert_eq!(rt; users.len(), 2);
+    assert_eq!(rt; users[0].name, "ann");
+    assert_eq!(rt; users[0].numbers.as_slice(), ["1", "22"].as_slice());
+    assert_eq!(rt; users[1].name, "bob");
+    assert!(rt; users[1].numbers.is_empty());
+    assert_eq!(rt; input, "eve,3");
+    let mut one = FuncWith(alloc, user);
+    assert!(rt; one.parse_next(&mut input).is_err());
+    assert_eq!(rt; input, "");
 }
 
 /// Whole parses of digits: the slice, or the offset of the error or of the rest.

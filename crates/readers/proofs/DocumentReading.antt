@@ -1,7 +1,9 @@
 -- Lemmas about consecutive sections, and about a document.
 use Rattle.std.proofs.Common.{◌≡◌, ◌≤◌, ◌+◌, ◌∙◌, ◌⊎◌, ℕ, List, [], ◌∷◌, ◌++◌, length, Bool, true}
 use Rattle.std.proofs.Common.{false, Some, None, Ok, Err, refl, sym, ap, subst, arith, inl, inr}
-use Rattle.std.specs.Prelude.{map}
+use Rattle.std.specs.Prelude.{map, Result}
+use Rattle.std.specs.Borrow.{MutBor}
+use Rattle.std.specs.Fn.{Mut}
 use Rattle.std.specs.List.{AllByRecursion}
 use Rattle.std.specs.declared.vec.Vec.{Vec}
 use Rattle.winnow.specs.Bytes.{bytes_input, bytes_reading}
@@ -14,6 +16,7 @@ use Rattle.winnow.specs.Mode.{as_inner}
 use Rattle.winnow.specs.Accumulator.{list_kept}
 use Rattle.winnow.specs.Range.{bounds_of}
 use Rattle.winnow.specs.{Range}
+use Rattle.winnow.specs.Reading.{Reading}
 use Rattle.winnow.specs.Runs.{Runs}
 use Rattle.winnow.specs.InOrder.Known.{both_err}
 use Rattle.winnow.specs.Preceded.{PrecededRuns}
@@ -21,12 +24,14 @@ use Rattle.winnow.specs.Preceded.Known.{preceded_ok}
 use Rattle.winnow.specs.Repeat.{RepeatRuns}
 use Rattle.winnow.specs.Repeat.Known.{Items, repeat_any_err, repeat_any_ok, repeated_by}
 use Rattle.winnow.specs.Repeat.Known.{repeated_list}
+use Rattle.winnow.specs.Func.{CalledWithMut, FuncRuns}
 use Rattle.readers.specs.Document.{SectionText, PairBytes, Part, white, comment, section, pair}
 use Rattle.readers.specs.Document.{Begins, BeginsWith, BeginsDocument, IsRefusedDocument}
 use Rattle.readers.specs.Document.{NoPairBegins, NoSectionBegins, SectionBegins, ReachesSection}
 use Rattle.readers.specs.Document.{pairs_of, sections_of, NoPairBeforeSections}
 use Rattle.readers.specs.DocumentRuns.{IsGapPart, NoGapBegins, HasNoSection, BeginsAtSection}
 use Rattle.readers.specs.DocumentRuns.{GapRuns, SectionRuns, SectionsRuns, DocumentRuns}
+use Rattle.winnow.specs.FuncCalls.{CallsWithBy, run_with_by}
 use Rattle.readers.proofs.PairLemmas.{not_none}
 use Rattle.readers.proofs.PartRuns.{part_shortens}
 use Rattle.readers.proofs.DocumentLemmas.{only_part}
@@ -242,15 +247,17 @@ reaches_behind gap input rest all with (name, behind, begins) =
       omega (arith, ap (λ l. length l) (gap_no_sections gap one all)),
     )
 
-pub document_read : {U C : Type 0} (told : C → List SectionText) (s : Unit {0} × U)
-    (i : Input ℕ) (answer : Answer C) (t : Unit {0} × U) (j : Input ℕ)
-    → IsEndOf bytes_reading j i
-    → PrecededRuns (λ s i answer t j. GapRuns i answer j)
-    (λ s i answer t j. SectionsRuns told i answer j) s i answer t j
-    → DocumentRuns told i answer j
-document_read told s i (Ok o) t j ends ran =
+pub document_read : {A F I E S U C : Type 0} {reading : Reading ℕ S} {view : I → Input ℕ}
+    {kind : E → Kind}
+    {g : Mut F (A × (MutBor I × Unit {0})) (Result (Unit {0}) E × (MutBor I × Unit {0}))}
+    {s t : A × F} {u u' : U} (told : C → List SectionText) (i : Input ℕ)
+    (answer : Answer C) (j : Input ℕ) → IsEndOf bytes_reading j i
+    → PrecededRuns (FuncRuns reading view kind (CalledWithMut g))
+    (λ s i answer t j. SectionsRuns told i answer j) (s, u) i answer (t, u') j
+    → CallsWithBy view kind g GapRuns → DocumentRuns told i answer j
+document_read told i (Ok o) j ends ran by_gap =
     let (u, a, r1, r2) = preceded_ok o ran in
-    let (gap, all_gap, with_gap, no_gap, gis) = r1.1 in
+    let (gap, all_gap, with_gap, no_gap, gis) = (run_with_by GapRuns r1 by_gap).1 in
     elim r2.1 [
       | inl (all, parts, with, at, texts, no_section, last, last_pair, is) ↦ (
         ends,
@@ -269,10 +276,10 @@ document_read told s i (Ok o) t j ends ran =
       )
       | inr (some, is) ↦ ok_is_err refl is
     ]
-document_read told s i (Err k) t j ends ran = elim (both_err k ran) [
-  | inl (r1, same) ↦ ok_is_err r1.1.4 refl
+document_read told i (Err k) j ends ran by_gap = elim (both_err k ran) [
+  | inl (r1, same) ↦ ok_is_err (run_with_by GapRuns r1 by_gap).1.4 refl
   | inr (u, a, r1, r2) ↦
-      let (gap, all_gap, with_gap, no_gap, gis) = r1.1 in
+      let (gap, all_gap, with_gap, no_gap, gis) = (run_with_by GapRuns r1 by_gap).1 in
       elim r2.1 [
         | inl (all, parts, with, at, texts, no_section, last, last_pair, is) ↦ ok_is_err is refl
         | inr (some, is) ↦

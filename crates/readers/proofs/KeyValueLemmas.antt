@@ -1,9 +1,10 @@
--- Lemmas about the calls of a key, the mark, a value and a comment.
+-- What the runs of a key, the mark, a value and a comment say of a pair.
 use Rattle.std.proofs.Common.{◌≡◌, ◌<◌, ◌∙◌, ◌⊎◌, ℕ, List, [], ◌∷◌, ◌++◌, length, Option, Some}
 use Rattle.std.proofs.Common.{None, Ok, Err, refl, sym, ap, subst, arith, inl, inr, lit<}
-use Rattle.std.specs.Borrow.{Bor}
+use Rattle.std.specs.Borrow.{Bor, MutBor}
+use Rattle.std.specs.Fn.{CalledAtMut, Mut}
 use Rattle.std.specs.List.{All}
-use Rattle.std.specs.Prelude.{MatchOption}
+use Rattle.std.specs.Prelude.{MatchOption, Result}
 use Rattle.std.specs.Str.{IsUtf8}
 use Rattle.std.proofs.lemmas.Bool.{cases_eq}
 use Rattle.std.proofs.lemmas.List.Elements.{All-cons, All-head, All-nil, All-tail}
@@ -14,6 +15,8 @@ use Rattle.winnow.specs.Form.Known.{at_output, ok_is_err, same_kind}
 use Rattle.winnow.specs.InOrder.Known.{three_err}
 use Rattle.winnow.specs.Opt.{OptRuns}
 use Rattle.winnow.specs.Opt.Known.{opt_err, opt_ok}
+use Rattle.winnow.specs.Func.{FuncRuns}
+use Rattle.winnow.specs.Reading.{Reading}
 use Rattle.winnow.specs.SeparatedPair.{SeparatedPairRuns}
 use Rattle.winnow.specs.SeparatedPair.Known.{separated_pair_ok}
 use Rattle.readers.specs.Pair.{IsKeyByte}
@@ -23,6 +26,7 @@ use Rattle.readers.specs.DocumentRuns.{IsFront, IsWithoutTrailing, KeyRuns, Mark
 use Rattle.readers.specs.DocumentRuns.{CommentRuns}
 use Rattle.readers.proofs.DocumentLemmas.{IsLaid, laid_of_pair, one_layout, pair_flat, after_key}
 use Rattle.readers.proofs.DocumentLemmas.{key_ends, not_blank}
+use Rattle.winnow.specs.FuncCalls.{CallsBy, run_by}
 
 -- no pair begins where no key does
 no_key_first : (tokens : List ℕ) → NotFirst IsKeyByte tokens → NoPairBegins tokens
@@ -50,6 +54,7 @@ no_mark_behind tokens key a before rest keys blanks none p behind begins =
     (not_blank 61 (lit< tt)) in
     (subst Q same.1.1 none) refl
 
+-- nor where the value is no text
 no_value_text : (tokens key before lead body rest : List ℕ)
     → IsLaid tokens key before lead body rest
     → ((value : List ℕ) → IsWithoutTrailing body value → IsUtf8 value → ⊥) → NoPairBegins tokens
@@ -76,7 +81,7 @@ laid_by tokens key a before rest lead b body behind keys blanks leads values =
       body_ends = values.2;
     }
 
--- ---- the calls that succeeded
+-- ---- what each run says that answered
 
 key_ok : (i : Input ℕ) (key : Bor (List ℕ)) (j : Input ℕ) → KeyRuns i (Ok key) j
     → (0 < length key.now) × IsFront IsKeyByte i.left.tokens key.now j.left.tokens
@@ -122,7 +127,7 @@ value_err i k j (ends, (body, rest, values, inl (o, there, trail, text, is))) = 
 value_err i k j (ends, (body, rest, values, inr (refuses, is))) =
     (body, rest, values, refuses, same_kind is)
 
--- `FrontRead i answer j`: the combined result of the calls of a key, the mark and a value.
+-- What the runs of a key, the mark and a value say together.
 abbrev pub FrontRead : Input ℕ → Answer (Bor (List ℕ) × Bor (List ℕ)) → Input ℕ → Type 0
 FrontRead i answer j =
     -- a pair's key, mark and value
@@ -133,16 +138,23 @@ FrontRead i answer j =
     -- no pair begins there
     ⊎ (NoPairBegins i.left.tokens × (answer ≡ Err backtrack))
 
-pub front_read : {S2 S3 : Type 0} (s : Unit {0} × S2 × S3) (i : Input ℕ)
-    (answer : Answer (Bor (List ℕ) × Bor (List ℕ))) (t : Unit {0} × S2 × S3) (j : Input ℕ)
-    → SeparatedPairRuns (λ s i answer t j. KeyRuns i answer j)
-    (λ s i answer t j. MarkRuns i answer j) (λ s i answer t j. ValueRuns i answer j) s i
-    answer t j → FrontRead i answer j
-front_read s i (Ok o) t j ran =
+pub front_read : {F1 F2 F3 I E S : Type 0} {reading : Reading ℕ S} {view : I → Input ℕ}
+    {kind : E → Kind}
+    {g1 : Mut F1 (MutBor I × Unit {0}) (Result (Bor (List ℕ)) E × (MutBor I × Unit {0}))}
+    {g2 : Mut F2 (MutBor I × Unit {0}) (Result (Unit {0}) E × (MutBor I × Unit {0}))}
+    {g3 : Mut F3 (MutBor I × Unit {0}) (Result (Bor (List ℕ)) E × (MutBor I × Unit {0}))}
+    {s1 t1 : F1} {s2 t2 : F2} {s3 t3 : F3} (i : Input ℕ)
+    (answer : Answer (Bor (List ℕ) × Bor (List ℕ))) (j : Input ℕ)
+    → SeparatedPairRuns (FuncRuns reading view kind (CalledAtMut g1))
+    (FuncRuns reading view kind (CalledAtMut g2)) (FuncRuns reading view kind (CalledAtMut g3))
+    (s1, s2, s3) i answer (t1, t2, t3) j
+    → CallsBy view kind g1 KeyRuns → CallsBy view kind g2 MarkRuns
+    → CallsBy view kind g3 ValueRuns → FrontRead i answer j
+front_read i (Ok o) j ran by_key by_mark by_value =
     let (between, a, b, r1, r2, r3) = separated_pair_ok o ran in
-    let (some, keys) = key_ok i o.0 a r1 in
-    let (before, lead, rest, blanks, leads) = mark_ok a between b r2 in
-    let (body, values, trail, text) = value_ok b o.1 j r3 in
+    let (some, keys) = key_ok i o.0 a (run_by KeyRuns r1 by_key) in
+    let (before, lead, rest, blanks, leads) = mark_ok a between b (run_by MarkRuns r2 by_mark) in
+    let (body, values, trail, text) = value_ok b o.1 j (run_by ValueRuns r3 by_value) in
     inl (
       o.0,
       o.1,
@@ -156,23 +168,24 @@ front_read s i (Ok o) t j ran =
       text,
       refl,
     )
-front_read s i (Err k) t j ran = elim (three_err k ran) [
+front_read i (Err k) j ran by_key by_mark by_value = elim (three_err k ran) [
   | inl (r1, s2, s3) ↦
-      let (none, is) = key_err i k j r1 in inr (no_key_first i.left.tokens none, ap Err is)
+      let (none, is) = key_err i k j (run_by KeyRuns r1 by_key) in
+      inr (no_key_first i.left.tokens none, ap Err is)
   | inr (inl (key, a, r1, r2, s3)) ↦
-      let (before, rest, blanks, none, is) = mark_err a k j r2 in
+      let (before, rest, blanks, none, is) = mark_err a k j (run_by MarkRuns r2 by_mark) in
       inr (
-        no_mark_behind i.left.tokens key.now a.left.tokens before rest (key_ok i key a r1).1
-            blanks none,
+        no_mark_behind i.left.tokens key.now a.left.tokens before rest
+            (key_ok i key a (run_by KeyRuns r1 by_key)).1 blanks none,
         ap Err is,
       )
   | inr (inr (key, between, a, b, r1, r2, r3)) ↦
-      let (before, lead, rest, blanks, leads) = mark_ok a between b r2 in
-      let (body, behind, values, refuses, is) = value_err b k j r3 in
+      let (before, lead, rest, blanks, leads) = mark_ok a between b (run_by MarkRuns r2 by_mark) in
+      let (body, behind, values, refuses, is) = value_err b k j (run_by ValueRuns r3 by_value) in
       inr (
         no_value_text i.left.tokens key.now before lead body behind
             (laid_by i.left.tokens key.now a.left.tokens before rest lead b.left.tokens body
-            behind (key_ok i key a r1).1 blanks leads values) refuses,
+            behind (key_ok i key a (run_by KeyRuns r1 by_key)).1 blanks leads values) refuses,
         ap Err is,
       )
 ]
@@ -184,36 +197,52 @@ remark_ends [] stops none = tt
 remark_ends (b ∷ more) stops none =
     elim (cases_eq b 10) [ inl e ↦ e | inr n ↦ absurd (stops (none, n)) ]
 
-pub remark_read : (s : Unit {0}) (i : Input ℕ) (o : Option (Unit {0})) (t : Unit {0})
-    (j : Input ℕ) → NotFirst IsValueByte i.left.tokens
-    → OptRuns (λ s i answer t j. CommentRuns i answer j) s i (Ok o) t j
+-- What a run of a comment that may be left out says after a value.
+pub remark_read : {F I E S : Type 0} {reading : Reading ℕ S} {view : I → Input ℕ}
+    {kind : E → Kind}
+    {g : Mut F (MutBor I × Unit {0}) (Result (Unit {0}) E × (MutBor I × Unit {0}))} {s t : F}
+    (i : Input ℕ) (o : Option (Unit {0})) (j : Input ℕ) → NotFirst IsValueByte i.left.tokens
+    → OptRuns (FuncRuns reading view kind (CalledAtMut g)) s i (Ok o) t j
+    → CallsBy view kind g CommentRuns
     → (remark : List ℕ) × IsRemark remark × (i.left.tokens ≡ remark ++ j.left.tokens)
     × EndsLine j.left.tokens
-remark_read s i o t j stops ran = by_output o (opt_ok o ran)
+remark_read {reading = reading} {view = view} {kind = kind} {g = g} {s = s} {t = t} i o j stops
+    ran by_comment = by_output o (opt_ok o ran)
   where
     by_output : (o : Option (Unit {0}))
-        → MatchOption o ((m : Input ℕ) × CommentRuns i (Err backtrack) m × (j ≡ back_at i.left m))
-        (λ x. CommentRuns i (Ok x) j)
+        → MatchOption o
+        ((m : Input ℕ) × FuncRuns reading view kind (CalledAtMut g) s i (Err backtrack) t m
+        × (j ≡ back_at i.left m))
+        (λ x. FuncRuns reading view kind (CalledAtMut g) s i (Ok x) t j)
         → (remark : List ℕ) × IsRemark remark × (i.left.tokens ≡ remark ++ j.left.tokens)
         × EndsLine j.left.tokens
-    by_output (Some x) (ends, inl (text, begins, is)) =
-        (59 ∷ text, inr (text, refl, begins.1.0), begins.0, begins.1.1)
-    by_output (Some x) (ends, inr (none, is)) = ok_is_err refl is
-    by_output None (m, (ends, inl (text, begins, is)), back) = ok_is_err is refl
-    by_output None (m, (ends, inr (none, is)), back) =
-        let P : List ℕ → Type 0 = λ l. (i.left.tokens ≡ l) × EndsLine l in
-        let there = subst P (sym (ap (λ x. x.left.tokens) back))
-        (refl, remark_ends i.left.tokens stops none) in
-        ([], inl refl, there.0, there.1)
+    by_output (Some x) child = elim (run_by CommentRuns child by_comment).1 [
+      | inl (text, begins, is) ↦
+          (59 ∷ text, inr (text, refl, begins.1.0), begins.0, begins.1.1)
+      | inr (none, is) ↦ ok_is_err refl is
+    ]
+    by_output None (m, child, back) = elim (run_by CommentRuns child by_comment).1 [
+      | inl (text, begins, is) ↦ ok_is_err is refl
+      | inr (none, is) ↦
+          let P : List ℕ → Type 0 = λ l. (i.left.tokens ≡ l) × EndsLine l in
+          let there = subst P (sym (ap (λ x. x.left.tokens) back))
+          (refl, remark_ends i.left.tokens stops none) in
+          ([], inl refl, there.0, there.1)
+    ]
 
 -- it never fails
-pub remark_never_fails : {P : Type 0} (s : Unit {0}) (i : Input ℕ) (k : Kind) (t : Unit {0})
-    (j : Input ℕ) → OptRuns (λ s i answer t j. CommentRuns i answer j) s i (Err k) t j → P
-remark_never_fails {P} s i k t j ran = of_child (opt_err k ran)
-  where
-    of_child : CommentRuns i (Err k) j × (k ≡ backtrack → ⊥) → P
-    of_child ((ends, inl (text, begins, is)), other) = ok_is_err is refl
-    of_child ((ends, inr (none, is)), other) = absurd (other (same_kind is))
+pub remark_never_fails : {P F I E S : Type 0} {reading : Reading ℕ S} {view : I → Input ℕ}
+    {kind : E → Kind}
+    {g : Mut F (MutBor I × Unit {0}) (Result (Unit {0}) E × (MutBor I × Unit {0}))} {s t : F}
+    (i : Input ℕ) (k : Kind) (j : Input ℕ)
+    → OptRuns (FuncRuns reading view kind (CalledAtMut g)) s i (Err k) t j
+    → CallsBy view kind g CommentRuns → P
+remark_never_fails i k j ran by_comment =
+    let (failed, other) = opt_err k ran in
+    elim (run_by CommentRuns failed by_comment).1 [
+      | inl (text, begins, is) ↦ ok_is_err is refl
+      | inr (none, is) ↦ absurd (other (same_kind is))
+    ]
 
 -- A pair was read.
 pub pair_read : (tokens key before lead body a value remark behind : List ℕ)

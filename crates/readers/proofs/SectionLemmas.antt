@@ -1,8 +1,9 @@
--- Lemmas about a section's name, a gap, and pairs with gaps.
-use Rattle.std.proofs.Common.{◌≡◌, ◌≤◌, ◌∙◌, ℕ, List, [], ◌∷◌, ◌++◌, length, None, Ok, Err}
+-- What a section's name, a gap and pairs with gaps say together.
+use Rattle.std.proofs.Common.{◌≡◌, ◌≤◌, ◌∙◌, ◌⊎◌, ℕ, List, [], ◌∷◌, ◌++◌, length, None, Ok, Err}
 use Rattle.std.proofs.Common.{refl, sym, ap, subst, arith, inl, inr}
-use Rattle.std.specs.Prelude.{map}
-use Rattle.std.specs.Borrow.{Bor}
+use Rattle.std.specs.Prelude.{map, Result}
+use Rattle.std.specs.Borrow.{Bor, MutBor}
+use Rattle.std.specs.Fn.{CalledAtMut, Mut}
 use Rattle.std.specs.List.{AllByRecursion}
 use Rattle.std.specs.declared.vec.Vec.{Vec}
 use Rattle.winnow.specs.Bytes.{bytes_reading}
@@ -18,14 +19,19 @@ use Rattle.winnow.specs.InOrder.Known.{both_err}
 use Rattle.winnow.specs.Repeat.{RepeatRuns}
 use Rattle.winnow.specs.Repeat.Known.{Items, repeat_any_err, repeat_any_ok, repeated_by}
 use Rattle.winnow.specs.Repeat.Known.{repeated_list}
+use Rattle.winnow.specs.Sequence.{SequenceRuns2}
 use Rattle.winnow.specs.Terminated.{TerminatedRuns}
 use Rattle.winnow.specs.Terminated.Known.{terminated_ok}
+use Rattle.winnow.specs.Reading.{Reading}
+use Rattle.winnow.specs.Func.{CalledWithMut, FuncRuns}
 use Rattle.readers.specs.Document.{SectionText, PairBytes, Part, white, comment, section, pair}
 use Rattle.readers.specs.Document.{Begins, BeginsWith, NoPairBegins, NoSectionBegins}
 use Rattle.readers.specs.Document.{pairs_of, sections_of, NoPairBeforeSections}
+use Rattle.readers.specs.Document.{SectionBegins}
 use Rattle.readers.specs.DocumentRuns.{IsGapPart, NoGapBegins, HasNoSection, CategoryRuns, GapRuns}
 use Rattle.readers.specs.DocumentRuns.{KeyValueRuns, PairsRuns}
 use Rattle.readers.specs.Sections.{pair_text}
+use Rattle.winnow.specs.FuncCalls.{CallsBy, CallsWithBy, run_by, run_with_by}
 use Rattle.readers.proofs.PartRuns.{part_shortens}
 
 -- parts before others
@@ -76,7 +82,7 @@ gap_before (comment text ∷ ps) qs all h = gap_before ps qs all.1 h
 gap_before (section name ∷ ps) qs all h = absurd all.0
 gap_before (pair p ∷ ps) qs all h = absurd all.0
 
--- One call of a pair with the gap after it consumes them, or there is no pair.
+-- What one run of a pair with the gap after it says: it takes them, or there is no pair.
 pub record ReadsPair {S : Type 0} (run : Runs S ℕ (Bor (List ℕ) × Bor (List ℕ))) : Type 0 where
   pub takes : (s : S) (i : Input ℕ) (o : Bor (List ℕ) × Bor (List ℕ)) (t : S) (j : Input ℕ)
       → run s i (Ok o) t j
@@ -108,18 +114,24 @@ key_value_err i k j (ends, inr (none, back, is)) = (none, same_kind is)
 gap_never_fails : {P : Type 0} (i : Input ℕ) (k : Kind) (j : Input ℕ) → GapRuns i (Err k) j → P
 gap_never_fails i k j (ends, (parts, all, with, none, is)) = ok_is_err is refl
 
-pub reads_pair : {U : Type 0} → ReadsPair {S = Unit {0} × U}
-    (TerminatedRuns (λ s i answer t j. KeyValueRuns i answer j)
-    (λ s i answer t j. GapRuns i answer j))
-reads_pair = record {
+pub reads_pair : {A F1 F2 I E S : Type 0} {reading : Reading ℕ S} {view : I → Input ℕ}
+    {kind : E → Kind}
+    {g1 : Mut F1 (MutBor I × Unit {0})
+    (Result (Bor (List ℕ) × Bor (List ℕ)) E × (MutBor I × Unit {0}))}
+    {g2 : Mut F2 (A × (MutBor I × Unit {0})) (Result (Unit {0}) E × (MutBor I × Unit {0}))}
+    → CallsBy view kind g1 KeyValueRuns → CallsWithBy view kind g2 GapRuns
+    → ReadsPair {S = F1 × (A × F2)}
+    (TerminatedRuns (FuncRuns reading view kind (CalledAtMut g1))
+    (FuncRuns reading view kind (CalledWithMut g2)))
+reads_pair by_pair by_gap = record {
   takes = λ s i o t j ran.
       let (u, a, r1, r2) = terminated_ok o ran in
-      let (p, begins, text) = key_value_ok i o a r1 in
-      let (gap, all, with, none, is) = r2.1 in
+      let (p, begins, text) = key_value_ok i o a (run_by KeyValueRuns r1 by_pair) in
+      let (gap, all, with, none, is) = (run_with_by GapRuns r2 by_gap).1 in
       (p, gap, (a.left.tokens, begins, with), all, none, text);
   fails = λ s i k t j ran. elim (both_err k ran) [
-    | inl (r1, same) ↦ key_value_err i k j r1
-    | inr (o, a, r1, r2) ↦ gap_never_fails a k j r2
+    | inl (r1, same) ↦ key_value_err i k j (run_by KeyValueRuns r1 by_pair)
+    | inr (o, a, r1, r2) ↦ gap_never_fails a k j (run_with_by GapRuns r2 by_gap)
   ];
 }
 
@@ -188,16 +200,22 @@ pairs_repeated run assert_kind range s i (Err k) t j e ends ran reads =
 -- ---- one section
 
 -- a name with the gap after it
-pub name_gap_ok : {U : Type 0} (s : Unit {0} × U) (i : Input ℕ) (name : Bor (List ℕ))
-    (t : Unit {0} × U) (j : Input ℕ)
-    → TerminatedRuns (λ s i answer t j. CategoryRuns i answer j)
-    (λ s i answer t j. GapRuns i answer j) s i (Ok name) t j
+name_gap_ok : {A B F1 F2 I E S : Type 0} {reading : Reading ℕ S} {view : I → Input ℕ}
+    {kind : E → Kind}
+    {g1 : Mut F1 (B × (MutBor I × Unit {0})) (Result (Bor (List ℕ)) E × (MutBor I × Unit {0}))}
+    {g2 : Mut F2 (A × (MutBor I × Unit {0})) (Result (Unit {0}) E × (MutBor I × Unit {0}))}
+    {s1 t1 : B × F1} {s2 t2 : A × F2}
+    (i : Input ℕ) (name : Bor (List ℕ)) (j : Input ℕ)
+    → TerminatedRuns (FuncRuns reading view kind (CalledWithMut g1))
+    (FuncRuns reading view kind (CalledWithMut g2)) (s1, s2) i (Ok name)
+    (t1, t2) j
+    → CallsWithBy view kind g1 CategoryRuns → CallsWithBy view kind g2 GapRuns
     → (gap : List Part) × BeginsWith (section name.now ∷ gap) i.left.tokens j.left.tokens
     × AllByRecursion IsGapPart gap × NoGapBegins j.left.tokens
-name_gap_ok s i name t j ran =
+name_gap_ok i name j ran by_name by_gap =
     let (u, a, r1, r2) = terminated_ok name ran in
-    let (gap, all, with, none, is) = r2.1 in
-    (gap, (a.left.tokens, category_ok a r1, with), all, none)
+    let (gap, all, with, none, is) = (run_with_by GapRuns r2 by_gap).1 in
+    (gap, (a.left.tokens, category_ok a (run_with_by CategoryRuns r1 by_name), with), all, none)
   where
     category_ok : (a : Input ℕ) → CategoryRuns i (Ok name) a
         → Begins (section name.now) i.left.tokens a.left.tokens
@@ -206,14 +224,20 @@ name_gap_ok s i name t j ran =
     category_ok a (ends, inr (none, back, is)) = ok_is_err refl is
 
 -- where they fail, there is no section
-pub name_gap_err : {U : Type 0} (s : Unit {0} × U) (i : Input ℕ) (k : Kind) (t : Unit {0} × U)
-    (j : Input ℕ)
-    → TerminatedRuns (λ s i answer t j. CategoryRuns i answer j)
-    (λ s i answer t j. GapRuns i answer j) s i (Err k) t j
+name_gap_err : {A B F1 F2 I E S : Type 0} {reading : Reading ℕ S} {view : I → Input ℕ}
+    {kind : E → Kind}
+    {g1 : Mut F1 (B × (MutBor I × Unit {0})) (Result (Bor (List ℕ)) E × (MutBor I × Unit {0}))}
+    {g2 : Mut F2 (A × (MutBor I × Unit {0})) (Result (Unit {0}) E × (MutBor I × Unit {0}))}
+    {s1 t1 : B × F1} {s2 t2 : A × F2}
+    (i : Input ℕ) (k : Kind) (j : Input ℕ)
+    → TerminatedRuns (FuncRuns reading view kind (CalledWithMut g1))
+    (FuncRuns reading view kind (CalledWithMut g2)) (s1, s2) i (Err k)
+    (t1, t2) j
+    → CallsWithBy view kind g1 CategoryRuns → CallsWithBy view kind g2 GapRuns
     → NoSectionBegins i.left.tokens × (k ≡ backtrack)
-name_gap_err s i k t j ran = elim (both_err k ran) [
-  | inl (r1, same) ↦ category_err r1
-  | inr (name, a, r1, r2) ↦ gap_never_fails a k j r2
+name_gap_err i k j ran by_name by_gap = elim (both_err k ran) [
+  | inl (r1, same) ↦ category_err (run_with_by CategoryRuns r1 by_name)
+  | inr (name, a, r1, r2) ↦ gap_never_fails a k j (run_with_by GapRuns r2 by_gap)
 ]
   where
     category_err : CategoryRuns i (Err k) j → NoSectionBegins i.left.tokens × (k ≡ backtrack)
@@ -221,7 +245,7 @@ name_gap_err s i k t j ran = elim (both_err k ran) [
     category_err (ends, inr (none, back, is)) = (none, same_kind is)
 
 -- a name with its gap, and the pairs after it
-pub section_ok : {C : Type 0} (told : C → List (List ℕ × List ℕ)) (i : Input ℕ) (name : List ℕ)
+section_ok : {C : Type 0} (told : C → List (List ℕ × List ℕ)) (i : Input ℕ) (name : List ℕ)
     (gap : List Part) (a : Input ℕ) (all : C) (j : Input ℕ)
     → BeginsWith (section name ∷ gap) i.left.tokens a.left.tokens
     → AllByRecursion IsGapPart gap → NoGapBegins a.left.tokens → PairsRuns told a (Ok all) j
@@ -245,8 +269,51 @@ pub same_text : {a c : List ℕ} {b d : List (List ℕ × List ℕ)} → a ≡ c
     → ◌≡◌ {A = SectionText} (a, b) (c, d)
 same_text e f = cc
 
-pub pairs_fail : {C : Type 0} (told : C → List (List ℕ × List ℕ)) (i : Input ℕ) (k : Kind)
+-- pairs fail for want of memory alone
+pairs_fail : {C : Type 0} (told : C → List (List ℕ × List ℕ)) (i : Input ℕ) (k : Kind)
     (j : Input ℕ) → PairsRuns told i (Err k) j → k ≡ memory
 pairs_fail told i k j (ends, inl (all, parts, with, no_section, texts, no_pair, last, is)) =
     ok_is_err is refl
 pairs_fail told i k j (ends, inr is) = same_kind is
+
+-- What a name with its gap and the pairs after it say together.
+abbrev pub PartsRead : {C : Type 0} → (C → List (List ℕ × List ℕ)) → Input ℕ
+    → Answer (Bor (List ℕ) × C) → Input ℕ → Type 0
+PartsRead {C} told i answer j =
+    -- a section with its pairs
+    ((name : Bor (List ℕ)) × (all : C) × (parts : List Part)
+    × BeginsWith (section name.now ∷ parts) i.left.tokens j.left.tokens × HasNoSection parts
+    × NoGapBegins j.left.tokens × NoPairBegins j.left.tokens × (told all ≡ pairs_of parts)
+    × (answer ≡ Ok (name, all)))
+    -- none
+    ⊎ ((NoSectionBegins i.left.tokens × (answer ≡ Err backtrack))
+    -- one, and no memory for its pairs
+    ⊎ (SectionBegins i.left.tokens × (answer ≡ Err memory)))
+
+pub parts_read : {A B F1 F2 I E S U C : Type 0} {reading : Reading ℕ S} {view : I → Input ℕ}
+    {kind : E → Kind}
+    {g1 : Mut F1 (B × (MutBor I × Unit {0})) (Result (Bor (List ℕ)) E × (MutBor I × Unit {0}))}
+    {g2 : Mut F2 (A × (MutBor I × Unit {0})) (Result (Unit {0}) E × (MutBor I × Unit {0}))}
+    {s1 t1 : B × F1} {s2 t2 : A × F2} {u u' : U}
+    (told : C → List (List ℕ × List ℕ)) (i : Input ℕ) (answer : Answer (Bor (List ℕ) × C))
+    (j : Input ℕ)
+    → SequenceRuns2 (TerminatedRuns (FuncRuns reading view kind (CalledWithMut g1))
+    (FuncRuns reading view kind (CalledWithMut g2)))
+    (λ s i answer t j. PairsRuns told i answer j) ((s1, s2), u) i answer
+    ((t1, t2), u') j
+    → CallsWithBy view kind g1 CategoryRuns → CallsWithBy view kind g2 GapRuns
+    → PartsRead told i answer j
+parts_read told i answer j ran by_name by_gap = elim ran [
+  | inl (name, all, m, r1, r2, is) ↦
+      let (gap, begins, all_gap, none) = name_gap_ok i name m r1 by_name by_gap in
+      let (parts, with, no_section, no_gap, no_pair, texts) =
+      section_ok told i name.now gap m all j begins all_gap none r2 in
+      inl (name, all, parts, with, no_section, no_gap, no_pair, texts, is)
+  | inr (inl (k, r1, same, is)) ↦
+      let (none, kind) = name_gap_err i k j r1 by_name by_gap in
+      inr (inl (none, is ∙ ap Err kind))
+  | inr (inr (name, k, m, r1, r2, is)) ↦
+      let (gap, (behind, begins, more), all_gap, none) =
+      name_gap_ok i name m r1 by_name by_gap in
+      inr (inr ((name.now, behind, begins), is ∙ ap Err (pairs_fail told m k j r2)))
+]

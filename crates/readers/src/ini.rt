@@ -2,7 +2,6 @@
 ghost use Rattle.std.specs.Prelude.{◌≡◌, ◌≢◌, ◌↔◌, IsTrue, IfOk, IfErr};
 ghost use Rattle.readers.specs.Pair.{IsKeyByte, IsPairLine, IsPairFault};
 
-pub mod impls;
 mod parts;
 mod sections;
 mod tables;

@@ -26,6 +26,6 @@ pub mod prelude;
 pub mod stable;
 pub mod stream;
 
-pub use winnow_core::parser::{Func, ModalParser, Parser};
+pub use winnow_core::parser::{Func, FuncWith, ModalParser, Parser};
 pub use winnow_recovery::{RecoverableParser, RecoveringParser};
 pub use winnow_token::token;

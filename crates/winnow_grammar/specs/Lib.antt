@@ -7,6 +7,7 @@ pub mod Longer
 pub mod Read
 pub mod Rule
 pub mod RulePieces
+pub mod RuleWith
 pub mod RunByRun
 pub mod Spans
 pub mod Steps

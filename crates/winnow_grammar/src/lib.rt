@@ -3,6 +3,7 @@
 #![tactic(auto)]
 
 pub mod by_pieces;
+pub mod by_with;
 pub mod for_good;
 pub mod laws;
 pub mod pieces;

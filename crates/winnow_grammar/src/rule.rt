@@ -5,9 +5,11 @@ ghost use Rattle.grammars.specs.Grammar.{Grammar, IsUnique, TakesTokens};
 ghost use Rattle.winnow_grammar.specs.Rule.{by_rule, by_run};
 ghost use Rattle.winnow_grammar.specs.Rule.{ByRuns, CallsRead, CallsSpared, by_exact, by_fails};
 ghost use Rattle.winnow_grammar.specs.RulePieces.{pieces_rule, pieces_run};
+ghost use Rattle.winnow_grammar.specs.RuleWith.{with_argument, with_rule, with_run};
 ghost use Rattle.winnow_core.specs.Says.{nothing_done, nothing_said};
 
 use crate::by_pieces::ByPieces;
+use crate::by_with::ByWith;
 use stream_errors::parser_error::ParserError;
 use streams::stream::Stream;
 use winnow_core::parser::Parser;
@@ -37,6 +39,17 @@ pub trait Rule<I: Stream, O>: Sized {
         ensures run { by_run result ≡ run }
     {
         By { rule: self, run }
+    }
+
+    /// Like [`by`](Rule::by), for a function with an argument, such as an allocator: each call gets a
+    /// copy of the argument. It needs no closure, so the output may borrow from the input.
+    #[inline(always)]
+    final fn by_with<A, F>(self, argument: A, run: F) -> ByWith<Self, A, F>
+        ensures rule { with_rule result ≡ self }
+        ensures argument { with_argument result ≡ argument }
+        ensures run { with_run result ≡ run }
+    {
+        ByWith::new(self, argument, run)
     }
 
     /// Like [`by`](Rule::by), for a function whose contract also covers partial input. The parser

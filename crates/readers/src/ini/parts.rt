@@ -9,16 +9,15 @@ ghost use Rattle.readers.specs.DocumentRuns.{BracketsRuns, CategoryRuns, Comment
 ghost use Rattle.readers.specs.DocumentRuns.{IsFront, KeyRuns};
 ghost use Rattle.readers.specs.DocumentRuns.{KeyValueRuns, MarkRuns, ValueRuns, IsWithoutTrailing};
 
-use crate::ini::impls::{Brackets, Comment, Key, Mark, Value};
 use crate::ini::tables::NameBytes;
 use std::alloc::Allocator;
 use std::str;
-use winnow::Parser;
 use winnow::ascii::impls::{Alphanumeric1, Multispace1, Space0};
 use winnow::combinator::{alt, delimited, opt, repeat, separated_pair, terminated};
 use winnow::error::{EmptyError, ErrMode, HasKind, InputError, ParserError};
 use winnow::stream::{ByteStream, Range, Stream};
 use winnow::token::{take_until, take_while};
+use winnow::{Func, FuncWith, Parser};
 
 /// The bytes as text, where they are UTF-8.
 fn text(bytes: &[u8]) -> Option<&str>
@@ -77,7 +76,7 @@ pub(super) fn section_name<'i>(
         (bytes_input input.new.now) }
 {
     let at_name = *input;
-    match (Brackets { names }).verify_map(text).parse_next(input) {
+    match FuncWith(names, brackets).verify_map(text).parse_next(input) {
         Ok(name) => Ok(name),
         Err(error) => {
             *input = at_name;
@@ -194,7 +193,12 @@ pub fn key_value<'i>(
         (bytes_input input.new.now) }
 {
     let at_key = *input;
-    match terminated(separated_pair(Key, Mark, Value), opt(Comment)).parse_next(input) {
+    match terminated(
+        separated_pair(Func(key), Func(mark), Func(value)),
+        opt(Func(comment)),
+    )
+    .parse_next(input)
+    {
         Ok(pair) => Ok(pair),
         Err(error) => {
             *input = at_key;
@@ -228,5 +232,10 @@ pub(super) fn gap<'i, A: Allocator + Copy>(
         (answer_by ⟦<ErrMode<InputError<&'i [u8]>> as HasKind>⟧.kind result)
         (bytes_input input.new.now) }
 {
-    repeat(alloc, Range::from(0..), alt((Multispace1.void(), Comment))).parse_next(input)
+    repeat(
+        alloc,
+        Range::from(0..),
+        alt((Multispace1.void(), Func(comment))),
+    )
+    .parse_next(input)
 }

@@ -7,13 +7,13 @@ ghost use Rattle.readers.specs.Sections.{pair_text, section_text};
 ghost use Rattle.winnow.specs.Says.{nothing_done, nothing_said};
 
 use crate::fault::Fault;
-use crate::ini::impls::{Gap, KeyValue, SectionName};
+use crate::ini::parts::{gap, key_value, section_name};
 use crate::ini::tables::NameBytes;
 use std::alloc::Allocator;
-use winnow::Parser;
 use winnow::combinator::{preceded, repeat, terminated};
 use winnow::error::{ErrMode, InputError, ParseFault, ParserError};
 use winnow::stream::Range;
+use winnow::{Func, FuncWith, Parser};
 
 /// A section: its name, and its pairs of a key and a value in order, as slices of the input. `A` is
 /// the allocator of the list.
@@ -67,7 +67,12 @@ impl<'i, A: Allocator + Copy> Parser<
         input: &mut &'i [u8],
     ) -> Result<Vec<(&'i str, &'i str), A>, ErrMode<InputError<&'i [u8]>>> {
         let alloc = self.alloc;
-        repeat(alloc, Range::from(0..), terminated(KeyValue, Gap { alloc })).parse_next(input)
+        repeat(
+            alloc,
+            Range::from(0..),
+            terminated(Func(key_value), FuncWith(alloc, gap)),
+        )
+        .parse_next(input)
     }
 }
 
@@ -101,8 +106,8 @@ impl<'i, A: Allocator + Copy> Parser<&'i [u8], Section<'i, A>, ErrMode<InputErro
         input: &mut &'i [u8],
     ) -> Result<Section<'i, A>, ErrMode<InputError<&'i [u8]>>> {
         let alloc = self.alloc;
-        let name = SectionName { names: self.names };
-        (terminated(name, Gap { alloc }), Pairs { alloc })
+        let name = FuncWith(self.names, section_name);
+        (terminated(name, FuncWith(alloc, gap)), Pairs { alloc })
             .map(|(name, pairs)| Section { name, pairs })
             .parse_next(input)
     }
@@ -181,7 +186,7 @@ impl<'i, A: Allocator + Copy> Parser<
         input: &mut &'i [u8],
     ) -> Result<Vec<Section<'i, A>, A>, ErrMode<InputError<&'i [u8]>>> {
         let (alloc, names) = (self.alloc, self.names);
-        preceded(Gap { alloc }, Sections { alloc, names }).parse_next(input)
+        preceded(FuncWith(alloc, gap), Sections { alloc, names }).parse_next(input)
     }
 }
 

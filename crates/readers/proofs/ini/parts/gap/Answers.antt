@@ -7,6 +7,8 @@ use Rattle.winnow.specs.Void.Known.{void_err, void_ok}
 use Rattle.winnow.specs.TakeWhile.Known.{too_few, took_counted}
 use Rattle.readers.specs.Document.{white, comment, IsWhite}
 use Rattle.readers.proofs.PartRuns.{class_denies, class_says, no_front, no_gap, took_front}
+use Rattle.readers.specs.DocumentRuns.{CommentRuns}
+use Rattle.winnow.specs.FuncCalls.{run_by}
 use Rattle.readers.proofs.GapLemmas.{gap_read}
 use Rattle.readers.proofs.ini.parts.gap.Goals as goal
 
@@ -24,14 +26,15 @@ returns g c = (
               (λ x h. class_denies IsWhite x h.0 h.1 h.2) in
               (white slice.now, tt, (front.0, (bytes.enough, front.1, front.2)), bytes.whole whole)
           | inr (a, first, other) ↦
+              let told = run_by CommentRuns other (λ f x r y h met. met) in
               let few =
               too_few bytes_reading modal _ 1 None _ _ _ whole tt (void_err _ first).0 in
-              elim other.1 [
+              elim told.1 [
                 | inl (text, begins, is) ↦ (
                   comment text,
                   tt,
                   begins,
-                  other.0.cut ∙ ap (λ x. x.status.cut) few.stays ∙ whole,
+                  told.0.cut ∙ ap (λ x. x.status.cut) few.stays ∙ whole,
                 )
                 | inr (no_mark, is) ↦ ok_is_err refl is
               ]
@@ -41,9 +44,10 @@ returns g c = (
               absurd (other (too_few bytes_reading modal _ 1 None _ _ _ whole tt
               (void_err k first).0).kind)
           | inr (a, first, other) ↦
+              let told = run_by CommentRuns other (λ f x r y h met. met) in
               let few =
               too_few bytes_reading modal _ 1 None _ _ _ whole tt (void_err _ first).0 in
-              elim other.1 [
+              elim told.1 [
                 | inl (text, begins, is) ↦ ok_is_err is refl
                 | inr (no_mark, is) ↦ (
                   same_err refl is,

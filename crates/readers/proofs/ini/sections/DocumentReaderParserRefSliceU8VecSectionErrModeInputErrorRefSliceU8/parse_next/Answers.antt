@@ -5,5 +5,5 @@ use Rattle.readers.proofs.ini.sections.DocumentReaderParserRefSliceU8VecSectionE
 
 pub returns-clause-ran : goal.returns-clause-ran
 returns-clause-ran g c =
-    document_read (λ all. map section_text all.items) _ _ _ _ _ c.parse_next.ensures.ends
-    c.parse_next.ensures.ran
+    document_read (λ all. map section_text all.items) _ _ _ c.parse_next.ensures.ends
+    c.parse_next.ensures.ran (λ s x r y t met. met)
