@@ -6,13 +6,8 @@ ADAPTERS = """Parser::map Parser::value Parser::default_value Parser::void Parse
 Parser::parse_to Parser::take Parser::with_taken Parser::span Parser::with_span"""
 
 PAGES = [
-<<<<<<< HEAD
     ("parser", "Parsers, and how to call them", "", "Parser Func ModalParser *"),
     ("parser_outputs", "Adapters: converting the output", "", ADAPTERS),
-=======
-    ("parser", "Parsers, and how they are run", "", "Parser Func FuncWith ModalParser *"),
-    ("parser_outputs", "Calls of a parser: another output", "", ADAPTERS),
->>>>>>> 266f2c7367ad58f72e0a6076e5824f281c39c47e
     (
         "parser_tests",
         "Adapters: checking the output, or parsing it further",

@@ -24,7 +24,7 @@ use Rattle.winnow.specs.Preceded.Known.{preceded_ok}
 use Rattle.winnow.specs.Repeat.{RepeatRuns}
 use Rattle.winnow.specs.Repeat.Known.{Items, repeat_any_err, repeat_any_ok, repeated_by}
 use Rattle.winnow.specs.Repeat.Known.{repeated_list}
-use Rattle.winnow.specs.Func.{CalledWithMut, FuncRuns}
+use Rattle.winnow.specs.Func.{CalledWithMut, FuncWithRuns}
 use Rattle.readers.specs.Document.{SectionText, PairBytes, Part, white, comment, section, pair}
 use Rattle.readers.specs.Document.{Begins, BeginsWith, BeginsDocument, IsRefusedDocument}
 use Rattle.readers.specs.Document.{NoPairBegins, NoSectionBegins, SectionBegins, ReachesSection}
@@ -252,7 +252,7 @@ pub document_read : {A F I E S U C : Type 0} {reading : Reading ℕ S} {view : I
     {g : Mut F (A × (MutBor I × Unit {0})) (Result (Unit {0}) E × (MutBor I × Unit {0}))}
     {s t : A × F} {u u' : U} (told : C → List SectionText) (i : Input ℕ)
     (answer : Answer C) (j : Input ℕ) → IsEndOf bytes_reading j i
-    → PrecededRuns (FuncRuns reading view kind (CalledWithMut g))
+    → PrecededRuns (FuncWithRuns reading view kind (CalledWithMut g))
     (λ s i answer t j. SectionsRuns told i answer j) (s, u) i answer (t, u') j
     → CallsWithBy view kind g GapRuns → DocumentRuns told i answer j
 document_read told i (Ok o) j ends ran by_gap =

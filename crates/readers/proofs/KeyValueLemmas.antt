@@ -1,4 +1,4 @@
--- What the runs of a key, the mark, a value and a comment say of a pair.
+-- Lemmas about the calls of a key, the mark, a value and a comment.
 use Rattle.std.proofs.Common.{◌≡◌, ◌<◌, ◌∙◌, ◌⊎◌, ℕ, List, [], ◌∷◌, ◌++◌, length, Option, Some}
 use Rattle.std.proofs.Common.{None, Ok, Err, refl, sym, ap, subst, arith, inl, inr, lit<}
 use Rattle.std.specs.Borrow.{Bor, MutBor}
@@ -54,7 +54,6 @@ no_mark_behind tokens key a before rest keys blanks none p behind begins =
     (not_blank 61 (lit< tt)) in
     (subst Q same.1.1 none) refl
 
--- nor where the value is no text
 no_value_text : (tokens key before lead body rest : List ℕ)
     → IsLaid tokens key before lead body rest
     → ((value : List ℕ) → IsWithoutTrailing body value → IsUtf8 value → ⊥) → NoPairBegins tokens
@@ -81,7 +80,7 @@ laid_by tokens key a before rest lead b body behind keys blanks leads values =
       body_ends = values.2;
     }
 
--- ---- what each run says that answered
+-- ---- the calls that succeeded
 
 key_ok : (i : Input ℕ) (key : Bor (List ℕ)) (j : Input ℕ) → KeyRuns i (Ok key) j
     → (0 < length key.now) × IsFront IsKeyByte i.left.tokens key.now j.left.tokens
@@ -127,7 +126,7 @@ value_err i k j (ends, (body, rest, values, inl (o, there, trail, text, is))) = 
 value_err i k j (ends, (body, rest, values, inr (refuses, is))) =
     (body, rest, values, refuses, same_kind is)
 
--- What the runs of a key, the mark and a value say together.
+-- `FrontRead i answer j`: the combined result of the calls of a key, the mark and a value.
 abbrev pub FrontRead : Input ℕ → Answer (Bor (List ℕ) × Bor (List ℕ)) → Input ℕ → Type 0
 FrontRead i answer j =
     -- a pair's key, mark and value
@@ -197,7 +196,6 @@ remark_ends [] stops none = tt
 remark_ends (b ∷ more) stops none =
     elim (cases_eq b 10) [ inl e ↦ e | inr n ↦ absurd (stops (none, n)) ]
 
--- What a run of a comment that may be left out says after a value.
 pub remark_read : {F I E S : Type 0} {reading : Reading ℕ S} {view : I → Input ℕ}
     {kind : E → Kind}
     {g : Mut F (MutBor I × Unit {0}) (Result (Unit {0}) E × (MutBor I × Unit {0}))} {s t : F}

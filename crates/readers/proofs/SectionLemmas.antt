@@ -1,4 +1,4 @@
--- What a section's name, a gap and pairs with gaps say together.
+-- Lemmas about a section's name, a gap, and pairs with gaps.
 use Rattle.std.proofs.Common.{◌≡◌, ◌≤◌, ◌∙◌, ◌⊎◌, ℕ, List, [], ◌∷◌, ◌++◌, length, None, Ok, Err}
 use Rattle.std.proofs.Common.{refl, sym, ap, subst, arith, inl, inr}
 use Rattle.std.specs.Prelude.{map, Result}
@@ -23,7 +23,7 @@ use Rattle.winnow.specs.Sequence.{SequenceRuns2}
 use Rattle.winnow.specs.Terminated.{TerminatedRuns}
 use Rattle.winnow.specs.Terminated.Known.{terminated_ok}
 use Rattle.winnow.specs.Reading.{Reading}
-use Rattle.winnow.specs.Func.{CalledWithMut, FuncRuns}
+use Rattle.winnow.specs.Func.{CalledWithMut, FuncRuns, FuncWithRuns}
 use Rattle.readers.specs.Document.{SectionText, PairBytes, Part, white, comment, section, pair}
 use Rattle.readers.specs.Document.{Begins, BeginsWith, NoPairBegins, NoSectionBegins}
 use Rattle.readers.specs.Document.{pairs_of, sections_of, NoPairBeforeSections}
@@ -82,7 +82,7 @@ gap_before (comment text ∷ ps) qs all h = gap_before ps qs all.1 h
 gap_before (section name ∷ ps) qs all h = absurd all.0
 gap_before (pair p ∷ ps) qs all h = absurd all.0
 
--- What one run of a pair with the gap after it says: it takes them, or there is no pair.
+-- One call of a pair with the gap after it consumes them, or there is no pair.
 pub record ReadsPair {S : Type 0} (run : Runs S ℕ (Bor (List ℕ) × Bor (List ℕ))) : Type 0 where
   pub takes : (s : S) (i : Input ℕ) (o : Bor (List ℕ) × Bor (List ℕ)) (t : S) (j : Input ℕ)
       → run s i (Ok o) t j
@@ -122,7 +122,7 @@ pub reads_pair : {A F1 F2 I E S : Type 0} {reading : Reading ℕ S} {view : I �
     → CallsBy view kind g1 KeyValueRuns → CallsWithBy view kind g2 GapRuns
     → ReadsPair {S = F1 × (A × F2)}
     (TerminatedRuns (FuncRuns reading view kind (CalledAtMut g1))
-    (FuncRuns reading view kind (CalledWithMut g2)))
+    (FuncWithRuns reading view kind (CalledWithMut g2)))
 reads_pair by_pair by_gap = record {
   takes = λ s i o t j ran.
       let (u, a, r1, r2) = terminated_ok o ran in
@@ -206,8 +206,8 @@ name_gap_ok : {A B F1 F2 I E S : Type 0} {reading : Reading ℕ S} {view : I →
     {g2 : Mut F2 (A × (MutBor I × Unit {0})) (Result (Unit {0}) E × (MutBor I × Unit {0}))}
     {s1 t1 : B × F1} {s2 t2 : A × F2}
     (i : Input ℕ) (name : Bor (List ℕ)) (j : Input ℕ)
-    → TerminatedRuns (FuncRuns reading view kind (CalledWithMut g1))
-    (FuncRuns reading view kind (CalledWithMut g2)) (s1, s2) i (Ok name)
+    → TerminatedRuns (FuncWithRuns reading view kind (CalledWithMut g1))
+    (FuncWithRuns reading view kind (CalledWithMut g2)) (s1, s2) i (Ok name)
     (t1, t2) j
     → CallsWithBy view kind g1 CategoryRuns → CallsWithBy view kind g2 GapRuns
     → (gap : List Part) × BeginsWith (section name.now ∷ gap) i.left.tokens j.left.tokens
@@ -230,8 +230,8 @@ name_gap_err : {A B F1 F2 I E S : Type 0} {reading : Reading ℕ S} {view : I �
     {g2 : Mut F2 (A × (MutBor I × Unit {0})) (Result (Unit {0}) E × (MutBor I × Unit {0}))}
     {s1 t1 : B × F1} {s2 t2 : A × F2}
     (i : Input ℕ) (k : Kind) (j : Input ℕ)
-    → TerminatedRuns (FuncRuns reading view kind (CalledWithMut g1))
-    (FuncRuns reading view kind (CalledWithMut g2)) (s1, s2) i (Err k)
+    → TerminatedRuns (FuncWithRuns reading view kind (CalledWithMut g1))
+    (FuncWithRuns reading view kind (CalledWithMut g2)) (s1, s2) i (Err k)
     (t1, t2) j
     → CallsWithBy view kind g1 CategoryRuns → CallsWithBy view kind g2 GapRuns
     → NoSectionBegins i.left.tokens × (k ≡ backtrack)
@@ -269,7 +269,6 @@ pub same_text : {a c : List ℕ} {b d : List (List ℕ × List ℕ)} → a ≡ c
     → ◌≡◌ {A = SectionText} (a, b) (c, d)
 same_text e f = cc
 
--- pairs fail for want of memory alone
 pairs_fail : {C : Type 0} (told : C → List (List ℕ × List ℕ)) (i : Input ℕ) (k : Kind)
     (j : Input ℕ) → PairsRuns told i (Err k) j → k ≡ memory
 pairs_fail told i k j (ends, inl (all, parts, with, no_section, texts, no_pair, last, is)) =
@@ -297,8 +296,8 @@ pub parts_read : {A B F1 F2 I E S U C : Type 0} {reading : Reading ℕ S} {view 
     {s1 t1 : B × F1} {s2 t2 : A × F2} {u u' : U}
     (told : C → List (List ℕ × List ℕ)) (i : Input ℕ) (answer : Answer (Bor (List ℕ) × C))
     (j : Input ℕ)
-    → SequenceRuns2 (TerminatedRuns (FuncRuns reading view kind (CalledWithMut g1))
-    (FuncRuns reading view kind (CalledWithMut g2)))
+    → SequenceRuns2 (TerminatedRuns (FuncWithRuns reading view kind (CalledWithMut g1))
+    (FuncWithRuns reading view kind (CalledWithMut g2)))
     (λ s i answer t j. PairsRuns told i answer j) ((s1, s2), u) i answer
     ((t1, t2), u') j
     → CallsWithBy view kind g1 CategoryRuns → CallsWithBy view kind g2 GapRuns

@@ -267,7 +267,6 @@ pub use Rattle.winnow_recovery.specs.RetryAfter
 pub use Rattle.winnow_escapes.specs.Controls
 pub use Rattle.winnow_escapes.specs.Escaped
 pub use Rattle.winnow_escapes.specs.TakeEscaped
-<<<<<<< HEAD
 -- The semantics of parsers: the law of each call, and the semantics of compositions.
 pub use Rattle.winnow_laws.specs.Compositions
 pub use Rattle.winnow_laws.specs.Memory
@@ -276,36 +275,14 @@ pub use Rattle.winnow_laws.specs.Memory
 pub use Rattle.winnow_grammar.specs.Back
 pub use Rattle.winnow_grammar.specs.Cut
 pub use Rattle.winnow_grammar.specs.ForGood
+pub use Rattle.winnow_grammar.specs.FuncCalls
 pub use Rattle.winnow_grammar.specs.InTurn
 pub use Rattle.winnow_grammar.specs.Longer
 pub use Rattle.winnow_grammar.specs.Read
 pub use Rattle.winnow_grammar.specs.Rule
 pub use Rattle.winnow_grammar.specs.RulePieces
+pub use Rattle.winnow_grammar.specs.RuleWith
 pub use Rattle.winnow_grammar.specs.RunByRun
 pub use Rattle.winnow_grammar.specs.Spans
 pub use Rattle.winnow_grammar.specs.Steps
 pub use Rattle.winnow_grammar.specs.Told
-=======
--- What a parser means, whatever it is made of: the law of each call, and what compositions mean.
-pub use Rattle.winnow_meanings.specs.Compositions
-pub use Rattle.winnow_meanings.specs.Memory
--- What readers by grammars stand on: functions as parsers by what they read, input in pieces, and
--- what calls in turn tell.
-pub use Rattle.winnow_exact.specs.Back
-pub use Rattle.winnow_exact.specs.Cut
-pub use Rattle.winnow_exact.specs.ForGood
-pub use Rattle.winnow_exact.specs.InTurn
-pub use Rattle.winnow_exact.specs.Longer
-pub use Rattle.winnow_exact.specs.Read
-pub use Rattle.winnow_exact.specs.Rule
-pub use Rattle.winnow_exact.specs.RulePieces
-pub use Rattle.winnow_exact.specs.RuleWith
-pub use Rattle.winnow_exact.specs.RunByRun
-pub use Rattle.winnow_exact.specs.Spans
-pub use Rattle.winnow_exact.specs.Steps
-pub use Rattle.winnow_exact.specs.Told
--- Where stable parsers ask for more of a cut input.
-pub use Rattle.winnow_begun.specs.Begun
--- With which kind of error parsers fail on a whole input, and what they leave.
-pub use Rattle.winnow_failures.specs.Fails
->>>>>>> 266f2c7367ad58f72e0a6076e5824f281c39c47e

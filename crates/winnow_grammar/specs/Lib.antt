@@ -2,6 +2,7 @@
 pub mod Back
 pub mod Cut
 pub mod ForGood
+pub mod FuncCalls
 pub mod InTurn
 pub mod Longer
 pub mod Read

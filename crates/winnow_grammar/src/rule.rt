@@ -41,8 +41,8 @@ pub trait Rule<I: Stream, O>: Sized {
         By { rule: self, run }
     }
 
-    /// Like [`by`](Rule::by), for a function with an argument, such as an allocator: each call gets a
-    /// copy of the argument. It needs no closure, so the output may borrow from the input.
+    /// Like [`by`](Rule::by), for a function with an argument, such as an allocator. Each call gets
+    /// a copy of the argument. It needs no closure, so the output may borrow from the input.
     #[inline(always)]
     final fn by_with<A, F>(self, argument: A, run: F) -> ByWith<Self, A, F>
         ensures rule { with_rule result ≡ self }

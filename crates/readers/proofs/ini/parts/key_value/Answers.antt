@@ -11,15 +11,15 @@ pub returns-in-Ok : goal.returns-in-Ok
 returns-in-Ok c =
     elim c.in-Ok.ensures.ran [
       | inl (o1, o2, a, r1, r2, e) ↦ elim (front_read _ _ _ r1 (λ f x r y h met. met)
-      (λ f x r y h met. met) (λ f x r y h met. met)) [
-        | inl (key, value, before, lead, body, laid, some, trail, text, is) ↦
-            let (remark, is_remark, rest, ends) =
-            remark_read _ _ _ laid.body_ends r2 (λ f x r y h met. met) in
-            let (p, begins, keys, values) =
-            pair_read _ _ _ _ _ _ _ _ _ laid some trail text is_remark rest ends in
-            (c.in-Ok.ensures.ends, inl (p, key, value, begins, keys, values, e ∙ is))
-        | inr (none, is) ↦ ok_is_err refl is
-      ]
+          (λ f x r y h met. met) (λ f x r y h met. met)) [
+            | inl (key, value, before, lead, body, laid, some, trail, text, is) ↦
+                let (remark, is_remark, rest, ends) =
+                remark_read _ _ _ laid.body_ends r2 (λ f x r y h met. met) in
+                let (p, begins, keys, values) =
+                pair_read _ _ _ _ _ _ _ _ _ laid some trail text is_remark rest ends in
+                (c.in-Ok.ensures.ends, inl (p, key, value, begins, keys, values, e ∙ is))
+            | inr (none, is) ↦ ok_is_err refl is
+          ]
       | inr (inl (k, r1, s2, e)) ↦ ok_is_err refl e
       | inr (inr (o1, k, a, r1, r2, e)) ↦ ok_is_err refl e
     ]
@@ -29,10 +29,10 @@ returns-in-Err c =
     elim c.in-Err.ensures.ran [
       | inl (o1, o2, a, r1, r2, e) ↦ ok_is_err e refl
       | inr (inl (k, r1, s2, e)) ↦ elim (front_read _ _ _ r1 (λ f x r y h met. met)
-      (λ f x r y h met. met) (λ f x r y h met. met)) [
-        | inl (key, value, before, lead, body, laid, some, trail, text, is) ↦ ok_is_err is refl
-        | inr (none, is) ↦ (is_end_of_refl bytes_reading _, inr (none, refl, e ∙ is))
-      ]
+          (λ f x r y h met. met) (λ f x r y h met. met)) [
+            | inl (key, value, before, lead, body, laid, some, trail, text, is) ↦ ok_is_err is refl
+            | inr (none, is) ↦ (is_end_of_refl bytes_reading _, inr (none, refl, e ∙ is))
+          ]
       | inr (inr (o1, k, a, r1, r2, e)) ↦ remark_never_fails _ _ _ r2 (λ f x r y h met. met)
     ]
 
