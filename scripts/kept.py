@@ -8,6 +8,7 @@ if all its dependencies have theirs, or are built in the folder already. The kit
 crate is the same: code, specs, proofs, handles, and the libraries below.
 """
 import functools
+import os
 import pathlib
 import shutil
 import sys
@@ -15,6 +16,19 @@ import sys
 sys.dont_write_bytecode = True
 sys.path.insert(0, str(pathlib.Path(__file__).resolve().parent))
 from toolchain import toolchain  # noqa: E402
+
+
+def sum_once(rt):
+    """Makes the kit compute the checksum of each file once. (It would do so after the file is
+    copied, and again for the crates above.)"""
+    sum_of = rt.rtlib.sum_of
+    known = functools.cache(lambda path, *_: sum_of(path))
+
+    def found(path):
+        state = os.stat(path)
+        return known(path, state.st_ino, state.st_size, state.st_mtime_ns)
+
+    rt.rtlib.sum_of = found
 
 
 def give(rt, crates):
@@ -36,16 +50,27 @@ def give(rt, crates):
     return given
 
 
-def main(top):
+def give_all(top, names=None):
+    """Copies the kept proofs of the libraries below a folder, or of those with these names. Returns
+    the libraries, and the names of those that are then built."""
     rt = toolchain()
     # A crate reads the stamps of all its dependencies.
     rt.rtlib.Crate.stamp = functools.cache(rt.rtlib.Crate.stamp)
     crates = [it for it in rt.rtlib.crates_below(str(top)) if not it.is_program and not it.is_static]
+    crates = [it for it in crates if names is None or it.name in names]
+    if all(it.is_built() for it in crates):
+        return crates, {it.name for it in crates}
+    sum_once(rt)
     given = give(rt, crates)
     for it in crates:
         if it.name in given:
             stamp = pathlib.Path(it.folder) / "out/rlib/stamp"
             stamp.write_text(it.stamp(), encoding="utf-8")
+    return crates, given
+
+
+def main(top):
+    crates, given = give_all(top)
     left = ", ".join(sorted(it.name for it in crates if it.name not in given)) or "none"
     print(f"{len(given)} of {len(crates)} crates are already proved; not proved: {left}.")
 

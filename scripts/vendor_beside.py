@@ -1,5 +1,5 @@
 """The files that `scripts/vendor` writes in addition to the crates: their origin, their licence,
-the commands `prove` and `run`, and `.gitignore`; and its last message."""
+the commands `check`, `prove` and `run`, and `.gitignore`; and its last message."""
 import hashlib
 import os
 import shutil
@@ -12,22 +12,31 @@ from toolchain import toolchain
 # numbers are in no other file.
 MINUTES = {"text": 35, "all": 56}
 # Files that are copied unchanged: the path in the copy, and here.
-FILES = {"prove": "scripts/prove", "run": "scripts/run", "crates/LICENSE-PERGIDAU": "LICENSE"}
+COMMANDS = ("check", "prove", "run")
+FILES = {it: f"scripts/{it}" for it in COMMANDS} | {"crates/LICENSE-PERGIDAU": "LICENSE"}
 ORIGIN = "crates/ORIGIN"
 IGNORED = "out/"
 COST = """
 Next steps, and their costs:
-  rt try       in your crate's folder: runs it, unproved and checked, in about 12 CPU seconds,
+  ./check NAME here: checks names, types and borrows of the crate NAME in 5 to 12 CPU seconds
+  rt try       in your crate's folder: runs it, unproved and checked, in about 17 CPU seconds,
                mostly for reading std and the library
   ./run NAME   here: builds the program of the crate NAME, optimized and unproved, in the same time,
                and runs it with the shell's input; without building if nothing changed
-  ./prove F    here: proves your function F and the functions that it calls, in two to four CPU
+"""
+UNPROVED = """\
+  ./prove F    here: proves your function F and the functions that it calls, in two to five CPU
                minutes at first and in one or two after an edit, without proving the library first
   rt check     in your crate's folder, last: proves the crate. The first time it proves the library,
                which takes {minutes} CPU minutes; `rt ci` proves everything each time
 """
-MORE = """               (the parser of a format is proved if your crate depends on it: all that
-were
+PROVED = """\
+  ./prove F    here: proves your function F and those of yours that it calls, in half a CPU minute,
+               since the library is proved already
+  rt check     in your crate's folder, last: proves the crate
+"""
+MORE = """\
+               (the parser of a format is proved if your crate depends on it: all that were
                copied here take about {minutes} more CPU minutes)
 """
 LESSON = "\ndocs/FIRST_PROOF.md of the library explains a parser and its proof, file by file.\n"
@@ -113,10 +122,12 @@ def minutes(parts, all_parts):
     return f"about {text}" if set(parts) <= {"text"} else f"{text} to {whole}"
 
 
-def cost(library, formats):
+def cost(library, formats, is_proved):
     """Returns a description of the costs of the first proofs."""
+    if is_proved:
+        return COST + PROVED + LESSON
     more = MORE.format(minutes=formats) if formats else ""
-    return COST.format(minutes=library) + more + LESSON
+    return COST + UNPROVED.format(minutes=library) + more + LESSON
 
 
 def taken_names():

@@ -94,12 +94,6 @@ def response_by_python(text):
     return f"{'chunked' if found.chunked else length} {said}"
 
 
-def piece_by_python(text):
-    """Returns the head of a response, with the number of bytes that Python consumed."""
-    read = response_of(text)
-    return f"{read[1]} {read[2]}" if read else "none"
-
-
 def body_by_python(text):
     """Returns the chunked body that Python reads; or `none`."""
     kept = Kept(b"HTTP/1.1 200 OK\r\nTransfer-Encoding: chunked\r\n\r\n" + text)
@@ -147,10 +141,6 @@ COMPARISONS = [
     Comparison(
         "http/responses", CLIENT, "format_http", "http_responses", texts(response),
         peer=each(response_by_python), judge=of_responses, **WITH,
-    ),
-    Comparison(
-        "http/pieces", CLIENT, "format_http winnow", "http_pieces", texts(response),
-        peer=each(piece_by_python), judge=of_responses, **WITH,
     ),
     Comparison(
         "http/chunked", CLIENT, "format_http format_http_chunked", "http_chunked", texts(body),
