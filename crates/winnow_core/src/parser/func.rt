@@ -70,12 +70,10 @@ impl<F: FnMut(&mut I) -> Result<O, E>, I: Stream, O, E: ParserError<I>> Parser<I
     }
 }
 
-/// A parser that calls a function with an argument, such as an allocator. Each call of the parser
-/// calls the function once, with a copy of the argument. The function must meet the requirements
-/// of [`Func`].
+/// A parser that runs the caller's function at an argument, as an allocator: each run calls it
+/// once, at a copy of the argument. The function owes what that of a [`Func`] owes.
 ///
-/// Rattle rejects a closure whose output borrows from the input. This parser takes the function
-/// itself:
+/// A closure whose output borrows from the input is refused, and this takes the function itself:
 ///
 /// ```
 /// ghost use Rattle.streams.specs.Bytes.{bytes_input, bytes_reading};
