@@ -823,7 +823,7 @@ enum pergidau_code pergidau_csv_record_extent(
  * of fields is written.
  *
  * After an error the contents of the buffer are unspecified, because the fields are written
- * during parsing.
+ * during parsing, and all other parts of the head are 0.
  *
  * # Safety
  *
@@ -1059,9 +1059,11 @@ enum pergidau_code pergidau_ini_pair(
  * length is 4.
  *
  * PERGIDAU_BUFFER_TOO_SMALL: the document needs more entries or more bytes than the buffers
- * have. The required numbers of both are written, and the buffers are unchanged.
+ * have. The required numbers of both are written.
  *
  * PERGIDAU_NO_MEMORY.
+ *
+ * After an error the buffers are unchanged.
  *
  * # Safety
  *

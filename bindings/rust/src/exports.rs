@@ -788,7 +788,7 @@ extern "C" {
     /// is written.
     ///
     /// After an error the contents of the buffer are unspecified, because the fields are written during
-    /// parsing.
+    /// parsing, and all other parts of the head are 0.
     ///
     /// # Safety
     ///
@@ -1012,9 +1012,11 @@ extern "C" {
     /// of its line: for `[a]`, a line feed, and `x=` before a byte that is not UTF-8, the length is 4.
     ///
     /// `BUFFER_TOO_SMALL`: the document needs more entries or more bytes than the buffers have. The
-    /// required numbers of both are written, and the buffers are unchanged.
+    /// required numbers of both are written.
     ///
     /// `NO_MEMORY`.
+    ///
+    /// After an error the buffers are unchanged.
     ///
     /// # Safety
     ///

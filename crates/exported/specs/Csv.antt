@@ -22,6 +22,10 @@ ends_of (suc n) = Lf
 abbrev pub dialect_of : ℕ → Dialect
 dialect_of line_feeds = commas_by (ends_of line_feeds)
 
+-- No fields, no bytes of theirs, and no length.
+abbrev pub HasNoSizes : Record → Type 0
+HasNoSizes found = (found.fields ≡ 0) × (found.text ≡ 0) × (found.length ≡ 0)
+
 -- The bytes begin with no record.
 abbrev pub NoRecord : Dialect → List ℕ → Type 0
 NoRecord d input = (fields : List (List ℕ)) (rest : List ℕ) → IsRecord d input fields rest → ⊥

@@ -20,6 +20,12 @@ places_of head = record {
   minor = head.minor;
 }
 
+-- Only the number of fields and the offset of an error may differ from 0.
+abbrev pub HasNoParts : Head → Type 0
+HasNoParts head = (head.method ≡ record { offset = 0; length = 0 })
+    × (head.target ≡ record { offset = 0; length = 0 }) × (head.length ≡ 0)
+    × (head.major ≡ 0) × (head.minor ≡ 0)
+
 -- `bytes` does not start with a head: `place` is the first offset at which no head can continue, or
 -- `bytes` ends at `place` within a head.
 abbrev pub IsNoHead : List ℕ → ℕ → Type 0
@@ -38,6 +44,11 @@ response_of head = record {
   major = head.major;
   minor = head.minor;
 }
+
+-- Only the number of fields and the offset of an error may differ from 0.
+abbrev pub HasNoResponseParts : ResponseHead → Type 0
+HasNoResponseParts head = (head.reason ≡ record { offset = 0; length = 0 }) × (head.length ≡ 0)
+    × (head.status ≡ 0) × (head.major ≡ 0) × (head.minor ≡ 0)
 
 -- `bytes` does not start with a head: `place` is the first offset at which no head can continue, or
 -- `bytes` ends at `place` within a head.

@@ -6,7 +6,7 @@ ghost use Rattle.format_csv_records.specs.Buffers.{ShowsFields};
 ghost use Rattle.format_csv_records.specs.Dialects.{IsRecord};
 ghost use Rattle.format_csv_records.specs.Early.{IsPrefixOfNone, IsViablePrefix};
 ghost use Rattle.exported.specs.Code.{buffer_too_small, done, incomplete, invalid};
-ghost use Rattle.exported.specs.Csv.{IsRefusedAt, NoRecord, ShowsRecord, WantsRecord};
+ghost use Rattle.exported.specs.Csv.{HasNoSizes, IsRefusedAt, NoRecord, ShowsRecord, WantsRecord};
 ghost use Rattle.exported.specs.Csv.{dialect_of};
 ghost use Rattle.exported.specs.Span.{span_of};
 
@@ -33,7 +33,8 @@ pub struct Record {
 
 /// Returns a record without fields, with the offset of an error.
 pub(crate) fn none_at(place: usize) -> Record
-    ensures { result.error_offset ≡ place }
+    ensures place { result.error_offset ≡ place }
+    ensures sizes { HasNoSizes result }
 {
     Record {
         fields: 0,
@@ -139,6 +140,7 @@ pub extern "C" fn exported_csv_record(
     ensures refused { result ≡ invalid → NoRecord (dialect_of line_feeds) bytes.now
         × IsRefusedAt (dialect_of line_feeds) bytes.now out.new.error_offset }
     ensures nowhere { (result ≡ invalid → ⊥) → out.new.error_offset ≡ 0 }
+    ensures sizes { result ≡ invalid → HasNoSizes out.new }
     ensures codes { (result ≡ done) ⊎ ((result ≡ buffer_too_small) ⊎ (result ≡ invalid)) }
 {
     *out = none_at(0);
@@ -197,6 +199,8 @@ pub extern "C" fn exported_csv_record_partial(
         × IsRefusedAt (dialect_of line_feeds) bytes.now out.new.error_offset
         × (out.new.error_offset < length bytes.now) }
     ensures nowhere { (result ≡ invalid → ⊥) → out.new.error_offset ≡ 0 }
+    ensures sizes { (result ≡ invalid → HasNoSizes out.new)
+        × (result ≡ incomplete → HasNoSizes out.new) }
     ensures incomplete { result ≡ incomplete → NoneForGood (dialect_of line_feeds) bytes.now
         × IsViablePrefix (dialect_of line_feeds) bytes.now }
     ensures codes { (result ≡ done) ⊎ ((result ≡ buffer_too_small) ⊎ ((result ≡ invalid)

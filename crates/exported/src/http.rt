@@ -7,7 +7,7 @@ ghost use Rattle.format_http.specs.Heads.Head.{BeginsHead, NoHead};
 ghost use Rattle.format_http_places.specs.Places.{IsWanted, ShowsHead};
 ghost use Rattle.format_http_places.specs.Refusals.{IsRefused};
 ghost use Rattle.exported.specs.Code.{buffer_too_small, done, incomplete, invalid};
-ghost use Rattle.exported.specs.Http.{IsNoHead, places_of};
+ghost use Rattle.exported.specs.Http.{HasNoParts, IsNoHead, places_of};
 
 pub mod chunked;
 pub mod extent;
@@ -42,6 +42,7 @@ pub struct Head {
 fn none(fields: usize, place: usize) -> Head
     ensures fields { result.fields ≡ fields }
     ensures place { result.error_offset ≡ place }
+    ensures parts { HasNoParts result }
 {
     let nowhere = Span {
         offset: 0,
@@ -91,7 +92,7 @@ fn head_of(found: places::Head) -> Head
 /// is written.
 ///
 /// After an error the contents of the buffer are unspecified, because the fields are written during
-/// parsing.
+/// parsing, and all other parts of the head are 0.
 ///
 /// # Safety
 ///
@@ -108,6 +109,8 @@ pub extern "C" fn exported_http_head(bytes: &[u8], fields: &mut [Field], out: &m
         → IsHead line pairs bytes.now rest → ⊥ }
     ensures place { result ≡ invalid → IsNoHead bytes.now out.new.error_offset }
     ensures nowhere { (result ≡ invalid → ⊥) → out.new.error_offset ≡ 0 }
+    ensures parts { (result ≡ done → ⊥) → HasNoParts out.new }
+    ensures count { result ≡ invalid → out.new.fields ≡ 0 }
     ensures codes { (result ≡ done) ⊎ ((result ≡ buffer_too_small) ⊎ (result ≡ invalid)) }
 {
     match read_head_into(bytes, fields) {
@@ -164,6 +167,9 @@ pub extern "C" fn exported_http_head_partial(
     ensures refused { result ≡ invalid → NoHead bytes.now }
     ensures place { result ≡ invalid → IsRefused bytes.now out.new.error_offset }
     ensures nowhere { (result ≡ invalid → ⊥) → out.new.error_offset ≡ 0 }
+    ensures parts { (result ≡ done → ⊥) → HasNoParts out.new }
+    ensures count { (result ≡ invalid → out.new.fields ≡ 0)
+        × (result ≡ incomplete → out.new.fields ≡ 0) }
     ensures incomplete { result ≡ incomplete → BeginsHead bytes.now
         × ((line : Request) (pairs : List Pair) (rest : List ℕ)
         → IsHead line pairs bytes.now rest → ⊥) }

@@ -6,6 +6,7 @@ ghost use Rattle.readers.specs.Pair.{IsRefusedPair};
 ghost use Rattle.readers.specs.Sections.{pair_text};
 ghost use Rattle.exported.specs.Code.{buffer_too_small, done, invalid, no_memory};
 ghost use Rattle.exported.specs.Ini.{AreEntries, ShowsDocument, ShowsPair, WantsDocument, text_of};
+ghost use Rattle.exported.specs.Span.{nowhere};
 
 pub mod dialects;
 pub mod entries;
@@ -50,6 +51,7 @@ pub extern "C" fn exported_ini_pair(bytes: &[u8], out: &mut Pair) -> u32
     ensures pair { result ≡ done → ShowsPair bytes.now out.new }
     ensures refused { result ≡ invalid → IsRefusedPair bytes.now out.new.error_offset }
     ensures nowhere { (result ≡ invalid → ⊥) → out.new.error_offset ≡ 0 }
+    ensures parts { result ≡ invalid → (out.new.key ≡ nowhere) × (out.new.value ≡ nowhere) }
     ensures codes { (result ≡ done) ⊎ (result ≡ invalid) }
 {
     match ini::pair(bytes) {
@@ -162,9 +164,11 @@ fn write_entries(
 /// of its line: for `[a]`, a line feed, and `x=` before a byte that is not UTF-8, the length is 4.
 ///
 /// `BUFFER_TOO_SMALL`: the document needs more entries or more bytes than the buffers have. The
-/// required numbers of both are written, and the buffers are unchanged.
+/// required numbers of both are written.
 ///
 /// `NO_MEMORY`.
+///
+/// After an error the buffers are unchanged.
 ///
 /// # Safety
 ///
@@ -184,7 +188,8 @@ pub extern "C" fn exported_ini_document(
         (take out.new.text text.new) (take out.new.entries entries.new) }
     ensures small { result ≡ buffer_too_small → WantsDocument bytes.now out.new
         × ((length entries.old < out.new.entries) ⊎ (length text.old < out.new.text)) }
-    ensures kept { result ≡ buffer_too_small → (entries.new ≡ entries.old) × (text.new ≡ text.old) }
+    ensures kept { (result ≡ done → ⊥) → (entries.new ≡ entries.old) × (text.new ≡ text.old) }
+    ensures sizes { result ≡ invalid → (out.new.entries ≡ 0) × (out.new.text ≡ 0) }
     ensures refused { result ≡ invalid → IsRefusedDocument bytes.now out.new.error_offset }
     ensures nowhere { (result ≡ invalid → ⊥) → out.new.error_offset ≡ 0 }
     ensures codes { (result ≡ done) ⊎ ((result ≡ buffer_too_small) ⊎ ((result ≡ invalid)

@@ -106,6 +106,9 @@ fn write_fault(fault: Fault, out: &mut TomlResult) -> u32
     ensures code { result ≡ code_of fault }
     ensures place { out.new.error_offset ≡ place_of fault }
     ensures fault { out.new.error ≡ fault_of fault }
+    ensures nowhere { result ≡ no_memory
+        → (out.new.error_offset ≡ 0) × (out.new.error ≡ 0) }
+    ensures sizes { (out.new.nodes ≡ 0) × (out.new.text ≡ 0) }
 {
     let (place, number, code) = match fault {
         Fault::Unexpected { at, expected } => (at.offset, number_of_lack(expected), INVALID),
@@ -200,7 +203,12 @@ pub extern "C" fn exported_toml_document(
         (take out.new.text text.new) (take out.new.nodes nodes.new) }
     ensures small { result ≡ buffer_too_small → WantsDocument max_depth bytes.now out.new
         × ((length nodes.old < out.new.nodes) ⊎ (length text.old < out.new.text)) }
+    ensures sized { result ≡ done → WantsDocument max_depth bytes.now out.new }
     ensures kept { (result ≡ done → ⊥) → (nodes.new ≡ nodes.old) × (text.new ≡ text.old) }
+    ensures nowhere { (result ≡ invalid → ⊥) → (result ≡ invalid_utf8 → ⊥)
+        → (out.new.error_offset ≡ 0) × (out.new.error ≡ 0) }
+    ensures sizes { (result ≡ invalid → (out.new.nodes ≡ 0) × (out.new.text ≡ 0))
+        × (result ≡ invalid_utf8 → (out.new.nodes ≡ 0) × (out.new.text ≡ 0)) }
     ensures refused { result ≡ invalid → IsRefusedDocument max_depth bytes.now out.new }
     ensures text { result ≡ invalid_utf8 → IsNoText max_depth bytes.now out.new }
     ensures deep { (result ≡ max_depth_too_large) ↔ (supported_depth < max_depth) }

@@ -5,7 +5,7 @@ ghost use Rattle.format_http.specs.Responses.Head.{BeginsResponseHead, NoRespons
 ghost use Rattle.format_http_places.specs.Responses.{IsResponseRefused, IsResponseWanted};
 ghost use Rattle.format_http_places.specs.Responses.{NoResponseRead, ShowsResponse};
 ghost use Rattle.exported.specs.Code.{buffer_too_small, done, incomplete, invalid};
-ghost use Rattle.exported.specs.Http.{IsNoResponse, response_of};
+ghost use Rattle.exported.specs.Http.{HasNoResponseParts, IsNoResponse, response_of};
 
 use crate::code::{BUFFER_TOO_SMALL, DONE, INCOMPLETE, INVALID};
 use format_http_places::places;
@@ -37,6 +37,7 @@ pub struct ResponseHead {
 fn none(fields: usize, place: usize) -> ResponseHead
     ensures fields { result.fields ≡ fields }
     ensures place { result.error_offset ≡ place }
+    ensures parts { HasNoResponseParts result }
 {
     let nowhere = Span {
         offset: 0,
@@ -108,6 +109,8 @@ pub extern "C" fn exported_http_response_head(
     ensures refused { result ≡ invalid → NoResponseRead bytes.now }
     ensures place { result ≡ invalid → IsNoResponse bytes.now out.new.error_offset }
     ensures nowhere { (result ≡ invalid → ⊥) → out.new.error_offset ≡ 0 }
+    ensures parts { (result ≡ done → ⊥) → HasNoResponseParts out.new }
+    ensures count { result ≡ invalid → out.new.fields ≡ 0 }
     ensures codes { (result ≡ done) ⊎ ((result ≡ buffer_too_small) ⊎ (result ≡ invalid)) }
 {
     match read_response_head_into(bytes, fields) {
@@ -164,6 +167,9 @@ pub extern "C" fn exported_http_response_head_partial(
     ensures refused { result ≡ invalid → NoResponseHead bytes.now }
     ensures place { result ≡ invalid → IsResponseRefused bytes.now out.new.error_offset }
     ensures nowhere { (result ≡ invalid → ⊥) → out.new.error_offset ≡ 0 }
+    ensures parts { (result ≡ done → ⊥) → HasNoResponseParts out.new }
+    ensures count { (result ≡ invalid → out.new.fields ≡ 0)
+        × (result ≡ incomplete → out.new.fields ≡ 0) }
     ensures incomplete { result ≡ incomplete
         → BeginsResponseHead bytes.now × NoResponseRead bytes.now }
     ensures codes { (result ≡ done) ⊎ ((result ≡ buffer_too_small) ⊎ ((result ≡ invalid)

@@ -31,4 +31,4 @@ returns-in-Err-clause-told c =
     c.args.state.now c.state_at.result 1 _ c.advance-answer.ensures.told
     c.advance-answer.ensures.kept c.extent_at-extent.ensures c.state_at.ensures
     (λ other. absurd (omega (arith, other))) (λ other. absurd (omega (arith, other)))
-    (λ _. (c.in-Err.fault, c.in-Err.is, c.none_at-in-Err.ensures)) _ c.dialect-dialect.ensures
+    (λ _. (c.in-Err.fault, c.in-Err.is, c.none_at-in-Err.ensures.place)) _ c.dialect-dialect.ensures
