@@ -23,7 +23,7 @@ TOP = pathlib.Path(__file__).resolve().parent.parent
 # The limits, in hits per 1,000 words: of a changed file, with the least number of hits, and of all
 # files together.
 FILE_LIMIT, FEWEST = 3, 2
-TREE_LIMIT = 6
+TREE_LIMIT = 3
 # The phrases, and what to write. `^` is the start of a paragraph; `X` stands for a code span.
 BE = r"(?:is|are|was|were|be)"
 WHAT = r"(?:^|(?<=\. ))What (?!if\b|does\b|do\b|happens\b)[^?]*?(?=[.:;,]|$)"
