@@ -1478,8 +1478,9 @@ enum pergidau_code pergidau_text_position(
  *
  * PERGIDAU_INVALID: bytes is not a document. The reason and the offset are written. For the
  * first line that is not valid TOML, this is the offset of the part that is missing or
- * invalid: of an array or an inline table, the offset of the whole value. For a line that the
- * standard forbids because of earlier lines, it is the start of that line.
+ * invalid; for an error inside an array or an inline table, it is the start of the whole
+ * value. For a line that the standard forbids because of earlier lines, it is the start of
+ * that line.
  *
  * PERGIDAU_INVALID_UTF8: bytes is not UTF-8. The length of the longest prefix that is UTF-8 is
  * written.

@@ -170,9 +170,9 @@ fn write_tree<'t>(
 /// # Errors
 ///
 /// `INVALID`: `bytes` is not a document. The reason and the offset are written. For the first line
-/// that is not valid TOML, this is the offset of the part that is missing or invalid: of an array or
-/// an inline table, the offset of the whole value. For a line that the standard forbids because of
-/// earlier lines, it is the start of that line.
+/// that is not valid TOML, this is the offset of the part that is missing or invalid; for an error
+/// inside an array or an inline table, it is the start of the whole value. For a line that the
+/// standard forbids because of earlier lines, it is the start of that line.
 ///
 /// `INVALID_UTF8`: `bytes` is not UTF-8. The length of the longest prefix that is UTF-8 is written.
 ///
