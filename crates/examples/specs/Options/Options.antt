@@ -4,7 +4,6 @@ use Rattle.std.specs.Borrow.{Bor}
 use Rattle.std.specs.declared.vec.Vec.{Vec}
 use Rattle.winnow.specs.Accumulator.{list_kept}
 use Rattle.winnow.specs.Bytes.{bytes_reading}
-use Rattle.winnow.specs.Chain.Bounded.{HeldAlike}
 use Rattle.winnow.specs.Class.Says.{class_says}
 use Rattle.winnow.specs.Counted.{counted_reading}
 use Rattle.winnow.specs.InOrder.Says.{both_says, three_says}
@@ -15,7 +14,7 @@ use Rattle.winnow.specs.Says.{Says}
 use Rattle.winnow.specs.Separated.Says.{separated_says}
 use Rattle.winnow.specs.Sequence.Says.{sequence2_says}
 use Rattle.winnow.specs.AsChar.{IsAlpha, IsAlphanum}
-use Rattle.winnow.specs.Range.{from_to}
+use Rattle.winnow.specs.Range.{Bounds, from_to}
 use Rattle.winnow.specs.Grammar.{Both, Class, Gathered, Grammar, Optional, Parted, Three}
 use Rattle.winnow.specs.Grammar.Known.{Byte}
 
@@ -44,13 +43,21 @@ AreOptions = OptionsOf counted_reading (λ b. b) (λ b. b) Byte
 
 -- ---- what the parsers do, on complete and partial input
 
+-- The outcomes of a list with a separator.
+abbrev pub list_says : {T O A : Type 0} → (ℕ → Says T ℕ) → Bounds → Says T O → ℕ
+    → Says T (Vec O A)
+list_says literal bounds option separator =
+    separated_says list_kept (λ list os. list.items ≡ os) bounds option (literal separator)
+
+-- The outcomes of a list between two literals.
+abbrev pub within_says : {T C : Type 0} → (ℕ → Says T ℕ) → ℕ → Says T C → ℕ → Says T C
+within_says literal first list last =
+    three_says (λ _ found _. found) list.alike (literal first) list (literal last)
+
 -- The outcomes of options in brackets, by those of a literal and of an option.
 abbrev pub in_brackets_says : {T O A : Type 0} → (ℕ → Says T ℕ) → Says T O → Says T (Vec O A)
 in_brackets_says literal option =
-    three_says (λ _ list _. list) (HeldAlike (λ list os. list.items ≡ os) option.alike)
-    (literal 91)
-    (separated_says list_kept (λ list os. list.items ≡ os) (from_to 0 None) option (literal 44))
-    (literal 93)
+    within_says literal 91 (list_says literal (from_to 0 None) option 44) 93
 
 -- The outcomes of an option: a name, and perhaps an equals sign and a value.
 abbrev pub option_says : {K T L : Type 0} → Reading T L → (K → T) → (K → ℕ) → (ℕ → Says T ℕ)

@@ -10,4 +10,4 @@ returns-clause-reads g c = told_by c.in_brackets.ensures.reads (rw (
 pub returns-clause-tells : goal.returns-clause-tells
 returns-clause-tells g c =
     let told = rw (c.opt.ensures, c.preceded.ensures.ignored) at c.in_brackets.ensures.tells in
-    told (c.requires.once, tt, c.requires.once)
+    told (c.requires.once, (tt, c.requires.once))
