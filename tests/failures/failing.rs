@@ -3,7 +3,6 @@ use std::process::Abort;
 use winnow::ascii::impls::{Alpha1, Digit1};
 use winnow::combinator::{alt, cut_err, repeat};
 use winnow::error::{EmptyError, ErrMode, ParseFault};
-use winnow::exact::Fails;
 use winnow::stream::Range;
 use winnow::Parser;
 
@@ -19,14 +18,14 @@ enum Seen {
 use Seen::{Backs, Cuts, Reads};
 
 /// Checks the observed results of a parser on each text.
-fn check<O: Drop, P: Fails<&'static [u8], O, ErrMode<EmptyError>> + Drop>(
+fn check<O: Drop, P: Parser<&'static [u8], O, ErrMode<EmptyError>> + Drop>(
     rt: &impl Abort,
     mut parser: P,
     rows: &[(&'static [u8], Seen)],
 ) {
     for (text, want) in rows {
         let mut input = *text;
-        let answer: Result<O, ErrMode<EmptyError>> = parser.read_failing(&mut input);
+        let answer: Result<O, ErrMode<EmptyError>> = parser.read_outcome(&mut input);
         let seen = match answer {
             Ok(_) => Reads(input.len()),
             Err(ErrMode::Backtrack(_)) => Backs(input.len()),
@@ -116,7 +115,7 @@ fn places(rt: HostRuntime) {
     for (text, want) in rows {
         let mut setting = (Alpha1, b'=', cut_err(Digit1), b';');
         let answer: Result<_, ParseFault<&[u8], EmptyError>> =
-            Fails::<&[u8], _, ErrMode<EmptyError>>::parse_failing(&mut setting, *text);
+            Parser::<&[u8], _, ErrMode<EmptyError>>::parse_outcome(&mut setting, *text);
         let place = match answer {
             Ok(_) => None,
             Err(ParseFault::Refused(fault)) => Some(fault.offset()),
