@@ -346,7 +346,7 @@ def answers(codes, symbol):
     text += "\nconst char *pergidau_message(enum pergidau_code code)\n{\n    switch (code) {\n"
     for code in codes:
         text += f'    case PERGIDAU_{code.name}:\n        return "{message(code)}";\n'
-    return text + '    }\n    return "unknown result code";\n}\n'
+    return text + '    }\n    return "unknown code";\n}\n'
 
 
 def glue(codes, constants, structs, exports):

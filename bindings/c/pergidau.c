@@ -189,7 +189,7 @@ const char *pergidau_message(enum pergidau_code code)
     case PERGIDAU_NOT_AN_INTEGER:
         return "number is not an integer or out of range";
     }
-    return "unknown result code";
+    return "unknown code";
 }
 
 enum pergidau_code pergidau_calc_value(
