@@ -4,14 +4,12 @@ use Rattle.std.proofs.Common.{arith, false, inl, inr, length, refl, subst, suc, 
 use Rattle.std.proofs.lemmas.Bool.{eq-eqb, eqb-true}
 use Rattle.std.proofs.lemmas.List.{append-nil, nil_from_length}
 use Rattle.format_json_extents.proofs.Beginnings.{Starts, no_bytes, none_first, starts_bars}
-use Rattle.format_json_extents.proofs.Beginnings.{starts_none}
-use Rattle.format_json_extents.proofs.Beginnings.{this_none}
+use Rattle.format_json_extents.proofs.Beginnings.{starts_none, this_none}
 use Rattle.format_json_extents.proofs.Firsts.{Inside, IsFirst, IsItemByte, IsOpening, This}
 use Rattle.format_json_extents.proofs.Firsts.{closing_ends}
 use Rattle.format_json_extents.proofs.Firsts.{closing_is, comma_ends, comma_no_closing, first_not}
 use Rattle.format_json_extents.proofs.Firsts.{nested_starts, scalar_no_bracket, space_low}
-use Rattle.format_json_extents.proofs.Firsts.{space_no_first}
-use Rattle.format_json_extents.proofs.Firsts.{value_starts}
+use Rattle.format_json_extents.proofs.Firsts.{space_no_first, value_starts}
 use Rattle.format_json_extents.proofs.Items.{ends, goes, never_begins, stops}
 use Rattle.format_json_extents.proofs.Leading.{SameMatches}
 use Rattle.format_json_extents.proofs.Standing.{Apart, Bars, all_leaves, all_stays, byte_bars}
@@ -20,8 +18,7 @@ use Rattle.format_json_extents.proofs.Standing.{byte_leaves, byte_none, either_l
 use Rattle.format_json_extents.proofs.Standing.{either_right, first_none, never_bars, same_byte}
 use Rattle.format_json_extents.proofs.Standing.{shorter}
 use Rattle.format_json_extents.proofs.Standing.{then_bars, then_exact, then_leaves, then_none}
-use Rattle.format_json_extents.proofs.Standing.{then_split}
-use Rattle.format_json_extents.proofs.Standing.{widen}
+use Rattle.format_json_extents.proofs.Standing.{then_split, widen}
 use Rattle.format_json_extents.proofs.Texts.{string_starts}
 use Rattle.format_json_extents.proofs.Words.{IsFirstOfScalar, scalar_starts}
 use Rattle.format_json_extents.specs.Number.{IsNumberByte}
@@ -142,7 +139,6 @@ pub item_no_name : (keyed : Bool) (V : List ℕ → Type 0) (bytes : List ℕ)
 item_no_name true V bytes none = first_none IsKey (IsElement V) bytes none
 item_no_name false V bytes none = absurd (none bytes (no_name bytes).stands)
 
--- an item by its parts
 pub item_parts : (keyed : Bool) (level : ℕ) (bytes named start behind ahead : List ℕ)
     → RestAfter (IsName keyed) Never bytes named → RestAfter IsGap IsSpace named start
     → RestAfter (IsValue level) IsNumberByte start behind → RestAfter IsGap IsSpace behind ahead

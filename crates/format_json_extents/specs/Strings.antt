@@ -37,11 +37,11 @@ IsTwoDigits = Then (IsByte IsHexDigit) (IsByte IsHexDigit)
 abbrev pub IsD : ℕ → Type 0
 IsD b = (b ≡ 68) ⊎ (b ≡ 100)
 
--- The first two digits of a unit that is not a surrogate: 00 to D7, and E0 to FF.
+-- The first two digits of a unit that is not a surrogate: from 0x00 to 0xD7, or from 0xE0 to 0xFF.
 abbrev pub BeginOnly : ℕ → ℕ → Type 0
 BeginOnly a b = IsHexDigit a × IsHexDigit b × (IsD a → b ≤ 55)
 
--- The first two digits of a high surrogate: D8 to DB.
+-- The first two digits of a high surrogate: from 0xD8 to 0xDB.
 abbrev pub BeginHigh : ℕ → ℕ → Type 0
 BeginHigh a b =
     IsD a × (((56 ≤ b) × (b ≤ 57)) ⊎ (((65 ≤ b) × (b ≤ 66)) ⊎ ((97 ≤ b) × (b ≤ 98))))

@@ -123,7 +123,6 @@ pub struct IniEntry {
     pub error: usize,
 }
 
-/// Nothing.
 const NO_ENTRY: IniEntry = IniEntry {
     kind: INI_SECTION,
     key: NOWHERE,
@@ -132,7 +131,6 @@ const NO_ENTRY: IniEntry = IniEntry {
     error: 0,
 };
 
-/// Whether a flag is set.
 fn has(dialect: usize, flag: usize) -> bool
     requires { 0 < flag }
     ensures { result ≡ has dialect flag }
@@ -226,7 +224,6 @@ fn reading_of(state: IniState, bytes: &[u8]) -> Reading
     }
 }
 
-/// Returns the corresponding state.
 fn state_of(reading: Reading) -> IniState
     ensures { reading_at result ≡ reading }
 {
@@ -242,7 +239,6 @@ fn state_of(reading: Reading) -> IniState
     }
 }
 
-/// Returns the number of an error.
 fn fault_number(why: Refusal) -> usize
     ensures { result ≡ fault_number why }
 {
@@ -256,7 +252,6 @@ fn fault_number(why: Refusal) -> usize
     }
 }
 
-/// The place of a text that begins there.
 fn place_of(offset: usize, text: &str) -> Span
     ensures { (result.offset ≡ offset) × (result.length ≡ length text.now) }
 {
