@@ -91,7 +91,7 @@ def ends(plain, at, is_use):
 
 
 def parts(text, plain, at, end):
-    """The items between two places: of each its comment, attributes, and where it begins."""
+    """The items between two places but hidden ones: comment, attributes, and where each begins."""
     doc, marks = [], []
     while at < end:
         line = text.find("\n", at) + 1 or end
@@ -109,7 +109,8 @@ def parts(text, plain, at, end):
         elif text[at] in "},":
             at += 1
         else:
-            yield doc, marks, at
+            if "#[doc(hidden)]" not in marks:
+                yield doc, marks, at
             at = skipped(text, plain, at)
             doc, marks = [], []
 

@@ -34,6 +34,7 @@ pub trait Stable<I: Stream, O, E: ParserError<I>>: Parser<I, O, E> {
     /// Does nothing: the prover states a bound on a closure only in a block that has a function. A
     /// block with its own `fn stay() {}` is proved in a tenth of the time of one that inherits
     /// this.
+    #[doc(hidden)]
     #[inline(always)]
     fn stay() {}
 

@@ -23,6 +23,7 @@ pub trait Rule<I: Stream, O>: Sized {
     ghost consumes: { Self → Type 0 };
 
     /// Does nothing.
+    #[doc(hidden)]
     #[inline(always)]
     fn name() {}
 
